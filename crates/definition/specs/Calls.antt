@@ -1,0 +1,158 @@
+-- The calls: the layout listing, the picture answer, the mask, the byte owner and the record check, each from what the caller hands in to
+-- what the call answers and leaves. Checks run in the order of document 01's table; a line of a `do` is a check or a stage.
+-- Assumes nothing.
+use Prim.Native.Nat.{ℕ, zero, suc, _+_}
+use mathlib.Core.Bool.{Bool, true, false, _&&_, not}
+use mathlib.Core.List.{List, [], _∷_, _++_}
+use mathlib.Core.Option.{Option, none, some}
+use lib.Dec.{ltb}
+use lib.ListN.{length, drop, replicate}
+use Rattle.definition.specs.declared.Usage.{Usage}
+use Rattle.definition.specs.declared.SignClause.{SignClause}
+use Rattle.definition.specs.declared.Pictured.{Pictured}
+use Rattle.definition.specs.declared.Owner.{Owner}
+use Rattle.definition.specs.declared.PicAnswer.{PicAnswer}
+use Rattle.definition.specs.declared.Writing.{Writing}
+use Rattle.definition.specs.declared.OwnerAnswer.{OwnerAnswer}
+use Rattle.definition.specs.declared.CheckAnswer.{CheckAnswer}
+use Rattle.definition.specs.Basic.{if_then_else_, Answer, refuse, give, _>>=_, refused, refuseIf}
+use Rattle.definition.specs.Words.{statementWords}
+use Rattle.definition.specs.Statement.{statements}
+use Rattle.definition.specs.Tree.{Forest, forest, fields}
+use Rattle.definition.specs.Picture.{picture, symbols, isMasked, mask}
+use Rattle.definition.specs.Fold.{Entries}
+use Rattle.definition.specs.Record.{recordLength, layout}
+use Rattle.definition.specs.Listing.{listing}
+use Rattle.definition.specs.Owner.{pieces, ownerOf, overlaid}
+
+-- ---------------------------------------------------------------- the reader
+
+-- the position of the first byte over 127, counted from p
+unfoldable pub firstWide : ℕ → List ℕ → Option ℕ
+firstWide p [] = none
+firstWide p (b ∷ bs) = if ltb 127 b then some p else firstWide (p + 1) bs
+
+-- 1: text over 65,535 bytes; 2: a byte over 127
+unfoldable pub textChecks : List ℕ → Answer (Unit {0})
+textChecks text = do
+  _ ← refuseIf (ltb 65535 (length text)) 1 0
+  elim (firstWide 0 text) [ none ↦ give tt | some p ↦ refused 2 p ]
+
+-- and 3: lent work memory under 16,384 numbers
+unfoldable pub entryChecks : List ℕ → ℕ → Answer (Unit {0})
+entryChecks text work = do
+  _ ← textChecks text
+  refuseIf (ltb work 16384) 3 0
+
+-- the kept statements of a copybook, with `work` numbers of work memory lent, as the fields of the record
+unfoldable pub recordFields : List ℕ → ℕ → Answer Forest
+recordFields text work = do
+  _ ← entryChecks text work
+  ss ← statements text 0 (statementWords text)
+  give (fields (forest ss))
+
+-- its folded top list: the refusals so far are the reader's, and a copybook without one is accepted
+unfoldable pub entries : List ℕ → ℕ → Answer Entries
+entries text work = do
+  f ← recordFields text work
+  layout text f
+
+-- ---------------------------------------------------------------- the answers
+
+-- the bytes to be written, or 31 and their number where the lent output has only `room` bytes
+abbrev pub fitting : ℕ → List ℕ → Answer (List ℕ)
+fitting room bs = if ltb room (length bs) then refuse (record { number = 31; position = 0; needed = length bs }) else give bs
+
+-- the layout listing
+unfoldable pub layoutListing : List ℕ → ℕ → ℕ → Answer (List ℕ)
+layoutListing text work room = do
+  es ← entries text work
+  fitting room (listing es)
+
+-- the picture answer
+unfoldable pub pictureAnswer : Usage → SignClause → List ℕ → Answer Pictured
+pictureAnswer usage sign bs = do
+  _ ← textChecks bs
+  picture 0 usage sign bs
+
+-- the mask of an edited DISPLAY picture, and length 0 otherwise
+unfoldable pub pictureMask : Usage → List ℕ → ℕ → Answer (List ℕ)
+pictureMask usage bs room = do
+  _ ← textChecks bs
+  l ← symbols 0 usage bs
+  fitting room (if isMasked usage l then mask l else [])
+
+-- the owner of a position in a record of these fields: 40 for a kept REDEFINES or DEPENDING ON, 41 for a position not below record length
+unfoldable pub ownerIn : List ℕ → Forest → ℕ → Answer Owner
+ownerIn text f position = do
+  es ← layout text f
+  _ ← refuseIf (overlaid f) 40 0
+  _ ← refuseIf (not (ltb position (recordLength es))) 41 0
+  give (ownerOf (pieces text f) position)
+
+-- the byte owner
+unfoldable pub byteOwner : List ℕ → ℕ → ℕ → Answer Owner
+byteOwner text work position = do
+  f ← recordFields text work
+  ownerIn text f position
+
+-- the record check: 42 for a record of `len` bytes that is too short, only if not variable
+abbrev pub recordCheck : ℕ → Bool → ℕ → Answer (Unit {0})
+recordCheck recordLen isVariable len = refuseIf (not isVariable && ltb len recordLen) 42 0
+
+-- ---------------------------------------------------------------- what a call leaves
+
+-- the answer, the lent output and the lent work memory
+pub record After (A : Type 0) : Type 0 where
+  pub answer : Answer A
+  pub output : List ℕ
+  pub work : List ℕ
+
+-- how many bytes were written
+abbrev pub written : Answer (List ℕ) → Answer ℕ
+written (refuse r) = refuse r
+written (give bs) = give (length bs)
+
+-- a refusal changes no byte of the output, and bytes past a written answer keep their values
+abbrev pub outputAfter : Answer (List ℕ) → List ℕ → List ℕ
+outputAfter (refuse r) out = out
+outputAfter (give bs) out = bs ++ drop (length bs) out
+
+-- work memory is zero after every call
+abbrev pub cleared : List ℕ → List ℕ
+cleared work = replicate (length work) 0
+
+-- after a call that writes to the output
+abbrev pub afterWriting : Answer (List ℕ) → List ℕ → List ℕ → After ℕ
+afterWriting a out work = record { answer = written a; output = outputAfter a out; work = cleared work }
+
+-- the layout listing of a text, with an output and work memory lent
+abbrev pub layoutCall : List ℕ → List ℕ → List ℕ → After ℕ
+layoutCall text out work = afterWriting (layoutListing text (length work) (length out)) out work
+
+-- the mask of a picture, with an output lent
+abbrev pub maskCall : Usage → List ℕ → List ℕ → After ℕ
+maskCall usage bs out = afterWriting (pictureMask usage bs (length out)) out []
+
+-- the byte owner, with work memory lent
+abbrev pub ownerCall : List ℕ → ℕ → List ℕ → After Owner
+ownerCall text position work = record { answer = byteOwner text (length work) position; output = []; work = cleared work }
+
+-- ---------------------------------------------------------------- what the answers of the code mean
+
+abbrev pub pictureOf : PicAnswer → Answer Pictured
+pictureOf (PicAnswer.Accepted p) = give p
+pictureOf (PicAnswer.Refused r) = refuse r
+
+abbrev pub writingOf : Writing → Answer ℕ
+writingOf (Writing.Written n) = give n
+writingOf (Writing.Refused r) = refuse r
+
+abbrev pub ownerAnswerOf : OwnerAnswer → Answer Owner
+ownerAnswerOf (OwnerAnswer.Piece k first place) = give (Owner.Piece k first place)
+ownerAnswerOf (OwnerAnswer.Slack k) = give (Owner.Slack k)
+ownerAnswerOf (OwnerAnswer.Refused r) = refuse r
+
+abbrev pub checkOf : CheckAnswer → Answer (Unit {0})
+checkOf CheckAnswer.LongEnough = give tt
+checkOf (CheckAnswer.Refused r) = refuse r

@@ -1,0 +1,176 @@
+-- The catches that document 01 marks (m), and its worked example, as one table with one theorem: antt computes the definition at each row.
+-- Assumes nothing.
+use Prim.Native.Nat.{ℕ, zero, suc, _+_, _*_, _-_}
+use mathlib.Core.Path.{_≡_, refl}
+use Prim.Native.Char.{code}
+use Prim.Native.String.{String, [] as ε, _∷_ as _∷ᶜ_}
+use mathlib.Core.Bool.{Bool, true, false, _&&_}
+use mathlib.Core.List.{List, [], _∷_, _++_}
+use mathlib.Core.Option.{Option, none, some}
+use lib.Dec.{T, eqb, ltb}
+use lib.ListN.{length}
+use Rattle.definition.specs.declared.Usage.{Usage}
+use Rattle.definition.specs.declared.SignKind.{SignKind}
+use Rattle.definition.specs.declared.SignClause.{SignClause}
+use Rattle.definition.specs.declared.NumRepr.{NumRepr}
+use Rattle.definition.specs.declared.FieldKind.{FieldKind}
+use Rattle.definition.specs.declared.FieldKind.the-variants.{Text, Int, Binary, Decimal, Edited, Group}
+use Rattle.definition.specs.declared.Pictured.{Pictured}
+use Rattle.definition.specs.declared.Entry.{Entry}
+use Rattle.definition.specs.declared.Owner.{Owner}
+use Rattle.definition.specs.Basic.{if_then_else_, bytes, same, absent, Answer, refuse, give}
+use Rattle.definition.specs.Fold.{Entries, end, entry}
+use Rattle.definition.specs.Record.{recordLength, variable}
+use Rattle.definition.specs.Listing.{flag, kindByte, details, members#}
+use Rattle.definition.specs.Calls.{entries, layoutListing, pictureAnswer, pictureMask, byteOwner, recordCheck}
+use Rattle.definition.specs.Computing.{computing}
+
+-- ---------------------------------------------------------------- answers in numbers
+
+-- the value of a hexadecimal digit
+abbrev hexDigit : ℕ → ℕ
+hexDigit c = if ltb c 58 then c - 48 else c - 87
+
+-- bytes written in pairs of hexadecimal digits, with blanks between pairs; `high` is the first digit of a pair
+abbrev hexFrom : Option ℕ → String → List ℕ
+hexFrom high ε = []
+hexFrom none (c ∷ᶜ s) = elim (eqb (code c) 32) [ true ↦ hexFrom none s | false ↦ hexFrom (some (hexDigit (code c))) s ]
+hexFrom (some high) (c ∷ᶜ s) = (high * 16 + hexDigit (code c)) ∷ hexFrom none s
+
+abbrev pub hex : String → List ℕ
+hex s = hexFrom none s
+
+-- a column: its offset, the width of one occurrence, and what it holds
+abbrev pub column : ℕ → ℕ → FieldKind → List ℕ
+column offset width kind = offset ∷ width ∷ kindByte kind ∷ details kind absent 0
+
+abbrev pub columns : Entries → List (List ℕ)
+columns end = []
+columns (entry e members later) = column (e .offset) (e .width) (e .kind) ∷ (columns members ++ columns later)
+
+abbrev pub sameColumns : List (List ℕ) → List (List ℕ) → Bool
+sameColumns [] [] = true
+sameColumns [] (d ∷ ds) = false
+sameColumns (c ∷ cs) [] = false
+sameColumns (c ∷ cs) (d ∷ ds) = same c d && sameColumns cs ds
+
+-- an owner in numbers
+abbrev pub ownerNumbers : Owner → List ℕ
+ownerNumbers (Owner.Piece k first place) = 1 ∷ k ∷ first ∷ place ∷ []
+ownerNumbers (Owner.Slack k) = 2 ∷ k ∷ []
+ownerNumbers Owner.Unowned = 0 ∷ []
+
+-- the answer is such a value, or that refusal: number, position and needed length
+abbrev pub gives : {A : Type 0} → (A → Bool) → Answer A → Bool
+gives f (refuse r) = false
+gives f (give a) = f a
+
+abbrev pub refuses : {A : Type 0} → ℕ → ℕ → ℕ → Answer A → Bool
+refuses n p l (refuse r) = eqb (r .number) n && (eqb (r .position) p && eqb (r .needed) l)
+refuses n p l (give a) = false
+
+-- ---------------------------------------------------------------- the table
+
+pub data Row : Type 0 where
+  -- a copybook, its record length, whether it is variable, and its columns in the order of the listing
+  accepted : String → ℕ → Bool → List (List ℕ) → Row
+  -- a copybook, and the number and position of its refusal
+  turnedDown : String → ℕ → ℕ → Row
+  -- a copybook, the length of the lent output, and the bytes of its listing
+  listed : String → ℕ → List ℕ → Row
+  -- a copybook, the length of the lent output, and the needed length of its refusal 31
+  noRoom : String → ℕ → ℕ → Row
+  -- a picture with a usage and a sign, its width, and what it holds
+  pictured : String → Usage → SignClause → ℕ → FieldKind → Row
+  -- a copybook, a position, and the byte's owner
+  owned : String → ℕ → Owner → Row
+  -- a copybook, a position, and the number of the refusal
+  notOwned : String → ℕ → ℕ → Row
+
+abbrev pub right : Row → Bool
+right (accepted text len isVariable cs) =
+    gives
+    (λ es. eqb (recordLength es) len && (eqb (flag (variable es)) (flag isVariable) && sameColumns (columns es) cs))
+    (entries (bytes text) 16384)
+right (turnedDown text n p) = refuses n p 0 (entries (bytes text) 16384)
+right (listed text room l) = gives (same l) (layoutListing (bytes text) 16384 room)
+right (noRoom text room needed) = refuses 31 0 needed (layoutListing (bytes text) 16384 room)
+right (pictured text u s width kind) = gives (λ p. same (column 0 (p .width) (p .kind)) (column 0 width kind)) (pictureAnswer u s (bytes text))
+right (owned text p o) = gives (λ a. same (ownerNumbers a) (ownerNumbers o)) (byteOwner (bytes text) 16384 p)
+right (notOwned text p n) = refuses n 0 0 (byteOwner (bytes text) 16384 p)
+
+abbrev pub all : List Row → Bool
+all [] = true
+all (r ∷ rs) = elim (right r) [ true ↦ all rs | false ↦ false ]
+
+-- the worked example: 129 bytes; byte 5 is slack before SIRE
+abbrev pub fish : String
+fish = "01 FISH. 05 TAG PIC X(5). 05 SIRE PIC 9(4) COMP SYNC. 05 WT OCCURS 3 PIC 9(3)V9."
+
+abbrev pub fishListing : List ℕ
+fishListing =
+    hex "00 14000000 00 03000000"
+    ++ hex "01 0c000000 03000000 00000000 05000000 00 00000000 00000000 00000000 00000000 00000000"
+    ++ hex "03 1d000000 04000000 06000000 02000000 00 00000000 00000000 00000000 00000000 00000000 00"
+    ++ hex "04 39000000 02000000 08000000 04000000 01 03000000 00000000 00000000 00000000 00000000 04 01 00 00"
+
+-- a group that stands twice, with slack in each, after a byte; then an item that stands 0 times after its slack
+abbrev pub tank : String
+tank = "05 A PIC X. 05 G OCCURS 2. 10 B PIC X. 10 C PIC 9(5) COMP SYNC. 05 D PIC X. 05 E OCCURS 0 PIC 9(9) COMP SYNC. 05 F PIC X."
+
+pub table : List Row
+table =
+    -- empty text: length 0, listing 10 bytes
+    accepted "" 0 false []
+    ∷ listed "" 10 (hex "00 00000000 00 00000000")
+    ∷ noRoom "" 9 10
+    -- a dropped root's OCCURS
+    ∷ accepted "01 R OCCURS 9. 05 A PIC X." 1 false (column 0 1 Text ∷ [])
+    -- pictures
+    ∷ accepted "05 A PIC ZZ9.99." 6 false (column 0 6 (Edited 5 2 false) ∷ [])
+    ∷ pictured "$$$9" Usage.Display SignClause.Absent 4 (Edited 3 0 false)
+    ∷ pictured "9(4)" Usage.Comp SignClause.Absent 2 (Binary false)
+    ∷ pictured "9(5)" Usage.Comp SignClause.Absent 4 (Binary false)
+    ∷ pictured "9(9)" Usage.Comp SignClause.Absent 4 (Binary false)
+    ∷ pictured "9(10)" Usage.Comp SignClause.Absent 8 (Binary false)
+    ∷ pictured "S" Usage.Comp3 SignClause.Absent 1 (Decimal 0 0 NumRepr.Comp3 SignKind.Embedded)
+    ∷ pictured "9(5)" Usage.Comp3 SignClause.Absent 3 (Decimal 5 0 NumRepr.Comp3 SignKind.Embedded)
+    ∷ pictured "S9(4)" Usage.Display (SignClause.Given SignKind.TrailingSeparate) 5 (Int true SignKind.TrailingSeparate)
+    ∷ pictured "9(4)" Usage.Display (SignClause.Given SignKind.LeadingSeparate) 4 (Int false SignKind.Unsigned)
+    ∷ accepted "05 A PIC S9(4) SIGN TRAILING SEPARATE." 5 false (column 0 5 (Int true SignKind.TrailingSeparate) ∷ [])
+    ∷ accepted "05 A PIC 9(4) SIGN LEADING SEPARATE." 4 false (column 0 4 (Int false SignKind.Unsigned) ∷ [])
+    -- PIC is the name; levels
+    ∷ turnedDown "05 PIC X." 21 0
+    ∷ accepted "255 A PIC X." 1 false (column 0 1 Text ∷ [])
+    ∷ turnedDown "256 A PIC X." 10 0
+    -- REDEFINES and DEPENDING ON
+    ∷ accepted "05 A PIC X(2). 05 B REDEFINES A PIC X(5). 05 C PIC X." 5 false (column 0 5 Group ∷ column 0 2 Text ∷ column 0 5 Text ∷ column 2 1 Text ∷ [])
+    ∷ turnedDown "05 A PIC X. 05 B PIC X. 05 B REDEFINES A PIC X. 05 C REDEFINES B PIC X." 30 48
+    ∷ accepted "05 N PIC 9(2). 05 T OCCURS 1 TO 5 DEPENDING ON N PIC X(3). 05 Z PIC X." 3 true (column 0 2 (Int false SignKind.Unsigned) ∷ column 2 3 Text ∷ column 2 1 Text ∷ [])
+    -- the worked example
+    ∷ accepted fish 20 false (column 0 5 Text ∷ column 6 2 (Binary false) ∷ column 8 4 (Decimal 4 1 NumRepr.Display SignKind.Unsigned) ∷ [])
+    ∷ listed fish 129 fishListing
+    ∷ noRoom fish 128 129
+    ∷ owned fish 0 (Owner.Piece 0 0 0)
+    ∷ owned fish 5 (Owner.Slack 1)
+    ∷ owned fish 6 (Owner.Piece 1 6 0)
+    ∷ owned fish 19 (Owner.Piece 2 16 3)
+    ∷ notOwned fish 20 41
+    -- owners
+    ∷ owned tank 9 (Owner.Piece 2 9 0)
+    ∷ owned tank 12 (Owner.Slack 3)
+    ∷ owned tank 14 (Owner.Piece 3 13 1)
+    ∷ owned tank 19 (Owner.Slack 5)
+    ∷ owned tank 20 (Owner.Piece 6 20 0)
+    ∷ notOwned "05 A PIC X. 05 B REDEFINES A PIC X." 0 40
+    ∷ owned "01 R OCCURS 1 TO 2 DEPENDING ON A. 05 A PIC X." 0 (Owner.Piece 0 0 0)
+    ∷ notOwned "" 0 41
+    ∷ []
+
+-- every row of the table is right
+pub catches : T (all table)
+unfolding table computing
+catches = tt
+
+pub fish-listing-length : length fishListing ≡ 129
+fish-listing-length = refl

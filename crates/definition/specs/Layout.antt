@@ -1,0 +1,76 @@
+-- Offsets: the entries of a sibling list, before it is folded: `layout_nodes` and `elementary` of the Rust.
+-- Groups nest, and each sibling list counts from 0. An item reserves width × count, count 1 without OCCURS; DEPENDING ON reserves 0.
+-- A group is as wide as the largest offset plus reserved width in its list before folding.
+-- Departures from COBOL: alignment restarts in each group; 8-byte binary items align to 8, IBM's to 4; a REDEFINES may name any earlier
+-- sibling, and is not aligned; slack is not added between the occurrences of a group.
+-- Assumes nothing.
+use Prim.Native.Nat.{ℕ, zero, suc, _+_, max}
+use mathlib.Core.Bool.{Bool, true, false, _&&_, _||_, not}
+use mathlib.Core.List.{List, [], _∷_}
+use mathlib.Core.Option.{Option, none, some}
+use lib.Dec.{ltb}
+use Rattle.definition.specs.declared.FieldKind.{FieldKind}
+use Rattle.definition.specs.declared.Pictured.{Pictured}
+use Rattle.definition.specs.declared.Statement.{Statement}
+use Rattle.definition.specs.declared.Entry.{Entry}
+use Rattle.definition.specs.Basic.{if_then_else_, given, part, fewest, Answer, refuse, give, _>>=_, refused, refuseIf, orRefuse}
+use Rattle.definition.specs.Statement.{usageOf, signOf}
+use Rattle.definition.specs.Tree.{Forest, leaf, item}
+use Rattle.definition.specs.Picture.{pictured, isBinary, picture}
+use Rattle.definition.specs.Fold.{Entries, end, entry, times, total, reserved, entryEnd, Place, placeOf, find, fold, largest}
+
+-- 20: a list too deep, at its first statement; record fields are depth 0
+abbrev pub shallow : ℕ → Forest → Answer (Unit {0})
+shallow depth leaf = give tt
+shallow depth (item s kids later) = refuseIf (ltb 64 depth) 20 (s .at)
+
+-- kind and width by the picture
+abbrev pub elementary : List ℕ → Statement → Answer Pictured
+elementary text s = picture (s .at) (usageOf (s .clauses .usage)) (signOf (s .clauses .sign)) (part text (s .clauses .picture))
+
+-- kind and width of an item: a group is as wide as its list, any other has a picture (21) that says so (22 to 27)
+abbrev pub content : List ℕ → Statement → Forest → ℕ → Answer Pictured
+content text s (item t kids later) width = give (pictured FieldKind.Group width)
+content text s leaf width = do
+  _ ← refuseIf (not (given (s .clauses .picture))) 21 (s .at)
+  elementary text s
+
+-- where an item starts: with REDEFINES at the offset of the latest earlier sibling of that name (28), else at the cursor, and only a SYNC
+-- binary item is aligned, to a multiple of its width. `seen` are the earlier siblings, the latest first
+abbrev pub start : List ℕ → Statement → Pictured → List Place → ℕ → Answer ℕ
+start text s c seen cursor =
+    if given (s .clauses .redefines) then orRefuse 28 (s .at) (find text (s .clauses .redefines) seen)
+    else if s .clauses .sync && isBinary (c .kind) then give (cursor + fewest (c .width) cursor)
+    else give cursor
+
+abbrev pub entryOf : Statement → Pictured → ℕ → Entry
+entryOf s c offset =
+    record { at = s .at; name = s .name; offset = offset; width = c .width; kind = c .kind; picture = s .clauses .picture; occurs = s .clauses .occurs; depending = s .clauses .depending; redefines = s .clauses .redefines }
+
+-- 29: kept count, aligned cursor, width × count or end above the largest number
+abbrev pub tooLarge : Entry → Bool
+tooLarge e = ltb largest (times (e .occurs)) || ltb largest (e .offset) || ltb largest (total e) || ltb largest (entryEnd e)
+
+-- the cursor after an entry: a REDEFINES never moves it
+abbrev pub advance : ℕ → Entry → ℕ
+advance cursor e = if given (e .redefines) then cursor else entryEnd e
+
+-- a list, and how wide it is before folding
+pub record Laid : Type 0 where
+  pub entries : Entries
+  pub width : ℕ
+
+-- the items of a list at a depth: `seen` are the earlier siblings, the latest first; the cursor is where the next item starts; `reach` is
+-- the largest end so far. Depth first: a group's inner list, fold included, comes before the group's own item checks
+unfoldable pub lay : List ℕ → ℕ → List Place → ℕ → ℕ → Forest → Answer Laid
+lay text depth seen cursor reach leaf = give (record { entries = end; width = reach })
+lay text depth seen cursor reach (item s kids later) = do
+  _ ← shallow (suc depth) kids
+  inner ← lay text (suc depth) [] 0 0 kids
+  members ← fold text [] (inner .entries)
+  c ← content text s kids (inner .width)
+  offset ← start text s c seen cursor
+  let e = entryOf s c offset
+  _ ← refuseIf (tooLarge e) 29 (s .at)
+  l ← lay text depth (placeOf e ∷ seen) (advance cursor e) (max reach (entryEnd e)) later
+  give (record { entries = entry e members (l .entries); width = l .width })

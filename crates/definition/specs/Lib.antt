@@ -1,0 +1,13 @@
+pub mod Basic
+pub mod Words
+pub mod Statement
+pub mod Tree
+pub mod Picture
+pub mod Fold
+pub mod Layout
+pub mod Record
+pub mod Listing
+pub mod Owner
+pub mod Calls
+pub mod Computing
+pub mod Catches

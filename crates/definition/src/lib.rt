@@ -1,0 +1,232 @@
+// The types that the definition speaks of, and that the code hands from one stage to the next. A place in the copybook
+// text is a span, its first byte and its length; length 0 means absent.
+
+pub struct Span {
+    pub start: usize,
+    pub len: usize,
+}
+
+// What a byte of the text is to the reader, by itself and the bytes after it: the end of a line, other white space, the
+// beginning of `*>`, any other `*`, a period that ends a statement, or any other byte.
+pub enum ByteKind {
+    Newline,
+    Blank,
+    Cut,
+    Star,
+    Period,
+    Other,
+}
+
+// Where the reader is: before the first non-blank of a line, between words, in what is dropped of a line, or in a word
+// since a position.
+pub enum Mode {
+    Fresh,
+    Between,
+    Dropped,
+    Within(usize),
+}
+
+// A word, or the period that ends a statement.
+pub enum Token {
+    Word(Span),
+    Stop,
+}
+
+pub enum Usage {
+    Display,
+    Comp3,
+    Comp,
+}
+
+// What a statement says of the usage: nothing, or one of the three.
+pub enum UsageClause {
+    Absent,
+    Given(Usage),
+}
+
+pub enum SignKind {
+    Unsigned,
+    Embedded,
+    LeadingSeparate,
+    TrailingSeparate,
+}
+
+// The sign that a picture is read with: none, or one of the four.
+pub enum SignClause {
+    Absent,
+    Given(SignKind),
+}
+
+// What a statement says of the sign: nothing, or whether LEADING and SEPARATE were said.
+pub enum SignWords {
+    Absent,
+    Said { leading: bool, separate: bool },
+}
+
+pub enum NumRepr {
+    Display,
+    Comp3,
+    Zoned,
+}
+
+pub enum FieldKind {
+    Text,
+    Int {
+        signed: bool,
+        sign: SignKind,
+    },
+    Binary {
+        signed: bool,
+    },
+    Decimal {
+        precision: u8,
+        scale: u8,
+        repr: NumRepr,
+        sign: SignKind,
+    },
+    Edited {
+        precision: u8,
+        scale: u8,
+        signed: bool,
+    },
+    Group,
+}
+
+// What an item holds, and the bytes of one occurrence.
+pub struct Pictured {
+    pub kind: FieldKind,
+    pub width: usize,
+}
+
+// An item without OCCURS stands once.
+pub enum Occurs {
+    Once,
+    Times(u64),
+}
+
+// What the clauses of a statement say.
+pub struct Clauses {
+    pub picture: Span,
+    pub usage: UsageClause,
+    pub sign: SignWords,
+    pub sync: bool,
+    pub occurs: Occurs,
+    pub depending: Span,
+    pub redefines: Span,
+}
+
+// The clause that a word begins, where one may begin.
+pub enum Keyword {
+    Picture,
+    Redefines,
+    Occurs,
+    Usage,
+    Comp3,
+    Comp,
+    Sign,
+    Sync,
+    Value,
+    Other,
+}
+
+// What the reader of a statement expects: a clause; IS or a picture; a picture; a REDEFINES target; a count; TO, TIMES,
+// DEPENDING or a clause; a TO bound; TIMES, DEPENDING or a clause; DEPENDING or a clause; ON or a name; a name; IS or a
+// clause after USAGE; IS or the word of SIGN; the word of SIGN; LEFT, RIGHT or a clause after SYNC; nothing after VALUE.
+pub enum Expect {
+    Clause,
+    IsPicture,
+    APicture,
+    Target,
+    ACount,
+    To,
+    Bound,
+    Times,
+    DependingOn,
+    OnName,
+    AName,
+    UsageIs,
+    SignIs,
+    SignWord,
+    Side,
+    Nothing,
+}
+
+// A word of a statement leads on to what is expected next and the clauses so far, or is refused with a number.
+pub enum Step {
+    Go(Expect, Clauses),
+    Fail(u32),
+}
+
+// A kept statement; `at` is the first byte of its first word.
+pub struct Statement {
+    pub level: u8,
+    pub at: usize,
+    pub name: Span,
+    pub clauses: Clauses,
+}
+
+// An entry of the listing; `at` is that of its statement.
+pub struct Entry {
+    pub at: usize,
+    pub name: Span,
+    pub offset: usize,
+    pub width: usize,
+    pub kind: FieldKind,
+    pub picture: Span,
+    pub occurs: Occurs,
+    pub depending: Span,
+    pub redefines: Span,
+}
+
+// What a byte of a record belongs to: a piece, that is one occurrence of the elementary item whose entry has that number,
+// with the piece's first byte in the record and the byte's place inside it; slack before the entry of that number; or
+// nothing.
+pub enum Owner {
+    Piece {
+        entry: usize,
+        first: usize,
+        place: usize,
+    },
+    Slack {
+        entry: usize,
+    },
+    Unowned,
+}
+
+// Why a call is turned down: document 01's number, a position, and the length that the output should have had.
+pub struct Refusal {
+    pub number: u32,
+    pub position: usize,
+    pub needed: usize,
+}
+
+// The answer of the picture entry.
+pub enum PicAnswer {
+    Accepted(Pictured),
+    Refused(Refusal),
+}
+
+// The answer of an entry that writes bytes: how many.
+pub enum Writing {
+    Written(usize),
+    Refused(Refusal),
+}
+
+// The answer of the byte owner.
+pub enum OwnerAnswer {
+    Piece {
+        entry: usize,
+        first: usize,
+        place: usize,
+    },
+    Slack {
+        entry: usize,
+    },
+    Refused(Refusal),
+}
+
+// The answer of the record check.
+pub enum CheckAnswer {
+    LongEnough,
+    Refused(Refusal),
+}

@@ -14,7 +14,7 @@ use Rattle.definition.specs.declared.Owner.{Owner}
 use Rattle.definition.specs.declared.PicAnswer.{PicAnswer}
 use Rattle.definition.specs.declared.Writing.{Writing}
 use Rattle.definition.specs.declared.OwnerAnswer.{OwnerAnswer}
-use Rattle.definition.specs.declared.CheckAnswer.{CheckAnswer}
+use Rattle.definition.specs.declared.Check.{Check}
 use Rattle.definition.specs.Basic.{if_then_else_, Answer, refuse, give, _>>=_, refused, refuseIf}
 use Rattle.definition.specs.Words.{statementWords}
 use Rattle.definition.specs.Statement.{statements}
@@ -153,6 +153,6 @@ ownerAnswerOf (OwnerAnswer.Piece k first place) = give (Owner.Piece k first plac
 ownerAnswerOf (OwnerAnswer.Slack k) = give (Owner.Slack k)
 ownerAnswerOf (OwnerAnswer.Refused r) = refuse r
 
-abbrev pub checkOf : CheckAnswer → Answer (Unit {0})
-checkOf CheckAnswer.LongEnough = give tt
-checkOf (CheckAnswer.Refused r) = refuse r
+abbrev pub checkOf : Check → Answer (Unit {0})
+checkOf Check.Passed = give tt
+checkOf (Check.Refused r) = refuse r

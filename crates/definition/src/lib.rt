@@ -225,8 +225,8 @@ pub enum OwnerAnswer {
     Refused(Refusal),
 }
 
-// The answer of the record check.
-pub enum CheckAnswer {
-    LongEnough,
+// The answer of a check: the entry's own checks, and the record check.
+pub enum Check {
+    Passed,
     Refused(Refusal),
 }

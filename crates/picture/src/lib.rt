@@ -1,0 +1,269 @@
+// The picture reader.
+ghost use mathlib.Core.Path.{_≡_};
+ghost use mathlib.Core.Bool.{Bool};
+ghost use Prim.Native.Nat.{_+_, _≤_, _<_};
+ghost use lib.ListN.{length, drop, getD, replicate};
+ghost use Rattle.definition.specs.Picture.{symbol, resolveSign, isEmbedded, signBytes, compWidth, byteWidth};
+ghost use Rattle.picture.specs.Shape.{runOf, unless, joined, Small, next, halves};
+use definition::SignClause;
+use definition::SignKind;
+
+// The bytes of a COMP item of so many digits.
+fn comp_width(digits: usize) -> usize
+    ensures { λ r. ⌜ r ≡ compWidth digits ⌝ }
+{
+    match digits {
+        0..=4 => 2,
+        5..=9 => 4,
+        _ => 8,
+    }
+}
+
+// The bytes of a COMP-3 item of so many digits.
+fn byte_width(digits: usize) -> usize
+    ensures { λ r. ⌜ r ≡ byteWidth digits ⌝ }
+{
+    digits / 2 + 1
+}
+
+// The sign that an item has, by its sign symbols and its SIGN clause.
+fn resolve_sign(signed: bool, clause: SignClause) -> SignKind
+    ensures { λ r. ⌜ r ≡ resolveSign signed clause ⌝ }
+{
+    if signed {
+        match clause {
+            SignClause::Absent => SignKind::Embedded,
+            SignClause::Given(k) => k,
+        }
+    } else {
+        SignKind::Unsigned
+    }
+}
+
+// The bytes of a sign of its own.
+fn sign_bytes(sign: SignKind) -> usize
+    ensures { λ r. ⌜ r ≡ signBytes sign ⌝ }
+{
+    match sign {
+        SignKind::Unsigned => 0,
+        SignKind::Embedded => 0,
+        SignKind::LeadingSeparate => 1,
+        SignKind::TrailingSeparate => 1,
+    }
+}
+
+// How often the symbols of each set stand in a list of symbols: all symbols; X A; 9 Z *; those of them before the point; P;
+// V and `.`; `$`; `+`; `-`; the signs S + - C D; the editing symbols; and S V P, which take no byte of a mask.
+pub struct Tallies {
+    pub symbols: usize,
+    pub text: usize,
+    pub digits: usize,
+    pub whole: usize,
+    pub scaled: usize,
+    pub points: usize,
+    pub dollars: usize,
+    pub pluses: usize,
+    pub minuses: usize,
+    pub signs: usize,
+    pub edits: usize,
+    pub hidden: usize,
+}
+
+// The tallies of one symbol that stands n times.
+fn run(b: u8, n: usize) -> Tallies
+    ensures { λ r. ⌜ r ≡ runOf b n ⌝ }
+{
+    let mut r = Tallies {
+        symbols: n,
+        text: 0,
+        digits: 0,
+        whole: 0,
+        scaled: 0,
+        points: 0,
+        dollars: 0,
+        pluses: 0,
+        minuses: 0,
+        signs: 0,
+        edits: 0,
+        hidden: 0,
+    };
+    match b {
+        b'X' | b'A' => {
+            r.text = n;
+            return r;
+        }
+        b'9' => {
+            r.digits = n;
+            r.whole = n;
+            return r;
+        }
+        b'Z' | b'*' => {
+            r.digits = n;
+            r.whole = n;
+            r.edits = n;
+            return r;
+        }
+        b'P' => {
+            r.scaled = n;
+            r.hidden = n;
+            return r;
+        }
+        b'V' => {
+            r.points = n;
+            r.hidden = n;
+            return r;
+        }
+        b'S' => {
+            r.signs = n;
+            r.hidden = n;
+            return r;
+        }
+        b'.' => {
+            r.points = n;
+            r.edits = n;
+            return r;
+        }
+        b',' | b'/' | b'B' => {
+            r.edits = n;
+            return r;
+        }
+        b'0' => {
+            r.edits = n;
+            return r;
+        }
+        b'$' => {
+            r.dollars = n;
+            r.edits = n;
+            return r;
+        }
+        b'+' => {
+            r.pluses = n;
+            r.signs = n;
+            r.edits = n;
+            return r;
+        }
+        b'-' => {
+            r.minuses = n;
+            r.signs = n;
+            r.edits = n;
+            return r;
+        }
+        b'C' => {
+            r.signs = n;
+            r.edits = n;
+            return r;
+        }
+        b'D' => {
+            r.signs = n;
+            r.edits = n;
+            return r;
+        }
+        _ => {
+            return r;
+        }
+    }
+}
+
+// A count before the point, and 0 after it.
+fn before_point(points: usize, n: usize) -> usize
+    ensures { λ r. ⌜ r ≡ unless points n ⌝ }
+{
+    if points == 0 {
+        return n;
+    }
+    0
+}
+
+// The tallies of two lists of symbols, one after the other.
+fn join(s: Tallies, t: Tallies) -> Tallies
+    requires { ⌜ Small s × Small t ⌝ }
+    ensures { λ r. ⌜ r ≡ joined s t ⌝ }
+{
+    let whole = before_point(s.points, t.whole);
+    Tallies {
+        symbols: s.symbols + t.symbols,
+        text: s.text + t.text,
+        digits: s.digits + t.digits,
+        whole: s.whole + whole,
+        scaled: s.scaled + t.scaled,
+        points: s.points + t.points,
+        dollars: s.dollars + t.dollars,
+        pluses: s.pluses + t.pluses,
+        minuses: s.minuses + t.minuses,
+        signs: s.signs + t.signs,
+        edits: s.edits + t.edits,
+        hidden: s.hidden + t.hidden,
+    }
+}
+
+// What of CR or DB is awaited: nothing, an R, a B; or a byte that is no symbol was seen.
+pub enum Half {
+    Nothing,
+    C,
+    D,
+    Wrong,
+}
+
+// Whether a byte is a symbol by itself.
+fn is_symbol(b: u8) -> bool
+    ensures { λ r. ⌜ r ≡ symbol b ⌝ }
+{
+    match b {
+        b'X' | b'A' | b'9' | b'P' | b'V' | b'S' | b'Z' | b'0' => true,
+        b'*' | b'.' | b',' | b'$' | b'B' => true,
+        b'/' | b'+' | b'-' => true,
+        _ => false,
+    }
+}
+
+// What is awaited after one more symbol.
+fn next_half(p: Half, b: u8) -> Half
+    ensures { λ r. ⌜ r ≡ next p b ⌝ }
+{
+    match p {
+        Half::Nothing => first_half(b),
+        Half::C => {
+            if b == b'R' {
+                return Half::Nothing;
+            }
+            Half::Wrong
+        }
+        Half::D => {
+            if b == b'B' {
+                return Half::Nothing;
+            }
+            Half::Wrong
+        }
+        Half::Wrong => Half::Wrong,
+    }
+}
+
+// What is awaited after a symbol where nothing was.
+fn first_half(b: u8) -> Half
+    ensures { λ r. ⌜ r ≡ next Half.Nothing b ⌝ }
+{
+    if b == b'C' {
+        return Half::C;
+    }
+    if b == b'D' {
+        return Half::D;
+    }
+    if is_symbol(b) {
+        return Half::Nothing;
+    }
+    Half::Wrong
+}
+
+// What is awaited after a symbol that stands n times: no state changes after the second.
+fn half_after(p: Half, b: u8, n: usize) -> Half
+    ensures { λ r. ⌜ r ≡ halves p (replicate n b) ⌝ }
+{
+    if n == 0 {
+        return p;
+    }
+    let q = next_half(p, b);
+    if n == 1 {
+        return q;
+    }
+    next_half(q, b)
+}

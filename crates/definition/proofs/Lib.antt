@@ -1,2 +1,4 @@
 pub mod Lists
 pub mod Answers
+pub mod NumberLaws
+pub mod WordLaws

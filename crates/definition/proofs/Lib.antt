@@ -2,3 +2,4 @@ pub mod Lists
 pub mod Answers
 pub mod NumberLaws
 pub mod WordLaws
+pub mod PictureLaws

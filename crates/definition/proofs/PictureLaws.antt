@@ -10,8 +10,8 @@ use mathlib.Core.Option.{Option, none, some}
 use native.Mathlib.Numerals.{add-one}
 use native.Mathlib.Omega.{arith}
 use lib.Dec.{eqb, ltb}
-use lib.ListN.{length, getD, take, drop, replicate, drop-of-length-le}
-use lib.Seq.{take-suc, drop-drop}
+use lib.ListN.{length, getD, take, drop, replicate, length-drop, drop-of-length-le}
+use lib.Seq.{take-all, take-suc, drop-drop}
 use borrow.Author.Tests.{eq-eqb, ne-eqb, lt-ltb, le-ltb}
 use Rattle.definition.specs.declared.Refusal.{Refusal}
 use Rattle.definition.specs.Basic.{if_then_else_, is, among, white, upper, count, Answer, refuse, give, _>>=_, refused, refuseIf, orRefuse}
@@ -21,6 +21,10 @@ use Rattle.definition.proofs.Lists.{drop-next}
 -- one more element, at the code's i + 1
 take-next : (t : List ℕ) (i : ℕ) → i < length t → take (i + 1) t ≡ take i t ++ getD t i 0 ∷ []
 take-next t i h = rw (add-one, take-suc t i 0 h)
+
+-- what `&t[i..]` is
+pub rest-part : (t : List ℕ) (i : ℕ) → take (length t - i) (drop i t) ≡ drop i t
+rest-part t i = take-all (length t - i) (drop i t) (omega (arith, length-drop i t))
 
 -- ---------------------------------------------------------------- tallies
 
@@ -256,6 +260,10 @@ abbrev pub after : List ℕ → Option (List ℕ) → Option (List ℕ)
 after p none = none
 after p (some l) = some (p ++ l)
 
+pub after-none : (o : Option (List ℕ)) → after [] o ≡ o
+after-none none = refl
+after-none (some l) = refl
+
 after-more : (p : List ℕ) (b : ℕ) (o : Option (List ℕ)) → after p (inFront b o) ≡ after (p ++ b ∷ []) o
 after-more p b none = refl
 after-more p b (some l) = ap some (sym (append-assoc p (b ∷ []) l))
@@ -273,3 +281,28 @@ module _ (t : List ℕ) (i : ℕ) where
     pub close-later : (getD t i 0 ≡ 41 → ⊥) → after (take i t) (beforeClose (drop i t)) ≡ after (take (i + 1) t) (beforeClose (drop (i + 1) t))
     unfolding beforeClose
     close-later e = rw (drop-next t i h, ne-eqb (getD t i 0) 41 e, beforeClose, take-next t i h) (after-more (take i t) (getD t i 0) (beforeClose (drop (i + 1) t)))
+
+-- ---------------------------------------------------------------- the repeat of a symbol
+
+pub repeat-none : (at : ℕ) (rest : List ℕ) → length rest ≡ 0 → repeat at rest ≡ give (1, 0)
+unfolding repeat
+repeat-none at [] h = refl
+repeat-none at (b ∷ bs) h = absurd (omega arith)
+
+pub repeat-plain : (at : ℕ) (rest : List ℕ) → 0 < length rest → (getD rest 0 0 ≡ 40 → ⊥) → repeat at rest ≡ give (1, 0)
+unfolding repeat
+repeat-plain at [] h e = absurd (omega arith)
+repeat-plain at (b ∷ bs) h e = rw (ne-eqb b 40 e, repeat)
+
+-- a `(` directly after the symbol
+pub repeat-open :
+    (at : ℕ) (rest : List ℕ) →
+    0 < length rest →
+    getD rest 0 0 ≡ 40 →
+    repeat at rest ≡
+    (orRefuse 22 at (beforeClose (drop 1 rest)) >>= λ l.
+    orRefuse 23 at (count (trim l)) >>= λ n.
+    give (n, length l + 2))
+unfolding repeat
+repeat-open at [] h e = absurd (omega arith)
+repeat-open at (b ∷ bs) h e = rw (eq-eqb b 40 e, repeat)

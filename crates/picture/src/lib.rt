@@ -3,10 +3,14 @@ ghost use mathlib.Core.Path.{_≡_};
 ghost use mathlib.Core.Bool.{Bool};
 ghost use Prim.Native.Nat.{_+_, _≤_, _<_};
 ghost use lib.ListN.{length, drop, getD, replicate};
-ghost use Rattle.definition.specs.Picture.{symbol, resolveSign, isEmbedded, signBytes, compWidth, byteWidth};
+ghost use mathlib.Core.List.{reverse};
+ghost use Rattle.definition.specs.Picture.{trimStart, trim as trimmed, symbol, resolveSign, isEmbedded, signBytes, compWidth, byteWidth};
 ghost use Rattle.picture.specs.Shape.{runOf, unless, joined, Small, next, halves};
+ghost use Rattle.picture.specs.Repeats.{Closed, Repeated};
+use definition::Refusal;
 use definition::SignClause;
 use definition::SignKind;
+use text::Number;
 
 // The bytes of a COMP item of so many digits.
 fn comp_width(digits: usize) -> usize
@@ -266,4 +270,99 @@ fn half_after(p: Half, b: u8, n: usize) -> Half
         return q;
     }
     next_half(q, b)
+}
+
+// A text without the white space in front.
+fn trim_start(s: &[u8]) -> &[u8]
+    ensures { λ r. ⌜ now r ≡ trimStart (now (s .entry)) ⌝ }
+{
+    let mut i = 0;
+    while i < s.len() {
+        if text::is_white(s[i]) {
+            i += 1;
+        } else {
+            return &s[i..];
+        }
+    }
+    &s[i..]
+}
+
+// A text without the white space at its end.
+fn trim_end(s: &[u8]) -> &[u8]
+    ensures { λ r. ⌜ now r ≡ reverse (trimStart (reverse (now (s .entry)))) ⌝ }
+{
+    let mut e = s.len();
+    while 0 < e {
+        if text::is_white(s[e - 1]) {
+            e -= 1;
+        } else {
+            return &s[0..e];
+        }
+    }
+    &s[0..e]
+}
+
+// A text without the white space around it.
+fn trim(s: &[u8]) -> &[u8]
+    ensures { λ r. ⌜ now r ≡ trimmed (now (s .entry)) ⌝ }
+{
+    trim_end(trim_start(s))
+}
+
+// Where the first `)` of a text stands, or the text's length.
+fn close_at(s: &[u8]) -> usize
+    ensures { λ r. ⌜ Closed (now (s .entry)) r ⌝ }
+{
+    let mut i = 0;
+    while i < s.len() {
+        if s[i] == b')' {
+            return i;
+        }
+        i += 1;
+    }
+    i
+}
+
+// How often a symbol stands, and how many bytes after it say so; or why that cannot be read.
+pub enum Repeat {
+    Times { n: usize, skip: usize },
+    Refused(Refusal),
+}
+
+// The repeat of a symbol by the text after it; a refusal carries `at`.
+fn repeat_at(rest: &[u8], at: usize) -> Repeat
+    ensures { λ r. ⌜ Repeated at (now (rest .entry)) r ⌝ }
+{
+    if rest.len() == 0 {
+        return Repeat::Times { n: 1, skip: 0 };
+    }
+    if rest[0] == b'(' {
+        let inside = &rest[1..];
+        let k = close_at(inside);
+        if k < inside.len() {
+            let word = trim(&inside[0..k]);
+            match text::count_of(word) {
+                Number::Value(n) => {
+                    return Repeat::Times {
+                        n: n as usize,
+                        skip: k + 2,
+                    };
+                }
+                Number::Bad => {
+                    return Repeat::Refused(Refusal {
+                        number: 23,
+                        position: at,
+                        needed: 0,
+                    });
+                }
+            }
+        } else {
+            return Repeat::Refused(Refusal {
+                number: 22,
+                position: at,
+                needed: 0,
+            });
+        }
+    }
+    Repeat::Times { n: 1, skip: 0 }
 }

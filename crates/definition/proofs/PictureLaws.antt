@@ -172,6 +172,11 @@ mask-length (b ∷ l) = go (among "SVP" b) (mask-length l)
 abbrev pub onto : List ℕ → Answer (List ℕ) → Answer (List ℕ)
 onto p x = x >>= λ l. give (p ++ l)
 
+pub onto-nil : (x : Answer (List ℕ)) → onto [] x ≡ x
+unfolding _>>=_
+onto-nil (refuse e) = refl
+onto-nil (give l) = refl
+
 pub onto-onto : (p r : List ℕ) (x : Answer (List ℕ)) → onto p (onto r x) ≡ onto (p ++ r) x
 unfolding _>>=_
 onto-onto p r (refuse e) = refl

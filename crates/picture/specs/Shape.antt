@@ -6,10 +6,12 @@ use mathlib.Core.Bool.{Bool, true, false, _&&_, _||_, not}
 use mathlib.Core.List.{List, [], _∷_}
 use lib.Dec.{eqb, leb, ltb}
 use lib.ListN.{length}
-use Rattle.definition.specs.Basic.{if_then_else_, is, among}
-use Rattle.definition.specs.Picture.{symbol, tally, beforePoint}
+use mathlib.Core.Path.{_≡_}
+use Rattle.definition.specs.Basic.{if_then_else_, is, among, Answer, refuse, give, _>>=_}
+use Rattle.definition.specs.Picture.{expand, symbol, tally, beforePoint}
 use Rattle.picture.specs.declared.Tallies.{Tallies}
 use Rattle.picture.specs.declared.Half.{Half}
+use Rattle.picture.specs.declared.Counted.{Counted}
 
 -- n if the byte is one of the text's, else 0
 abbrev pub times : String → ℕ → ℕ → ℕ
@@ -73,12 +75,12 @@ joined s t =
       hidden = s .hidden + t .hidden
     }
 
--- no tally is above 65,535
+-- no tally is above 65,535, and those of a part are not above the whole's
 pub record Small (s : Tallies) : Type 0 where
   pub symbols : s .symbols ≤ 65535
   pub text : s .text ≤ 65535
   pub digits : s .digits ≤ 65535
-  pub whole : s .whole ≤ 65535
+  pub whole : s .whole ≤ s .digits
   pub scaled : s .scaled ≤ 65535
   pub points : s .points ≤ 65535
   pub dollars : s .dollars ≤ 65535
@@ -86,7 +88,7 @@ pub record Small (s : Tallies) : Type 0 where
   pub minuses : s .minuses ≤ 65535
   pub signs : s .signs ≤ 65535
   pub edits : s .edits ≤ 65535
-  pub hidden : s .hidden ≤ 65535
+  pub hidden : s .hidden ≤ s .symbols
 
 -- what of CR or DB is awaited after one more byte
 abbrev pub next : Half → ℕ → Half
@@ -109,3 +111,19 @@ nothing Half.Nothing = true
 nothing Half.C = false
 nothing Half.D = false
 nothing Half.Wrong = false
+
+-- the symbols of a picture, counted
+abbrev pub counts : ℕ → List ℕ → Answer (Tallies × Half)
+counts at bs = expand at 0 0 bs >>= λ l. give (tallies l, halves Half.Nothing l)
+
+abbrev pub countedOf : Counted → Answer (Tallies × Half)
+countedOf (Counted.Symbols t half) = give (t, half)
+countedOf (Counted.Refused r) = refuse r
+
+abbrev pub SmallIn : Counted → Type 0
+SmallIn (Counted.Symbols t half) = Small t
+SmallIn (Counted.Refused r) = Unit {0}
+
+pub record Counts (at : ℕ) (bs : List ℕ) (r : Counted) : Type 0 where
+  pub same : countedOf r ≡ counts at bs
+  pub small : SmallIn r

@@ -40,7 +40,7 @@ add-t6 c =
 add-t7 : tie.Need-add-t7
 add-t7 c =
     let p = c .before .before .before .before .before .before .before .before .pre in
-    omega (arith, p .0 .whole, unless-le (c .before .before .before .before .before .before .before .before .args .s .points) (c .before .before .before .before .before .before .before .before .args .t .whole) (p .1 .whole) (c .before .before .before .before .before .before .before .before-point .ensures))
+    omega (arith, p .0 .whole, p .0 .digits, unless-le (c .before .before .before .before .before .before .before .before .args .s .points) (c .before .before .before .before .before .before .before .before .args .t .whole) (omega (arith, p .1 .whole, p .1 .digits)) (c .before .before .before .before .before .before .before .before-point .ensures))
 
 add-t8 : tie.Need-add-t8
 add-t8 c =
@@ -80,7 +80,7 @@ add-t14 c =
 add-t15 : tie.Need-add-t15
 add-t15 c =
     let p = c .before .before .before .before .before .before .before .before .before .before .before .before .before .before .before .before .before .before .before .before .before .before .before .before .pre in
-    omega (arith, p .0 .hidden, p .1 .hidden)
+    omega (arith, p .0 .hidden, p .1 .hidden, p .0 .symbols, p .1 .symbols)
 
 returns : tie.Need-returns
 returns c = rw (c .before .before .before .before .before .before .before .before .before .before .before .before .before .before .before .before .before .before .before .before .before .before .before .before-point .ensures)

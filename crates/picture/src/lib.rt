@@ -1,15 +1,17 @@
 // The picture reader.
 ghost use mathlib.Core.Path.{_≡_};
 ghost use mathlib.Core.Bool.{Bool};
-ghost use Prim.Native.Nat.{_+_, _≤_, _<_};
+ghost use Prim.Native.Nat.{_+_, _-_, _≤_, _<_};
 ghost use lib.ListN.{length, drop, getD, replicate};
 ghost use mathlib.Core.List.{[], reverse};
-ghost use Rattle.definition.specs.Picture.{trimStart, trim as trimmed, symbol, resolveSign, isEmbedded, signBytes, compWidth, byteWidth};
-ghost use Rattle.picture.specs.Shape.{tallies, runOf, unless, joined, Small, next, halves, Counts};
+ghost use Rattle.definition.specs.Picture.{isDisplay, trimStart, trim as trimmed, symbol, resolveSign, isEmbedded, signBytes, compWidth, byteWidth};
+ghost use Rattle.picture.specs.Shape.{tallies, runOf, unless, joined, Small, next, halves, nothing, Counts};
+ghost use Rattle.picture.specs.Kinds.{shapeOf, maskedBy, mixedBy, longBy, kindedBy, Judged, Reads};
 ghost use Rattle.picture.specs.Repeats.{Closed, Repeated};
 use definition::Refusal;
 use definition::SignClause;
 use definition::SignKind;
+use definition::Usage;
 use text::Number;
 
 // The bytes of a COMP item of so many digits.
@@ -422,4 +424,139 @@ fn count_symbols(picture: &[u8], at: usize) -> Counted
         }
     }
     Counted::Symbols { tallies: s, half }
+}
+
+// What a picture's kind and width depend on: its X and A, its digits, those of the fraction, whether it has a sign symbol,
+// whether it is edited, and the length of its mask.
+pub struct PicShape {
+    pub text: usize,
+    pub digits: usize,
+    pub scale: usize,
+    pub signed: bool,
+    pub edited: bool,
+    pub width: usize,
+}
+
+// One less, or 0.
+fn less_one(n: usize) -> usize
+    ensures { λ r. ⌜ r ≡ n - 1 ⌝ }
+{
+    if n == 0 {
+        return 0;
+    }
+    n - 1
+}
+
+// The shape by the tallies: each of `$`, `+`, `-` adds its count less one to the digits.
+fn shape_of(t: Tallies) -> PicShape
+    requires { ⌜ Small t ⌝ }
+    ensures { λ r. ⌜ r ≡ shapeOf t ⌝ }
+{
+    let dollars = less_one(t.dollars);
+    let pluses = less_one(t.pluses);
+    let minuses = less_one(t.minuses);
+    let scale = t.digits - t.whole + t.scaled;
+    PicShape {
+        text: t.text,
+        digits: t.whole + dollars + pluses + minuses + scale,
+        scale,
+        signed: 0 < t.signs,
+        edited: 0 < t.edits,
+        width: t.symbols - t.hidden,
+    }
+}
+
+// Whether no half of CR or DB is left over, and every byte was a symbol.
+fn is_legal(half: Half) -> bool
+    ensures { λ r. ⌜ r ≡ nothing half ⌝ }
+{
+    match half {
+        Half::Nothing => true,
+        Half::C => false,
+        Half::D => false,
+        Half::Wrong => false,
+    }
+}
+
+fn is_display(usage: Usage) -> bool
+    ensures { λ r. ⌜ r ≡ isDisplay usage ⌝ }
+{
+    match usage {
+        Usage::Display => true,
+        Usage::Comp3 => false,
+        Usage::Comp => false,
+    }
+}
+
+// Whether the item is edited: only under DISPLAY.
+fn is_masked(s: PicShape, usage: Usage) -> bool
+    ensures { λ r. ⌜ r ≡ maskedBy usage s ⌝ }
+{
+    if s.edited {
+        return is_display(usage);
+    }
+    false
+}
+
+// Whether text is mixed with a digit or editing.
+fn is_mixed(s: PicShape) -> bool
+    ensures { λ r. ⌜ r ≡ mixedBy s ⌝ }
+{
+    if s.text == 0 {
+        return false;
+    }
+    if 0 < s.digits {
+        return true;
+    }
+    s.edited
+}
+
+// Whether a picture that is no text has over 255 digits, or an edited one a mask over 255.
+fn is_long(s: PicShape, usage: Usage) -> bool
+    ensures { λ r. ⌜ r ≡ longBy usage s ⌝ }
+{
+    if 0 < s.text {
+        return false;
+    }
+    if 255 < s.digits {
+        return true;
+    }
+    if is_masked(s, usage) {
+        return 255 < s.width;
+    }
+    false
+}
+
+// A shape, or why a picture has none.
+pub enum Shaped {
+    Shape(PicShape),
+    Refused(Refusal),
+}
+
+// Why a picture is refused, with no length needed.
+fn refusal(number: u32, at: usize) -> Shaped
+    ensures { λ r. ⌜ r ≡ Shaped.Refused (record { number = number; position = at; needed = 0 }) ⌝ }
+{
+    Shaped::Refused(Refusal {
+        number,
+        position: at,
+        needed: 0,
+    })
+}
+
+// The last checks: 25 a byte that is no symbol, 26 text with a digit or editing, 27 too many digits or too long a mask.
+fn check_shape(s: PicShape, half: Half, usage: Usage, at: usize) -> Shaped
+    requires { ⌜ s .scale ≤ s .digits ⌝ }
+    ensures { λ r. ⌜ Judged at usage s half r ⌝ }
+{
+    if is_legal(half) {
+        if is_mixed(s) {
+            return refusal(26, at);
+        }
+        if is_long(s, usage) {
+            return refusal(27, at);
+        }
+        return Shaped::Shape(s);
+    }
+    refusal(25, at)
 }

@@ -8,7 +8,7 @@ use lib.Dec.{eqb}
 use lib.ListN.{replicate}
 use borrow.Author.Tests.{eqb-true}
 use Rattle.definition.specs.Basic.{if_then_else_, is}
-use Rattle.definition.specs.Picture.{symbol, legal}
+use Rattle.definition.specs.Picture.{symbol, credit, legal}
 use Rattle.picture.specs.declared.Half.{Half}
 use Rattle.picture.specs.Shape.{next, halves, nothing}
 
@@ -58,3 +58,57 @@ staying p b (suc n) e = rw (e, halves) (staying p b n e)
 pub halves-more : (p : Half) (b n : ℕ) → halves p (replicate (suc (suc n)) b) ≡ next (next p b) b
 unfolding halves
 halves-more p b n = staying (twice p b) b n (still p b)
+
+-- a byte that is no symbol is not forgotten
+wrong-stays : (l : List ℕ) → halves Half.Wrong l ≡ Half.Wrong
+unfolding halves
+wrong-stays [] = refl
+wrong-stays (b ∷ l) = wrong-stays l
+
+wrong-ends : {p : Half} (l : List ℕ) → p ≡ Half.Wrong → false ≡ nothing (halves p l)
+wrong-ends l e = rw (e, wrong-stays l)
+
+-- after a C, after a D
+legal-c :
+    (b : ℕ) (l : List ℕ) (r : Bool) →
+    is "R" b ≡ r →
+    legal l ≡ nothing (halves Half.Nothing l) →
+    legal (67 ∷ b ∷ l) ≡ nothing (halves Half.C (b ∷ l))
+unfolding legal halves
+legal-c b l true e two = rw (e, legal) two
+legal-c b l false e two = rw (e, legal) (wrong-ends l refl)
+
+legal-d :
+    (b : ℕ) (l : List ℕ) (r : Bool) →
+    is "B" b ≡ r →
+    legal l ≡ nothing (halves Half.Nothing l) →
+    legal (68 ∷ b ∷ l) ≡ nothing (halves Half.D (b ∷ l))
+unfolding legal halves
+legal-d b l true e two = rw (e, legal) two
+legal-d b l false e two = rw (e, legal) (wrong-ends l refl)
+
+-- a list is legal if nothing is awaited at its end
+pub legal-halves : (l : List ℕ) → legal l ≡ nothing (halves Half.Nothing l)
+unfolding legal halves
+legal-halves [] = refl
+legal-halves (a ∷ []) = go (is "C" a) (is "D" a) (symbol a) refl refl refl
+  where
+    go : (c d s : Bool) → is "C" a ≡ c → is "D" a ≡ d → symbol a ≡ s → symbol a ≡ nothing (next Half.Nothing a)
+    go true d s ec ed es = known a 67 symbol (λ b. nothing (next Half.Nothing b)) refl ec
+    go false true s ec ed es = known a 68 symbol (λ b. nothing (next Half.Nothing b)) refl ed
+    go false false true ec ed es = rw (ec, ed, es)
+    go false false false ec ed es = rw (ec, ed, es)
+legal-halves (a ∷ b ∷ l) = go (is "C" a) (is "D" a) (symbol a) refl refl refl (legal-halves l) (legal-halves (b ∷ l))
+  where
+    go :
+        (c d s : Bool) →
+        is "C" a ≡ c →
+        is "D" a ≡ d →
+        symbol a ≡ s →
+        legal l ≡ nothing (halves Half.Nothing l) →
+        legal (b ∷ l) ≡ nothing (halves Half.Nothing (b ∷ l)) →
+        legal (a ∷ b ∷ l) ≡ nothing (halves (next Half.Nothing a) (b ∷ l))
+    go true d s ec ed es two one = rw (eqb-true a 67 ec) (legal-c b l (is "R" b) refl two)
+    go false true s ec ed es two one = rw (eqb-true a 68 ed) (legal-d b l (is "B" b) refl two)
+    go false false true ec ed es two one = rw (ec, ed, es, legal) one
+    go false false false ec ed es two one = rw (ec, ed, es, legal) (wrong-ends l refl)

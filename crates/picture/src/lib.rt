@@ -1,13 +1,19 @@
 // The picture reader.
 ghost use mathlib.Core.Path.{_≡_};
-ghost use mathlib.Core.Bool.{Bool};
-ghost use Prim.Native.Nat.{_+_, _-_, _≤_, _<_};
+ghost use mathlib.Core.Bool.{Bool, _&&_};
+ghost use Prim.Native.Nat.{_+_, _-_, _≤_, _<_, max};
 ghost use lib.ListN.{length, drop, getD, replicate};
 ghost use mathlib.Core.List.{[], reverse};
-ghost use Rattle.definition.specs.Picture.{isDisplay, trimStart, trim as trimmed, symbol, resolveSign, isEmbedded, signBytes, compWidth, byteWidth};
+ghost use Rattle.definition.specs.Picture.{display as displayOf, numeric as numericOf, picture as pictureIn, isDisplay, trimStart, trim as trimmed, symbol, resolveSign, isEmbedded, signBytes, compWidth, byteWidth};
+ghost use Rattle.definition.specs.Calls.{pictureAnswer, pictureOf};
 ghost use Rattle.picture.specs.Shape.{tallies, runOf, unless, joined, Small, next, halves, nothing, Counts};
-ghost use Rattle.picture.specs.Kinds.{shapeOf, maskedBy, mixedBy, longBy, kindedBy, Judged, Reads};
+ghost use Rattle.picture.specs.Kinds.{shapeOf, maskedBy, mixedBy, longBy, kindedBy, Fit, Judged, Reads};
 ghost use Rattle.picture.specs.Repeats.{Closed, Repeated};
+use definition::Check;
+use definition::FieldKind;
+use definition::NumRepr;
+use definition::PicAnswer;
+use definition::Pictured;
 use definition::Refusal;
 use definition::SignClause;
 use definition::SignKind;
@@ -559,4 +565,163 @@ fn check_shape(s: PicShape, half: Half, usage: Usage, at: usize) -> Shaped
         return Shaped::Shape(s);
     }
     refusal(25, at)
+}
+
+// The shape of a picture that is not refused, or its first refusal of 22 to 27.
+fn read_shape(picture: &[u8], at: usize, usage: Usage) -> Shaped
+    ensures { λ r. ⌜ Reads at usage (now (picture .entry)) r ⌝ }
+{
+    let word = trim(picture);
+    match count_symbols(word, at) {
+        Counted::Symbols { tallies, half } => {
+            let s = shape_of(tallies);
+            return check_shape(s, half, usage, at);
+        }
+        Counted::Refused(r) => {
+            return Shaped::Refused(r);
+        }
+    }
+}
+
+// Whether a sign stands in a digit's zone.
+fn is_zoned(signed: bool, sign: SignKind) -> bool
+    ensures { λ r. ⌜ r ≡ (signed && isEmbedded sign) ⌝ }
+{
+    if signed {
+        match sign {
+            SignKind::Unsigned => false,
+            SignKind::Embedded => true,
+            SignKind::LeadingSeparate => false,
+            SignKind::TrailingSeparate => false,
+        }
+    } else {
+        false
+    }
+}
+
+// A number in DISPLAY.
+fn display(digits: usize, scale: usize, signed: bool, sign: SignKind) -> Pictured
+    requires { ⌜ (digits ≤ 255) × (scale ≤ 255) ⌝ }
+    ensures { λ r. ⌜ r ≡ displayOf digits scale signed sign ⌝ }
+{
+    let width = digits + sign_bytes(sign);
+    if is_zoned(signed, sign) {
+        return Pictured {
+            kind: FieldKind::Decimal {
+                precision: digits as u8,
+                scale: scale as u8,
+                repr: NumRepr::Zoned,
+                sign,
+            },
+            width,
+        };
+    }
+    if scale == 0 {
+        return Pictured {
+            kind: FieldKind::Int { signed, sign },
+            width,
+        };
+    }
+    Pictured {
+        kind: FieldKind::Decimal {
+            precision: digits as u8,
+            scale: scale as u8,
+            repr: NumRepr::Display,
+            sign,
+        },
+        width,
+    }
+}
+
+// A number in any usage.
+fn numeric(usage: Usage, digits: usize, scale: usize, signed: bool, clause: SignClause) -> Pictured
+    requires { ⌜ (digits ≤ 255) × (scale ≤ 255) ⌝ }
+    ensures { λ r. ⌜ r ≡ numericOf usage digits scale signed clause ⌝ }
+{
+    match usage {
+        Usage::Display => {
+            let sign = resolve_sign(signed, clause);
+            return display(digits, scale, signed, sign);
+        }
+        Usage::Comp3 => {
+            return Pictured {
+                kind: FieldKind::Decimal {
+                    precision: digits as u8,
+                    scale: scale as u8,
+                    repr: NumRepr::Comp3,
+                    sign: SignKind::Embedded,
+                },
+                width: byte_width(digits),
+            };
+        }
+        Usage::Comp => {
+            return Pictured {
+                kind: FieldKind::Binary { signed },
+                width: comp_width(digits),
+            };
+        }
+    }
+}
+
+// At least 1.
+fn one_at_least(n: usize) -> usize
+    ensures { λ r. ⌜ r ≡ max 1 n ⌝ }
+{
+    if n == 0 {
+        return 1;
+    }
+    n
+}
+
+// Kind and width of a shape that passed the checks.
+fn kind_of(s: PicShape, usage: Usage, sign: SignClause) -> Pictured
+    requires { ⌜ Fit usage s ⌝ }
+    ensures { λ r. ⌜ r ≡ kindedBy usage sign s ⌝ }
+{
+    if 0 < s.text {
+        return Pictured {
+            kind: FieldKind::Text,
+            width: s.text,
+        };
+    }
+    if is_masked(s, usage) {
+        let precision = one_at_least(s.digits);
+        return Pictured {
+            kind: FieldKind::Edited {
+                precision: precision as u8,
+                scale: s.scale as u8,
+                signed: s.signed,
+            },
+            width: s.width,
+        };
+    }
+    numeric(usage, s.digits, s.scale, s.signed, sign)
+}
+
+// Kind and width of a picture inside a copybook; a refusal carries `at`.
+pub fn picture_at(picture: &[u8], at: usize, usage: Usage, sign: SignClause) -> PicAnswer
+    ensures { λ r. ⌜ pictureOf r ≡ pictureIn at usage sign (now (picture .entry)) ⌝ }
+{
+    match read_shape(picture, at, usage) {
+        Shaped::Shape(s) => {
+            return PicAnswer::Accepted(kind_of(s, usage, sign));
+        }
+        Shaped::Refused(r) => {
+            return PicAnswer::Refused(r);
+        }
+    }
+}
+
+// Kind and width of a picture.
+pub fn parse_pic(picture: &[u8], usage: Usage, sign: SignClause) -> PicAnswer
+    ensures { λ r. ⌜ pictureOf r ≡ pictureAnswer usage sign (now (picture .entry)) ⌝ }
+{
+    match text::text_checks(picture) {
+        Check::Passed => {
+            return picture_at(picture, 0, usage, sign);
+        }
+        Check::Refused(r) => {
+            return PicAnswer::Refused(r);
+        }
+    }
 }

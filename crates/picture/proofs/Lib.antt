@@ -2,3 +2,4 @@ pub mod Keys
 pub mod Halves
 pub mod Counting
 pub mod Shapes
+pub mod Masking

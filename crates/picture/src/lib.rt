@@ -4,10 +4,12 @@ ghost use mathlib.Core.Bool.{Bool, _&&_};
 ghost use Prim.Native.Nat.{_+_, _-_, _≤_, _<_, max};
 ghost use lib.ListN.{length, drop, getD, replicate};
 ghost use mathlib.Core.List.{[], reverse};
-ghost use Rattle.definition.specs.Picture.{display as displayOf, numeric as numericOf, picture as pictureIn, isDisplay, trimStart, trim as trimmed, symbol, resolveSign, isEmbedded, signBytes, compWidth, byteWidth};
+ghost use lib.Seq.{sets};
+ghost use Rattle.definition.specs.Picture.{mask as maskOf, expand, display as displayOf, numeric as numericOf, picture as pictureIn, isDisplay, trimStart, trim as trimmed, symbol, resolveSign, isEmbedded, signBytes, compWidth, byteWidth};
 ghost use Rattle.definition.specs.Calls.{pictureAnswer, pictureOf};
 ghost use Rattle.picture.specs.Shape.{tallies, runOf, unless, joined, Small, next, halves, nothing, Counts};
 ghost use Rattle.picture.specs.Kinds.{shapeOf, maskedBy, mixedBy, longBy, kindedBy, Fit, Judged, Reads};
+ghost use Rattle.picture.specs.Masks.{hidden, Room, put, Wrote};
 ghost use Rattle.picture.specs.Repeats.{Closed, Repeated};
 use definition::Check;
 use definition::FieldKind;
@@ -722,6 +724,63 @@ pub fn parse_pic(picture: &[u8], usage: Usage, sign: SignClause) -> PicAnswer
         }
         Check::Refused(r) => {
             return PicAnswer::Refused(r);
+        }
+    }
+}
+
+// Whether a symbol takes no byte of a mask.
+fn is_hidden(b: u8) -> bool
+    ensures { λ r. ⌜ r ≡ hidden b ⌝ }
+{
+    match b {
+        b'P' | b'S' | b'V' => true,
+        _ => false,
+    }
+}
+
+// Writes n copies of a byte from k on.
+fn fill(out: &mut [u8], k: usize, n: usize, b: u8)
+    requires { ⌜ k + n ≤ length (now out) ⌝ }
+    ensures { λ _. ⌜ now (out .exit) ≡ sets (now (out .entry)) k (replicate n b) ⌝ }
+{
+    let end = k + n;
+    let mut i = k;
+    while i < end {
+        out[i] = b;
+        i += 1;
+    }
+}
+
+// Writes the mask of a symbol that stands n times, from k on; the place after it.
+fn write_run(out: &mut [u8], k: usize, n: usize, b: u8) -> usize
+    requires { ⌜ k + length (maskOf (replicate n b)) ≤ length (now out) ⌝ }
+    ensures { λ r. ⌜ Wrote (now (out .entry)) k b n r (now (out .exit)) ⌝ }
+{
+    if is_hidden(b) {
+        return k;
+    }
+    fill(out, k, n, b);
+    k + n
+}
+
+// Writes the mask of a trimmed picture that was read and has room.
+fn write_mask(picture: &[u8], out: &mut [u8])
+    requires { ⌜ Room 0 (expand 0 0 0 (now picture)) (length (now out)) ⌝ }
+    ensures { λ _. ⌜ now (out .exit) ≡ put 0 (expand 0 0 0 (now (picture .entry))) (now (out .entry)) ⌝ }
+{
+    let mut k = 0;
+    let mut i = 0;
+    while i < picture.len() {
+        let b = text::upper(picture[i]);
+        let next = i + 1;
+        match repeat_at(&picture[next..], 0) {
+            Repeat::Times { n, skip } => {
+                i = next + skip;
+                k = write_run(out, k, n, b);
+            }
+            Repeat::Refused(_) => {
+                return;
+            }
         }
     }
 }

@@ -6,8 +6,10 @@ use mathlib.Core.Bool.{Bool}
 use mathlib.Core.List.{List, []}
 use lib.ListN.{length, replicate}
 use lib.Seq.{sets}
-use Rattle.definition.specs.Basic.{among, Answer, refuse, give}
-use Rattle.definition.specs.Picture.{mask}
+use Rattle.definition.specs.declared.Usage.{Usage}
+use Rattle.definition.specs.Basic.{if_then_else_, among, Answer, refuse, give, _>>=_}
+use Rattle.definition.specs.Picture.{mask, symbols, isMasked}
+use Rattle.definition.specs.Calls.{After, fitting}
 
 -- the symbol takes no byte of a mask
 abbrev pub hidden : ℕ → Bool
@@ -27,3 +29,11 @@ put k (give l) out = sets out k (mask l)
 pub record Wrote (out : List ℕ) (k b n r : ℕ) (after : List ℕ) : Type 0 where
   pub next : r ≡ k + length (mask (replicate n b))
   pub same : after ≡ sets out k (mask (replicate n b))
+
+-- the mask of a picture whose text was checked
+abbrev pub maskIn : Usage → List ℕ → ℕ → Answer (List ℕ)
+maskIn usage bs room = symbols 0 usage bs >>= λ l. fitting room (if isMasked usage l then mask l else [])
+
+-- an answer and the output, with no work memory lent
+abbrev pub after : Answer ℕ → List ℕ → After ℕ
+after a out = record { answer = a; output = out; work = [] }

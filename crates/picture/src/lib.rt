@@ -1,15 +1,15 @@
 // The picture reader.
 ghost use mathlib.Core.Path.{_≡_};
 ghost use mathlib.Core.Bool.{Bool, _&&_};
-ghost use Prim.Native.Nat.{_+_, _-_, _≤_, _<_, max};
+ghost use Prim.Native.Nat.{ℕ, _+_, _-_, _≤_, _<_, max};
 ghost use lib.ListN.{length, drop, getD, replicate};
 ghost use mathlib.Core.List.{[], reverse};
 ghost use lib.Seq.{sets};
 ghost use Rattle.definition.specs.Picture.{mask as maskOf, expand, display as displayOf, numeric as numericOf, picture as pictureIn, isDisplay, trimStart, trim as trimmed, symbol, resolveSign, isEmbedded, signBytes, compWidth, byteWidth};
-ghost use Rattle.definition.specs.Calls.{pictureAnswer, pictureOf};
+ghost use Rattle.definition.specs.Calls.{After, writingOf, afterWriting, maskCall, pictureAnswer, pictureOf};
 ghost use Rattle.picture.specs.Shape.{tallies, runOf, unless, joined, Small, next, halves, nothing, Counts};
 ghost use Rattle.picture.specs.Kinds.{shapeOf, maskedBy, mixedBy, longBy, kindedBy, Fit, Judged, Reads};
-ghost use Rattle.picture.specs.Masks.{hidden, Room, put, Wrote};
+ghost use Rattle.picture.specs.Masks.{hidden, Room, put, Wrote, maskIn, after};
 ghost use Rattle.picture.specs.Repeats.{Closed, Repeated};
 use definition::Check;
 use definition::FieldKind;
@@ -20,6 +20,7 @@ use definition::Refusal;
 use definition::SignClause;
 use definition::SignKind;
 use definition::Usage;
+use definition::Writing;
 use text::Number;
 
 // The bytes of a COMP item of so many digits.
@@ -781,6 +782,47 @@ fn write_mask(picture: &[u8], out: &mut [u8])
             Repeat::Refused(_) => {
                 return;
             }
+        }
+    }
+}
+
+// The mask of a picture whose text was checked.
+fn mask_of(picture: &[u8], usage: Usage, out: &mut [u8]) -> Writing
+    ensures { λ r. ⌜ after (writingOf r) (now (out .exit)) ≡ afterWriting (maskIn usage (now (picture .entry)) (length (now (out .entry)))) (now (out .entry)) [] ⌝ }
+{
+    match read_shape(picture, 0, usage) {
+        Shaped::Shape(s) => {
+            if is_masked(s, usage) {
+                let width = s.width;
+                if out.len() < width {
+                    return Writing::Refused(Refusal {
+                        number: 31,
+                        position: 0,
+                        needed: width,
+                    });
+                }
+                let word = trim(picture);
+                write_mask(word, out);
+                return Writing::Written(width);
+            }
+            return Writing::Written(0);
+        }
+        Shaped::Refused(r) => {
+            return Writing::Refused(r);
+        }
+    }
+}
+
+// The mask of an edited DISPLAY picture.
+pub fn mask(picture: &[u8], usage: Usage, out: &mut [u8]) -> Writing
+    ensures { λ r. ⌜ _≡_ {A = After ℕ} (record { answer = writingOf r; output = now (out .exit); work = [] }) (maskCall usage (now (picture .entry)) (now (out .entry))) ⌝ }
+{
+    match text::text_checks(picture) {
+        Check::Passed => {
+            return mask_of(picture, usage, out);
+        }
+        Check::Refused(r) => {
+            return Writing::Refused(r);
         }
     }
 }

@@ -3,16 +3,16 @@
 use Prim.Native.Nat.{ℕ}
 use mathlib.Core.Path.{_≡_, refl, sym, ap, _∙_}
 use mathlib.Core.List.{List}
-use native.Mathlib.Omega.{arith}
 use Rattle.definition.specs.declared.Refusal.{Refusal}
 use Rattle.definition.specs.declared.Usage.{Usage}
 use Rattle.definition.specs.declared.SignClause.{SignClause}
 use Rattle.definition.specs.declared.Pictured.{Pictured}
-use Rattle.definition.specs.Basic.{Answer, refuse, give, _>>=_}
-use Rattle.definition.specs.Picture.{kinded, symbols, picture}
+use Rattle.definition.specs.Basic.{refuse, give, _>>=_}
+use Rattle.definition.specs.Picture.{kinded, picture}
 use Rattle.picture.specs.declared.PicShape.{PicShape}
 use Rattle.picture.specs.declared.Shaped.{Shaped}
-use Rattle.picture.specs.Kinds.{shapeFor, kindedBy, Fit, shapedOf, Reads}
+use Rattle.picture.specs.Kinds.{kindedBy, Fit, Reads}
+use Rattle.picture.proofs.Shapes.{behind, behind-refused}
 use borrow.Author.Needs.{needs}
 use Rattle.picture.proofs.picture_at.Statement.{statement}
 use Rattle.picture.proofs.picture_at.Tie as tie
@@ -20,25 +20,14 @@ use Rattle.picture.proofs.picture_at.Tie as tie
 fit : {at : ℕ} {usage : Usage} {bs : List ℕ} {r : Shaped} → Reads at usage bs r → {s : PicShape} → r ≡ Shaped.Shape s → Fit usage s
 fit k e = rw e at (k .fits)
 
-module _ (usage : Usage) (sign : SignClause) where
-  given-kind : (x : Answer (List ℕ)) {s : PicShape} → give s ≡ (x >>= λ l. give (shapeFor l)) → give (kindedBy usage sign s) ≡ (x >>= λ l. give (kinded usage sign l))
-  unfolding _>>=_ kinded
-  given-kind (refuse y) h = absurd (let z : _≡_ {A = ℕ} 0 1 = cc in omega arith)
-  given-kind (give l) {s} h = let same : s ≡ shapeFor l = cc in ap (λ (k : PicShape). give (kindedBy usage sign k)) same
+module _ (at : ℕ) (usage : Usage) (sign : SignClause) (bs : List ℕ) {r : Shaped} (k : Reads at usage bs r) where
+  accepted : {s : PicShape} → r ≡ Shaped.Shape s → {p : Pictured} → p ≡ kindedBy usage sign s → give p ≡ picture at usage sign bs
+  unfolding picture kinded _>>=_
+  accepted e q = let b = behind k e in rw (b .are) (ap give (q ∙ ap (kindedBy usage sign) (b .shape)))
 
-  refused-kind : (x : Answer (List ℕ)) {r : Refusal} → refuse r ≡ (x >>= λ l. give (shapeFor l)) → refuse r ≡ (x >>= λ l. give (kinded usage sign l))
-  unfolding _>>=_
-  refused-kind (refuse y) h = ap refuse (cc)
-  refused-kind (give l) h = absurd (let z : _≡_ {A = ℕ} 0 1 = cc in omega arith)
-
-  module _ (at : ℕ) (bs : List ℕ) {r : Shaped} (k : Reads at usage bs r) where
-    accepted : {s : PicShape} → r ≡ Shaped.Shape s → {p : Pictured} → p ≡ kindedBy usage sign s → give p ≡ picture at usage sign bs
-    unfolding picture
-    accepted e q = rw q (given-kind (symbols at usage bs) (rw e at (k .same)))
-
-    refused : {x : Refusal} → r ≡ Shaped.Refused x → refuse x ≡ picture at usage sign bs
-    unfolding picture
-    refused e = refused-kind (symbols at usage bs) (rw e at (k .same))
+  refused : {x : Refusal} → r ≡ Shaped.Refused x → refuse x ≡ picture at usage sign bs
+  unfolding picture _>>=_
+  refused e = rw (behind-refused k e)
 
 read-shape-requires : tie.Need-read-shape-requires
 read-shape-requires c κs = search needs

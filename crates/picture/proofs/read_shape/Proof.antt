@@ -34,7 +34,7 @@ module _ (at : ℕ) (usage : Usage) (bs : List ℕ) {w : List ℕ} (trimmed : w 
   unfolding _>>=_
   refused {x} e =
       let same : refuse x ≡ counts at (trim bs) = rw e at counted in
-      let stops = counts-refused at (trim bs) (expand at 0 0 (trim bs)) refl same in
+      let stops = counts-refused at (trim bs) same in
       record { same = sym (symbols-shape at usage bs (refuse x) stops); fits = tt }
 
   accepted :

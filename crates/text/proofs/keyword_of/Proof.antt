@@ -10,8 +10,8 @@ use Rattle.text.proofs.keyword_of.Statement.{statement}
 use Rattle.text.proofs.keyword_of.Tie as tie
 
 -- one more pick, over what the earlier ones gave
-then : (w s : List ℕ) (k o o′ r : Keyword) → r ≡ pick w s k o → o ≡ o′ → r ≡ pick w s k o′
-then w s k o o′ r e q = e ∙ ap (pick w s k) q
+then : (w s : List ℕ) (k : Keyword) {o o′ r : Keyword} → r ≡ pick w s k o → o ≡ o′ → r ≡ pick w s k o′
+then w s k e q = e ∙ ap (pick w s k) q
 
 slice-aggregate-pick : tie.Need-slice-aggregate-pick
 slice-aggregate-pick c = search needs
@@ -155,26 +155,26 @@ returns c =
     let c3 = c4 .before .before in
     let c2 = c3 .before .before in
     let c1 = c2 .before .before in
-    then _ _ _ _ _ _ (c .pick20 .ensures)
-    (then _ _ _ _ _ _ (c19 .pick19 .ensures)
-    (then _ _ _ _ _ _ (c18 .pick18 .ensures)
-    (then _ _ _ _ _ _ (c17 .pick17 .ensures)
-    (then _ _ _ _ _ _ (c16 .pick16 .ensures)
-    (then _ _ _ _ _ _ (c15 .pick15 .ensures)
-    (then _ _ _ _ _ _ (c14 .pick14 .ensures)
-    (then _ _ _ _ _ _ (c13 .pick13 .ensures)
-    (then _ _ _ _ _ _ (c12 .pick12 .ensures)
-    (then _ _ _ _ _ _ (c11 .pick11 .ensures)
-    (then _ _ _ _ _ _ (c10 .pick10 .ensures)
-    (then _ _ _ _ _ _ (c9 .pick9 .ensures)
-    (then _ _ _ _ _ _ (c8 .pick8 .ensures)
-    (then _ _ _ _ _ _ (c7 .pick7 .ensures)
-    (then _ _ _ _ _ _ (c6 .pick6 .ensures)
-    (then _ _ _ _ _ _ (c5 .pick5 .ensures)
-    (then _ _ _ _ _ _ (c4 .pick4 .ensures)
-    (then _ _ _ _ _ _ (c3 .pick3 .ensures)
-    (then _ _ _ _ _ _ (c2 .pick2 .ensures)
-    (then _ _ _ _ _ _ (c1 .pick .ensures) refl)))))))))))))))))))
+    then _ _ _ (c .pick20 .ensures)
+    (then _ _ _ (c19 .pick19 .ensures)
+    (then _ _ _ (c18 .pick18 .ensures)
+    (then _ _ _ (c17 .pick17 .ensures)
+    (then _ _ _ (c16 .pick16 .ensures)
+    (then _ _ _ (c15 .pick15 .ensures)
+    (then _ _ _ (c14 .pick14 .ensures)
+    (then _ _ _ (c13 .pick13 .ensures)
+    (then _ _ _ (c12 .pick12 .ensures)
+    (then _ _ _ (c11 .pick11 .ensures)
+    (then _ _ _ (c10 .pick10 .ensures)
+    (then _ _ _ (c9 .pick9 .ensures)
+    (then _ _ _ (c8 .pick8 .ensures)
+    (then _ _ _ (c7 .pick7 .ensures)
+    (then _ _ _ (c6 .pick6 .ensures)
+    (then _ _ _ (c5 .pick5 .ensures)
+    (then _ _ _ (c4 .pick4 .ensures)
+    (then _ _ _ (c3 .pick3 .ensures)
+    (then _ _ _ (c2 .pick2 .ensures)
+    (then _ _ _ (c1 .pick .ensures) refl)))))))))))))))))))
 
 pub keyword-of-spec : {M : Type 1} → statement M
 keyword-of-spec =

@@ -1,11 +1,9 @@
 -- Laws of words and tokens: two words compared byte by byte, one step of the tokens, and the statements one by one.
 -- Assumes nothing.
-use Prim.Native.Nat.{ℕ, zero, suc, _+_, _-_, _≤_, _<_}
-use mathlib.Core.Path.{_≡_, refl, ap, _∙_}
-use mathlib.Core.Bool.{Bool, true, false, _&&_, _||_}
+use Prim.Native.Nat.{ℕ, _+_, _≤_, _<_}
+use mathlib.Core.Path.{_≡_, refl, ap}
+use mathlib.Core.Bool.{Bool, true, false, _&&_}
 use mathlib.Core.List.{List, [], _∷_, _++_, map}
-use native.Mathlib.Omega.{arith}
-use lib.Dec.{eqb}
 use lib.ListN.{length, getD, drop, drop-of-length-le}
 use borrow.Author.Tests.{eq-eqb, ne-eqb}
 use Rattle.definition.specs.declared.Span.{Span}
@@ -21,6 +19,7 @@ use Rattle.definition.proofs.Lists.{drop-next}
 
 -- ---------------------------------------------------------------- two words
 
+-- a list read as it stands
 pub map-itself : (l : List ℕ) → map (λ x. x) l ≡ l
 map-itself [] = refl
 map-itself (b ∷ l) = rw (map-itself l)

@@ -88,6 +88,7 @@ pub fn same_spelling(a: &[u8], b: &[u8]) -> bool
     same_folded(a, false, b, false)
 }
 
+// The number that a word spells, or that it spells none within the limit.
 pub enum Number {
     Value(u64),
     Bad,
@@ -144,6 +145,7 @@ pub fn count_of(word: &[u8]) -> Number
     number_up_to(word, 18446744073709551615)
 }
 
+// The level that a word spells, or that it spells none.
 pub enum Level {
     Value(u8),
     Bad,

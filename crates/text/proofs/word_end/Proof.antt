@@ -18,18 +18,18 @@ use Rattle.text.specs.Tokens.{tokensFrom, inWord, WordEnd}
 use Rattle.text.proofs.word_end.Statement.{statement}
 use Rattle.text.proofs.word_end.Tie as tie
 
-never : {A : Type 0} {a b : Bool} → a ≡ true → b ≡ false → a ≡ b → A
-never p q e = absurd (let z : _≡_ {A = ℕ} 0 1 = cc in omega arith)
+never : {A : Type 0} → false ≡ true → A
+never e = absurd (let z : _≡_ {A = ℕ} 0 1 = cc in omega arith)
 
 -- a byte of a word goes on with it
 goes-on :
     (k : ByteKind) → inWord k ≡ true → (s p : ℕ) (more : Mode → List Token) →
     completed (Within s) p k ++ more (modeAfter (Within s) p k) ≡ more (Within s)
-goes-on Newline y s p more = never y refl refl
-goes-on Blank y s p more = never y refl refl
-goes-on Cut y s p more = never y refl refl
+goes-on Newline y s p more = never y
+goes-on Blank y s p more = never y
+goes-on Cut y s p more = never y
 goes-on Star y s p more = refl
-goes-on Period y s p more = never y refl refl
+goes-on Period y s p more = never y
 goes-on Other y s p more = refl
 
 -- any other ends the word, and is then what it is between words
@@ -39,9 +39,9 @@ ends-here :
 ends-here Newline y s p more = refl
 ends-here Blank y s p more = refl
 ends-here Cut y s p more = refl
-ends-here Star y s p more = never refl y refl
+ends-here Star y s p more = never (sym y)
 ends-here Period y s p more = refl
-ends-here Other y s p more = never refl y refl
+ends-here Other y s p more = never (sym y)
 
 -- the word goes on at i
 record Left (t : List ℕ) (at i : ℕ) : Type 0 where

@@ -1,16 +1,17 @@
 -- Laws of the numbers that words spell: one more digit, a byte that is none, the end, and a number that is too large already.
 -- Assumes nothing.
-use Prim.Native.Nat.{ℕ, zero, suc, _+_, _*_, _-_, _≤_, _<_}
-use mathlib.Core.Path.{_≡_, refl}
+use Prim.Native.Nat.{ℕ, _+_, _*_, _-_, _≤_, _<_}
+use mathlib.Core.Path.{_≡_, refl, sym, _∙_}
 use mathlib.Core.Bool.{Bool, true, false, _&&_}
 use mathlib.Core.List.{List, [], _∷_}
+use mathlib.Core.Logic.{_⊎_, inl, inr, ⊎-elim}
 use mathlib.Core.Option.{Option, none, some}
 use native.Mathlib.Omega.{arith}
-use lib.Dec.{eqb, leb, ltb}
+use lib.Dec.{leb, ltb}
 use lib.ListN.{length, getD, drop, drop-of-length-le}
-use borrow.Author.Tests.{eq-eqb, ne-eqb, le-leb, lt-leb, lt-ltb, le-ltb, ltb-true}
-use Rattle.definition.specs.Basic.{if_then_else_, is, digits, numeral, below, number}
-use Rattle.definition.proofs.Lists.{drop-next}
+use borrow.Author.Tests.{eq-eqb, ne-eqb, le-leb, lt-leb, le-ltb, ltb-true}
+use Rattle.definition.specs.Basic.{if_then_else_, is, upper, uppers, digits, numeral, below, number}
+use Rattle.definition.proofs.Lists.{order, drop-next}
 
 -- the digits from i on, after n was read
 module _ (w : List ℕ) (i n : ℕ) where
@@ -77,3 +78,47 @@ pub number-less : (limit : ℕ) (w : List ℕ) {n : ℕ} → number limit w ≡ 
 unfolding number
 number-less limit [] h = absurd (let z : _≡_ {A = ℕ} 0 1 = cc in omega arith)
 number-less limit (b ∷ bs) h = below-less limit (if is "+" b then numeral bs else numeral (b ∷ bs)) h
+
+-- ---------------------------------------------------------------- letter case
+
+-- upper case leaves a byte as it is, or the byte is a letter, above the digits and the plus
+cased : (b : ℕ) → (upper b ≡ b) ⊎ ((57 < b) × (57 < upper b))
+cased b =
+    ⊎-elim
+    (λ (l : b < 97). inl (rw (lt-leb 97 b l)))
+    (λ (l : 97 ≤ b).
+    ⊎-elim
+    (λ (m : 122 < b). inl (rw (le-leb 97 b l, lt-leb b 122 m)))
+    (λ (m : b ≤ 122). inr (omega arith, rw (le-leb 97 b l, le-leb b 122 m) (omega arith)))
+    (order 122 b))
+    (order b 97)
+
+-- a byte above the digits spells no number
+digits-none : (n b : ℕ) (bs : List ℕ) → 57 < b → digits n (b ∷ bs) ≡ none
+unfolding digits
+digits-none n b bs h = rw (le-leb 48 b (omega arith), lt-leb b 57 h)
+
+-- letter case does not count in a number
+digits-uppers : (bs : List ℕ) (n : ℕ) → digits n (uppers bs) ≡ digits n bs
+unfolding digits
+digits-uppers [] n = refl
+digits-uppers (b ∷ bs) n =
+    let ih = digits-uppers bs (n * 10 + (b - 48)) in
+    ⊎-elim
+    (λ (e : upper b ≡ b). rw (e, ih))
+    (λ (h : (57 < b) × (57 < upper b)). digits-none n (upper b) (uppers bs) (h .1) ∙ sym (digits-none n b bs (h .0)))
+    (cased b)
+
+numeral-uppers : (bs : List ℕ) → numeral (uppers bs) ≡ numeral bs
+numeral-uppers [] = refl
+numeral-uppers (b ∷ bs) = digits-uppers (b ∷ bs) 0
+
+pub number-uppers : (limit : ℕ) (bs : List ℕ) → number limit (uppers bs) ≡ number limit bs
+unfolding number
+number-uppers limit [] = refl
+number-uppers limit (b ∷ bs) =
+    ⊎-elim
+    (λ (e : upper b ≡ b). rw (← digits-uppers (b ∷ bs) 0, ← numeral-uppers bs, e))
+    (λ (h : (57 < b) × (57 < upper b)).
+    rw (ne-eqb (upper b) 43 (λ e. omega arith), ne-eqb b 43 (λ e. omega arith), ← digits-uppers (b ∷ bs) 0))
+    (cased b)

@@ -4,17 +4,17 @@
 use Prim.Native.Nat.{ℕ, zero, suc, _+_, _-_, _≤_, _<_}
 use Prim.Native.String.{String}
 use mathlib.Core.Path.{_≡_, refl, sym, ap, _∙_}
-use mathlib.Core.Bool.{Bool, true, false, _&&_, _||_}
+use mathlib.Core.Bool.{Bool, true, false}
 use mathlib.Core.List.{List, [], _∷_, _++_, reverse, append-assoc, append-nil, reverse-append, reverse-reverse}
 use mathlib.Core.Option.{Option, none, some}
 use native.Mathlib.Numerals.{add-one}
 use native.Mathlib.Omega.{arith}
-use lib.Dec.{eqb, ltb}
+use lib.Dec.{ltb}
 use lib.ListN.{length, getD, take, drop, replicate, length-drop, drop-of-length-le}
 use lib.Seq.{take-all, take-suc, drop-drop}
 use borrow.Author.Tests.{eq-eqb, ne-eqb, lt-ltb, le-ltb}
 use Rattle.definition.specs.declared.Refusal.{Refusal}
-use Rattle.definition.specs.Basic.{if_then_else_, is, among, white, upper, count, Answer, refuse, give, _>>=_, refused, refuseIf, orRefuse}
+use Rattle.definition.specs.Basic.{if_then_else_, among, white, upper, count, Answer, refuse, give, _>>=_, refused, orRefuse}
 use Rattle.definition.specs.Picture.{trimStart, trim, inFront, beforeClose, repeat, expand, tally, beforePoint, afterPoint, mask}
 use Rattle.definition.proofs.Lists.{drop-next}
 

@@ -2,17 +2,16 @@
 -- Assumes nothing.
 use Prim.Native.Nat.{ℕ, _+_, _≤_}
 use Prim.Native.String.{String}
-use mathlib.Core.Path.{_≡_, refl, sym, ap, _∙_}
+use mathlib.Core.Path.{_≡_, refl, ap, _∙_}
 use mathlib.Core.Bool.{Bool, true, false, _||_}
-use mathlib.Core.List.{List, [], _∷_, _++_}
+use mathlib.Core.List.{List, _++_}
 use native.Mathlib.Omega.{arith}
-use lib.Dec.{eqb, ltb}
+use lib.Dec.{eqb}
 use lib.ListN.{length, replicate, length-append, length-replicate}
 use borrow.Author.Tests.{eqb-true}
 use Rattle.definition.specs.Basic.{if_then_else_, among}
-use Rattle.definition.specs.Picture.{tally, beforePoint, afterPoint}
+use Rattle.definition.specs.Picture.{tally, beforePoint}
 use Rattle.definition.proofs.PictureLaws.{tally-append, tally-run, tally-le, before-append, before-run, tally-sides}
-use Rattle.picture.specs.declared.Tallies.{Tallies}
 use Rattle.picture.specs.Shape.{times, tallies, runOf, unless, joined, Small}
 
 -- a point is no digit
@@ -51,7 +50,7 @@ module _ (l : List ℕ) (b n : ℕ) where
         minuses = more "-" i;
         signs = more "S+-CD" i;
         edits = more "Z*.,/B0$+-CD" i;
-        hidden = more "SVP" i
+        hidden = more "SVP" i;
       }
 
 -- a list of so many symbols
@@ -73,7 +72,7 @@ module _ (l : List ℕ) (h : length l ≤ 65535) where
         minuses = few "-";
         signs = few "S+-CD";
         edits = few "Z*.,/B0$+-CD";
-        hidden = tally-le "SVP" l
+        hidden = tally-le "SVP" l;
       }
 
 -- a run
@@ -102,5 +101,5 @@ module _ (b n : ℕ) (h : n ≤ 65535) where
         minuses = little "-";
         signs = little "S+-CD";
         edits = little "Z*.,/B0$+-CD";
-        hidden = times-le "SVP" b n
+        hidden = times-le "SVP" b n;
       }

@@ -1,14 +1,14 @@
 -- Laws of what is awaited of CR or DB: no state changes after a byte's second copy, and a list is legal if nothing is awaited at its end.
 -- Assumes nothing.
 use Prim.Native.Nat.{ℕ, zero, suc}
-use mathlib.Core.Path.{_≡_, refl, sym, ap, _∙_}
-use mathlib.Core.Bool.{Bool, true, false, _&&_, _||_}
+use mathlib.Core.Path.{_≡_, refl}
+use mathlib.Core.Bool.{Bool, true, false}
 use mathlib.Core.List.{List, [], _∷_, _++_}
 use lib.Dec.{eqb}
 use lib.ListN.{replicate}
 use borrow.Author.Tests.{eqb-true}
-use Rattle.definition.specs.Basic.{if_then_else_, is}
-use Rattle.definition.specs.Picture.{symbol, credit, legal}
+use Rattle.definition.specs.Basic.{is}
+use Rattle.definition.specs.Picture.{symbol, legal}
 use Rattle.picture.specs.declared.Half.{Half}
 use Rattle.picture.specs.Shape.{next, halves, nothing}
 

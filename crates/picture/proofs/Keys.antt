@@ -6,12 +6,12 @@ use Prim.Native.Char.{code}
 use mathlib.Core.Path.{_≡_, refl, sym, ap, _∙_}
 use mathlib.Core.Bool.{Bool, true, false, _&&_, _||_}
 use mathlib.Core.List.{List, [], _∷_}
-use mathlib.Core.Logic.{_⊎_, inl, inr}
+use mathlib.Core.Logic.{inl, inr}
 use lib.Dec.{eqb}
 use types.Run.{OneOf}
 use native.Mathlib.Omega.{arith}
-use borrow.Author.Tests.{eqb-true, ne-eqb}
-use Rattle.definition.specs.Basic.{is, among}
+use borrow.Author.Tests.{ne-eqb}
+use Rattle.definition.specs.Basic.{among}
 
 -- a function that has one value at every key
 abbrev pub Each : {A : Type 0} → (ℕ → A) → A → List ℕ → Type 0

@@ -9,7 +9,7 @@ use lib.ListN.{length}
 use Rattle.definition.specs.declared.Refusal.{Refusal}
 use Rattle.definition.specs.declared.Usage.{Usage}
 use Rattle.definition.specs.Basic.{Answer, refuse, give, _>>=_, refuseIf}
-use Rattle.definition.specs.Picture.{trim, expand, tally, beforePoint, afterPoint, fraction, mask, legal, mixed, tooLong, symbols}
+use Rattle.definition.specs.Picture.{trim, expand, tally, beforePoint, fraction, mask, mixed, tooLong, symbols}
 use Rattle.definition.proofs.Answers.{bound, through, given-same, map-refused}
 use Rattle.definition.proofs.PictureLaws.{tally-sides, mask-length}
 use Rattle.picture.specs.declared.Tallies.{Tallies}
@@ -37,7 +37,7 @@ module _ (l : List ℕ) where
         scale = scale-same i;
         signed = shapeFor l .signed;
         edited = shapeFor l .edited;
-        width = width-same i
+        width = width-same i;
       }
 
 -- the checks, then the shape

@@ -2,7 +2,7 @@
 -- Assumes nothing.
 use Prim.Native.Nat.{ℕ, _+_, _-_, _≤_, max}
 use mathlib.Core.Path.{_≡_}
-use mathlib.Core.Bool.{Bool, true, false, _&&_, _||_, not}
+use mathlib.Core.Bool.{Bool, false, _&&_, _||_, not}
 use mathlib.Core.List.{List}
 use lib.Dec.{ltb}
 use lib.ListN.{length}
@@ -27,7 +27,7 @@ shapeFor l =
       scale = fraction l;
       signed = isSigned l;
       edited = isEdited l;
-      width = length (mask l)
+      width = length (mask l);
     }
 
 -- and by its tallies
@@ -42,7 +42,7 @@ shapeOf t =
       scale = scaleOf t;
       signed = ltb 0 (t .signs);
       edited = ltb 0 (t .edits);
-      width = t .symbols - t .hidden
+      width = t .symbols - t .hidden;
     }
 
 -- editing, 26, 27, and kind and width of a shape: the definition's, of the shape in place of the symbols

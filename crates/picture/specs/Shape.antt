@@ -1,10 +1,10 @@
 -- What the reader counts of a picture's symbols.
 -- Assumes nothing.
-use Prim.Native.Nat.{ℕ, zero, suc, _+_, _-_, _≤_}
+use Prim.Native.Nat.{ℕ, _+_, _-_, _≤_}
 use Prim.Native.String.{String}
-use mathlib.Core.Bool.{Bool, true, false, _&&_, _||_, not}
+use mathlib.Core.Bool.{Bool, true, false}
 use mathlib.Core.List.{List, [], _∷_}
-use lib.Dec.{eqb, leb, ltb}
+use lib.Dec.{ltb}
 use lib.ListN.{length}
 use mathlib.Core.Path.{_≡_}
 use Rattle.definition.specs.Basic.{if_then_else_, is, among, Answer, refuse, give, _>>=_}
@@ -32,7 +32,7 @@ tallies l =
       minuses = tally "-" l;
       signs = tally "S+-CD" l;
       edits = tally "Z*.,/B0$+-CD" l;
-      hidden = tally "SVP" l
+      hidden = tally "SVP" l;
     }
 
 -- of one symbol that stands n times
@@ -50,7 +50,7 @@ runOf b n =
       minuses = times "-" b n;
       signs = times "S+-CD" b n;
       edits = times "Z*.,/B0$+-CD" b n;
-      hidden = times "SVP" b n
+      hidden = times "SVP" b n;
     }
 
 -- n before the point, 0 after it
@@ -72,7 +72,7 @@ joined s t =
       minuses = s .minuses + t .minuses;
       signs = s .signs + t .signs;
       edits = s .edits + t .edits;
-      hidden = s .hidden + t .hidden
+      hidden = s .hidden + t .hidden;
     }
 
 -- no tally is above 65,535, and those of a part are not above the whole's

@@ -1,7 +1,7 @@
 -- `picture::check_shape` meets its contract: a law for each exit.
 -- Assumes nothing.
 use Prim.Native.Nat.{ℕ, _≤_}
-use mathlib.Core.Path.{_≡_, refl, sym, ap, _∙_}
+use mathlib.Core.Path.{_≡_, sym, _∙_}
 use mathlib.Core.Bool.{Bool, true, false}
 use Rattle.definition.specs.declared.Usage.{Usage}
 use Rattle.definition.specs.Basic.{_>>=_}
@@ -9,7 +9,7 @@ use Rattle.picture.specs.declared.Half.{Half}
 use Rattle.picture.specs.declared.PicShape.{PicShape}
 use Rattle.picture.specs.declared.Shaped.{Shaped}
 use Rattle.picture.specs.Shape.{nothing}
-use Rattle.picture.specs.Kinds.{mixedBy, longBy, shapedOf, Judged}
+use Rattle.picture.specs.Kinds.{mixedBy, longBy, Judged}
 use borrow.Author.Needs.{needs}
 use Rattle.picture.proofs.check_shape.Statement.{statement}
 use Rattle.picture.proofs.check_shape.Tie as tie

@@ -3,11 +3,11 @@
 use borrow.Author.Needs.{needs}
 use Prim.Native.Nat.{ℕ, _+_, _-_, _≤_, _<_}
 use mathlib.Core.Path.{_≡_, refl, sym, ap, _∙_}
-use mathlib.Core.List.{List, [], _∷_, _++_, append-nil}
+use mathlib.Core.List.{List, [], _++_, append-nil}
 use native.Mathlib.Omega.{arith}
 use lib.ListN.{length, getD, take, drop, replicate, length-drop}
 use Rattle.definition.specs.declared.Refusal.{Refusal}
-use Rattle.definition.specs.Basic.{upper, Answer, refuse, give, _>>=_}
+use Rattle.definition.specs.Basic.{upper, refuse, give, _>>=_}
 use Rattle.definition.specs.Picture.{repeat, expand}
 use Rattle.definition.proofs.PictureLaws.{rest-part, onto, onto-nil, onto-onto, expand-end, expand-refused, expand-many, expand-more}
 use Rattle.picture.specs.declared.Tallies.{Tallies}
@@ -40,7 +40,7 @@ start t at {s} e =
       seen = [];
       counted = e;
       halved = refl;
-      same = sym (onto-nil (expand at 0 0 t)) ∙ ap (λ (k : ℕ). onto [] (expand at k 0 t)) (sym none)
+      same = sym (onto-nil (expand at 0 0 t)) ∙ ap (λ (k : ℕ). onto [] (expand at k 0 t)) (sym none);
     }
 
 module _ {t : List ℕ} {at : ℕ} {s : Tallies} {half : Half} {i : ℕ} (inv : Left t at s half i) where
@@ -52,7 +52,7 @@ module _ {t : List ℕ} {at : ℕ} {s : Tallies} {half : Half} {i : ℕ} (inv : 
   done h =
       record {
         same = rw (inv .same, expand-end at (s .symbols) t i h, append-nil, inv .counted, inv .halved);
-        small = small-s
+        small = small-s;
       }
 
   module _ (h : i < length t) {r : Repeat} (q : Repeated at (take (length t - (i + 1)) (drop (i + 1) t)) r) where
@@ -100,9 +100,9 @@ module _ {t : List ℕ} {at : ℕ} {s : Tallies} {half : Half} {i : ℕ} (inv : 
               counted = grown ∙ ap (λ (x : Tallies). joined x (runOf b n)) (inv .counted) ∙ sym (tallies-more (inv .seen) b n);
               halved = hs ∙ ap (λ (x : Half). halves x (replicate n b)) (inv .halved) ∙ sym (halves-append Half.Nothing (inv .seen) (replicate n b));
               same =
-                inv .same ∙
-                ap (onto (inv .seen)) (expand-more at (s .symbols) t i h given (omega (arith, inv .few))) ∙
-                rw (← p, many) (onto-onto (inv .seen) (replicate n b) (expand at (s .symbols + n) 0 (drop (i + 1 + skip) t)))
+                  inv .same ∙
+                  ap (onto (inv .seen)) (expand-more at (s .symbols) t i h given (omega (arith, inv .few))) ∙
+                  rw (← p, many) (onto-onto (inv .seen) (replicate n b) (expand at (s .symbols + n) 0 (drop (i + 1 + skip) t)));
             }
 
 abbrev Inv-loop : tie.InvT-loop

@@ -1,9 +1,8 @@
 -- `picture::half_after` meets its contract.
 -- Assumes nothing.
 use Prim.Native.Nat.{ℕ, zero, suc}
-use mathlib.Core.Path.{_≡_, refl, _∙_, sym}
+use mathlib.Core.Path.{_≡_, refl, sym}
 use lib.ListN.{replicate}
-use native.Mathlib.Omega.{arith}
 use borrow.Author.Needs.{needs}
 use Rattle.picture.specs.declared.Half.{Half}
 use Rattle.picture.specs.Shape.{next, halves}

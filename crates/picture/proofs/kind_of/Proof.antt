@@ -1,8 +1,8 @@
 -- `picture::kind_of` meets its contract: a law for each exit, and that the digits fit a byte.
 -- Assumes nothing.
 use Prim.Native.Nat.{ℕ, _≤_, _<_, max}
-use mathlib.Core.Path.{_≡_, refl}
-use mathlib.Core.Bool.{Bool, true, false, _&&_, _||_}
+use mathlib.Core.Path.{_≡_}
+use mathlib.Core.Bool.{Bool, true, false, _&&_}
 use native.Mathlib.Omega.{arith}
 use lib.Dec.{ltb}
 use borrow.Author.Tests.{lt-ltb, le-ltb, ltb-false}

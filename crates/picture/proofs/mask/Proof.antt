@@ -1,14 +1,14 @@
 -- `picture::mask` meets its contract: the checks of the text, then the mask.
 -- Assumes nothing.
 use Prim.Native.Nat.{ℕ}
-use mathlib.Core.Path.{_≡_, refl, sym, ap, _∙_}
+use mathlib.Core.Path.{_≡_}
 use mathlib.Core.List.{List, []}
 use lib.ListN.{length}
 use Rattle.definition.specs.declared.Refusal.{Refusal}
 use Rattle.definition.specs.declared.Usage.{Usage}
 use Rattle.definition.specs.declared.Check.{Check}
-use Rattle.definition.specs.Basic.{Answer, refuse, give, _>>=_}
-use Rattle.definition.specs.Calls.{After, textChecks, pictureMask, afterWriting, maskCall, checkOf}
+use Rattle.definition.specs.Basic.{Answer, refuse, _>>=_}
+use Rattle.definition.specs.Calls.{textChecks, pictureMask, afterWriting, maskCall, checkOf}
 use Rattle.picture.specs.Masks.{maskIn, after}
 use borrow.Author.Needs.{needs}
 use Rattle.picture.proofs.mask.Statement.{statement}

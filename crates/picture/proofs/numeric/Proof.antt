@@ -1,7 +1,7 @@
 -- `picture::numeric` meets its contract: a law for each usage.
 -- Assumes nothing.
 use Prim.Native.Nat.{ℕ}
-use mathlib.Core.Path.{_≡_, refl}
+use mathlib.Core.Path.{_≡_}
 use mathlib.Core.Bool.{Bool}
 use Rattle.definition.specs.declared.Usage.{Usage}
 use Rattle.definition.specs.declared.SignKind.{SignKind}

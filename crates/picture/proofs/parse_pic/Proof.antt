@@ -1,14 +1,14 @@
 -- `picture::parse_pic` meets its contract: the checks of the text, then the picture.
 -- Assumes nothing.
 use Prim.Native.Nat.{ℕ}
-use mathlib.Core.Path.{_≡_, refl, sym, ap, _∙_}
+use mathlib.Core.Path.{_≡_}
 use mathlib.Core.List.{List}
 use Rattle.definition.specs.declared.Refusal.{Refusal}
 use Rattle.definition.specs.declared.Usage.{Usage}
 use Rattle.definition.specs.declared.SignClause.{SignClause}
 use Rattle.definition.specs.declared.PicAnswer.{PicAnswer}
 use Rattle.definition.specs.declared.Check.{Check}
-use Rattle.definition.specs.Basic.{refuse, give, _>>=_}
+use Rattle.definition.specs.Basic.{refuse, _>>=_}
 use Rattle.definition.specs.Picture.{picture}
 use Rattle.definition.specs.Calls.{textChecks, pictureAnswer, pictureOf, checkOf}
 use borrow.Author.Needs.{needs}

@@ -13,7 +13,7 @@ use Rattle.picture.specs.declared.Half.{Half}
 use Rattle.picture.specs.declared.Counted.{Counted}
 use Rattle.picture.specs.declared.PicShape.{PicShape}
 use Rattle.picture.specs.declared.Shaped.{Shaped}
-use Rattle.picture.specs.Shape.{Small, SmallIn, countedOf, counts, Counts}
+use Rattle.picture.specs.Shape.{Small, countedOf, counts, Counts}
 use Rattle.picture.specs.Kinds.{shapeOf, Judged, Reads}
 use Rattle.picture.proofs.Shapes.{symbols-shape, counts-refused, counts-given}
 use borrow.Author.Needs.{needs}

@@ -1,16 +1,16 @@
 -- `picture::repeat_at` meets its contract: a law for each exit.
 -- Assumes nothing.
 use Prim.Native.Nat.{ℕ, _+_, _-_, _≤_, _<_}
-use mathlib.Core.Path.{_≡_, refl, sym, ap, _∙_}
+use mathlib.Core.Path.{_≡_, sym, ap, _∙_}
 use mathlib.Core.List.{List}
-use mathlib.Core.Option.{Option, none, some}
+use mathlib.Core.Option.{none, some}
 use native.Mathlib.Nat.{sub-zero}
 use native.Mathlib.Omega.{arith}
 use lib.ListN.{length, getD, take, drop, length-drop}
 use lib.Seq.{length-take-le}
 use borrow.Author.Needs.{needs}
 use Rattle.definition.specs.Basic.{count, _>>=_}
-use Rattle.definition.specs.Picture.{trim, beforeClose, repeat}
+use Rattle.definition.specs.Picture.{trim, beforeClose}
 use Rattle.definition.proofs.PictureLaws.{rest-part, repeat-none, repeat-plain, repeat-open}
 use Rattle.text.specs.declared.Number.{Number}
 use Rattle.text.specs.Words.{valued}

@@ -1,14 +1,13 @@
 use borrow.Author.Needs.{needs}
 use Prim.Native.Nat.{ℕ, _+_, _-_, _≤_, _<_}
-use mathlib.Core.Path.{_≡_, refl, sym, ap, _∙_}
+use mathlib.Core.Path.{_≡_, sym, ap, _∙_}
 use mathlib.Core.Bool.{Bool, true, false}
-use mathlib.Core.List.{List, reverse}
+use mathlib.Core.List.{List}
 use native.Mathlib.Nat.{sub-zero}
 use native.Mathlib.Omega.{arith}
 use lib.ListN.{length, getD, take}
 use lib.Seq.{take-length}
 use Rattle.definition.specs.Basic.{white}
-use Rattle.definition.specs.Picture.{trimStart}
 use Rattle.definition.proofs.PictureLaws.{trimEnd, back-end, back-white, back-stop}
 use Rattle.picture.proofs.trim_end.Statement.{statement}
 use Rattle.picture.proofs.trim_end.Tie as tie

@@ -2,13 +2,13 @@
 -- Assumes nothing.
 use Prim.Native.Nat.{ℕ, _+_, _-_, _≤_, _<_}
 use mathlib.Core.Path.{_≡_, refl, sym, ap, _∙_}
-use mathlib.Core.List.{List, []}
+use mathlib.Core.List.{List}
 use mathlib.Core.Logic.{⊎-elim}
 use native.Mathlib.Omega.{arith}
 use lib.ListN.{length, getD, take, drop, replicate, length-drop}
-use lib.Seq.{sets, length-sets}
+use lib.Seq.{length-sets}
 use Rattle.definition.specs.declared.Refusal.{Refusal}
-use Rattle.definition.specs.Basic.{upper, Answer, refuse, give}
+use Rattle.definition.specs.Basic.{upper, Answer, give}
 use Rattle.definition.specs.Picture.{repeat, expand, mask}
 use Rattle.definition.proofs.Lists.{order}
 use Rattle.definition.proofs.PictureLaws.{rest-part, onto, expand-end, expand-refused, expand-many, expand-more}
@@ -80,7 +80,7 @@ module _ {t out₀ out : List ℕ} {k i : ℕ} (inv : Left t out₀ out k i) whe
               kept = long ∙ inv .kept;
               seen = inv .seen + n;
               room = rw (long, w .next) (room-rest k (replicate n b) rest (length out) (rw grown at (inv .room)));
-              same = inv .same ∙ rw (grown, w .next, w .same) (put-run k (replicate n b) rest out)
+              same = inv .same ∙ rw (grown, w .next, w .same) (put-run k (replicate n b) rest out);
             }
 
 abbrev Inv-loop : tie.InvT-loop

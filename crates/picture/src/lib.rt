@@ -1,16 +1,18 @@
-// The picture reader.
+// The picture reader: kind and width of a picture with a usage and a sign, and the mask of an edited one; `parse_pic` of the
+// Rust. A picture is read run by run: a symbol with its `(n)` is one step, whatever n is. Leans on `definition` and `text`.
+ghost use Prim.Native.Nat.{ℕ, _+_, _-_, _≤_, max};
 ghost use mathlib.Core.Path.{_≡_};
-ghost use mathlib.Core.Bool.{Bool, _&&_};
-ghost use Prim.Native.Nat.{ℕ, _+_, _-_, _≤_, _<_, max};
-ghost use lib.ListN.{length, drop, getD, replicate};
+ghost use mathlib.Core.Bool.{_&&_};
 ghost use mathlib.Core.List.{[], reverse};
+ghost use lib.ListN.{length, replicate};
 ghost use lib.Seq.{sets};
-ghost use Rattle.definition.specs.Picture.{mask as maskOf, expand, display as displayOf, numeric as numericOf, picture as pictureIn, isDisplay, trimStart, trim as trimmed, symbol, resolveSign, isEmbedded, signBytes, compWidth, byteWidth};
-ghost use Rattle.definition.specs.Calls.{After, writingOf, afterWriting, maskCall, pictureAnswer, pictureOf};
-ghost use Rattle.picture.specs.Shape.{tallies, runOf, unless, joined, Small, next, halves, nothing, Counts};
+ghost use Rattle.definition.specs.Picture.{trimStart, trim as trimmed, expand, symbol, isDisplay, resolveSign, isEmbedded, signBytes};
+ghost use Rattle.definition.specs.Picture.{compWidth, byteWidth, display as displayOf, numeric as numericOf, picture as pictureIn, mask as maskOf};
+ghost use Rattle.definition.specs.Calls.{After, pictureAnswer, pictureOf, afterWriting, maskCall, writingOf};
+ghost use Rattle.picture.specs.Repeats.{Closed, Repeated};
+ghost use Rattle.picture.specs.Shape.{runOf, unless, joined, Small, next, halves, nothing, Counts};
 ghost use Rattle.picture.specs.Kinds.{shapeOf, maskedBy, mixedBy, longBy, kindedBy, Fit, Judged, Reads};
 ghost use Rattle.picture.specs.Masks.{hidden, Room, put, Wrote, maskIn, after};
-ghost use Rattle.picture.specs.Repeats.{Closed, Repeated};
 use definition::Check;
 use definition::FieldKind;
 use definition::NumRepr;
@@ -23,51 +25,106 @@ use definition::Usage;
 use definition::Writing;
 use text::Number;
 
-// The bytes of a COMP item of so many digits.
-fn comp_width(digits: usize) -> usize
-    ensures { λ r. ⌜ r ≡ compWidth digits ⌝ }
-{
-    match digits {
-        0..=4 => 2,
-        5..=9 => 4,
-        _ => 8,
-    }
-}
+// ---------------------------------------------------------------- the repeat of a symbol
 
-// The bytes of a COMP-3 item of so many digits.
-fn byte_width(digits: usize) -> usize
-    ensures { λ r. ⌜ r ≡ byteWidth digits ⌝ }
+// A text without the white space in front of it.
+fn trim_start(s: &[u8]) -> &[u8]
+    ensures { λ r. ⌜ now r ≡ trimStart (now (s .entry)) ⌝ }
 {
-    digits / 2 + 1
-}
-
-// The sign that an item has, by its sign symbols and its SIGN clause.
-fn resolve_sign(signed: bool, clause: SignClause) -> SignKind
-    ensures { λ r. ⌜ r ≡ resolveSign signed clause ⌝ }
-{
-    if signed {
-        match clause {
-            SignClause::Absent => SignKind::Embedded,
-            SignClause::Given(k) => k,
+    let mut i = 0;
+    while i < s.len() {
+        if text::is_white(s[i]) {
+            i += 1;
+        } else {
+            return &s[i..];
         }
-    } else {
-        SignKind::Unsigned
     }
+    &s[i..]
 }
 
-// The bytes of a sign of its own.
-fn sign_bytes(sign: SignKind) -> usize
-    ensures { λ r. ⌜ r ≡ signBytes sign ⌝ }
+// A text without the white space after it.
+fn trim_end(s: &[u8]) -> &[u8]
+    ensures { λ r. ⌜ now r ≡ reverse (trimStart (reverse (now (s .entry)))) ⌝ }
 {
-    match sign {
-        SignKind::Unsigned => 0,
-        SignKind::Embedded => 0,
-        SignKind::LeadingSeparate => 1,
-        SignKind::TrailingSeparate => 1,
+    let mut e = s.len();
+    while 0 < e {
+        if text::is_white(s[e - 1]) {
+            e -= 1;
+        } else {
+            return &s[0..e];
+        }
     }
+    &s[0..e]
 }
 
-// How often the symbols of each set stand in a list of symbols: all symbols; X A; 9 Z *; those of them before the point; P;
+// A text without the white space around it.
+fn trim(s: &[u8]) -> &[u8]
+    ensures { λ r. ⌜ now r ≡ trimmed (now (s .entry)) ⌝ }
+{
+    trim_end(trim_start(s))
+}
+
+// Where the first `)` of a text stands, or the length of a text that has none.
+fn close_at(s: &[u8]) -> usize
+    ensures { λ r. ⌜ Closed (now (s .entry)) r ⌝ }
+{
+    let mut i = 0;
+    while i < s.len() {
+        if s[i] == b')' {
+            return i;
+        }
+        i += 1;
+    }
+    i
+}
+
+// How often a symbol stands, and how many bytes after it say so; or why that cannot be read.
+pub enum Repeat {
+    Times { n: usize, skip: usize },
+    Refused(Refusal),
+}
+
+// How often a symbol stands, by the text after it: 22 for a `(` without its `)`, 23 for a count that is none, both at `at`.
+fn repeat_at(rest: &[u8], at: usize) -> Repeat
+    ensures { λ r. ⌜ Repeated at (now (rest .entry)) r ⌝ }
+{
+    if rest.len() == 0 {
+        return Repeat::Times { n: 1, skip: 0 };
+    }
+    if rest[0] == b'(' {
+        let inside = &rest[1..];
+        let k = close_at(inside);
+        if k < inside.len() {
+            let word = trim(&inside[0..k]);
+            match text::count_of(word) {
+                Number::Value(n) => {
+                    return Repeat::Times {
+                        n: n as usize,
+                        skip: k + 2,
+                    };
+                }
+                Number::Bad => {
+                    return Repeat::Refused(Refusal {
+                        number: 23,
+                        position: at,
+                        needed: 0,
+                    });
+                }
+            }
+        } else {
+            return Repeat::Refused(Refusal {
+                number: 22,
+                position: at,
+                needed: 0,
+            });
+        }
+    }
+    Repeat::Times { n: 1, skip: 0 }
+}
+
+// ---------------------------------------------------------------- symbols, judged run by run
+
+// How often the symbols of each set stand in a list of symbols: all symbols; X A; 9 Z *; those of 9 Z * before the point; P;
 // V and `.`; `$`; `+`; `-`; the signs S + - C D; the editing symbols; and S V P, which take no byte of a mask.
 pub struct Tallies {
     pub symbols: usize,
@@ -179,7 +236,7 @@ fn run(b: u8, n: usize) -> Tallies
     }
 }
 
-// A count before the point, and 0 after it.
+// A count of what stands before the point, where so many points stand already.
 fn before_point(points: usize, n: usize) -> usize
     ensures { λ r. ⌜ r ≡ unless points n ⌝ }
 {
@@ -211,7 +268,7 @@ fn join(s: Tallies, t: Tallies) -> Tallies
     }
 }
 
-// What of CR or DB is awaited: nothing, an R, a B; or a byte that is no symbol was seen.
+// What is awaited of CR or DB: nothing, an R after the C, a B after the D; or a byte that is no symbol was seen.
 pub enum Half {
     Nothing,
     C,
@@ -219,7 +276,7 @@ pub enum Half {
     Wrong,
 }
 
-// Whether a byte is a symbol by itself.
+// Whether a byte is a symbol by itself. No two keys of an arm are neighbours: such a pair would be a range, and the arm two.
 fn is_symbol(b: u8) -> bool
     ensures { λ r. ⌜ r ≡ symbol b ⌝ }
 {
@@ -229,6 +286,22 @@ fn is_symbol(b: u8) -> bool
         b'/' | b'+' | b'-' => true,
         _ => false,
     }
+}
+
+// What is awaited after a symbol, where nothing was.
+fn first_half(b: u8) -> Half
+    ensures { λ r. ⌜ r ≡ next Half.Nothing b ⌝ }
+{
+    if b == b'C' {
+        return Half::C;
+    }
+    if b == b'D' {
+        return Half::D;
+    }
+    if is_symbol(b) {
+        return Half::Nothing;
+    }
+    Half::Wrong
 }
 
 // What is awaited after one more symbol.
@@ -253,23 +326,7 @@ fn next_half(p: Half, b: u8) -> Half
     }
 }
 
-// What is awaited after a symbol where nothing was.
-fn first_half(b: u8) -> Half
-    ensures { λ r. ⌜ r ≡ next Half.Nothing b ⌝ }
-{
-    if b == b'C' {
-        return Half::C;
-    }
-    if b == b'D' {
-        return Half::D;
-    }
-    if is_symbol(b) {
-        return Half::Nothing;
-    }
-    Half::Wrong
-}
-
-// What is awaited after a symbol that stands n times: no state changes after the second.
+// What is awaited after a symbol that stands n times: the third and later copies change nothing.
 fn half_after(p: Half, b: u8, n: usize) -> Half
     ensures { λ r. ⌜ r ≡ halves p (replicate n b) ⌝ }
 {
@@ -283,132 +340,17 @@ fn half_after(p: Half, b: u8, n: usize) -> Half
     next_half(q, b)
 }
 
-// A text without the white space in front.
-fn trim_start(s: &[u8]) -> &[u8]
-    ensures { λ r. ⌜ now r ≡ trimStart (now (s .entry)) ⌝ }
-{
-    let mut i = 0;
-    while i < s.len() {
-        if text::is_white(s[i]) {
-            i += 1;
-        } else {
-            return &s[i..];
-        }
-    }
-    &s[i..]
-}
-
-// A text without the white space at its end.
-fn trim_end(s: &[u8]) -> &[u8]
-    ensures { λ r. ⌜ now r ≡ reverse (trimStart (reverse (now (s .entry)))) ⌝ }
-{
-    let mut e = s.len();
-    while 0 < e {
-        if text::is_white(s[e - 1]) {
-            e -= 1;
-        } else {
-            return &s[0..e];
-        }
-    }
-    &s[0..e]
-}
-
-// A text without the white space around it.
-fn trim(s: &[u8]) -> &[u8]
-    ensures { λ r. ⌜ now r ≡ trimmed (now (s .entry)) ⌝ }
-{
-    trim_end(trim_start(s))
-}
-
-// Where the first `)` of a text stands, or the text's length.
-fn close_at(s: &[u8]) -> usize
-    ensures { λ r. ⌜ Closed (now (s .entry)) r ⌝ }
-{
-    let mut i = 0;
-    while i < s.len() {
-        if s[i] == b')' {
-            return i;
-        }
-        i += 1;
-    }
-    i
-}
-
-// How often a symbol stands, and how many bytes after it say so; or why that cannot be read.
-pub enum Repeat {
-    Times { n: usize, skip: usize },
-    Refused(Refusal),
-}
-
-// The repeat of a symbol by the text after it; a refusal carries `at`.
-fn repeat_at(rest: &[u8], at: usize) -> Repeat
-    ensures { λ r. ⌜ Repeated at (now (rest .entry)) r ⌝ }
-{
-    if rest.len() == 0 {
-        return Repeat::Times { n: 1, skip: 0 };
-    }
-    if rest[0] == b'(' {
-        let inside = &rest[1..];
-        let k = close_at(inside);
-        if k < inside.len() {
-            let word = trim(&inside[0..k]);
-            match text::count_of(word) {
-                Number::Value(n) => {
-                    return Repeat::Times {
-                        n: n as usize,
-                        skip: k + 2,
-                    };
-                }
-                Number::Bad => {
-                    return Repeat::Refused(Refusal {
-                        number: 23,
-                        position: at,
-                        needed: 0,
-                    });
-                }
-            }
-        } else {
-            return Repeat::Refused(Refusal {
-                number: 22,
-                position: at,
-                needed: 0,
-            });
-        }
-    }
-    Repeat::Times { n: 1, skip: 0 }
-}
-
-// The symbols of a picture, counted, with what is awaited of CR or DB; or why they cannot be read.
+// The symbols of a picture, counted, with what is awaited of CR or DB at its end; or why they cannot be read.
 pub enum Counted {
     Symbols { tallies: Tallies, half: Half },
     Refused(Refusal),
 }
 
-// No symbol.
-fn none_yet() -> Tallies
-    ensures { λ r. ⌜ r ≡ tallies [] ⌝ }
-{
-    Tallies {
-        symbols: 0,
-        text: 0,
-        digits: 0,
-        whole: 0,
-        scaled: 0,
-        points: 0,
-        dollars: 0,
-        pluses: 0,
-        minuses: 0,
-        signs: 0,
-        edits: 0,
-        hidden: 0,
-    }
-}
-
-// The symbols of a trimmed picture, counted run by run: 22, 23, and 24 for over 65,535 of them, as they come.
+// The symbols of a trimmed picture, counted run by run: 22, 23, and 24 for more than 65,535 symbols, as they are met.
 fn count_symbols(picture: &[u8], at: usize) -> Counted
     ensures { λ r. ⌜ Counts at (now (picture .entry)) r ⌝ }
 {
-    let mut s = none_yet();
+    let mut s = run(b'9', 0);
     let mut half = Half::Nothing;
     let mut i = 0;
     while i < picture.len() {
@@ -435,8 +377,10 @@ fn count_symbols(picture: &[u8], at: usize) -> Counted
     Counted::Symbols { tallies: s, half }
 }
 
-// What a picture's kind and width depend on: its X and A, its digits, those of the fraction, whether it has a sign symbol,
-// whether it is edited, and the length of its mask.
+// ---------------------------------------------------------------- the shape, and the last checks
+
+// What kind and width depend on: the number of X and A, of digits, of digits of the fraction, whether there is a sign symbol,
+// whether there is an editing symbol, and the length of the mask.
 pub struct PicShape {
     pub text: usize,
     pub digits: usize,
@@ -475,7 +419,7 @@ fn shape_of(t: Tallies) -> PicShape
     }
 }
 
-// Whether no half of CR or DB is left over, and every byte was a symbol.
+// Whether every byte was a symbol or half of a CR or DB.
 fn is_legal(half: Half) -> bool
     ensures { λ r. ⌜ r ≡ nothing half ⌝ }
 {
@@ -487,6 +431,7 @@ fn is_legal(half: Half) -> bool
     }
 }
 
+// Whether the usage is DISPLAY.
 fn is_display(usage: Usage) -> bool
     ensures { λ r. ⌜ r ≡ isDisplay usage ⌝ }
 {
@@ -497,7 +442,7 @@ fn is_display(usage: Usage) -> bool
     }
 }
 
-// Whether the item is edited: only under DISPLAY.
+// Whether an item is edited: under DISPLAY alone.
 fn is_masked(s: PicShape, usage: Usage) -> bool
     ensures { λ r. ⌜ r ≡ maskedBy usage s ⌝ }
 {
@@ -520,7 +465,7 @@ fn is_mixed(s: PicShape) -> bool
     s.edited
 }
 
-// Whether a picture that is no text has over 255 digits, or an edited one a mask over 255.
+// Whether a picture that is no text has over 255 digits, or an edited DISPLAY one a mask over 255.
 fn is_long(s: PicShape, usage: Usage) -> bool
     ensures { λ r. ⌜ r ≡ longBy usage s ⌝ }
 {
@@ -542,7 +487,7 @@ pub enum Shaped {
     Refused(Refusal),
 }
 
-// Why a picture is refused, with no length needed.
+// A refusal with its number and position.
 fn refusal(number: u32, at: usize) -> Shaped
     ensures { λ r. ⌜ r ≡ Shaped.Refused (record { number = number; position = at; needed = 0 }) ⌝ }
 {
@@ -553,7 +498,7 @@ fn refusal(number: u32, at: usize) -> Shaped
     })
 }
 
-// The last checks: 25 a byte that is no symbol, 26 text with a digit or editing, 27 too many digits or too long a mask.
+// The last checks, in order: 25 a byte that is no symbol, 26 text mixed with a digit or editing, 27 too long.
 fn check_shape(s: PicShape, half: Half, usage: Usage, at: usize) -> Shaped
     requires { ⌜ s .scale ≤ s .digits ⌝ }
     ensures { λ r. ⌜ Judged at usage s half r ⌝ }
@@ -570,7 +515,7 @@ fn check_shape(s: PicShape, half: Half, usage: Usage, at: usize) -> Shaped
     refusal(25, at)
 }
 
-// The shape of a picture that is not refused, or its first refusal of 22 to 27.
+// The shape of a picture, or its first refusal of 22 to 27, at `at`.
 fn read_shape(picture: &[u8], at: usize, usage: Usage) -> Shaped
     ensures { λ r. ⌜ Reads at usage (now (picture .entry)) r ⌝ }
 {
@@ -586,7 +531,53 @@ fn read_shape(picture: &[u8], at: usize, usage: Usage) -> Shaped
     }
 }
 
-// Whether a sign stands in a digit's zone.
+// ---------------------------------------------------------------- kind and width
+
+// The bytes of a COMP item of so many digits.
+fn comp_width(digits: usize) -> usize
+    ensures { λ r. ⌜ r ≡ compWidth digits ⌝ }
+{
+    match digits {
+        0..=4 => 2,
+        5..=9 => 4,
+        _ => 8,
+    }
+}
+
+// The bytes of a COMP-3 item of so many digits.
+fn byte_width(digits: usize) -> usize
+    ensures { λ r. ⌜ r ≡ byteWidth digits ⌝ }
+{
+    digits / 2 + 1
+}
+
+// The sign that an item has, by its sign symbols and its SIGN clause.
+fn resolve_sign(signed: bool, clause: SignClause) -> SignKind
+    ensures { λ r. ⌜ r ≡ resolveSign signed clause ⌝ }
+{
+    if signed {
+        match clause {
+            SignClause::Absent => SignKind::Embedded,
+            SignClause::Given(k) => k,
+        }
+    } else {
+        SignKind::Unsigned
+    }
+}
+
+// The bytes that a sign takes of its own.
+fn sign_bytes(sign: SignKind) -> usize
+    ensures { λ r. ⌜ r ≡ signBytes sign ⌝ }
+{
+    match sign {
+        SignKind::Unsigned => 0,
+        SignKind::Embedded => 0,
+        SignKind::LeadingSeparate => 1,
+        SignKind::TrailingSeparate => 1,
+    }
+}
+
+// Whether the sign is overpunched on a digit.
 fn is_zoned(signed: bool, sign: SignKind) -> bool
     ensures { λ r. ⌜ r ≡ (signed && isEmbedded sign) ⌝ }
 {
@@ -602,7 +593,7 @@ fn is_zoned(signed: bool, sign: SignKind) -> bool
     }
 }
 
-// A number in DISPLAY.
+// Kind and width of a number in DISPLAY.
 fn display(digits: usize, scale: usize, signed: bool, sign: SignKind) -> Pictured
     requires { ⌜ (digits ≤ 255) × (scale ≤ 255) ⌝ }
     ensures { λ r. ⌜ r ≡ displayOf digits scale signed sign ⌝ }
@@ -636,7 +627,7 @@ fn display(digits: usize, scale: usize, signed: bool, sign: SignKind) -> Picture
     }
 }
 
-// A number in any usage.
+// Kind and width of a number.
 fn numeric(usage: Usage, digits: usize, scale: usize, signed: bool, clause: SignClause) -> Pictured
     requires { ⌜ (digits ≤ 255) × (scale ≤ 255) ⌝ }
     ensures { λ r. ⌜ r ≡ numericOf usage digits scale signed clause ⌝ }
@@ -666,7 +657,7 @@ fn numeric(usage: Usage, digits: usize, scale: usize, signed: bool, clause: Sign
     }
 }
 
-// At least 1.
+// The number, or 1 for 0.
 fn one_at_least(n: usize) -> usize
     ensures { λ r. ⌜ r ≡ max 1 n ⌝ }
 {
@@ -701,7 +692,8 @@ fn kind_of(s: PicShape, usage: Usage, sign: SignClause) -> Pictured
     numeric(usage, s.digits, s.scale, s.signed, sign)
 }
 
-// Kind and width of a picture inside a copybook; a refusal carries `at`.
+// Kind and width of a picture that stands in a copybook, as `parse_pic` says of a picture by itself; the text was checked there,
+// and a refusal, 22 to 27, carries the position `at`.
 pub fn picture_at(picture: &[u8], at: usize, usage: Usage, sign: SignClause) -> PicAnswer
     ensures { λ r. ⌜ pictureOf r ≡ pictureIn at usage sign (now (picture .entry)) ⌝ }
 {
@@ -715,7 +707,10 @@ pub fn picture_at(picture: &[u8], at: usize, usage: Usage, sign: SignClause) -> 
     }
 }
 
-// Kind and width of a picture.
+// Kind, its details and width of one picture with a usage and a sign. Refusals, in this order: 1 over 65,535 bytes; 2 a byte
+// over 127, at the first one; then symbol by symbol 22 no `)`, 23 no repeat count, 24 over 65,535 symbols; then 25 no symbol,
+// 26 text mixed with a digit or editing, 27 over 255 digits or an edited DISPLAY mask over 255; at 0 except 2.
+// The contract rules out a program that counts `$$$9` as four digits, and one that answers `S9(4)` SIGN TRAILING SEPARATE with width 4.
 pub fn parse_pic(picture: &[u8], usage: Usage, sign: SignClause) -> PicAnswer
     ensures { λ r. ⌜ pictureOf r ≡ pictureAnswer usage sign (now (picture .entry)) ⌝ }
 {
@@ -729,6 +724,8 @@ pub fn parse_pic(picture: &[u8], usage: Usage, sign: SignClause) -> PicAnswer
     }
 }
 
+// ---------------------------------------------------------------- the mask
+
 // Whether a symbol takes no byte of a mask.
 fn is_hidden(b: u8) -> bool
     ensures { λ r. ⌜ r ≡ hidden b ⌝ }
@@ -739,7 +736,7 @@ fn is_hidden(b: u8) -> bool
     }
 }
 
-// Writes n copies of a byte from k on.
+// Writes n copies of a byte, from k on.
 fn fill(out: &mut [u8], k: usize, n: usize, b: u8)
     requires { ⌜ k + n ≤ length (now out) ⌝ }
     ensures { λ _. ⌜ now (out .exit) ≡ sets (now (out .entry)) k (replicate n b) ⌝ }
@@ -752,7 +749,7 @@ fn fill(out: &mut [u8], k: usize, n: usize, b: u8)
     }
 }
 
-// Writes the mask of a symbol that stands n times, from k on; the place after it.
+// Writes the mask of a symbol that stands n times, from k on, and answers the place after it.
 fn write_run(out: &mut [u8], k: usize, n: usize, b: u8) -> usize
     requires { ⌜ k + length (maskOf (replicate n b)) ≤ length (now out) ⌝ }
     ensures { λ r. ⌜ Wrote (now (out .entry)) k b n r (now (out .exit)) ⌝ }
@@ -764,7 +761,7 @@ fn write_run(out: &mut [u8], k: usize, n: usize, b: u8) -> usize
     k + n
 }
 
-// Writes the mask of a trimmed picture that was read and has room.
+// Writes the mask of a trimmed picture that was read already, and whose mask has room.
 fn write_mask(picture: &[u8], out: &mut [u8])
     requires { ⌜ Room 0 (expand 0 0 0 (now picture)) (length (now out)) ⌝ }
     ensures { λ _. ⌜ now (out .exit) ≡ put 0 (expand 0 0 0 (now (picture .entry))) (now (out .entry)) ⌝ }
@@ -786,7 +783,7 @@ fn write_mask(picture: &[u8], out: &mut [u8])
     }
 }
 
-// The mask of a picture whose text was checked.
+// The mask of a picture whose text was checked, as `mask` says.
 fn mask_of(picture: &[u8], usage: Usage, out: &mut [u8]) -> Writing
     ensures { λ r. ⌜ after (writingOf r) (now (out .exit)) ≡ afterWriting (maskIn usage (now (picture .entry)) (length (now (out .entry)))) (now (out .entry)) [] ⌝ }
 {
@@ -813,7 +810,10 @@ fn mask_of(picture: &[u8], usage: Usage, out: &mut [u8]) -> Writing
     }
 }
 
-// The mask of an edited DISPLAY picture.
+// Writes the mask of a picture that is edited under the usage, and answers its length; 0 of any other picture. Refusals are those
+// of `parse_pic`, then 31, with the length of the mask, if it is longer than the output. A refusal changes no byte of the output,
+// and bytes past the mask keep their values.
+// The contract rules out a program that writes before it knows that the mask has room, and one that writes S, V or P.
 pub fn mask(picture: &[u8], usage: Usage, out: &mut [u8]) -> Writing
     ensures { λ r. ⌜ _≡_ {A = After ℕ} (record { answer = writingOf r; output = now (out .exit); work = [] }) (maskCall usage (now (picture .entry)) (now (out .entry))) ⌝ }
 {

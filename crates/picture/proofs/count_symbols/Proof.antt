@@ -8,7 +8,7 @@ use native.Mathlib.Omega.{arith}
 use lib.ListN.{length, getD, take, drop, replicate, length-drop}
 use Rattle.definition.specs.declared.Refusal.{Refusal}
 use Rattle.definition.specs.Basic.{upper, refuse, give, _>>=_}
-use Rattle.definition.specs.Picture.{repeat, expand}
+use Rattle.definition.specs.Picture.{repeat, expand, tally, beforePoint}
 use Rattle.definition.proofs.PictureLaws.{rest-part, onto, onto-nil, onto-onto, expand-end, expand-refused, expand-many, expand-more}
 use Rattle.picture.specs.declared.Tallies.{Tallies}
 use Rattle.picture.specs.declared.Half.{Half}
@@ -30,8 +30,8 @@ record Left (t : List ℕ) (at : ℕ) (s : Tallies) (half : Half) (i : ℕ) : Ty
   halved : half ≡ halves Half.Nothing seen
   same : expand at 0 0 t ≡ onto seen (expand at (s .symbols) 0 (drop i t))
 
-start : (t : List ℕ) (at : ℕ) {s : Tallies} → s ≡ tallies [] → Left t at s Half.Nothing 0
-unfolding halves
+start : (t : List ℕ) (at : ℕ) {s : Tallies} → s ≡ runOf 57 0 → Left t at s Half.Nothing 0
+unfolding halves tally beforePoint
 start t at {s} e =
     let none : s .symbols ≡ 0 = ap (λ (x : Tallies). x .symbols) e in
     record {
@@ -111,8 +111,8 @@ Inv-loop picture at s₀ half₀ i₀ s half i = Left picture at s half i
 abbrev μ-loop : tie.MeasureT-loop
 μ-loop picture at s₀ half₀ i₀ s half i = length picture - i
 
-none-yet-requires : tie.Need-none-yet-requires Inv-loop μ-loop
-none-yet-requires c κs = search needs
+run-requires : tie.Need-run-requires Inv-loop μ-loop
+run-requires c κs = search needs
 
 loop-holds : tie.Need-loop-holds Inv-loop μ-loop
 loop-holds c = search start
@@ -153,11 +153,11 @@ add-i c = omega (arith, step (c .before .before .before .before .before .before 
 half-after-requires : tie.Need-half-after-requires Inv-loop μ-loop
 half-after-requires c κs = search needs
 
-run-requires : tie.Need-run-requires Inv-loop μ-loop
-run-requires c κs = search needs
+run-requires-2 : tie.Need-run-requires-2 Inv-loop μ-loop
+run-requires-2 c κs = search needs
 
 join-requires : tie.Need-join-requires Inv-loop μ-loop
-join-requires c κs = smalls (c .before .before .before .before .before .before .before .before .before .before .before .before .loop .inv) (c .before .before .before .before .before .before .before .before .before .before .before .loop-test .taken) (c .before .before .before .before .before .before .before .repeat-at .ensures) (c .before .before .before .before .before .n .given .1) (c .before .before .if1 .left) (c .before .before .before .before .before .before .before .before .before .upper .result) (c .run .ensures)
+join-requires c κs = smalls (c .before .before .before .before .before .before .before .before .before .before .before .before .loop .inv) (c .before .before .before .before .before .before .before .before .before .before .before .loop-test .taken) (c .before .before .before .before .before .before .before .repeat-at .ensures) (c .before .before .before .before .before .n .given .1) (c .before .before .if1 .left) (c .before .before .before .before .before .before .before .before .before .upper .result) (c .run2 .ensures)
 
 loop-less : tie.Need-loop-less Inv-loop μ-loop
 loop-less c = less (c .before .before .before .before .before .before .before .before .before .before .before .before .before .loop .inv) (c .before .before .before .before .before .before .before .before .before .before .before .before .loop-test .taken) (c .before .before .before .before .before .before .before .before .repeat-at .ensures) (c .before .before .before .before .before .before .n .given .1)
@@ -180,7 +180,7 @@ count-symbols-spec =
     (tie.spec
     Inv-loop
     μ-loop
-    none-yet-requires
+    run-requires
     loop-holds
     shared-slice-read-upper
     upper-requires
@@ -194,7 +194,7 @@ count-symbols-spec =
     returns
     add-i
     half-after-requires
-    run-requires
+    run-requires-2
     join-requires
     loop-less
     loop-again

@@ -1,2 +1,5 @@
 pub mod Lists
 pub mod Answers
+pub mod TreeLaws
+pub mod Pieces
+pub mod Alignment

@@ -3,3 +3,9 @@ pub mod Answers
 pub mod TreeLaws
 pub mod Pieces
 pub mod Alignment
+pub mod Slack
+pub mod Cover
+pub mod Seek
+pub mod Walk
+pub mod Numbers
+pub mod Demand3

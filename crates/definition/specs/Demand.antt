@@ -14,10 +14,10 @@ use Rattle.definition.specs.Basic.{absent, give}
 use Rattle.definition.specs.Tree.{Forest, leaf, item}
 use Rattle.definition.specs.Picture.{isBinary}
 use Rattle.definition.specs.Fold.{Entries, end, entry}
-use Rattle.definition.specs.Record.{recordLength}
+use Rattle.definition.specs.Record.{recordLength, layout}
 use Rattle.definition.specs.Owner.{Holder, occurrence, slack, Piece, piece, extent, storage, isAligned, slackBefore, pieces, answer, ownerFrom, ownerOf, cut, join}
 use Rattle.definition.specs.Placed.{placed}
-use Rattle.definition.specs.Calls.{recordFields, entries, byteOwner}
+use Rattle.definition.specs.Calls.{recordFields, byteOwner}
 
 -- ---------------------------------------------------------------- one owner
 
@@ -108,8 +108,8 @@ pub record Demand (text : List ℕ) (work : ℕ) (f : Forest) (es : Entries) : T
       cut (pieces text f) cs ≡ cut (pieces text f) bs →
       cs ≡ bs
 
--- an accepted copybook: the fields of its record, and their entries
+-- an accepted copybook has the fields of its record, and their entries
 pub record Accepted (text : List ℕ) (work : ℕ) (es : Entries) : Type 0 where
   pub of : Forest
   pub read : recordFields text work ≡ give of
-  pub accepted : entries text work ≡ give es
+  pub laidOut : layout text of ≡ give es

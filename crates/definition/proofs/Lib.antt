@@ -1,6 +1,9 @@
 pub mod Lists
 pub mod Answers
+pub mod StatementLaws
 pub mod TreeLaws
+pub mod LayoutLaws
+pub mod ListingLaws
 pub mod Pieces
 pub mod Alignment
 pub mod Slack

@@ -17,6 +17,6 @@ unfolding
     same digits number _>>=_ byteKind tokens sentences statementWords pick keywordOf clauseStep step clauses named statement statements
     above notAbove forest higher fields trimStart trim beforeClose repeat expand legal tally beforePoint afterPoint mask kinded symbols picture
     append find hasMember redefiners widest fold lay recordLength variable endsFit layout entryBytes entriesBytes listing
-  laid ownerFrom overlaid
+    laid ownerFrom overlaid
     firstWide textChecks entryChecks recordFields entries layoutListing pictureAnswer pictureMask ownerIn byteOwner
 computing = tt

@@ -222,12 +222,9 @@ unfoldable pub statement : List ℕ → List Span → Answer (Option Statement)
 statement text [] = give none
 statement text (w ∷ ws) = do
   level ← orRefuse 10 (w .start) (number 256 (part text w))
-  elim (eqb level 88) [
-    | true ↦ give none
-    | false ↦ do
-      s ← named text (w .start) level ws
-      give (some s)
-  ]
+  if eqb level 88 then give none else do
+    s ← named text (w .start) level ws
+    give (some s)
 
 -- the kept statements, of which there may be 800: n are kept already
 unfoldable pub statements : List ℕ → ℕ → List (List Span) → Answer (List Statement)

@@ -18,6 +18,7 @@ use Rattle.definition.specs.Record.{recordLength, layout}
 use Rattle.definition.specs.Owner.{slack, Piece, piece, extent, repeated, size, orNone, storage, isAligned, slackBefore, once, laidItem, laid, overlaid}
 use Rattle.definition.specs.Placed.{contentOf, entryAt, placed}
 use Rattle.definition.proofs.Answers.{bound, through, given-same, not-refused, or-false}
+use Rattle.definition.proofs.LayoutLaws.{redefiners-none, redefiners-ends, redefiners-next, fold-none, fold-base}
 use Rattle.definition.proofs.Pieces.{extent-append, extent-repeated}
 
 -- ---------------------------------------------------------------- plain forests
@@ -49,19 +50,18 @@ Unfolded (entry e members later) = (given (e .redefines) ≡ false) × Unfolded 
 
 module _ (text : List ℕ) where
   no-redefiners : (base : Place) (es : Entries) → Unfolded es → redefiners text base es ≡ end
-  unfolding redefiners
-  no-redefiners base end u = refl
-  no-redefiners base (entry e members later) u = rw (u .0, redefiners) (by-name (sameName text (base .name) (e .name)) (no-redefiners base later (u .1)))
+  no-redefiners base end u = redefiners-none text base
+  no-redefiners base (entry e members later) u = by-name (sameName text (base .name) (e .name)) refl (no-redefiners base later (u .1))
     where
-      by-name : (b : Bool) → redefiners text base later ≡ end → elim b as (λ _. Entries) [ true ↦ end | false ↦ redefiners text base later ] ≡ end
-      by-name true h = refl
-      by-name false h = h
+      by-name : (b : Bool) → sameName text (base .name) (e .name) ≡ b → redefiners text base later ≡ end → redefiners text base (entry e members later) ≡ end
+      by-name true h ih = redefiners-ends text base e members later (u .0) h
+      by-name false h ih = redefiners-next text base e members later (u .0) h ∙ ih
 
   pub fold-plain : (bases : List Place) (es : Entries) → Unfolded es → fold text bases es ≡ give es
-  unfolding fold _>>=_
-  fold-plain bases end u = refl
+  unfolding _>>=_
+  fold-plain bases end u = fold-none text bases
   fold-plain bases (entry e members later) u =
-      rw (u .0, fold, fold-plain (placeOf e ∷ bases) later (u .1), no-redefiners (placeOf e) later (u .1))
+      fold-base text bases e members later (u .0) ∙ rw (fold-plain (placeOf e ∷ bases) later (u .1), no-redefiners (placeOf e) later (u .1))
 
   -- ---------------------------------------------------------------- one item
 

@@ -60,21 +60,21 @@ module _ (text : List ℕ) where
             sameName text (base .name) (e .redefines) ≡ true →
             redefiners text base (entry e members later) ≡ entry (rebased (base .offset) e) members (redefiners text base later)
         unfolding redefiners
-        redefiners-hit h = rw (g, h, redefiners)
+        redefiners-hit h = rw (h, g)
 
         pub redefiners-miss : sameName text (base .name) (e .redefines) ≡ false → redefiners text base (entry e members later) ≡ redefiners text base later
         unfolding redefiners
-        redefiners-miss h = rw (g, h, redefiners)
+        redefiners-miss h = rw (h, g)
 
       -- the next base of that name; one of another name
       module _ (g : given (e .redefines) ≡ false) where
         pub redefiners-ends : sameName text (base .name) (e .name) ≡ true → redefiners text base (entry e members later) ≡ end
         unfolding redefiners
-        redefiners-ends h = rw (g, h, redefiners)
+        redefiners-ends h = rw (h, g)
 
         pub redefiners-next : sameName text (base .name) (e .name) ≡ false → redefiners text base (entry e members later) ≡ redefiners text base later
         unfolding redefiners
-        redefiners-next h = rw (g, h, redefiners)
+        redefiners-next h = rw (h, g)
 
   -- ---------------------------------------------------------------- fold
 

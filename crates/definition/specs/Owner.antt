@@ -97,7 +97,7 @@ answer (slack k) first place = Owner.Slack k
 -- the owner of the byte before which q bytes of the pieces are laid, and `first` bytes before the pieces
 unfoldable pub ownerFrom : ℕ → List Piece → ℕ → Owner
 ownerFrom first [] q = Owner.Unowned
-ownerFrom first (p ∷ ps) q = elim (ltb q (p .width)) [ true ↦ answer (p .holder) first q | false ↦ ownerFrom (first + p .width) ps (q - p .width) ]
+ownerFrom first (p ∷ ps) q = if ltb q (p .width) then answer (p .holder) first q else ownerFrom (first + p .width) ps (q - p .width)
 
 -- a byte's owner is the piece or slack that laid it
 abbrev pub ownerOf : List Piece → ℕ → Owner

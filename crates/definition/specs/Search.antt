@@ -7,6 +7,7 @@ use mathlib.Core.List.{List, [], _∷_, _++_}
 use lib.Dec.{eqb, ltb}
 use Rattle.definition.specs.declared.Entry.{Entry}
 use Rattle.definition.specs.declared.Owner.{Owner}
+use Rattle.definition.specs.Basic.{if_then_else_}
 use Rattle.definition.specs.Fold.{Entries, end, entry, times, total}
 
 -- how many entries a list has, with those below them
@@ -31,14 +32,9 @@ inside k first place (entry e members later) found = found
 unfoldable pub seek : ℕ → ℕ → Entries → ℕ → Owner
 seek k first end q = Owner.Unowned
 seek k first (entry e members later) q =
-    elim (ltb q (e .offset)) [
-      | true ↦ Owner.Slack k
-      | false ↦
-          elim (ltb q (e .offset + total e)) [
-            | true ↦ inside k (startIn first e q) (placeIn e q) members (seek (suc k) (startIn first e q) members (placeIn e q))
-            | false ↦ seek (suc k + entries# members) first later q
-          ]
-    ]
+    if ltb q (e .offset) then Owner.Slack k
+    else if ltb q (e .offset + total e) then inside k (startIn first e q) (placeIn e q) members (seek (suc k) (startIn first e q) members (placeIn e q))
+    else seek (suc k + entries# members) first later q
 
 -- ---------------------------------------------------------------- rows
 
@@ -62,14 +58,8 @@ unfoldable pub walk : ℕ → ℕ → ℕ → List Row → ℕ → Owner
 walk skip k first [] q = Owner.Unowned
 walk (suc skip) k first (r ∷ rs) q = walk skip (suc k) first rs q
 walk zero k first (r ∷ rs) q =
-    elim (ltb q (r .offset)) [
-      | true ↦ Owner.Slack k
-      | false ↦
-          elim (ltb q (r .offset + r .width * r .count)) [
-            | true ↦
-                let start = first + r .offset + (q - r .offset) / r .width * r .width in
-                let place = (q - r .offset) % r .width in
-                elim (eqb (r .below) 0) [ true ↦ Owner.Piece k start place | false ↦ walk zero (suc k) start rs place ]
-            | false ↦ walk (r .below) (suc k) first rs q
-          ]
-    ]
+    let start = first + r .offset + (q - r .offset) / r .width * r .width in
+    let place = (q - r .offset) % r .width in
+    if ltb q (r .offset) then Owner.Slack k
+    else if ltb q (r .offset + r .width * r .count) then (if eqb (r .below) 0 then Owner.Piece k start place else walk zero (suc k) start rs place)
+    else walk (r .below) (suc k) first rs q

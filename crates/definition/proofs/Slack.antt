@@ -37,7 +37,7 @@ comp-width false true = omega arith
 comp-width false false = omega arith
 
 numeric-sized : (u : Usage) (digits scale : ℕ) (signed : Bool) (c : SignClause) → Sized (numeric u digits scale signed c)
-numeric-sized Usage.Comp digits scale signed c e = comp-width _ _
+numeric-sized Usage.Comp digits scale signed c e = comp-width (leb digits 4) (leb digits 9)
 numeric-sized Usage.Comp3 digits scale signed c e = never e
 numeric-sized Usage.Display digits scale signed c e =
     let sign = resolveSign signed c in

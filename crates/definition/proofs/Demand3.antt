@@ -18,7 +18,7 @@ use Rattle.definition.specs.Calls.{recordFields, entries, ownerIn, byteO
 use Rattle.definition.specs.Owner.{extent, pieces, ownerFrom, ownerOf, overlaid, cut, join}
 use Rattle.definition.specs.Placed.{placed}
 use Rattle.definition.specs.Search.{seek, Row, rows, walk}
-use Rattle.definition.specs.Demand.{Owned, flat, AllNumbered, lengths, widths, Demand, Accepted}
+use Rattle.definition.specs.Demand.{Owned, flat, AllNumbered, lengths, widths, Demand, Kept}
 use Rattle.definition.proofs.Answers.{through, refused-through}
 use Rattle.definition.proofs.Pieces.{owned, owned-someone, join-cut, cut-injective, cut-lengths}
 use Rattle.definition.proofs.Slack.{slack-fewest, slack-none, slack-group}
@@ -108,24 +108,19 @@ pub read-fields :
 unfolding entries byteOwner _>>=_
 read-fields text work f h = (rw h, λ q. rw h)
 
--- every accepted copybook has such fields
-pub accepted : (text : List ℕ) (work : ℕ) (es : Entries) → entries text work ≡ give es → Accepted text work es
-unfolding entries
-accepted text work es h = through _ _ h λ f e l. record { of = f; read = e; laidOut = l }
-
 -- the refusals of the reader are those of the byte owner
 pub reader-refuses : (text : List ℕ) (work q : ℕ) (r : Refusal) → entries text work ≡ refuse r → byteOwner text work q ≡ refuse r
 unfolding entries byteOwner ownerIn
 reader-refuses text work q r h = refused-through (recordFields text work) (layout text) _ r h
 
--- Demand 3, whole: of every accepted copybook whose fields have no REDEFINES and no DEPENDING ON
-pub demand3 :
+-- of fields without REDEFINES and DEPENDING ON
+demanded :
     (text : List ℕ) (work : ℕ) (f : Forest) (es : Entries) →
     recordFields text work ≡ give f →
     layout text f ≡ give es →
     overlaid f ≡ false →
     Demand text work f es
-demand3 text work f es read laidOut free =
+demanded text work f es read laidOut free =
     record {
       one-owner = one-owner text f es laidOut free;
       named = λ q l. read-fields text work f read .1 q ∙ answers text f es laidOut free q l;
@@ -138,4 +133,17 @@ demand3 text work f es read laidOut free =
       whole = whole text f es laidOut free;
       parts = parts text f es laidOut free;
       distinct = distinct text f es laidOut free;
+    }
+
+-- Demand 3, whole: every accepted copybook keeps it
+pub demand3 : (text : List ℕ) (work : ℕ) (es : Entries) → entries text work ≡ give es → Kept text work es
+unfolding entries
+demand3 text work es h =
+    through _ _ h λ f read laidOut.
+    record {
+      of = f;
+      read = read;
+      laidOut = laidOut;
+      demand = demanded text work f es read laidOut;
+      refuses = λ o q. read-fields text work f read .1 q ∙ refuses-40 text f es laidOut o q;
     }

@@ -10,12 +10,12 @@ use Rattle.definition.specs.declared.FieldKind.{FieldKind}
 use Rattle.definition.specs.declared.Occurs.{Occurs}
 use Rattle.definition.specs.declared.Statement.{Statement}
 use Rattle.definition.specs.declared.Entry.{Entry}
-use Rattle.definition.specs.Basic.{absent, give}
+use Rattle.definition.specs.Basic.{absent, give, refused}
 use Rattle.definition.specs.Tree.{Forest, leaf, item}
 use Rattle.definition.specs.Picture.{isBinary}
 use Rattle.definition.specs.Fold.{Entries, end, entry}
 use Rattle.definition.specs.Record.{recordLength, layout}
-use Rattle.definition.specs.Owner.{Holder, occurrence, slack, Piece, piece, extent, storage, isAligned, slackBefore, pieces, answer, ownerFrom, ownerOf, cut, join}
+use Rattle.definition.specs.Owner.{Holder, occurrence, slack, Piece, piece, extent, storage, isAligned, slackBefore, pieces, answer, ownerFrom, ownerOf, overlaid, cut, join}
 use Rattle.definition.specs.Placed.{placed}
 use Rattle.definition.specs.Calls.{recordFields, byteOwner}
 
@@ -108,8 +108,11 @@ pub record Demand (text : List ℕ) (work : ℕ) (f : Forest) (es : Entries) : T
       cut (pieces text f) cs ≡ cut (pieces text f) bs →
       cs ≡ bs
 
--- an accepted copybook has the fields of its record, and their entries
-pub record Accepted (text : List ℕ) (work : ℕ) (es : Entries) : Type 0 where
+-- what holds of every accepted copybook: the reader finds the fields of its record, and the layout their entries; the demand is kept, unless a
+-- kept statement, a dropped root aside, has a REDEFINES or a DEPENDING ON; then the byte owner refuses every position
+pub record Kept (text : List ℕ) (work : ℕ) (es : Entries) : Type 0 where
   pub of : Forest
   pub read : recordFields text work ≡ give of
   pub laidOut : layout text of ≡ give es
+  pub demand : overlaid of ≡ false → Demand text work of es
+  pub refuses : overlaid of ≡ true → (q : ℕ) → byteOwner text work q ≡ refused 40 0

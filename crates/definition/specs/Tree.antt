@@ -4,8 +4,9 @@
 -- Assumes nothing.
 use Prim.Native.Nat.{ℕ, suc}
 use mathlib.Core.Bool.{Bool, true, false}
-use mathlib.Core.List.{List, [], _∷_}
+use mathlib.Core.List.{List, [], _∷_, _++_}
 use lib.Dec.{ltb}
+use lib.ListN.{length}
 use Rattle.definition.specs.declared.Statement.{Statement}
 use Rattle.definition.specs.Basic.{if_then_else_}
 
@@ -36,6 +37,22 @@ forest (s ∷ ss) = adopt s (forest ss)
 unfoldable pub higher : ℕ → List Statement → ℕ
 higher n [] = 0
 higher n (s ∷ ss) = if ltb n (s .level) then suc (higher n ss) else 0
+
+-- the open levels that are smaller than n, the innermost first: how many a statement of level n is nested in
+unfoldable pub stillOpen : ℕ → List ℕ → List ℕ
+stillOpen n [] = []
+stillOpen n (l ∷ ls) = if ltb l n then l ∷ ls else stillOpen n ls
+
+-- the depth of each statement, where these levels are open before the first; each closes those that are not smaller, and opens its own
+unfoldable pub depths : List ℕ → List Statement → List ℕ
+depths levels [] = []
+depths levels (s ∷ ss) = let outer = stillOpen (s .level) levels in length outer ∷ depths (s .level ∷ outer) ss
+
+-- the depth of each statement of a forest, in copybook order, where the first list has depth d (`DepthLaws`, of the proofs, says that the open
+-- levels give the same)
+unfoldable pub nesting : ℕ → Forest → List ℕ
+nesting d leaf = []
+nesting d (item s kids later) = d ∷ (nesting (suc d) kids ++ nesting d later)
 
 -- the fields of the record: if the only root has children, it is dropped with its clauses
 unfoldable pub fields : Forest → Forest

@@ -6,6 +6,7 @@ pub mod StatementLaws
 pub mod TreeLaws
 pub mod LayoutLaws
 pub mod ListingLaws
+pub mod CallsLaws
 pub mod Pieces
 pub mod Alignment
 pub mod Slack

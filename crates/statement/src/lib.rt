@@ -1,13 +1,16 @@
 // One statement of a copybook: its level, its name and its clauses, word by word, as `parse_stmt` of the Rust reads them.
 ghost use mathlib.Core.Path.{_≡_};
+ghost use mathlib.Core.List.{_∷_};
 ghost use Prim.Native.Nat.{_+_, _≤_, _<_};
 ghost use lib.ListN.{length};
-ghost use Rattle.definition.specs.Basic.{uppers, absent, count, refused};
+ghost use Rattle.definition.specs.Basic.{uppers, span, absent, count, refused};
 ghost use Rattle.definition.specs.Statement.{noClauses, withPicture, withUsage, withSign, withSync, withOccurs, withDepending, withRedefines};
 ghost use Rattle.definition.specs.Statement.{counted as countedOf, begin as beginOf, onClause, onDepending, onTimes, onSign, clauseStep, separately as separatelyOf, separated as separatedOf, step as stepOf, finish as finishOf};
 ghost use Rattle.definition.specs.declared.Expect.the-variants.{IsPicture, To, OnName, UsageIs, SignIs, Side};
-ghost use Rattle.text.specs.Words.{valued};
-ghost use Rattle.statement.specs.Reading.{finishedOf};
+ghost use Rattle.definition.specs.declared.Mode.the-variants.{Between};
+ghost use Rattle.definition.specs.declared.Token.the-variants.{Word};
+ghost use Rattle.text.specs.Tokens.{between, tokensFrom};
+ghost use Rattle.statement.specs.Reading.{finishedOf, closing, ClausesAre, Ends, NamedAre, FirstStatement};
 use definition::Clauses;
 use definition::Expect;
 use definition::Keyword;
@@ -15,9 +18,12 @@ use definition::Occurs;
 use definition::Refusal;
 use definition::SignWords;
 use definition::Span;
+use definition::Statement;
 use definition::Step;
 use definition::Usage;
 use definition::UsageClause;
+use text::Level;
+use text::Next;
 use text::Number;
 
 // ---- the clauses, one replaced at a time
@@ -373,14 +379,218 @@ fn finish(at: usize, e: Expect, c: Clauses) -> Finished
     }
 }
 
+// ---- one statement
+
+// The clauses of a statement and the place after it, or a refusal.
 pub enum ClausesRead {
     Done(Clauses, usize),
     Refused(Refusal),
 }
 
+// The clauses of a statement that ends before `next`.
+fn closed(at: usize, e: Expect, c: Clauses, next: usize) -> ClausesRead
+    ensures { λ r. ⌜ r ≡ closing next (finishOf at e c) ⌝ }
+{
+    match finish(at, e, c) {
+        Finished::Whole(c) => ClausesRead::Done(c, next),
+        Finished::Refused(r) => ClausesRead::Refused(r),
+    }
+}
+
+// What a statement says before its first clause.
+fn no_clauses() -> Clauses
+    ensures { λ r. ⌜ r ≡ noClauses ⌝ }
+{
+    let none = nowhere();
+    Clauses {
+        picture: none,
+        usage: UsageClause::Absent,
+        sign: SignWords::Absent,
+        sync: false,
+        occurs: Occurs::Once,
+        depending: none,
+        redefines: none,
+    }
+}
+
+// The clauses from a place on, of the statement that begins at `at`.
+pub fn read_clauses(text: &[u8], at: usize, from: usize) -> ClausesRead
+    requires { ⌜ from ≤ length (now text) ⌝ }
+    ensures { λ r. ⌜ ClausesAre (now (text .entry)) at from r ⌝ }
+{
+    let mut place = from;
+    let mut e = Expect::Clause;
+    let mut c = no_clauses();
+    loop {
+        match text::next_token(text, place, false) {
+            Next::Word { start, len, next } => {
+                match step(
+                    e,
+                    Span {
+                        start: start,
+                        len: len,
+                    },
+                    &text[start..start + len],
+                    c,
+                ) {
+                    Step::Go(e2, c2) => {
+                        e = e2;
+                        c = c2;
+                        place = next;
+                    }
+                    Step::Fail(n) => {
+                        return ClausesRead::Refused(Refusal {
+                            number: n,
+                            position: at,
+                            needed: 0,
+                        });
+                    }
+                }
+            }
+            Next::Stop { next } => {
+                return closed(at, e, c, next);
+            }
+            Next::End => {
+                return closed(at, e, c, text.len());
+            }
+        }
+    }
+}
+
+// The place after the statement that goes on at a place.
+fn skip_statement(text: &[u8], from: usize) -> usize
+    requires { ⌜ from ≤ length (now text) ⌝ }
+    ensures { λ r. ⌜ Ends (now (text .entry)) from r ⌝ }
+{
+    let mut place = from;
+    loop {
+        match text::next_token(text, place, false) {
+            Next::Word {
+                start: _,
+                len: _,
+                next,
+            } => {
+                place = next;
+            }
+            Next::Stop { next } => {
+                return next;
+            }
+            Next::End => {
+                return text.len();
+            }
+        }
+    }
+}
+
+// A statement of the words after its level, and the place after it, or a refusal.
+pub enum NamedRead {
+    Done(Statement, usize),
+    Refused(Refusal),
+}
+
+// The words after the level, from a place on: a name, or none, and clauses.
+fn read_named(text: &[u8], at: usize, level: u8, from: usize) -> NamedRead
+    requires { ⌜ (at < length (now text)) × (from ≤ length (now text)) ⌝ }
+    ensures { λ r. ⌜ NamedAre (now (text .entry)) at level from r ⌝ }
+{
+    match text::next_token(text, from, false) {
+        Next::Word { start, len, next } => {
+            match read_clauses(text, at, next) {
+                ClausesRead::Done(c, after) => {
+                    return NamedRead::Done(
+                        Statement {
+                            level: level,
+                            at: at,
+                            name: Span {
+                                start: start,
+                                len: len,
+                            },
+                            clauses: c,
+                        },
+                        after,
+                    );
+                }
+                ClausesRead::Refused(r) => {
+                    return NamedRead::Refused(r);
+                }
+            }
+        }
+        Next::Stop { next } => {
+            return NamedRead::Done(
+                Statement {
+                    level: level,
+                    at: at,
+                    name: nowhere(),
+                    clauses: no_clauses(),
+                },
+                next,
+            );
+        }
+        Next::End => {
+            return NamedRead::Done(
+                Statement {
+                    level: level,
+                    at: at,
+                    name: nowhere(),
+                    clauses: no_clauses(),
+                },
+                text.len(),
+            );
+        }
+    }
+}
+
+// A kept statement and the place after it; the place after one that is skipped; a refusal; or the end of the text.
 pub enum StatementRead {
-    Kept(definition::Statement, usize),
+    Kept(Statement, usize),
     Skipped(usize),
     Refused(Refusal),
     End,
+}
+
+// The statement whose first word is given, and goes on at `from`: its level, then the rest.
+fn read_levelled(text: &[u8], start: usize, len: usize, from: usize) -> StatementRead
+    requires { ⌜ (start < length (now text)) × (start + len ≤ length (now text)) × (from ≤ length (now text)) ⌝ }
+    ensures { λ r. ⌜ FirstStatement (Word (span start len) ∷ tokensFrom (now (text .entry)) Between from) (now (text .entry)) from r ⌝ }
+{
+    match text::level_of(&text[start..start + len]) {
+        Level::Value(level) => {
+            if level == 88 {
+                return StatementRead::Skipped(skip_statement(text, from));
+            }
+            match read_named(text, start, level, from) {
+                NamedRead::Done(s, next) => {
+                    return StatementRead::Kept(s, next);
+                }
+                NamedRead::Refused(r) => {
+                    return StatementRead::Refused(r);
+                }
+            }
+        }
+        Level::Bad => {
+            return StatementRead::Refused(Refusal {
+                number: 10,
+                position: start,
+                needed: 0,
+            });
+        }
+    }
+}
+
+// The first statement at a place or after it; `fresh` says that the line has only blanks before the place.
+pub fn read_statement(text: &[u8], at: usize, fresh: bool) -> StatementRead
+    requires { ⌜ at ≤ length (now text) ⌝ }
+    ensures { λ r. ⌜ FirstStatement (tokensFrom (now (text .entry)) (between fresh) at) (now (text .entry)) (at + 1) r ⌝ }
+{
+    match text::next_token(text, at, fresh) {
+        Next::Word { start, len, next } => {
+            return read_levelled(text, start, len, next);
+        }
+        Next::Stop { next } => {
+            return StatementRead::Skipped(next);
+        }
+        Next::End => {
+            return StatementRead::End;
+        }
+    }
 }

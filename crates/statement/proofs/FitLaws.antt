@@ -1,12 +1,10 @@
 -- A step of the reading, and the end of a statement, keep the clauses' spans in the text.
 -- Assumes nothing.
-use Prim.Native.Nat.{ℕ, _+_, _≤_}
-use mathlib.Core.Path.{_≡_}
+use Prim.Native.Nat.{ℕ}
 use mathlib.Core.Bool.{Bool, true, false, _||_}
 use mathlib.Core.List.{List}
 use mathlib.Core.Option.{Option, none, some}
 use native.Mathlib.Omega.{arith}
-use lib.ListN.{length}
 use Rattle.definition.specs.declared.Clauses.{Clauses}
 use Rattle.definition.specs.declared.Expect.{Expect}
 use Rattle.definition.specs.declared.Expect.the-variants.{Clause, IsPicture, APicture, Target, ACount, To, Bound, Times, DependingOn, OnName, AName, UsageIs, SignIs, SignWord, Side, Nothing}
@@ -16,7 +14,7 @@ use Rattle.definition.specs.declared.Span.{Span}
 use Rattle.definition.specs.declared.Step.{Step}
 use Rattle.definition.specs.declared.Step.the-variants.{Go, Fail}
 use Rattle.definition.specs.Basic.{if_then_else_, count, Answer, refuse, give}
-use Rattle.definition.specs.Statement.{key, keywordOf, noClauses, withPicture, withOccurs, withDepending, withRedefines, withSign, counted, begin, onClause, onDepending, onTimes, onSign, clauseStep, separated, step, finish}
+use Rattle.definition.specs.Statement.{key, keywordOf, noClauses, withPicture, withDepending, withRedefines, withSign, counted, begin, onClause, onDepending, onTimes, onSign, clauseStep, separated, step, finish}
 use Rattle.statement.specs.Reading.{Inside, Fits}
 
 module _ (t : List ℕ) where

@@ -3,7 +3,7 @@
 -- Assumes nothing.
 use borrow.Author.Needs.{needs}
 use Prim.Native.Nat.{ℕ, _+_, _-_, _<_, _≤_, _^_}
-use mathlib.Core.Path.{_≡_, refl, sym, ap, _∙_}
+use mathlib.Core.Path.{_≡_, sym, ap, _∙_}
 use mathlib.Core.List.{List}
 use native.Mathlib.Nat.{add-sub-cancel-left}
 use native.Mathlib.Omega.{arith}
@@ -26,7 +26,7 @@ use Rattle.text.proofs.TokenLaws.{end-first, word-first, word-less, stop-first}
 use Rattle.statement.specs.declared.ClausesRead.{ClausesRead}
 use Rattle.statement.specs.Reading.{Fits, wordsFrom, Ends, closing, ClausesAre}
 use Rattle.statement.proofs.EndLaws.{Reached, reached-start, reached-word, ends-stop, ends-text}
-use Rattle.statement.proofs.FitLaws.{none-fit, step-fits, StepFits, finish-fits, AnswerFits}
+use Rattle.statement.proofs.FitLaws.{none-fit, step-fits, finish-fits, AnswerFits}
 use Rattle.statement.proofs.read_clauses.Statement.{statement}
 use Rattle.statement.proofs.read_clauses.Tie as tie
 

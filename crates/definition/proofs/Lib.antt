@@ -2,8 +2,10 @@ pub mod Lists
 pub mod Answers
 pub mod NumberLaws
 pub mod WordLaws
+pub mod PictureLaws
 pub mod StatementLaws
 pub mod TreeLaws
+pub mod DepthLaws
 pub mod LayoutLaws
 pub mod ListingLaws
 pub mod CallsLaws

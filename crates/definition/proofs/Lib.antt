@@ -1,5 +1,7 @@
 pub mod Lists
 pub mod Answers
+pub mod NumberLaws
+pub mod WordLaws
 pub mod StatementLaws
 pub mod TreeLaws
 pub mod LayoutLaws

@@ -6,6 +6,8 @@ ghost use lib.ListN.{length};
 ghost use lib.Seq.{sets};
 ghost use Rattle.definition.specs.Calls.{entryChecks, checkOf, cleared};
 ghost use Rattle.definition.specs.Listing.{flag};
+ghost use Rattle.definition.proofs.DepthLaws.{Rising};
+ghost use Rattle.rows.specs.Levels.{stackOf, Nested, Closed, Opened};
 ghost use Rattle.rows.specs.Table.{spanCode, spanAt, usageCode, usageAt, signCode, signAt, markOf, countOf, occursAt};
 ghost use Rattle.rows.specs.Table.{Short, Brief, Storable, clauseCells, putRow, clausesAt, statementAt};
 use definition::Check;
@@ -283,5 +285,57 @@ pub fn statement_at(work: &[u32], k: usize) -> Statement
         at: work[20 * k + 2] as usize,
         name: span_at(work[20 * k + 3]),
         clauses: clauses_at(work, k),
+    }
+}
+
+// The levels that are open, the innermost last, and how many.
+pub struct OpenLevels {
+    pub levels: [u8; 256],
+    pub count: usize,
+}
+
+// No level is open.
+fn none_open() -> OpenLevels
+    ensures { λ r. ⌜ (stackOf r ≡ []) × Nested r ⌝ }
+{
+    OpenLevels {
+        levels: [0; 256],
+        count: 0,
+    }
+}
+
+// Closes the levels that are not smaller than a statement's.
+pub fn close(o: OpenLevels, level: u8) -> OpenLevels
+    requires { ⌜ Nested o ⌝ }
+    ensures { λ r. ⌜ Closed o level r ⌝ }
+{
+    let levels = o.levels;
+    let mut n = o.count;
+    while 0 < n {
+        if levels[n - 1] < level {
+            return OpenLevels {
+                levels: levels,
+                count: n,
+            };
+        }
+        n -= 1;
+    }
+    OpenLevels {
+        levels: levels,
+        count: n,
+    }
+}
+
+// Opens a statement's level, after the others were closed.
+pub fn open(o: OpenLevels, level: u8) -> OpenLevels
+    requires { ⌜ (o .count ≤ level) × Rising (stackOf o) ⌝ }
+    ensures { λ r. ⌜ Opened o level r ⌝ }
+{
+    let mut levels = o.levels;
+    let n = o.count;
+    levels[n] = level;
+    OpenLevels {
+        levels: levels,
+        count: n + 1,
     }
 }

@@ -110,7 +110,7 @@ module _ (w : List ℕ) (k : ℕ) where
     clauses-held : clausesAt w k ≡ s .clauses
     clauses-held =
         let c = s .clauses in
-        let b = fits .clauses in
+        let b = fits .placed .clauses in
         let same : clausesAt w k ≡ clausesOf (c .picture) (c .usage) (c .sign) (c .sync) (c .occurs) (c .depending) (c .redefines) =
         cc (
           ap spanAt (h 4 (lit< tt)) ∙ span-back (c .picture) (b .picture),
@@ -132,7 +132,7 @@ module _ (w : List ℕ) (k : ℕ) where
         cc (
           ap (λ (n : ℕ). n % 256) (h 0 (lit< tt)) ∙ mod-eq-of-lt (fits .level),
           h 2 (lit< tt),
-          ap spanAt (h 3 (lit< tt)) ∙ span-back (s .name) (fits .name),
+          ap spanAt (h 3 (lit< tt)) ∙ span-back (s .name) (fits .placed .name),
           clauses-held,
         ) in
         same

@@ -86,11 +86,15 @@ pub record Brief (c : Clauses) : Type 0 where
   pub redefines : Short (c .redefines)
 
 -- a statement in such a text
-pub record Storable (s : Statement) : Type 0 where
-  pub level : s .level < 256
+pub record Placed (s : Statement) : Type 0 where
   pub at : s .at ≤ 65535
   pub name : Short (s .name)
   pub clauses : Brief (s .clauses)
+
+-- its level is a byte too: what a row gives back as it was
+pub record Storable (s : Statement) : Type 0 where
+  pub level : s .level < 256
+  pub placed : Placed s
 
 abbrev pub Storables : List Statement → Type 0
 Storables [] = Unit {0}

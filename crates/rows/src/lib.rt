@@ -8,8 +8,9 @@ ghost use Rattle.definition.specs.Calls.{entryChecks, checkOf, cleared};
 ghost use Rattle.definition.specs.Listing.{flag};
 ghost use Rattle.definition.proofs.DepthLaws.{Rising};
 ghost use Rattle.rows.specs.Levels.{stackOf, Nested, Closed, Opened};
+ghost use Rattle.rows.specs.Reading.{Added};
 ghost use Rattle.rows.specs.Table.{spanCode, spanAt, usageCode, usageAt, signCode, signAt, markOf, countOf, occursAt};
-ghost use Rattle.rows.specs.Table.{Short, Brief, Storable, clauseCells, putRow, clausesAt, statementAt};
+ghost use Rattle.rows.specs.Table.{Short, Brief, Placed, clauseCells, putRow, clausesAt, statementAt};
 use definition::Check;
 use definition::Clauses;
 use definition::Occurs;
@@ -242,7 +243,7 @@ fn put_clauses(work: &mut [u32], at: usize, c: Clauses)
 
 // A statement and its depth into row k.
 pub fn put_row(work: &mut [u32], k: usize, depth: u32, s: Statement)
-    requires { ⌜ (20 * k + 20 ≤ length (now work)) × Storable s ⌝ }
+    requires { ⌜ (20 * k + 20 ≤ length (now work)) × Placed s ⌝ }
     ensures { λ _. ⌜ now (work .exit) ≡ putRow (now (work .entry)) k depth s ⌝ }
 {
     let base = 20 * k;
@@ -338,4 +339,21 @@ pub fn open(o: OpenLevels, level: u8) -> OpenLevels
         levels: levels,
         count: n + 1,
     }
+}
+
+// A statement into row n, at the depth that the open levels give; its level is open then.
+fn add_row(work: &mut [u32], n: usize, o: OpenLevels, s: Statement) -> OpenLevels
+    requires { ⌜ (20 * n + 20 ≤ length (now work)) × Nested o × Placed s ⌝ }
+    ensures { λ r. ⌜ Added (now (work .entry)) n o s (now (work .exit)) r ⌝ }
+{
+    let level = s.level;
+    let outer = close(o, level);
+    put_row(work, n, outer.count as u32, s);
+    open(outer, level)
+}
+
+// The number of rows that a text has, or why it is refused.
+pub enum RowsRead {
+    Rows(usize),
+    Refused(Refusal),
 }

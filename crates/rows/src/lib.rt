@@ -8,7 +8,7 @@ ghost use Rattle.definition.specs.Calls.{entryChecks, checkOf, cleared};
 ghost use Rattle.definition.specs.Listing.{flag};
 ghost use Rattle.definition.proofs.DepthLaws.{Rising};
 ghost use Rattle.rows.specs.Levels.{stackOf, Nested, Closed, Opened};
-ghost use Rattle.rows.specs.Reading.{Added};
+ghost use Rattle.rows.specs.Reading.{Added, RowsAre};
 ghost use Rattle.rows.specs.Table.{spanCode, spanAt, usageCode, usageAt, signCode, signAt, markOf, countOf, occursAt};
 ghost use Rattle.rows.specs.Table.{Short, Brief, Placed, clauseCells, putRow, clausesAt, statementAt};
 use definition::Check;
@@ -20,6 +20,7 @@ use definition::Span;
 use definition::Statement;
 use definition::Usage;
 use definition::UsageClause;
+use statement::StatementRead;
 
 // Work memory to zero.
 pub fn clear(work: &mut [u32])
@@ -356,4 +357,42 @@ fn add_row(work: &mut [u32], n: usize, o: OpenLevels, s: Statement) -> OpenLevel
 pub enum RowsRead {
     Rows(usize),
     Refused(Refusal),
+}
+
+// The kept statements of a text as rows of work memory, from row 0 on.
+pub fn read_rows(text: &[u8], work: &mut [u32]) -> RowsRead
+    requires { ⌜ (length (now text) ≤ 65535) × (16384 ≤ length (now work)) ⌝ }
+    ensures { λ r. ⌜ RowsAre (now (text .entry)) (now (work .entry)) r (now (work .exit)) ⌝ }
+{
+    let mut at = 0;
+    let mut fresh = true;
+    let mut n = 0;
+    let mut levels = none_open();
+    loop {
+        match statement::read_statement(text, at, fresh) {
+            StatementRead::Kept(s, next) => {
+                if 800 <= n {
+                    return RowsRead::Refused(Refusal {
+                        number: 14,
+                        position: s.at,
+                        needed: 0,
+                    });
+                }
+                levels = add_row(work, n, levels, s);
+                n += 1;
+                at = next;
+                fresh = false;
+            }
+            StatementRead::Skipped(next) => {
+                at = next;
+                fresh = false;
+            }
+            StatementRead::Refused(r) => {
+                return RowsRead::Refused(r);
+            }
+            StatementRead::End => {
+                return RowsRead::Rows(n);
+            }
+        }
+    }
 }

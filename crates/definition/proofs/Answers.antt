@@ -35,6 +35,12 @@ through a f h k = let b = bound a f h in k (b .value) (b .first) (b .rest)
 pub given-same : {A : Type 0} {a b : A} → _≡_ {A = Answer A} (give a) (give b) → a ≡ b
 given-same h = cc
 
+-- a refusal of a mapped answer is the answer's
+pub map-refused : {A B : Type 0} (f : A → B) (a : Answer A) {r : Refusal} → (a >>= λ x. give (f x)) ≡ refuse r → a ≡ refuse r
+unfolding _>>=_
+map-refused f (refuse y) h = ap refuse (cc)
+map-refused f (give x) h = absurd (let z : _≡_ {A = ℕ} 0 1 = cc in omega arith)
+
 -- a check that did not refuse was false
 pub not-refused : (b : Bool) (n p : ℕ) {u : Unit {0}} → refuseIf b n p ≡ give u → b ≡ false
 not-refused true n p h = absurd (let z : _≡_ {A = ℕ} 0 1 = cc in omega arith)

@@ -1,0 +1,5 @@
+pub mod Keys
+pub mod Halves
+pub mod Counting
+pub mod Shapes
+pub mod Masking

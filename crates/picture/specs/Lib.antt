@@ -1,0 +1,4 @@
+pub mod Shape
+pub mod Repeats
+pub mod Kinds
+pub mod Masks

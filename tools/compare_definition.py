@@ -1,7 +1,7 @@
 #!/usr/bin/env python3
 """Compares the definition with the original Rust on generated copybooks and pictures.
 
-    tools/compare_definition.py ORACLE_SRC COUNT SEED [--repo DIR] [--batch N] [--scratch DIR]
+    tools/compare_definition.py ORACLE_SRC COUNT SEED [--repo DIR] [--batch N] [--shrink N] [--scratch DIR]
 
 ORACLE_SRC is the folder with the Rust files; tools/oracle is built from it, and asked. The definition is the crate `definition` of the
 repository (--repo names another one). It is copied to a scratch repository, where antt computes its answer to each input: the bytes of
@@ -216,13 +216,16 @@ class Definition:
         wanted, lines = ["definition"], ["compare: definition"]
         for name in wanted:
             if name in deps:
-                shutil.copytree(repo / "crates" / name, self.top / "crates" / name, dirs_exist_ok=True)
+                crate = repo / "crates" / name
+                # Where no function is to be proved, the proofs are laws of the definition, and not needed here.
+                code = any("fn " in f.read_text() for f in crate.glob("src/*.rt"))
+                shutil.copytree(crate, self.top / "crates" / name, ignore=shutil.ignore_patterns("must-fail", *([] if code else ["proofs"])))
                 lines.append(f"{name}:{deps[name]}")
                 wanted += [d for d in deps[name].split() if d not in wanted]
         (self.top / "crates.txt").write_text("\n".join(lines) + "\n")
         crate = self.top / "crates" / "compare"
-        (crate / "src").mkdir(parents=True, exist_ok=True)
-        (crate / "specs").mkdir(exist_ok=True)
+        (crate / "src").mkdir(parents=True)
+        (crate / "specs").mkdir()
         (crate / "src" / "lib.rt").write_text("// All is in specs/.\npub struct Nothing {\n    pub nothing: u8,\n}\n")
         (crate / "specs" / "Lib.antt").write_text("pub mod Answers\npub mod Claims\n")
         (crate / "specs" / "Answers.antt").write_text(ANSWERS.replace("@CALLS@", CALLS))
@@ -284,13 +287,14 @@ class Input(collections.namedtuple("Input", "text usage sign family")):
 #   level 88, levels 0 255 256 +05 0005                                           LEVELS, levels
 #   counts 0, +3, around 2^31 and 2^64; sums around 2^31                          COUNTS, counts, LARGE
 #   dropped roots with clauses                                                    ROOTS, Maker.nested
-#   nested groups with SYNC items                                                 Maker.nested; depth 64 and 65: chain
+#   two refusals in one copybook                                                  ORDER, Maker.damaged
+#   nested groups with SYNC items                                                 Maker.nested; depth 64 and 65: chains
 #   damaged copies of good copybooks                                              Maker.damaged
-#   801 statements, 65,536 bytes, bytes over 127                                  EDGES, Maker.marked
+#   801 statements, 65,536 bytes, bytes over 127                                  edges, Maker.marked
 #   pictures: every symbol alone, pairs                                           alone, Maker.picture_pair
 #     floats, CR and DB split by repeats, zero repeats, counts, stray brackets    PICTURES, Maker.picture_odd
 #     white space around and inside the brackets, lower case                      SPACED, Maker.picture_odd
-#     every usage and sign                                                        Maker.picture
+#     every usage and sign                                                        EVERY, Maker.picture
 
 SYMBOLS = "XA9PVSZ*.,/B0$+-CDR"
 KEYWORDS = """PIC PICTURE IS REDEFINES OCCURS TO TIMES DEPENDING ON USAGE DISPLAY COMP COMPUTATIONAL COMP-3 COMPUTATIONAL-3
@@ -418,6 +422,24 @@ ROOTS = """
 88. 088 X. 05 A PIC X.
 01 A PIC X. 88 B VALUE 1.
 """.strip().split("\n")
+ORDER = """
+05 A REDEFINES Q.
+05 A REDEFINES Q PIC X9.
+05 A REDEFINES Q PIC 9(256).
+05 A PIC Q. 05 B OCCURS X PIC X.
+05 A OCCURS. 256 B.
+256 B. 05 A OCCURS.
+05 A OCCURS 3 TO. 05 B OCCURS.
+05 A PIC X. 05 B REDEFINES Q PIC X. 05 C.
+05 G REDEFINES Q. 10 A PIC Q.
+05 G REDEFINES Q. 10 A.
+05 G REDEFINES Q OCCURS 2147483648. 10 A REDEFINES B PIC 9(.
+05 G OCCURS 2147483648. 10 A PIC 9(A).
+05 G REDEFINES Q. 10 A PIC X. 10 B PIC X. 10 B REDEFINES A PIC X. 10 C REDEFINES B PIC X.
+05 G. 10 A PIC X. 10 B PIC X. 10 B REDEFINES A PIC X. 10 C REDEFINES B PIC X. 05 D.
+05 D PIC XZ. 05 G. 10 A PIC X. 10 B PIC X. 10 B REDEFINES A PIC X. 10 C REDEFINES B PIC X.
+05 A PIC X. 05 B PIC X. 05 B REDEFINES A PIC X. 05 C REDEFINES B PIC X. 05 D PIC Q.
+""".strip().split("\n")
 LARGE = """
 05 A OCCURS 2147483647 PIC X. 05 B PIC X(0).
 05 A OCCURS 2147483646 PIC X. 05 B PIC X.
@@ -469,6 +491,7 @@ XZ X0 XB X/ X, X. X+ A9 AP AV AS X(3)9 X$ X$$ B 0 / , . 9B9 9/9 9,9 909 B0/, 0(3
 9(4294967296) 9(4294967299) X(18446744073709551615) X(18446744073709551616) X(+18446744073709551615) X(18446744073709551619) 9(18446744073709551616)Q 9(0018446744073709551616) X(184467440737095516150) Q(18446744073709551615)
 9(18446744073709551615)( x(3) a 9(3)v9 s9 zz9 z(3).99 9cr 9Db 9cR db p9 b9 v9
 """.split()
+EVERY = ["9(4)", "S9(4)", "S9(3)V99", "9V9", "S", "SP", "ZZ9.9", "SZ9", "+9(5)", "9(9)CR", "S9(10)", "X", "XS", "V9(256)", ""]
 SPACED = [" 9", "9 ", " 9(3) ", "\t9\n", "\r\nX\x0b\x0c", "9( 3)", "9(3 )", "9( 3 )", "9(\t3\n)", "9( + 3)", "9( +3 )", "9(3 3)", "9 (3)", "9( )", "9(3) 9", "9 9", "", " ", "\n\t",
           "9(\x0b3\x0c)", "9(\x1c3)", "\x1c9", "9(3)\x00", "X\u0080", "\u00ff", "9(\u00a03)", " (3)", "( 3)", " )", "9(3 "]
 
@@ -483,10 +506,11 @@ def edges():
     yield "88.\n" * 300 + "1.\n" * 800 + "88.\n"
 
 
-def chain(depth, second):
-    """Groups in groups: with no second root the outermost is dropped, and the innermost list has depth `depth - 2`."""
-    levels = range(1, depth)
-    return "".join(f"{k} G. " for k in levels) + f"{depth} A PIC X. " + ("1 B PIC X." if second else "")
+def chains():
+    """Groups in groups. With no second root the outermost is dropped; the innermost list is at depth n - 2 then, else n - 1."""
+    for n in (5, 65, 66, 67):
+        text = "".join(f"{k} G. " for k in range(1, n)) + f"{n} A PIC X."
+        yield from (text, text + " 1 B PIC X.")
 
 
 def at_every_place():
@@ -501,8 +525,8 @@ def at_every_place():
 
 def bare_clauses():
     for clause in BARE:
-        for before in ("05 A", "05 A PIC X", "05 A OCCURS 2 PIC S9(4) COMP", "05 A PIC X. 05 B REDEFINES A PIC 99"):
-            for end in (".", "", " . 05 C PIC X."):
+        for before in ("05 A", "05 A OCCURS 2 PIC S9(4) COMP", "05 A PIC X. 05 B REDEFINES A PIC 99"):
+            for end in (".", "", " . 05 C PIC X.", ". 10 C PIC X."):
                 yield f"{before} {clause}{end}"
 
 
@@ -576,8 +600,14 @@ class Maker:
         p = make()
         return p.lower() if self.chance(0.15) else p
 
+    def usage(self):
+        return self.one([0, 0, 1, 2])
+
+    def sign(self):
+        return self.r.randrange(5)
+
     def picture(self):
-        return "random", self.picture_text()
+        return "random", self.picture_text(), self.usage(), self.sign()
 
     # copybooks
 
@@ -762,47 +792,55 @@ class Maker:
 
 
 def generate(count, seed):
-    """Different inputs, a third of them pictures; up to two fifths are taken from the written ones, the others are random."""
+    """Different inputs, a third of them pictures. Up to two fifths are written here: the lists first, then some of what is made in every
+    combination. The others are random."""
     m = Maker(seed)
-    copybooks = [("fold", t) for t in FOLDS] + [("repeated", t) for t in REPEATED] + [("root", t) for t in ROOTS] + [("large", t) for t in LARGE] + [("good", t) for t in GOOD]
-    copybooks += [(f.__name__, t) for f in (edges, at_every_place, bare_clauses, levels, counts) for t in f()]
-    copybooks += [("chain", chain(d, s)) for d in (3, 5, 63, 64, 65, 66, 67, 68, 120) for s in (False, True)]
-    pictures = [("written", t) for t in PICTURES] + [("spaced", t) for t in SPACED] + [("alone", t) for t in alone()]
-    m.r.shuffle(copybooks)
+
+    def shuffled(parts):
+        out = [(family, text) for family, texts in parts for text in texts]
+        m.r.shuffle(out)
+        return out
+
+    copybooks = shuffled([("fold", FOLDS), ("repeated", REPEATED), ("root", ROOTS), ("order", ORDER), ("large", LARGE), ("good", GOOD), ("chains", chains())])
+    copybooks += shuffled([(f.__name__, f()) for f in (edges, at_every_place, bare_clauses, levels, counts)])
+    pictures = [(*p, m.usage(), m.sign()) for p in shuffled([("written", PICTURES), ("spaced", SPACED), ("alone", alone())])]
+    pictures += [("every", text, usage, sign) for text in EVERY for usage in range(3) for sign in range(5)]
     m.r.shuffle(pictures)
     third = count // 3
     inputs = {}
 
-    def put(family, text, picture):
+    def put(family, text, usage=None, sign=None):
         # A character is a byte here; over 127, no UTF-8.
-        usage, sign = (m.one([0, 0, 1, 2]), m.r.randrange(5)) if picture else (None, None)
         i = Input(text.encode("latin-1"), usage, sign, family)
         inputs.setdefault(i[:3], i)
 
-    for family, text in copybooks[:(count - third) * 2 // 5]:
-        put(family, text, False)
-    for family, text in pictures[:third * 2 // 5]:
-        put(family, text, True)
+    for row in copybooks[:(count - third) * 2 // 5] + pictures[:third * 2 // 5]:
+        put(*row)
     written = len(inputs)
     while len(inputs) < count:
-        picture = (len(inputs) - written) % 3 == 0
-        put(*(m.picture() if picture else m.copybook()), picture)
+        put(*(m.picture() if (len(inputs) - written) % 3 == 0 else m.copybook()))
     return list(inputs.values())
 
 
 # ---------------------------------------------------------------- the oracle
 
 
-def ask_oracle(source, inputs):
-    target = HERE.parent / "target" / "oracle"
-    env = dict(os.environ, ORACLE_SRC=str(pathlib.Path(source).resolve()), CARGO_TARGET_DIR=str(target))
-    subprocess.run(["cargo", "build", "--release", "--offline", "--quiet"], cwd=HERE / "oracle", env=env, check=True)
-    requests = "".join(i.request() + "\n" for i in inputs)
-    p = subprocess.run([target / "release" / "oracle"], input=requests, capture_output=True, text=True, check=True)
-    answers = [[int(n) for n in line.split()] for line in p.stdout.splitlines()]
-    if len(answers) != len(inputs):
-        sys.exit(f"{len(inputs)} requests, {len(answers)} answers of the oracle")
-    return answers
+class Oracle:
+    """The original Rust, built once."""
+
+    def __init__(self, source):
+        target = HERE.parent / "target" / "oracle"
+        env = dict(os.environ, ORACLE_SRC=str(source.resolve()), CARGO_TARGET_DIR=str(target))
+        subprocess.run(["cargo", "build", "--release", "--offline", "--quiet"], cwd=HERE / "oracle", env=env, check=True)
+        self.program = target / "release" / "oracle"
+
+    def ask(self, inputs):
+        requests = "".join(i.request() + "\n" for i in inputs)
+        p = subprocess.run([self.program], input=requests, capture_output=True, text=True, check=True)
+        answers = [[int(n) for n in line.split()] for line in p.stdout.splitlines()]
+        if len(answers) != len(inputs):
+            sys.exit(f"{len(inputs)} requests, {len(answers)} answers of the oracle")
+        return answers
 
 
 # ---------------------------------------------------------------- the refusals that document 01 adds
@@ -839,23 +877,30 @@ def long_picture(i, answer):
     return answer[2] != 1 and (digits > 255 or answer[2] == 5 and answer[6] > 255)
 
 
-def due(i, answer, number):
-    """Whether the added refusal may be right (for 1, 2, and all that a picture can get: is right), by the text and the oracle's answer.
-    Number 0 asks whether no added refusal may be."""
+def expected(i, answer):
+    """The added refusal that the text and the oracle's answer call for, or 0: the right one for a picture and for 1 and 2, else a guess."""
     accepted = answer[0] == 1
-    entry = 1 if len(i.text) > 65535 else 2 if max(i.text, default=0) > 127 else 0
-    if entry or number in (1, 2):
-        return number == entry
+    if len(i.text) > 65535:
+        return 1
+    if max(i.text, default=0) > 127:
+        return 2
     if i.usage is not None:
-        grown = symbols(i.text.strip()) > 65535
-        return number == (24 if grown else 27 if accepted and long_picture(i, answer) else 0)
+        return 24 if symbols(i.text.strip()) > 65535 else 27 if accepted and long_picture(i, answer) else 0
+    return 30 if answer == [2] else 24 if answer == [3] else 29 if accepted and max(answer) > LARGEST else 0
+
+
+def due(i, answer, number):
+    """Whether the added refusal, or none (0), can be right, as far as the text and the oracle's answer say."""
+    guess = expected(i, answer)
+    if i.usage is not None or guess in (1, 2):
+        return number == guess
     words = i.text.split()
     return {
-        0: not accepted or max(answer) <= LARGEST,
+        0: guess != 29,
         14: i.text.count(b".") >= 800,
         24: any(symbols(w) > 65535 for w in words),
         27: any(symbols(w) > 255 for w in words),
-        29: not accepted or max(answer) > LARGEST or b"DEPENDING" in i.text.upper(),
+        29: answer[0] != 1 or guess == 29 or b"DEPENDING" in i.text.upper(),
         30: answer == [2],
     }.get(number, False)
 
@@ -863,72 +908,98 @@ def due(i, answer, number):
 # ---------------------------------------------------------------- the comparison
 
 
-def compare(definition, batch):
-    """The definition's answer to each (input, oracle's answer): a list of numbers, or None where antt did not compute it."""
-    found = [None] * len(batch)
-    # First: the answer is the oracle's.
-    asked = [(f"c{k}", f"equal ({i.term()}) {listed(a)}") for k, (i, a) in enumerate(batch) if a[0] < 2]
-    same = definition.holding(asked) if asked else set()
-    for k, (_, a) in enumerate(batch):
-        if f"c{k}" in same:
-            found[k] = a
+class Result(collections.namedtuple("Result", "input oracle definition")):
+    """An input with both answers; the definition's is None where antt did not compute it, and [1] where it is too long to show."""
+
+    def added(self):
+        """The added refusal that the definition gives, or 0."""
+        d = self.definition or [1]
+        return d[1] if d[0] == 0 and d[1] in ADDED else 0
+
+    def differs(self):
+        added = self.added()
+        return not (added or self.oracle == self.definition) or not due(self.input, self.oracle, added)
+
+    def __str__(self):
+        d = {None: "not computed", (1,): "accepted, with an answer too long to show"}.get(self.definition and tuple(self.definition), self.definition)
+        return f"- {self.input}\n    oracle:     {self.oracle}\n    definition: {d}"
+
+
+def compare(oracle, definition, inputs):
+    """The results for the inputs, in one or two runs of antt."""
+    answers = oracle.ask(inputs)
+    # First one claim for each: the refusal that is expected of it, or that the answer is the oracle's.
+    claimed = [[0, number] if number else answer for answer, number in zip(answers, map(expected, inputs, answers))]
+    true = definition.holding([(f"c{k}", f"equal ({i.term()}) {listed(c)}") for k, (i, c) in enumerate(zip(inputs, claimed))])
+    found = [c if f"c{k}" in true else None for k, c in enumerate(claimed)]
     # Of the others: the number of the refusal, bit by bit, or that there is none.
-    rest = [k for k, f in enumerate(found) if f is None]
-    bits = []
-    for k in rest:
-        number = f"refusal ({batch[k][0].term()})"
-        bits += [(f"b{k}n{n}", f"bit {n} ({number})") for n in range(6)] + [(f"b{k}none", f"eqb ({number}) 0")]
-    true = definition.holding(bits) if bits else set()
-    for k in rest:
-        number = sum(1 << n for n in range(6) if f"b{k}n{n}" in true)
+    rest = [(k, i.term()) for k, i in enumerate(inputs) if found[k] is None]
+    claims = [(f"c{k}bit{n}", f"bit {n} (refusal ({term}))") for k, term in rest for n in range(6)]
+    claims += [(f"c{k}none", f"eqb (refusal ({term})) 0") for k, term in rest]
+    true = definition.holding(claims) if claims else set()
+    for k, term in rest:
+        number = sum(1 << n for n in range(6) if f"c{k}bit{n}" in true)
         if number:
             found[k] = [0, number]
-        elif f"b{k}none" in true:
-            found[k] = definition.shown(batch[k][0].term()) or [1]
-    return found
+        elif f"c{k}none" in true:
+            found[k] = definition.shown(term) or [1]
+    return [Result(*r) for r in zip(inputs, answers, found)]
+
+
+def shrunk(oracle, definition, result):
+    """A smaller input that differs, by leaving out statements, then words, then bytes, as long as that is found."""
+    for pattern in (rb"[^.]*\.\s*", rb"\S+\s*", rb"(?s)."):
+        while True:
+            text = result.input.text
+            texts = {text[:m.start()] + text[m.end():] for m in re.finditer(pattern, text)}
+            tries = [result.input._replace(text=t) for t in sorted(texts, key=lambda t: (len(t), t))]
+            smaller = [r for r in compare(oracle, definition, tries) if r.differs()] if tries else []
+            if not smaller:
+                break
+            result = smaller[0]
+    return result
 
 
 def main():
     parser = argparse.ArgumentParser(description="Compares the definition with the original Rust on generated inputs.")
-    parser.add_argument("oracle_src", help="the folder with the Rust files")
+    parser.add_argument("oracle_src", type=pathlib.Path, help="the folder with the Rust files")
     parser.add_argument("count", type=int, help="how many inputs")
     parser.add_argument("seed", type=int)
     parser.add_argument("--repo", type=pathlib.Path, default=HERE.parent, help="the repository with crates.txt and the crate definition")
     parser.add_argument("--batch", type=int, default=300, help="inputs to one run of antt")
+    parser.add_argument("--shrink", type=int, default=0, help="make up to this many differences smaller")
     parser.add_argument("--scratch", type=pathlib.Path, help="an empty folder for the scratch repository, which is then kept")
     o = parser.parse_args()
 
+    oracle = Oracle(o.oracle_src)
     inputs = generate(o.count, o.seed)
-    answers = ask_oracle(o.oracle_src, inputs)
-    kinds, left, differences = collections.Counter(), collections.Counter(), []
+    kinds, differences = collections.Counter(), []
     with tempfile.TemporaryDirectory() as temporary:
         definition = Definition(o.repo, o.scratch or pathlib.Path(temporary))
         began = time.time()
         for at in range(0, len(inputs), o.batch):
-            batch = list(zip(inputs, answers))[at:at + o.batch]
-            for (i, a), d in zip(batch, compare(definition, batch)):
-                what = "copybook" if i.usage is None else "picture"
-                added = d[1] if d and d[0] == 0 and d[1] in ADDED else 0
-                if d is None or not (added or a == d) or not due(i, a, added):
-                    differences.append((i, a, d))
-                elif added:
-                    left[what, added] += 1
+            for r in compare(oracle, definition, inputs[at:at + o.batch]):
+                what = "copybooks" if r.input.usage is None else "pictures"
+                if r.differs():
+                    differences.append(r)
+                elif r.added():
+                    kinds[what, f"left out, refused {r.added()}"] += 1
                 else:
-                    kinds[what, "accepted" if a[0] == 1 else f"refused {a[1]}"] += 1
+                    kinds[what, "accepted" if r.oracle[0] == 1 else f"refused {r.oracle[1]}"] += 1
             done = min(at + o.batch, len(inputs))
             print(f"{done} of {len(inputs)} inputs, {len(differences)} differences, {time.time() - began:.0f} s", file=sys.stderr, flush=True)
+        small = [shrunk(oracle, definition, r) for r in differences[:o.shrink]]
 
-    for what in ("copybook", "picture"):
-        print(f"{sum(n for (w, _), n in kinds.items() if w == what)} {what}s compared:")
-        for (w, kind), n in sorted(kinds.items()):
-            if w == what:
-                print(f"    {kind}: {n}")
-        for (w, number), n in sorted(left.items()):
-            if w == what:
-                print(f"    left out, refused {number}: {n}")
+    for what in ("copybooks", "pictures"):
+        here = {kind: n for (w, kind), n in kinds.items() if w == what}
+        print(f"{sum(n for kind, n in here.items() if not kind.startswith('left'))} {what} compared")
+        for kind in sorted(here, key=lambda k: (k.startswith("left"), int("0" + re.sub(r"\D", "", k)))):
+            print(f"    {kind}: {here[kind]}")
     print(f"{len(differences)} differences (seed {o.seed})")
-    for i, a, d in differences:
-        print(f"- {i}\n    oracle:     {a}\n    definition: {'not computed' if d is None else d}")
+    for r in differences:
+        print(r)
+    for r in small:
+        print(f"made smaller:\n{r}")
     return 1 if differences else 0
 
 

@@ -3,3 +3,17 @@ pub mod Answers
 pub mod NumberLaws
 pub mod WordLaws
 pub mod PictureLaws
+pub mod StatementLaws
+pub mod TreeLaws
+pub mod DepthLaws
+pub mod LayoutLaws
+pub mod ListingLaws
+pub mod CallsLaws
+pub mod Pieces
+pub mod Alignment
+pub mod Slack
+pub mod Cover
+pub mod Seek
+pub mod Walk
+pub mod Numbers
+pub mod Demand3

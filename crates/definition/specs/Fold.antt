@@ -85,14 +85,11 @@ rebased start e =
 unfoldable pub redefiners : List ℕ → Place → Entries → Entries
 redefiners text base end = end
 redefiners text base (entry e members later) =
-    elim (given (e .redefines)) [
-      | true ↦
-          elim (sameName text (base .name) (e .redefines)) [
-            | true ↦ entry (rebased (base .offset) e) members (redefiners text base later)
-            | false ↦ redefiners text base later
-          ]
-      | false ↦ elim (sameName text (base .name) (e .name)) [ true ↦ end | false ↦ redefiners text base later ]
-    ]
+    if given (e .redefines) then
+    (if sameName text (base .name) (e .redefines) then entry (rebased (base .offset) e) members (redefiners text base later)
+    else redefiners text base later)
+    else if sameName text (base .name) (e .name) then end
+    else redefiners text base later
 
 -- the most bytes that an entry of the list has in all its occurrences
 unfoldable pub widest : Entries → ℕ
@@ -122,17 +119,15 @@ withRedefiners text e members (entry r ms rs) later =
 unfoldable pub fold : List ℕ → List Place → Entries → Answer Entries
 fold text bases end = give end
 fold text bases (entry e members later) =
-    elim (given (e .redefines)) [
-      | false ↦ do
-        l ← fold text (placeOf e ∷ bases) later
-        give (withRedefiners text e members (redefiners text (placeOf e) later) l)
-      | true ↦
-          elim (find text (e .redefines) bases) [
-            | none ↦ do
-              l ← fold text bases later
-              give (entry e members l)
-            | some base ↦ do
-              _ ← refuseIf (ltb (e .offset) base) 30 (e .at)
-              fold text bases later
-          ]
-    ]
+    if given (e .redefines) then
+    (elim (find text (e .redefines) bases) [
+      | none ↦ do
+        l ← fold text bases later
+        give (entry e members l)
+      | some base ↦ do
+        _ ← refuseIf (ltb (e .offset) base) 30 (e .at)
+        fold text bases later
+    ])
+    else do
+      l ← fold text (placeOf e ∷ bases) later
+      give (withRedefiners text e members (redefiners text (placeOf e) later) l)

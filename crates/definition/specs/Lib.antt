@@ -11,3 +11,6 @@ pub mod Owner
 pub mod Calls
 pub mod Computing
 pub mod Catches
+pub mod Placed
+pub mod Search
+pub mod Demand

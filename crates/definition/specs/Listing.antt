@@ -46,7 +46,7 @@ kindByte (FieldKind.Edited precision scale signed) = 5
 kindByte FieldKind.Group = 6
 
 -- how many entries a list has, not counting those below them
-unfoldable pub members# : Entries → ℕ
+abbrev pub members# : Entries → ℕ
 members# end = 0
 members# (entry e members later) = suc (members# later)
 

@@ -34,19 +34,19 @@ abbrev pub piece : Holder → ℕ → Piece
 piece h w = record { holder = h; width = w }
 
 -- the bytes of pieces: each byte laid moves the place by one
-unfoldable pub extent : List Piece → ℕ
+abbrev pub extent : List Piece → ℕ
 extent [] = 0
 extent (p ∷ ps) = p .width + extent ps
 
 -- pieces laid n times
-unfoldable pub repeated : ℕ → List Piece → List Piece
+abbrev pub repeated : ℕ → List Piece → List Piece
 repeated zero ps = []
 repeated (suc n) ps = ps ++ repeated n ps
 
 -- ---------------------------------------------------------------- laying
 
 -- how many entries a list has, with those below them
-unfoldable pub size : Forest → ℕ
+abbrev pub size : Forest → ℕ
 size leaf = 0
 size (item s kids later) = suc (size kids + size later)
 
@@ -97,7 +97,7 @@ answer (slack k) first place = Owner.Slack k
 -- the owner of the byte before which q bytes of the pieces are laid, and `first` bytes before the pieces
 unfoldable pub ownerFrom : ℕ → List Piece → ℕ → Owner
 ownerFrom first [] q = Owner.Unowned
-ownerFrom first (p ∷ ps) q = elim (ltb q (p .width)) [ true ↦ answer (p .holder) first q | false ↦ ownerFrom (first + p .width) ps (q - p .width) ]
+ownerFrom first (p ∷ ps) q = if ltb q (p .width) then answer (p .holder) first q else ownerFrom (first + p .width) ps (q - p .width)
 
 -- a byte's owner is the piece or slack that laid it
 abbrev pub ownerOf : List Piece → ℕ → Owner
@@ -111,10 +111,10 @@ overlaid (item s kids later) = given (s .clauses .redefines) || given (s .clause
 -- ---------------------------------------------------------------- records
 
 -- a record cut into the parts that the pieces lay, and parts joined again
-unfoldable pub cut : List Piece → List ℕ → List (List ℕ)
+abbrev pub cut : List Piece → List ℕ → List (List ℕ)
 cut [] bs = []
 cut (p ∷ ps) bs = take (p .width) bs ∷ cut ps (drop (p .width) bs)
 
-unfoldable pub join : List (List ℕ) → List ℕ
+abbrev pub join : List (List ℕ) → List ℕ
 join [] = []
 join (b ∷ bs) = b ++ join bs

@@ -84,44 +84,44 @@ clausesOf p u s y o d r = record { picture = p; usage = u; sign = s; sync = y; o
 abbrev pub noClauses : Clauses
 noClauses = clausesOf absent UsageClause.Absent SignWords.Absent false Occurs.Once absent absent
 
-abbrev pub picture= : Span → Clauses → Clauses
-picture= v c = clausesOf v (c .usage) (c .sign) (c .sync) (c .occurs) (c .depending) (c .redefines)
+abbrev pub withPicture : Span → Clauses → Clauses
+withPicture v c = clausesOf v (c .usage) (c .sign) (c .sync) (c .occurs) (c .depending) (c .redefines)
 
-abbrev pub usage= : Usage → Clauses → Clauses
-usage= v c = clausesOf (c .picture) (UsageClause.Given v) (c .sign) (c .sync) (c .occurs) (c .depending) (c .redefines)
+abbrev pub withUsage : Usage → Clauses → Clauses
+withUsage v c = clausesOf (c .picture) (UsageClause.Given v) (c .sign) (c .sync) (c .occurs) (c .depending) (c .redefines)
 
-abbrev pub sign= : SignWords → Clauses → Clauses
-sign= v c = clausesOf (c .picture) (c .usage) v (c .sync) (c .occurs) (c .depending) (c .redefines)
+abbrev pub withSign : SignWords → Clauses → Clauses
+withSign v c = clausesOf (c .picture) (c .usage) v (c .sync) (c .occurs) (c .depending) (c .redefines)
 
-abbrev pub sync= : Bool → Clauses → Clauses
-sync= v c = clausesOf (c .picture) (c .usage) (c .sign) v (c .occurs) (c .depending) (c .redefines)
+abbrev pub withSync : Bool → Clauses → Clauses
+withSync v c = clausesOf (c .picture) (c .usage) (c .sign) v (c .occurs) (c .depending) (c .redefines)
 
-abbrev pub occurs= : ℕ → Clauses → Clauses
-occurs= v c = clausesOf (c .picture) (c .usage) (c .sign) (c .sync) (Occurs.Times v) (c .depending) (c .redefines)
+abbrev pub withOccurs : ℕ → Clauses → Clauses
+withOccurs v c = clausesOf (c .picture) (c .usage) (c .sign) (c .sync) (Occurs.Times v) (c .depending) (c .redefines)
 
-abbrev pub depending= : Span → Clauses → Clauses
-depending= v c = clausesOf (c .picture) (c .usage) (c .sign) (c .sync) (c .occurs) v (c .redefines)
+abbrev pub withDepending : Span → Clauses → Clauses
+withDepending v c = clausesOf (c .picture) (c .usage) (c .sign) (c .sync) (c .occurs) v (c .redefines)
 
-abbrev pub redefines= : Span → Clauses → Clauses
-redefines= v c = clausesOf (c .picture) (c .usage) (c .sign) (c .sync) (c .occurs) (c .depending) v
+abbrev pub withRedefines : Span → Clauses → Clauses
+withRedefines v c = clausesOf (c .picture) (c .usage) (c .sign) (c .sync) (c .occurs) (c .depending) v
 
 -- ---------------------------------------------------------------- word by word
 
 -- a count that was read is the number of occurrences, and e is expected next; without one the refusal is n
 abbrev pub counted : ℕ → Expect → Clauses → Option ℕ → Step
 counted n e c none = Fail n
-counted n e c (some k) = Go e (occurs= k c)
+counted n e c (some k) = Go e (withOccurs k c)
 
 -- where a clause begins, what the next word may be
 abbrev pub begin : Keyword → Clauses → Step
-begin Keyword.Picture c = Go IsPicture (picture= absent c)
-begin Keyword.Redefines c = Go Target (redefines= absent c)
+begin Keyword.Picture c = Go IsPicture (withPicture absent c)
+begin Keyword.Redefines c = Go Target (withRedefines absent c)
 begin Keyword.Occurs c = Go ACount c
 begin Keyword.Usage c = Go UsageIs c
-begin Keyword.Comp3 c = Go Clause (usage= Usage.Comp3 c)
-begin Keyword.Comp c = Go Clause (usage= Usage.Comp c)
-begin Keyword.Sign c = Go SignIs (sign= (SignWords.Said false false) c)
-begin Keyword.Sync c = Go Side (sync= true c)
+begin Keyword.Comp3 c = Go Clause (withUsage Usage.Comp3 c)
+begin Keyword.Comp c = Go Clause (withUsage Usage.Comp c)
+begin Keyword.Sign c = Go SignIs (withSign (SignWords.Said false false) c)
+begin Keyword.Sync c = Go Side (withSync true c)
 begin Keyword.Value c = Go Nothing c
 begin Keyword.Other c = Go Clause c
 
@@ -137,21 +137,21 @@ onTimes u c = if key "TIMES" u then Go DependingOn c else onDepending u c
 
 -- the word of SIGN: LEADING or not
 abbrev pub onSign : List ℕ → Clauses → Step
-onSign u c = Go Clause (sign= (SignWords.Said (key "LEADING" u) false) c)
+onSign u c = Go Clause (withSign (SignWords.Said (key "LEADING" u) false) c)
 
 -- the word w, which is u in upper case
 unfoldable pub clauseStep : Expect → Span → List ℕ → Clauses → Step
 clauseStep Clause w u c = onClause u c
-clauseStep IsPicture w u c = if key "IS" u then Go APicture c else Go Clause (picture= w c)
-clauseStep APicture w u c = Go Clause (picture= w c)
-clauseStep Target w u c = Go Clause (redefines= w c)
+clauseStep IsPicture w u c = if key "IS" u then Go APicture c else Go Clause (withPicture w c)
+clauseStep APicture w u c = Go Clause (withPicture w c)
+clauseStep Target w u c = Go Clause (withRedefines w c)
 clauseStep ACount w u c = counted 11 To c (count u)
 clauseStep To w u c = if key "TO" u then Go Bound c else onTimes u c
 clauseStep Bound w u c = counted 12 Times c (count u)
 clauseStep Times w u c = onTimes u c
 clauseStep DependingOn w u c = onDepending u c
-clauseStep OnName w u c = if key "ON" u then Go AName c else Go Clause (depending= w c)
-clauseStep AName w u c = Go Clause (depending= w c)
+clauseStep OnName w u c = if key "ON" u then Go AName c else Go Clause (withDepending w c)
+clauseStep AName w u c = Go Clause (withDepending w c)
 clauseStep UsageIs w u c = if key "IS" u then Go Clause c else onClause u c
 clauseStep SignIs w u c = if key "IS" u then Go SignWord c else onSign u c
 clauseStep SignWord w u c = onSign u c
@@ -165,7 +165,7 @@ separately (SignWords.Said leading separate) = SignWords.Said leading true
 
 abbrev pub separated : List ℕ → Step → Step
 separated u (Fail n) = Fail n
-separated u (Go e c) = if key "SEPARATE" u then Go e (sign= (separately (c .sign)) c) else Go e c
+separated u (Go e c) = if key "SEPARATE" u then Go e (withSign (separately (c .sign)) c) else Go e c
 
 unfoldable pub step : Expect → Span → List ℕ → Clauses → Step
 step e w u c = separated u (clauseStep e w u c)
@@ -222,12 +222,9 @@ unfoldable pub statement : List ℕ → List Span → Answer (Option Statement)
 statement text [] = give none
 statement text (w ∷ ws) = do
   level ← orRefuse 10 (w .start) (number 256 (part text w))
-  elim (eqb level 88) [
-    | true ↦ give none
-    | false ↦ do
-      s ← named text (w .start) level ws
-      give (some s)
-  ]
+  if eqb level 88 then give none else do
+    s ← named text (w .start) level ws
+    give (some s)
 
 -- the kept statements, of which there may be 800: n are kept already
 unfoldable pub statements : List ℕ → ℕ → List (List Span) → Answer (List Statement)

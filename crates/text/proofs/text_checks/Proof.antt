@@ -2,13 +2,13 @@
 -- Assumes nothing.
 use borrow.Author.Needs.{needs}
 use Prim.Native.Nat.{ℕ, _+_, _-_, _≤_, _<_}
-use mathlib.Core.Path.{_≡_, refl}
+use mathlib.Core.Path.{_≡_, refl, _∙_}
 use mathlib.Core.List.{List}
-use lib.ListN.{length, getD, drop, drop-of-length-le}
+use lib.ListN.{length, getD, drop}
 use borrow.Author.Tests.{lt-ltb, le-ltb}
 use Rattle.definition.specs.Basic.{give, refused, _>>=_}
 use Rattle.definition.specs.Calls.{firstWide, textChecks}
-use Rattle.definition.proofs.Lists.{drop-next}
+use Rattle.definition.proofs.CallsLaws.{wide-none, wide-hit, wide-next}
 use Rattle.text.proofs.text_checks.Statement.{statement}
 use Rattle.text.proofs.text_checks.Tie as tie
 
@@ -26,16 +26,15 @@ start h = record { short = h; rest = refl }
 
 module _ {t : List ℕ} {i : ℕ} (inv : Left t i) where
   wide : i < length t → 127 < getD t i 0 → refused 2 i ≡ textChecks t
-  unfolding textChecks _>>=_ firstWide
-  wide h l = rw (le-ltb 65535 (length t) (inv .short), inv .rest, drop-next t i h, lt-ltb 127 (getD t i 0) l)
+  unfolding textChecks _>>=_
+  wide h l = rw (le-ltb 65535 (length t) (inv .short), inv .rest, wide-hit t i h l)
 
   next : i < length t → getD t i 0 ≤ 127 → Left t (i + 1)
-  unfolding firstWide
-  next h l = record { short = inv .short; rest = rw (inv .rest, drop-next t i h, le-ltb 127 (getD t i 0) l) }
+  next h l = record { short = inv .short; rest = inv .rest ∙ wide-next t i h l }
 
   done : length t ≤ i → give tt ≡ textChecks t
-  unfolding textChecks _>>=_ firstWide
-  done h = rw (le-ltb 65535 (length t) (inv .short), inv .rest, drop-of-length-le t h)
+  unfolding textChecks _>>=_
+  done h = rw (le-ltb 65535 (length t) (inv .short), inv .rest, wide-none t i h)
 
 abbrev Inv-loop : tie.InvT-loop
 Inv-loop text i₀ i = Left text i

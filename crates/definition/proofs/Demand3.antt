@@ -1,0 +1,149 @@
+-- Demand 3: of an accepted copybook without REDEFINES and DEPENDING ON, a dropped root's own aside, every byte has exactly one owner, and the
+-- byte owner names it; the listing has the record length, offsets and widths of the owner rule; a record is the pieces it is cut into.
+-- Assumes nothing.
+use Prim.Native.Nat.{ℕ, zero, suc, _+_, _≤_, _<_}
+use mathlib.Core.Path.{_≡_, refl, sym, _∙_, ap, subst}
+use mathlib.Core.Bool.{true, false}
+use mathlib.Core.List.{List, [], _++_, append-nil}
+use native.Mathlib.Omega.{arith}
+use lib.ListN.{length}
+use borrow.Author.Tests.{lt-ltb, le-ltb}
+use Rattle.definition.specs.declared.Refusal.{Refusal}
+use Rattle.definition.specs.declared.Entry.{Entry}
+use Rattle.definition.specs.Basic.{Answer, refuse, give, _>>=_, refused}
+use Rattle.definition.specs.Tree.{Forest}
+use Rattle.definition.specs.Fold.{Entries}
+use Rattle.definition.specs.Record.{recordLength, layout}
+use Rattle.definition.specs.Calls.{recordFields, entries, ownerIn, byteOwner}
+use Rattle.definition.specs.Owner.{extent, pieces, ownerFrom, ownerOf, overlaid, cut, join}
+use Rattle.definition.specs.Placed.{placed}
+use Rattle.definition.specs.Search.{seek, Row, rows, walk}
+use Rattle.definition.specs.Demand.{Owned, flat, AllNumbered, lengths, widths, Demand, Kept}
+use Rattle.definition.proofs.Answers.{through, refused-through}
+use Rattle.definition.proofs.Pieces.{owned, owned-someone, join-cut, cut-injective, cut-lengths}
+use Rattle.definition.proofs.Slack.{slack-fewest, slack-none, slack-group}
+use Rattle.definition.proofs.Cover.{plain, layout-placed, placed-length}
+use Rattle.definition.proofs.Seek.{seek-owner}
+use Rattle.definition.proofs.Walk.{walk-seek}
+use Rattle.definition.proofs.Numbers.{all-numbered}
+
+-- ---------------------------------------------------------------- the fields of a record, however they were read
+
+module _ (text : List ℕ) (f : Forest) (es : Entries) (laidOut : layout text f ≡ give es) where
+  -- a kept REDEFINES or DEPENDING ON is refused, wherever the position
+  pub refuses-40 : overlaid f ≡ true → (q : ℕ) → ownerIn text f q ≡ refused 40 0
+  unfolding ownerIn _>>=_
+  refuses-40 o q = rw (laidOut, o)
+
+module _ (text : List ℕ) (f : Forest) (es : Entries) (laidOut : layout text f ≡ give es) (free : overlaid f ≡ false) where
+  -- The entries of the listing are those that the owner rule places: each offset is the place that its sibling list has reached after
+  -- the earlier items and the entry's own slack, and a group's width is the length of its list laid once.
+  pub offsets : es ≡ placed text 0 0 f
+  offsets = layout-placed text f es (plain f free) laidOut
+
+  -- The pieces cover the record with nothing left over: their widths add up to the listing's record length.
+  pub cover : recordLength es ≡ extent (pieces text f)
+  cover = ap recordLength offsets ∙ omega (arith, placed-length text 0 0 f (plain f free))
+
+  -- The pieces and the slack carry the numbers of the listing's entries.
+  pub numbered : AllNumbered (flat es) (pieces text f)
+  numbered = subst (λ (x : Entries). AllNumbered (flat x) (pieces text f)) (sym offsets) (all-numbered text f)
+
+  -- For each position below the record length exactly one piece covers it, and the search names that one.
+  pub one-owner : (q : ℕ) → q < recordLength es → Owned 0 (pieces text f) q
+  one-owner q h = owned 0 (pieces text f) q (rw cover at h)
+
+  -- and the byte owner call answers with it
+  pub answers : (q : ℕ) → q < recordLength es → ownerIn text f q ≡ give (ownerOf (pieces text f) q)
+  unfolding ownerIn _>>=_
+  answers q h = rw (laidOut, free, lt-ltb q (recordLength es) h)
+
+  -- a position that is not below it is refused
+  pub refuses-41 : (q : ℕ) → recordLength es ≤ q → ownerIn text f q ≡ refused 41 0
+  unfolding ownerIn _>>=_
+  refuses-41 q h = rw (laidOut, free, le-ltb q (recordLength es) h)
+
+  -- A record of that length, cut into the pieces and joined again, is itself,
+  pub whole : (bs : List ℕ) → length bs ≡ recordLength es → join (cut (pieces text f) bs) ≡ bs
+  whole bs h = join-cut (pieces text f) bs (h ∙ cover)
+
+  -- each part being as long as its piece is wide,
+  pub parts : (bs : List ℕ) → length bs ≡ recordLength es → lengths (cut (pieces text f) bs) ≡ widths (pieces text f)
+  parts bs h = cut-lengths (pieces text f) bs (h ∙ cover)
+
+  -- so two different records of that length never give the same parts.
+  pub distinct :
+      (cs bs : List ℕ) →
+      length cs ≡ recordLength es →
+      length bs ≡ recordLength es →
+      cut (pieces text f) cs ≡ cut (pieces text f) bs →
+      cs ≡ bs
+  distinct cs bs h k e = cut-injective (pieces text f) cs bs (h ∙ cover) (k ∙ cover) e
+
+  -- The owner is found among the entries of the listing, with no piece laid,
+  pub sought : (q : ℕ) → seek 0 0 es q ≡ ownerOf (pieces text f) q
+  sought q =
+      ap (λ (x : Entries). seek 0 0 x q) offsets
+      ∙ seek-owner text f 0 0 0 q (omega arith)
+      ∙ ap (ownerFrom 0 (pieces text f)) (omega arith)
+
+  -- and by a walk from row to row of the listing:
+  pub walked : (q : ℕ) → q < recordLength es → walk 0 0 0 (rows es) q ≡ ownerOf (pieces text f) q
+  walked q h =
+      ap (λ (l : List Row). walk 0 0 0 l q) (sym (append-nil (rows es)))
+      ∙ walk-seek es 0 0 q [] (λ u. owned-someone 0 (pieces text f) q (one-owner q h) (sym (sought q) ∙ u))
+      ∙ sought q
+
+  -- this is what the code of the byte owner computes, after the reader's refusals, 40 and 41.
+  pub computed : (q : ℕ) → q < recordLength es → ownerIn text f q ≡ give (walk 0 0 0 (rows es) q)
+  computed q h = answers q h ∙ ap give (sym (walked q h))
+
+-- ---------------------------------------------------------------- a copybook
+
+-- what the calls of a copybook answer is what its fields have: `Demand3` speaks of every accepted copybook
+pub read-fields :
+    (text : List ℕ) (work : ℕ) (f : Forest) →
+    recordFields text work ≡ give f →
+    (entries text work ≡ layout text f) × ((q : ℕ) → byteOwner text work q ≡ ownerIn text f q)
+unfolding entries byteOwner _>>=_
+read-fields text work f h = (rw h, λ q. rw h)
+
+-- the refusals of the reader are those of the byte owner
+pub reader-refuses : (text : List ℕ) (work q : ℕ) (r : Refusal) → entries text work ≡ refuse r → byteOwner text work q ≡ refuse r
+unfolding entries byteOwner ownerIn
+reader-refuses text work q r h = refused-through (recordFields text work) (layout text) _ r h
+
+-- of fields without REDEFINES and DEPENDING ON
+demanded :
+    (text : List ℕ) (work : ℕ) (f : Forest) (es : Entries) →
+    recordFields text work ≡ give f →
+    layout text f ≡ give es →
+    overlaid f ≡ false →
+    Demand text work f es
+demanded text work f es read laidOut free =
+    record {
+      one-owner = one-owner text f es laidOut free;
+      named = λ q l. read-fields text work f read .1 q ∙ answers text f es laidOut free q l;
+      covered = cover text f es laidOut free;
+      offsets = offsets text f es laidOut free;
+      numbered = numbered text f es laidOut free;
+      slack-fewest = slack-fewest text;
+      slack-none = slack-none text;
+      slack-group = slack-group text;
+      whole = whole text f es laidOut free;
+      parts = parts text f es laidOut free;
+      distinct = distinct text f es laidOut free;
+    }
+
+-- Demand 3, whole: every accepted copybook keeps it
+pub demand3 : (text : List ℕ) (work : ℕ) (es : Entries) → entries text work ≡ give es → Kept text work es
+unfolding entries
+demand3 text work es h =
+    through _ _ h λ f read laidOut.
+    record {
+      of = f;
+      read = read;
+      laidOut = laidOut;
+      demand = demanded text work f es read laidOut;
+      refuses = λ o q. read-fields text work f read .1 q ∙ refuses-40 text f es laidOut o q;
+    }

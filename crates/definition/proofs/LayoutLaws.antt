@@ -1,0 +1,178 @@
+-- One step of the search for a name, of folding, of laying a sibling list, and of the record.
+-- Assumes nothing.
+use Prim.Native.Nat.{ℕ, zero, suc, max, _≤_, _<_}
+use mathlib.Core.Path.{_≡_, refl}
+use mathlib.Core.Bool.{Bool, true, false, _||_}
+use mathlib.Core.List.{List, [], _∷_}
+use mathlib.Core.Option.{Option, none, some}
+use lib.Dec.{ltb}
+use borrow.Author.Tests.{lt-ltb, le-ltb}
+use Rattle.definition.specs.declared.Span.{Span}
+use Rattle.definition.specs.declared.Statement.{Statement}
+use Rattle.definition.specs.declared.Entry.{Entry}
+use Rattle.definition.specs.Basic.{given, Answer, give, _>>=_, refused, refuseIf}
+use Rattle.definition.specs.Tree.{Forest, leaf, item}
+use Rattle.definition.specs.Fold.{Entries, end, entry, append, total, entryEnd, largest, sameName, sameSpelling, Place, placeOf, find, hasMember, rebased, redefiners, widest, withRedefiners, fold}
+use Rattle.definition.specs.Layout.{shallow, content, start, entryOf, tooLarge, advance, Laid, lay}
+use Rattle.definition.specs.Record.{recordLength, variable, endsFit}
+
+module _ (text : List ℕ) where
+  -- ---------------------------------------------------------------- names
+
+  module _ (w : Span) where
+    pub find-none : find text w [] ≡ none
+    unfolding find
+    find-none = refl
+
+    module _ (p : Place) (ps : List Place) where
+      pub find-hit : sameName text w (p .name) ≡ true → find text w (p ∷ ps) ≡ some (p .offset)
+      unfolding find
+      find-hit h = rw (h, find)
+
+      pub find-miss : sameName text w (p .name) ≡ false → find text w (p ∷ ps) ≡ find text w ps
+      unfolding find
+      find-miss h = rw (h, find)
+
+    pub member-none : hasMember text w end ≡ false
+    unfolding hasMember
+    member-none = refl
+
+    module _ (e : Entry) (members later : Entries) where
+      pub member-hit : sameSpelling text w (e .name) ≡ true → hasMember text w (entry e members later) ≡ true
+      unfolding hasMember
+      member-hit h = rw (h, hasMember)
+
+      pub member-miss : sameSpelling text w (e .name) ≡ false → hasMember text w (entry e members later) ≡ hasMember text w later
+      unfolding hasMember
+      member-miss h = rw (h, hasMember)
+
+  -- ---------------------------------------------------------------- redefiners
+
+  module _ (base : Place) where
+    pub redefiners-none : redefiners text base end ≡ end
+    unfolding redefiners
+    redefiners-none = refl
+
+    module _ (e : Entry) (members later : Entries) where
+      -- a redefiner of that name; one of another name
+      module _ (g : given (e .redefines) ≡ true) where
+        pub redefiners-hit :
+            sameName text (base .name) (e .redefines) ≡ true →
+            redefiners text base (entry e members later) ≡ entry (rebased (base .offset) e) members (redefiners text base later)
+        unfolding redefiners
+        redefiners-hit h = rw (h, g)
+
+        pub redefiners-miss : sameName text (base .name) (e .redefines) ≡ false → redefiners text base (entry e members later) ≡ redefiners text base later
+        unfolding redefiners
+        redefiners-miss h = rw (h, g)
+
+      -- the next base of that name; one of another name
+      module _ (g : given (e .redefines) ≡ false) where
+        pub redefiners-ends : sameName text (base .name) (e .name) ≡ true → redefiners text base (entry e members later) ≡ end
+        unfolding redefiners
+        redefiners-ends h = rw (h, g)
+
+        pub redefiners-next : sameName text (base .name) (e .name) ≡ false → redefiners text base (entry e members later) ≡ redefiners text base later
+        unfolding redefiners
+        redefiners-next h = rw (h, g)
+
+  -- ---------------------------------------------------------------- fold
+
+  module _ (bases : List Place) where
+    pub fold-none : fold text bases end ≡ give end
+    unfolding fold
+    fold-none = refl
+
+    module _ (e : Entry) (members later : Entries) where
+      -- a base
+      pub fold-base :
+          given (e .redefines) ≡ false →
+          fold text bases (entry e members later)
+          ≡ (fold text (placeOf e ∷ bases) later >>= λ l. give (withRedefiners text e members (redefiners text (placeOf e) later) l))
+      unfolding fold
+      fold-base g = rw (g, fold)
+
+      module _ (g : given (e .redefines) ≡ true) where
+        -- a redefiner without a base
+        pub fold-alone : find text (e .redefines) bases ≡ none → fold text bases (entry e members later) ≡ (fold text bases later >>= λ l. give (entry e members l))
+        unfolding fold
+        fold-alone h = rw (g, h, fold)
+
+        -- one that stands with its base, and one that starts before it
+        module _ {base : ℕ} (h : find text (e .redefines) bases ≡ some base) where
+          pub fold-under : base ≤ e .offset → fold text bases (entry e members later) ≡ fold text bases later
+          unfolding fold _>>=_
+          fold-under l = rw (g, h, fold, le-ltb (e .offset) base l)
+
+          pub fold-before : e .offset < base → fold text bases (entry e members later) ≡ refused 30 (e .at)
+          unfolding fold _>>=_
+          fold-before l = rw (g, h, fold, lt-ltb (e .offset) base l)
+
+  -- ---------------------------------------------------------------- a sibling list
+
+  module _ (depth : ℕ) (seen : List Place) (cursor reach : ℕ) where
+    pub lay-none : lay text depth seen cursor reach leaf ≡ give (record { entries = end; width = reach })
+    unfolding lay
+    lay-none = refl
+
+    -- an item, line by line
+    pub lay-item :
+        (s : Statement) (kids later : Forest) →
+        lay text depth seen cursor reach (item s kids later)
+        ≡ (shallow (suc depth) kids >>= λ _.
+        lay text (suc depth) [] 0 0 kids >>= λ inner.
+        fold text [] (inner .entries) >>= λ members.
+        content text s kids (inner .width) >>= λ c.
+        start text s c seen cursor >>= λ offset.
+        refuseIf (tooLarge (entryOf s c offset)) 29 (s .at) >>= λ _.
+        lay text depth (placeOf (entryOf s c offset) ∷ seen) (advance cursor (entryOf s c offset)) (max reach (entryEnd (entryOf s c offset))) later >>= λ l.
+        give (record { entries = entry (entryOf s c offset) members (l .entries); width = l .width }))
+    unfolding lay
+    lay-item s kids later = refl
+
+-- ---------------------------------------------------------------- lists of entries
+
+pub append-none : (b : Entries) → append end b ≡ b
+unfolding append
+append-none b = refl
+
+module _ (e : Entry) (members later : Entries) where
+  pub append-entry : (b : Entries) → append (entry e members later) b ≡ entry e members (append later b)
+  unfolding append
+  append-entry b = refl
+
+  pub widest-entry : widest (entry e members later) ≡ max (total e) (widest later)
+  unfolding widest
+  widest-entry = refl
+
+  pub length-entry : recordLength (entry e members later) ≡ max (entryEnd e) (recordLength later)
+  unfolding recordLength
+  length-entry = refl
+
+  pub variable-entry : variable (entry e members later) ≡ (given (e .depending) || variable members || variable later)
+  unfolding variable
+  variable-entry = refl
+
+  pub fits-entry : entryEnd e ≤ largest → endsFit (entry e members later) ≡ endsFit later
+  unfolding endsFit _>>=_
+  fits-entry l = rw (endsFit, le-ltb largest (entryEnd e) l)
+
+  pub fits-refused : largest < entryEnd e → endsFit (entry e members later) ≡ refused 29 (e .at)
+  unfolding endsFit _>>=_
+  fits-refused l = rw (endsFit, lt-ltb largest (entryEnd e) l)
+
+pub widest-none : widest end ≡ 0
+unfolding widest
+widest-none = refl
+
+pub length-none : recordLength end ≡ 0
+unfolding recordLength
+length-none = refl
+
+pub variable-none : variable end ≡ false
+unfolding variable
+variable-none = refl
+
+pub fits-none : endsFit end ≡ give tt
+unfolding endsFit
+fits-none = refl

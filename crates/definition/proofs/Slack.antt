@@ -1,0 +1,85 @@
+-- A binary item is never 0 bytes wide, so its slack is the fewest bytes that bring the place to a multiple of its width; nothing else has slack.
+-- Assumes nothing.
+use Prim.Native.Nat.{ℕ, zero, suc, _+_, _≤_, _<_}
+use mathlib.Core.Path.{_≡_, refl, sym, _∙_, ap}
+use mathlib.Core.Bool.{Bool, true, false, _&&_, not}
+use mathlib.Core.List.{List, [], _∷_}
+use native.Mathlib.Omega.{arith}
+use native.Mathlib.Nat.{add-zero}
+use lib.Dec.{eqb, leb}
+use Rattle.definition.specs.declared.Usage.{Usage}
+use Rattle.definition.specs.declared.SignClause.{SignClause}
+use Rattle.definition.specs.declared.FieldKind.{FieldKind}
+use Rattle.definition.specs.declared.Pictured.{Pictured}
+use Rattle.definition.specs.declared.Statement.{Statement}
+use Rattle.definition.specs.Basic.{if_then_else_, part, fewest, Answer, refuse, give, _>>=_}
+use Rattle.definition.specs.Statement.{usageOf, signOf}
+use Rattle.definition.specs.Tree.{Forest, leaf, item}
+use Rattle.definition.specs.Picture.{pictured, isBinary, resolveSign, isEmbedded, isText, isMasked, allDigits, fraction, isSigned, numeric, kinded, symbols, picture}
+use Rattle.definition.specs.Owner.{Piece, extent, orNone, storage, isAligned, slackBefore}
+use Rattle.definition.specs.Demand.{Fewest}
+use Rattle.definition.proofs.Alignment.{fewest-slack}
+
+-- if it is binary, it has a width
+abbrev pub Sized : Pictured → Type 0
+Sized c = isBinary (c .kind) ≡ true → 0 < c .width
+
+never : {A : Type 0} → false ≡ true → A
+never e = absurd (let z : _≡_ {A = ℕ} 0 1 = cc in omega arith)
+
+if-sized : (b : Bool) (c d : Pictured) → Sized c → Sized d → Sized (if b then c else d)
+if-sized true c d x y = x
+if-sized false c d x y = y
+
+comp-width : (a b : Bool) → 0 < (if a then 2 else if b then 4 else 8)
+comp-width true b = omega arith
+comp-width false true = omega arith
+comp-width false false = omega arith
+
+numeric-sized : (u : Usage) (digits scale : ℕ) (signed : Bool) (c : SignClause) → Sized (numeric u digits scale signed c)
+numeric-sized Usage.Comp digits scale signed c e = comp-width (leb digits 4) (leb digits 9)
+numeric-sized Usage.Comp3 digits scale signed c e = never e
+numeric-sized Usage.Display digits scale signed c e =
+    let sign = resolveSign signed c in
+    never (sym (not-binary (eqb scale 0 && not (signed && isEmbedded sign)) _ _ refl refl) ∙ e)
+  where
+    not-binary : (b : Bool) (k l : FieldKind) → isBinary k ≡ false → isBinary l ≡ false → isBinary (if b then k else l) ≡ false
+    not-binary true k l x y = x
+    not-binary false k l x y = y
+
+kinded-sized : (u : Usage) (c : SignClause) (l : List ℕ) → Sized (kinded u c l)
+unfolding kinded
+kinded-sized u c l =
+    if-sized (isText l) _ _ never (if-sized (isMasked u l) _ _ never (numeric-sized u (allDigits l) (fraction l) (isSigned l) c))
+
+answer-sized : (u : Usage) (c : SignClause) (a : Answer (List ℕ)) → Sized (orNone (a >>= λ l. give (kinded u c l)))
+unfolding _>>=_
+answer-sized u c (refuse r) = never
+answer-sized u c (give l) = kinded-sized u c l
+
+-- a picture that makes an item binary gives it a width
+pub storage-sized : (text : List ℕ) (s : Statement) → Sized (storage text s)
+unfolding picture
+storage-sized text s =
+    let u = usageOf (s .clauses .usage) in
+    answer-sized u (signOf (s .clauses .sign)) (symbols (s .at) u (part text (s .clauses .picture)))
+
+pub and-true : (a b : Bool) → (a && b) ≡ true → b ≡ true
+and-true true b h = h
+and-true false b h = never h
+
+-- the slack of an elementary SYNC binary item, OCCURS 0 included, is the fewest bytes that bring the place to a multiple of its width
+pub slack-fewest :
+    (text : List ℕ) (k place : ℕ) (s : Statement) →
+    isAligned text s ≡ true →
+    Fewest (storage text s .width) place (extent (slackBefore text k place s leaf))
+slack-fewest text k place s y =
+    rw (y, slackBefore, add-zero) (fewest-slack (storage text s .width) place (storage-sized text s (and-true (s .clauses .sync) _ y)))
+
+-- and no other item has slack: neither a group, nor an item without SYNC, nor one that is not binary
+pub slack-none : (text : List ℕ) (k place : ℕ) (s : Statement) (kids : Forest) → isAligned text s ≡ false → slackBefore text k place s kids ≡ []
+slack-none text k place s leaf h = rw (h, slackBefore)
+slack-none text k place s (item t kids later) h = refl
+
+pub slack-group : (text : List ℕ) (k place : ℕ) (s t : Statement) (kids later : Forest) → slackBefore text k place s (item t kids later) ≡ []
+slack-group text k place s t kids later = refl

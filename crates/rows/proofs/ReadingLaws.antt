@@ -1,0 +1,88 @@
+-- Laws of the reading into rows: one kept statement more; and what a caller has of an answer.
+-- Assumes nothing.
+use Prim.Native.Nat.{ℕ, suc, _+_, _*_, _≤_, _<_}
+use mathlib.Core.Path.{_≡_, refl, sym, ap, _∙_}
+use mathlib.Core.List.{List, [], _∷_}
+use native.Mathlib.Numerals.{add-one}
+use native.Mathlib.Omega.{arith}
+use lib.ListN.{length}
+use Rattle.definition.specs.declared.Refusal.{Refusal}
+use Rattle.definition.specs.declared.Statement.{Statement}
+use Rattle.definition.specs.Basic.{Answer, refuse, give, _>>=_}
+use Rattle.definition.specs.Statement.{statements}
+use Rattle.definition.specs.Tree.{stillOpen, depths, forest, nesting}
+use Rattle.definition.specs.Words.{statementWords}
+use Rattle.definition.proofs.DepthLaws.{length-depths, depths-nesting}
+use Rattle.rows.specs.declared.RowsRead.{RowsRead}
+use Rattle.rows.specs.Table.{Storable, Storables, putRow, putRows, statementsFrom, depthsFrom}
+use Rattle.rows.specs.Reading.{stopped, ready, outcome, outcomeOf, Held, RowsAre}
+use Rattle.rows.proofs.TableLaws.{length-putRows, statements-put, depths-put}
+
+-- ---------------------------------------------------------------- one kept statement more
+
+module _ (n : ℕ) (s : Statement) where
+  pub outcome-kept :
+      (w levels : List ℕ) (a : Answer (List Statement)) →
+      let outer = stillOpen (s .level) levels in
+      outcome w n levels (a >>= λ ss. give (s ∷ ss)) ≡ outcome (putRow w n (length outer) s) (n + 1) (s .level ∷ outer) a
+  unfolding _>>=_ putRows depths
+  outcome-kept w levels (refuse r) = refl
+  outcome-kept w levels (give ss) =
+      let e : n + suc (length ss) ≡ suc n + length ss = omega arith in
+      rw (add-one n) (ap (λ (k : ℕ). ready k (putRows w n (depths levels (s ∷ ss)) (s ∷ ss))) e)
+
+  pub held-kept : Storable s → (a : Answer (List Statement)) → Held (n + 1) a → Held n (a >>= λ ss. give (s ∷ ss))
+  unfolding _>>=_
+  held-kept h (refuse r) k = tt
+  held-kept h (give ss) k = ((h, k .0), omega (arith, k .1))
+
+-- ---------------------------------------------------------------- what an answer says
+
+-- n rows hold the kept statements and their depths in the forest
+pub record Stored (text w w′ : List ℕ) (n : ℕ) : Type 0 where
+  pub kept : List Statement
+  pub are : statements text 0 (statementWords text) ≡ give kept
+  pub many : n ≡ length kept
+  pub few : n ≤ 800
+  pub storable : Storables kept
+  pub rows : w′ ≡ putRows w 0 (depths [] kept) kept
+  pub long : length w′ ≡ length w
+  pub back : statementsFrom w′ 0 n ≡ kept
+  pub deep : depthsFrom w′ 0 n ≡ nesting 0 (forest kept)
+
+by-refusal : (w : List ℕ) (r : Refusal) (a : Answer (List Statement)) → stopped r ≡ outcome w 0 [] a → a ≡ refuse r
+by-refusal w r (refuse q) p = cc
+by-refusal w r (give ss) p = absurd (let z : _≡_ {A = ℕ} 0 1 = cc in omega arith)
+
+module _ {text w w′ : List ℕ} where
+  module _ (n : ℕ) (room : 16384 ≤ length w) where
+    by-answer :
+        (a : Answer (List Statement)) →
+        statements text 0 (statementWords text) ≡ a →
+        ready n w′ ≡ outcome w 0 [] a →
+        Held 0 a →
+        Stored text w w′ n
+    by-answer (refuse r) e p h = absurd (let z : _≡_ {A = ℕ} 0 1 = cc in omega arith)
+    by-answer (give ss) e p h =
+        let many : n ≡ 0 + length ss = cc in
+        let rows : w′ ≡ putRows w 0 (depths [] ss) ss = cc in
+        let size = length-depths [] ss in
+        let fits : 20 * (0 + length ss) ≤ length w = omega (arith, h .1) in
+        let count : n ≡ length ss = omega arith in
+        record {
+          kept = ss;
+          are = e;
+          many = count;
+          few = omega (arith, h .1);
+          storable = h .0;
+          rows = rows;
+          long = rw rows (length-putRows (depths [] ss) ss w 0);
+          back = rw (rows, count) (statements-put (depths [] ss) ss w 0 size fits (h .0));
+          deep = rw (rows, count) (depths-put (depths [] ss) ss w 0 size fits ∙ depths-nesting ss);
+        }
+
+    pub stored : RowsAre text w (RowsRead.Rows n) w′ → Stored text w w′ n
+    stored r = by-answer (statements text 0 (statementWords text)) refl (r .is) (r .held)
+
+  pub turned-down : (r : Refusal) → RowsAre text w (RowsRead.Refused r) w′ → statements text 0 (statementWords text) ≡ refuse r
+  turned-down r h = by-refusal w r (statements text 0 (statementWords text)) (h .is)

@@ -1,0 +1,250 @@
+-- `rows::read_rows` meets its contract. The loop's invariant: the statements that are left, from the next row on and with the levels that are open,
+-- lead to what all statements lead to from row 0 on.
+-- Assumes nothing.
+use borrow.Author.Needs.{needs}
+use Prim.Native.Nat.{ℕ, suc, _+_, _*_, _-_, _≤_, _<_}
+use mathlib.Core.Path.{_≡_, refl, sym, ap, _∙_}
+use mathlib.Core.Bool.{Bool, true, false}
+use mathlib.Core.List.{List, [], _∷_}
+use native.Mathlib.Nat.{add-zero}
+use native.Mathlib.Numerals.{add-one}
+use native.Mathlib.Omega.{arith}
+use lib.ListN.{length}
+use Rattle.definition.specs.declared.Refusal.{Refusal}
+use Rattle.definition.specs.declared.Span.{Span}
+use Rattle.definition.specs.declared.Statement.{Statement}
+use Rattle.definition.specs.declared.Token.{Token}
+use Rattle.definition.specs.Basic.{Answer, refuse, give, _>>=_}
+use Rattle.definition.specs.Statement.{statements}
+use Rattle.definition.specs.Tree.{depths}
+use Rattle.definition.specs.Words.{sentences, statementWords}
+use Rattle.definition.proofs.StatementLaws.{statements-none, statements-refused, statements-skipped, statements-full, statements-kept}
+use Rattle.definition.proofs.WordLaws.{sentences-end}
+use Rattle.text.specs.Tokens.{between, tokensFrom}
+use Rattle.statement.specs.declared.StatementRead.{StatementRead}
+use Rattle.statement.specs.declared.StatementRead.the-variants.{Kept, Skipped, Refused, End}
+use Rattle.statement.specs.Reading.{Inside, FirstKept, FirstSkipped, FirstRefused, FirstStatement}
+use Rattle.rows.specs.declared.OpenLevels.{OpenLevels}
+use Rattle.rows.specs.declared.RowsRead.{RowsRead}
+use Rattle.rows.specs.Levels.{stackOf, Nested}
+use Rattle.rows.specs.Table.{Short, Placed, putRow, putRows}
+use Rattle.rows.specs.Reading.{Added, outcome, Held, RowsAre}
+use Rattle.rows.proofs.TableLaws.{length-putRow}
+use Rattle.rows.proofs.ReadingLaws.{outcome-kept, held-kept}
+use Rattle.rows.proofs.read_rows.Statement.{statement}
+use Rattle.rows.proofs.read_rows.Tie as tie
+
+-- all kept statements, and those of the tokens from a place on where n are kept already
+abbrev whole : List ℕ → Answer (List Statement)
+whole t = statements t 0 (statementWords t)
+
+abbrev rest : List ℕ → Bool → ℕ → ℕ → Answer (List Statement)
+rest t fresh at n = statements t n (sentences (tokensFrom t (between fresh) at))
+
+-- n statements were stored
+record Left (t w₀ w : List ℕ) (at : ℕ) (fresh : Bool) (n : ℕ) (o : OpenLevels) : Type 0 where
+  within : at ≤ length t
+  short : length t ≤ 65535
+  room : 16384 ≤ length w
+  long : length w ≡ length w₀
+  few : n ≤ 800
+  nested : Nested o
+  same : outcome w₀ 0 [] (whole t) ≡ outcome w n (stackOf o) (rest t fresh at n)
+  held : Held n (rest t fresh at n) → Held 0 (whole t)
+
+start : {t w : List ℕ} {o : OpenLevels} → length t ≤ 65535 → 16384 ≤ length w → (stackOf o ≡ []) × Nested o → Left t w w 0 true 0 o
+unfolding statementWords
+start {t} {w} {o} s r p =
+    record {
+      within = omega arith;
+      short = s;
+      room = r;
+      long = refl;
+      few = omega arith;
+      nested = p .1;
+      same = ap (λ (ls : List ℕ). outcome w 0 ls (whole t)) (sym (p .0));
+      held = λ h. h;
+    }
+
+short-inside : (t : List ℕ) (w : Span) → length t ≤ 65535 → Inside t w → Short w
+short-inside t w h i = record { starts = omega arith; runs = omega arith }
+
+module _ {t w₀ w : List ℕ} {at : ℕ} {fresh : Bool} {n : ℕ} {o : OpenLevels} (inv : Left t w₀ w at fresh n o) where
+  -- a refusal of what is left is one of the whole
+  refused-so : (q : Refusal) → rest t fresh at n ≡ refuse q → RowsAre t w₀ (RowsRead.Refused q) w
+  refused-so q p =
+      record {
+        is = sym (inv .same ∙ ap (outcome w n (stackOf o)) p);
+        held = inv .held (rw p tt);
+      }
+
+  module _ {r : StatementRead} (f : FirstStatement (tokensFrom t (between fresh) at) t (at + 1) r) where
+    done : r ≡ End → RowsAre t w₀ (RowsRead.Rows n) w
+    unfolding putRows
+    done e =
+        let none : tokensFrom t (between fresh) at ≡ [] = rw e at f in
+        let p : rest t fresh at n ≡ give [] = rw (none, sentences-end) (statements-none t n) in
+        record {
+          is = sym (inv .same ∙ ap (outcome w n (stackOf o)) p ∙ rw add-zero);
+          held = inv .held (rw p (tt, omega (arith, inv .few)));
+        }
+
+    bad : {q : Refusal} → r ≡ Refused q → RowsAre t w₀ (RowsRead.Refused q) w
+    bad {q} e =
+        let first : FirstRefused (tokensFrom t (between fresh) at) t q = rw e at f in
+        refused-so q (rw (first .all-are) (statements-refused t n _ _ (first .is)))
+
+    module _ {next : ℕ} (e : r ≡ Skipped next) where
+      skipped : FirstSkipped (tokensFrom t (between fresh) at) t (at + 1) next
+      skipped = rw e at f
+
+      skip : Left t w₀ w next false n o
+      skip =
+          let p : rest t fresh at n ≡ rest t false next n = rw (skipped .followed .all-are) (statements-skipped t n _ _ (skipped .is)) in
+          record {
+            within = skipped .followed .within;
+            short = inv .short;
+            room = inv .room;
+            long = inv .long;
+            few = inv .few;
+            nested = inv .nested;
+            same = inv .same ∙ ap (outcome w n (stackOf o)) p;
+            held = λ h. inv .held (rw p h);
+          }
+
+      skip-less : length t - next < length t - at
+      skip-less = let k = skipped .followed in omega arith
+
+    module _ {s : Statement} {next : ℕ} (e : r ≡ Kept s next) where
+      kept : FirstKept (tokensFrom t (between fresh) at) t (at + 1) s next
+      kept = rw e at f
+
+      kept-less : length t - next < length t - at
+      kept-less = let k = kept .followed in omega arith
+
+      placed : Placed s
+      placed =
+          let g = kept .fits in
+          record {
+            at = omega (arith, g .begins, inv .short);
+            name = short-inside t (s .name) (inv .short) (g .name);
+            clauses = record {
+              picture = short-inside t (s .clauses .picture) (inv .short) (g .clauses .picture);
+              depending = short-inside t (s .clauses .depending) (inv .short) (g .clauses .depending);
+              redefines = short-inside t (s .clauses .redefines) (inv .short) (g .clauses .redefines);
+            };
+          }
+
+      addable : n < 800 → (20 * n + 20 ≤ length w) × Nested o × Placed s
+      addable l = (omega (arith, inv .room), inv .nested, placed)
+
+      full : 800 ≤ n → RowsAre t w₀ (RowsRead.Refused (record { number = 14; position = s .at; needed = 0 })) w
+      full l = refused-so (record { number = 14; position = s .at; needed = 0 }) (rw (kept .followed .all-are) (statements-full t n _ _ (kept .is) l))
+
+      add : n < 800 → {w′ : List ℕ} {o′ : OpenLevels} → Added w n o s w′ o′ → Left t w₀ w′ next false (n + 1) o′
+      add l {w′} {o′} d =
+          let later = rest t false next (n + 1) in
+          let p : rest t fresh at n ≡ (later >>= λ ss. give (s ∷ ss)) =
+          rw (kept .followed .all-are, add-one n) (statements-kept t n _ _ (kept .is) l) in
+          let sized : length w′ ≡ length w = ap length (d .row) ∙ length-putRow w n _ s in
+          record {
+            within = kept .followed .within;
+            short = inv .short;
+            room = omega (arith, inv .room);
+            long = sized ∙ inv .long;
+            few = omega arith;
+            nested = d .nested;
+            same = inv .same ∙ ap (outcome w n (stackOf o)) p ∙ outcome-kept n s w (stackOf o) later ∙ rw (d .row, d .levels);
+            held = λ h. inv .held (rw p (held-kept n s (d .storable) later h));
+          }
+
+abbrev Inv-loop : tie.InvT-loop
+Inv-loop text work₀ at₀ fresh₀ n₀ levels₀ work at fresh n levels = Left text work₀ work at fresh n levels
+
+abbrev μ-loop : tie.MeasureT-loop
+μ-loop text work₀ at₀ fresh₀ n₀ levels₀ work at fresh n levels = length text - at
+
+none-open-requires : tie.Need-none-open-requires Inv-loop μ-loop
+none-open-requires c κs = search needs
+
+loop-holds : tie.Need-loop-holds Inv-loop μ-loop
+loop-holds c = search start
+
+read-statement-requires : tie.Need-read-statement-requires Inv-loop μ-loop
+read-statement-requires c κs = search needs
+
+enum-known-s : tie.Need-enum-known-s Inv-loop μ-loop
+enum-known-s c = search needs
+
+same-length : tie.Need-same-length Inv-loop μ-loop
+same-length c = c .before .before .before .before .before .loop .inv .long
+
+returns : tie.Need-returns Inv-loop μ-loop
+returns c = search (full (c .before .before .before .before .before .loop .inv))
+
+add-row-requires : tie.Need-add-row-requires Inv-loop μ-loop
+add-row-requires c κs =
+    let read = c .before .before .before .before .before in
+    addable (read .before .loop .inv) (read .read-statement .ensures) (c .before .before .before .s .given .1) (omega arith)
+
+add-n : tie.Need-add-n Inv-loop μ-loop
+add-n c = search needs
+
+loop-less : tie.Need-loop-less Inv-loop μ-loop
+loop-less c = search (kept-less (c .before .before .before .before .before .before .before .before .before .loop .inv))
+
+loop-again : tie.Need-loop-again Inv-loop μ-loop
+loop-again c = search (add (c .before .before .before .before .before .before .before .before .before .loop .inv))
+
+enum-known-next : tie.Need-enum-known-next Inv-loop μ-loop
+enum-known-next c = search needs
+
+loop-less-2 : tie.Need-loop-less-2 Inv-loop μ-loop
+loop-less-2 c = search (skip-less (c .before .before .before .before .loop .inv))
+
+loop-again-2 : tie.Need-loop-again-2 Inv-loop μ-loop
+loop-again-2 c = search (skip (c .before .before .before .before .loop .inv))
+
+enum-known-r : tie.Need-enum-known-r Inv-loop μ-loop
+enum-known-r c = search needs
+
+same-length-2 : tie.Need-same-length-2 Inv-loop μ-loop
+same-length-2 c = c .before .before .before .before .loop .inv .long
+
+returns-2 : tie.Need-returns-2 Inv-loop μ-loop
+returns-2 c = search (bad (c .before .before .before .before .loop .inv))
+
+enum-told : tie.Need-enum-told Inv-loop μ-loop
+enum-told c = search needs
+
+same-length-3 : tie.Need-same-length-3 Inv-loop μ-loop
+same-length-3 c = c .before .before .before .loop .inv .long
+
+returns-3 : tie.Need-returns-3 Inv-loop μ-loop
+returns-3 c = search (done (c .before .before .before .loop .inv))
+
+pub read-rows-spec : {M : Type 1} → statement M
+read-rows-spec =
+    tie.close
+    (tie.spec
+    Inv-loop
+    μ-loop
+    none-open-requires
+    loop-holds
+    read-statement-requires
+    enum-known-s
+    same-length
+    returns
+    add-row-requires
+    add-n
+    loop-less
+    loop-again
+    enum-known-next
+    loop-less-2
+    loop-again-2
+    enum-known-r
+    same-length-2
+    returns-2
+    enum-told
+    same-length-3
+    returns-3)

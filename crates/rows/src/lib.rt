@@ -1,0 +1,398 @@
+// Kept statements as rows in lent work memory, with the open levels that give each its depth, and the entry's own checks.
+ghost use mathlib.Core.Path.{_≡_};
+ghost use Prim.Native.Nat.{_+_, _*_, _≤_, _<_};
+ghost use mathlib.Core.List.{[], _∷_};
+ghost use lib.ListN.{length};
+ghost use lib.Seq.{sets};
+ghost use Rattle.definition.specs.Calls.{entryChecks, checkOf, cleared};
+ghost use Rattle.definition.specs.Listing.{flag};
+ghost use Rattle.definition.proofs.DepthLaws.{Rising};
+ghost use Rattle.rows.specs.Levels.{stackOf, Nested, Closed, Opened};
+ghost use Rattle.rows.specs.Reading.{Added, RowsAre};
+ghost use Rattle.rows.specs.Table.{spanCode, spanAt, usageCode, usageAt, signCode, signAt, markOf, countOf, occursAt};
+ghost use Rattle.rows.specs.Table.{Short, Brief, Placed, clauseCells, putRow, clausesAt, statementAt};
+use definition::Check;
+use definition::Clauses;
+use definition::Occurs;
+use definition::Refusal;
+use definition::SignWords;
+use definition::Span;
+use definition::Statement;
+use definition::Usage;
+use definition::UsageClause;
+use statement::StatementRead;
+
+// Work memory to zero.
+pub fn clear(work: &mut [u32])
+    ensures { λ _. ⌜ now (work .exit) ≡ cleared (now (work .entry)) ⌝ }
+{
+    let mut i = 0;
+    while i < work.len() {
+        work[i] = 0;
+        i += 1;
+    }
+}
+
+// Refusals 1 to 3: those of the text, and work memory under 16,384 numbers.
+pub fn entry_checks(text: &[u8], work_len: usize) -> Check
+    ensures { λ r. ⌜ checkOf r ≡ entryChecks (now (text .entry)) «work_len» ⌝ }
+{
+    match text::text_checks(text) {
+        Check::Passed => {}
+        Check::Refused(r) => {
+            return Check::Refused(r);
+        }
+    }
+    if work_len < 16384 {
+        return Check::Refused(Refusal {
+            number: 3,
+            position: 0,
+            needed: 0,
+        });
+    }
+    Check::Passed
+}
+
+// A span as one number.
+fn span_code(w: Span) -> u32
+    requires { ⌜ Short w ⌝ }
+    ensures { λ r. ⌜ r ≡ spanCode w ⌝ }
+{
+    (w.start * 65536 + w.len) as u32
+}
+
+// The span that a number holds.
+fn span_at(n: u32) -> Span
+    ensures { λ r. ⌜ r ≡ spanAt n ⌝ }
+{
+    Span {
+        start: (n / 65536) as usize,
+        len: (n % 65536) as usize,
+    }
+}
+
+// A usage as a number.
+fn usage_code(u: UsageClause) -> u32
+    ensures { λ r. ⌜ r ≡ usageCode u ⌝ }
+{
+    match u {
+        UsageClause::Absent => 0,
+        UsageClause::Given(v) => match v {
+            Usage::Display => 1,
+            Usage::Comp3 => 2,
+            Usage::Comp => 3,
+        },
+    }
+}
+
+// The usage that a number holds.
+fn usage_at(n: u32) -> UsageClause
+    ensures { λ r. ⌜ r ≡ usageAt n ⌝ }
+{
+    if n == 1 {
+        return UsageClause::Given(Usage::Display);
+    }
+    if n == 2 {
+        return UsageClause::Given(Usage::Comp3);
+    }
+    if n == 3 {
+        return UsageClause::Given(Usage::Comp);
+    }
+    UsageClause::Absent
+}
+
+// What is said of the sign as a number.
+fn sign_code(s: SignWords) -> u32
+    ensures { λ r. ⌜ r ≡ signCode s ⌝ }
+{
+    match s {
+        SignWords::Absent => 0,
+        SignWords::Said { leading, separate } => {
+            if leading {
+                if separate {
+                    return 4;
+                }
+                return 2;
+            }
+            if separate {
+                return 3;
+            }
+            1
+        }
+    }
+}
+
+// What is said of the sign, from its number.
+fn sign_at(n: u32) -> SignWords
+    ensures { λ r. ⌜ r ≡ signAt n ⌝ }
+{
+    if n == 1 {
+        return SignWords::Said {
+            leading: false,
+            separate: false,
+        };
+    }
+    if n == 2 {
+        return SignWords::Said {
+            leading: true,
+            separate: false,
+        };
+    }
+    if n == 3 {
+        return SignWords::Said {
+            leading: false,
+            separate: true,
+        };
+    }
+    if n == 4 {
+        return SignWords::Said {
+            leading: true,
+            separate: true,
+        };
+    }
+    SignWords::Absent
+}
+
+// 1 for true, 0 for false.
+fn flag_of(b: bool) -> u32
+    ensures { λ r. ⌜ r ≡ flag b ⌝ }
+{
+    if b {
+        return 1;
+    }
+    0
+}
+
+// Whether OCCURS is said, as a number.
+fn occurs_mark(o: Occurs) -> u32
+    ensures { λ r. ⌜ r ≡ markOf o ⌝ }
+{
+    match o {
+        Occurs::Once => 0,
+        Occurs::Times(n) => 1,
+    }
+}
+
+// The count of OCCURS, 0 without.
+fn occurs_count(o: Occurs) -> u64
+    ensures { λ r. ⌜ (r ≡ countOf o) × (countOf o < 18446744073709551616) ⌝ }
+{
+    match o {
+        Occurs::Once => 0,
+        Occurs::Times(n) => n,
+    }
+}
+
+// OCCURS, from its mark and the count's two parts.
+fn occurs_at(mark: u32, low: u32, high: u32) -> Occurs
+    ensures { λ r. ⌜ r ≡ occursAt mark low high ⌝ }
+{
+    if mark == 0 {
+        return Occurs::Once;
+    }
+    Occurs::Times(high as u64 * 4294967296 + low as u64)
+}
+
+// A level as a number of 32 bits.
+fn level_code(level: u8) -> u32
+    ensures { λ r. ⌜ r ≡ level ⌝ }
+{
+    level as u32
+}
+
+// Four numbers stored from a place on.
+fn put_four(work: &mut [u32], at: usize, a: u32, b: u32, c: u32, d: u32)
+    requires { ⌜ at + 4 ≤ length (now work) ⌝ }
+    ensures { λ _. ⌜ now (work .exit) ≡ sets (now (work .entry)) at (a ∷ b ∷ c ∷ d ∷ []) ⌝ }
+{
+    work[at] = a;
+    work[at + 1] = b;
+    work[at + 2] = c;
+    work[at + 3] = d;
+}
+
+// The columns of the clauses, from a place on.
+fn put_clauses(work: &mut [u32], at: usize, c: Clauses)
+    requires { ⌜ (at + 9 ≤ length (now work)) × Brief c ⌝ }
+    ensures { λ _. ⌜ now (work .exit) ≡ sets (now (work .entry)) at (clauseCells c) ⌝ }
+{
+    let picture = c.picture;
+    let depending = c.depending;
+    let redefines = c.redefines;
+    let usage = c.usage;
+    let sign = c.sign;
+    let occurs = c.occurs;
+    let count = occurs_count(occurs);
+    put_four(
+        work,
+        at,
+        span_code(picture),
+        span_code(depending),
+        span_code(redefines),
+        usage_code(usage),
+    );
+    put_four(
+        work,
+        at + 4,
+        sign_code(sign),
+        flag_of(c.sync),
+        occurs_mark(occurs),
+        (count % 4294967296) as u32,
+    );
+    work[at + 8] = (count / 4294967296) as u32;
+}
+
+// A statement and its depth into row k.
+pub fn put_row(work: &mut [u32], k: usize, depth: u32, s: Statement)
+    requires { ⌜ (20 * k + 20 ≤ length (now work)) × Placed s ⌝ }
+    ensures { λ _. ⌜ now (work .exit) ≡ putRow (now (work .entry)) k depth s ⌝ }
+{
+    let base = 20 * k;
+    let name = s.name;
+    let clauses = s.clauses;
+    put_four(
+        work,
+        base,
+        level_code(s.level),
+        depth,
+        s.at as u32,
+        span_code(name),
+    );
+    put_clauses(work, base + 4, clauses);
+}
+
+// The clauses of the statement in row k.
+fn clauses_at(work: &[u32], k: usize) -> Clauses
+    requires { ⌜ 20 * k + 20 ≤ length (now work) ⌝ }
+    ensures { λ r. ⌜ r ≡ clausesAt (now (work .entry)) k ⌝ }
+{
+    Clauses {
+        picture: span_at(work[20 * k + 4]),
+        usage: usage_at(work[20 * k + 7]),
+        sign: sign_at(work[20 * k + 8]),
+        sync: work[20 * k + 9] == 1,
+        occurs: occurs_at(work[20 * k + 10], work[20 * k + 11], work[20 * k + 12]),
+        depending: span_at(work[20 * k + 5]),
+        redefines: span_at(work[20 * k + 6]),
+    }
+}
+
+// The statement in row k.
+pub fn statement_at(work: &[u32], k: usize) -> Statement
+    requires { ⌜ 20 * k + 20 ≤ length (now work) ⌝ }
+    ensures { λ r. ⌜ r ≡ statementAt (now (work .entry)) k ⌝ }
+{
+    Statement {
+        level: (work[20 * k + 0] % 256) as u8,
+        at: work[20 * k + 2] as usize,
+        name: span_at(work[20 * k + 3]),
+        clauses: clauses_at(work, k),
+    }
+}
+
+// The levels that are open, the innermost last, and how many.
+pub struct OpenLevels {
+    pub levels: [u8; 256],
+    pub count: usize,
+}
+
+// No level is open.
+fn none_open() -> OpenLevels
+    ensures { λ r. ⌜ (stackOf r ≡ []) × Nested r ⌝ }
+{
+    OpenLevels {
+        levels: [0; 256],
+        count: 0,
+    }
+}
+
+// Closes the levels that are not smaller than a statement's.
+pub fn close(o: OpenLevels, level: u8) -> OpenLevels
+    requires { ⌜ Nested o ⌝ }
+    ensures { λ r. ⌜ Closed o level r ⌝ }
+{
+    let levels = o.levels;
+    let mut n = o.count;
+    while 0 < n {
+        if levels[n - 1] < level {
+            return OpenLevels {
+                levels: levels,
+                count: n,
+            };
+        }
+        n -= 1;
+    }
+    OpenLevels {
+        levels: levels,
+        count: n,
+    }
+}
+
+// Opens a statement's level, after the others were closed.
+pub fn open(o: OpenLevels, level: u8) -> OpenLevels
+    requires { ⌜ (o .count ≤ level) × Rising (stackOf o) ⌝ }
+    ensures { λ r. ⌜ Opened o level r ⌝ }
+{
+    let mut levels = o.levels;
+    let n = o.count;
+    levels[n] = level;
+    OpenLevels {
+        levels: levels,
+        count: n + 1,
+    }
+}
+
+// A statement into row n, at the depth that the open levels give; its level is open then.
+fn add_row(work: &mut [u32], n: usize, o: OpenLevels, s: Statement) -> OpenLevels
+    requires { ⌜ (20 * n + 20 ≤ length (now work)) × Nested o × Placed s ⌝ }
+    ensures { λ r. ⌜ Added (now (work .entry)) n o s (now (work .exit)) r ⌝ }
+{
+    let level = s.level;
+    let outer = close(o, level);
+    put_row(work, n, outer.count as u32, s);
+    open(outer, level)
+}
+
+// The number of rows that a text has, or why it is refused.
+pub enum RowsRead {
+    Rows(usize),
+    Refused(Refusal),
+}
+
+// The kept statements of a text as rows of work memory, from row 0 on.
+pub fn read_rows(text: &[u8], work: &mut [u32]) -> RowsRead
+    requires { ⌜ (length (now text) ≤ 65535) × (16384 ≤ length (now work)) ⌝ }
+    ensures { λ r. ⌜ RowsAre (now (text .entry)) (now (work .entry)) r (now (work .exit)) ⌝ }
+{
+    let mut at = 0;
+    let mut fresh = true;
+    let mut n = 0;
+    let mut levels = none_open();
+    loop {
+        match statement::read_statement(text, at, fresh) {
+            StatementRead::Kept(s, next) => {
+                if 800 <= n {
+                    return RowsRead::Refused(Refusal {
+                        number: 14,
+                        position: s.at,
+                        needed: 0,
+                    });
+                }
+                levels = add_row(work, n, levels, s);
+                n += 1;
+                at = next;
+                fresh = false;
+            }
+            StatementRead::Skipped(next) => {
+                at = next;
+                fresh = false;
+            }
+            StatementRead::Refused(r) => {
+                return RowsRead::Refused(r);
+            }
+            StatementRead::End => {
+                return RowsRead::Rows(n);
+            }
+        }
+    }
+}

@@ -1,0 +1,284 @@
+//! The original Rust as an oracle. Each line of standard input is a request, each line of standard output its answer:
+//! decimal numbers with a blank between them.
+//!
+//! Requests; HEX is the text, two digits a byte:
+//! - `C HEX`: a copybook, read by `copybook::parse`.
+//! - `P USAGE SIGN HEX`: a picture, read by `copybook::parse_pic`. USAGE: 0 DISPLAY, 1 COMP-3, 2 COMP.
+//!   SIGN: 0 none, 1 unsigned, 2 embedded, 3 leading separate, 4 trailing separate.
+//!
+//! Answers:
+//! - `0 N`: refused. N is the number that the rules give to the error, 0 if they know no such error.
+//! - `1 RECORD-LENGTH VARIABLE TOP-COUNT` and the entries, a group before its members. An entry is: length and bytes of its name;
+//!   offset; width; kind and details; occurs mark and count (`0 0` if none); length and bytes of its DEPENDING ON name, and of its
+//!   REDEFINES name (0 if none).
+//! - `1 WIDTH` and kind and details, for a picture.
+//! - `2`: the Rust panicked. It is built with overflow checks.
+//! - `3`: the Rust was not asked, see `asked`.
+//!
+//! Kinds and details: 1 text; 2 int: signed, sign; 3 binary: signed; 4 decimal: precision, scale, storage, sign;
+//! 5 edited: precision, scale, signed, length and bytes of the mask; 6 group: number of members.
+//! Sign: 0 unsigned, 1 embedded, 2 leading separate, 3 trailing separate. Storage: 0 display, 1 COMP-3, 2 zoned.
+
+use std::io::{self, BufRead, Write};
+use std::panic;
+
+include!(concat!(env!("OUT_DIR"), "/modules.rs"));
+
+use copybook::Usage;
+use layout::{Field, FieldKind, NumRepr, SignKind};
+
+// What the modules take from the root of their crate.
+
+#[derive(Debug, Clone, PartialEq, Eq)]
+pub struct Error(pub String);
+
+impl std::fmt::Display for Error {
+    fn fmt(&self, f: &mut std::fmt::Formatter<'_>) -> std::fmt::Result {
+        f.write_str(&self.0)
+    }
+}
+
+pub type Result<T> = std::result::Result<T, Error>;
+
+/// `layout.rs` names this reader; nothing here reaches it.
+pub mod jsonspec {
+    pub fn parse(_: &str) -> crate::Result<crate::layout::Layout> {
+        Err(crate::Error("no JSON here".into()))
+    }
+}
+
+type Numbers = Vec<u64>;
+
+const PANICKED: u64 = 2;
+const NOT_ASKED: u64 = 3;
+
+/// A picture's repeat counts are taken up to this sum.
+const MOST_SYMBOLS: u64 = 1_000_000;
+
+/// The errors by how their messages begin, with the numbers of the refusals.
+const REFUSALS: [(&str, u64); 11] = [
+    ("invalid level number", 10),
+    ("OCCURS requires a count", 11),
+    ("OCCURS … TO requires", 12),
+    ("DEPENDING ON requires", 13),
+    ("copybook nesting exceeds", 20),
+    ("elementary item", 21),
+    ("unbalanced parentheses", 22),
+    ("invalid PIC repeat count", 23),
+    ("unsupported PIC symbol", 25),
+    ("mixed text/numeric PIC", 26),
+    ("REDEFINES target", 28),
+];
+
+fn refused(e: &Error) -> Numbers {
+    let known = REFUSALS.iter().find(|(begin, _)| e.0.starts_with(begin));
+    vec![0, known.map_or(0, |&(_, number)| number)]
+}
+
+/// Whether the word, as a picture, expands to at most MOST_SYMBOLS symbols, or is refused before it has more.
+fn small(word: &str) -> bool {
+    let mut rest = word;
+    let mut symbols = 0u64;
+    while let Some(symbol) = rest.chars().next() {
+        rest = &rest[symbol.len_utf8()..];
+        let mut count = 1;
+        if let Some(after) = rest.strip_prefix('(') {
+            let Some((number, behind)) = after.split_once(')') else {
+                return true;
+            };
+            let Ok(n) = number.trim().parse::<u64>() else {
+                return true;
+            };
+            count = n;
+            rest = behind;
+        }
+        symbols = symbols.saturating_add(count);
+        if symbols > MOST_SYMBOLS {
+            return false;
+        }
+    }
+    true
+}
+
+/// The Rust writes every symbol of a picture out, so a repeat count can ask for any amount of memory: a text with a word that,
+/// as a picture, would expand to over MOST_SYMBOLS symbols is not handed to it, and gets the answer `3`. So does a text that is
+/// no UTF-8, since the Rust takes a `&str`.
+fn asked(bytes: &[u8], one_word: bool) -> Option<&str> {
+    let text = std::str::from_utf8(bytes).ok()?;
+    let fits = if one_word {
+        small(text.trim())
+    } else {
+        text.split_whitespace().all(small)
+    };
+    fits.then_some(text)
+}
+
+fn put_bytes(out: &mut Numbers, text: &str) {
+    out.push(text.len() as u64);
+    out.extend(text.bytes().map(u64::from));
+}
+
+fn sign_number(sign: SignKind) -> u64 {
+    match sign {
+        SignKind::Unsigned => 0,
+        SignKind::Embedded => 1,
+        SignKind::LeadingSeparate => 2,
+        SignKind::TrailingSeparate => 3,
+    }
+}
+
+fn storage_number(repr: NumRepr) -> u64 {
+    match repr {
+        NumRepr::Display => 0,
+        NumRepr::Comp3 => 1,
+        NumRepr::Zoned => 2,
+    }
+}
+
+fn put_kind(out: &mut Numbers, kind: &FieldKind) {
+    match kind {
+        FieldKind::Text { .. } => out.push(1),
+        FieldKind::Int { signed, sign } => out.extend([2, *signed as u64, sign_number(*sign)]),
+        FieldKind::Binary { signed, .. } => out.extend([3, *signed as u64]),
+        FieldKind::Decimal {
+            precision,
+            scale,
+            repr,
+            sign,
+        } => out.extend([
+            4,
+            *precision as u64,
+            *scale as u64,
+            storage_number(*repr),
+            sign_number(*sign),
+        ]),
+        FieldKind::Edited {
+            precision,
+            scale,
+            signed,
+            mask,
+        } => {
+            out.extend([5, *precision as u64, *scale as u64, *signed as u64]);
+            put_bytes(out, mask);
+        }
+        FieldKind::Group(members) => out.extend([6, members.len() as u64]),
+        // the copybook reader makes no other kind
+        _ => out.push(0),
+    }
+}
+
+fn put_field(out: &mut Numbers, field: &Field) {
+    put_bytes(out, &field.name);
+    out.extend([field.offset as u64, field.width as u64]);
+    put_kind(out, &field.kind);
+    match field.occurs {
+        Some(n) => out.extend([1, n as u64]),
+        None => out.extend([0, 0]),
+    }
+    put_bytes(out, field.depending_on.as_deref().unwrap_or(""));
+    put_bytes(out, field.redefines.as_deref().unwrap_or(""));
+    if let FieldKind::Group(members) = &field.kind {
+        for member in members {
+            put_field(out, member);
+        }
+    }
+}
+
+fn copybook_answer(bytes: &[u8]) -> Numbers {
+    let Some(text) = asked(bytes, false) else {
+        return vec![NOT_ASKED];
+    };
+    match copybook::parse(text) {
+        Err(e) => refused(&e),
+        Ok(layout) => {
+            let mut out = vec![
+                1,
+                layout.record_len as u64,
+                layout.variable as u64,
+                layout.fields.len() as u64,
+            ];
+            for field in &layout.fields {
+                put_field(&mut out, field);
+            }
+            out
+        }
+    }
+}
+
+fn picture_answer(usage: Usage, sign: Option<SignKind>, bytes: &[u8]) -> Numbers {
+    let Some(text) = asked(bytes, true) else {
+        return vec![NOT_ASKED];
+    };
+    match copybook::parse_pic(text, usage, sign) {
+        Err(e) => refused(&e),
+        Ok((kind, width)) => {
+            let mut out = vec![1, width as u64];
+            put_kind(&mut out, &kind);
+            out
+        }
+    }
+}
+
+fn bytes_of(hex: &str) -> Option<Vec<u8>> {
+    if hex.len() % 2 != 0 || !hex.is_ascii() {
+        return None;
+    }
+    (0..hex.len())
+        .step_by(2)
+        .map(|i| u8::from_str_radix(&hex[i..i + 2], 16).ok())
+        .collect()
+}
+
+fn usage_of(word: &str) -> Option<Usage> {
+    match word {
+        "0" => Some(Usage::Display),
+        "1" => Some(Usage::Comp3),
+        "2" => Some(Usage::Comp),
+        _ => None,
+    }
+}
+
+fn sign_of(word: &str) -> Option<Option<SignKind>> {
+    match word {
+        "0" => Some(None),
+        "1" => Some(Some(SignKind::Unsigned)),
+        "2" => Some(Some(SignKind::Embedded)),
+        "3" => Some(Some(SignKind::LeadingSeparate)),
+        "4" => Some(Some(SignKind::TrailingSeparate)),
+        _ => None,
+    }
+}
+
+/// The answer to a request, or nothing where the line is no request. An empty text may leave its HEX out.
+fn answer(line: &str) -> Option<Numbers> {
+    let words: Vec<&str> = line.split_whitespace().collect();
+    let answered = match words[..] {
+        ["C"] => panic::catch_unwind(|| copybook_answer(&[])),
+        ["C", hex] => {
+            let bytes = bytes_of(hex)?;
+            panic::catch_unwind(|| copybook_answer(&bytes))
+        }
+        ["P", usage, sign, ref hex @ ..] if hex.len() <= 1 => {
+            let (usage, sign) = (usage_of(usage)?, sign_of(sign)?);
+            let bytes = bytes_of(hex.first().unwrap_or(&""))?;
+            panic::catch_unwind(|| picture_answer(usage, sign, &bytes))
+        }
+        _ => return None,
+    };
+    Some(answered.unwrap_or_else(|_| vec![PANICKED]))
+}
+
+fn main() -> io::Result<()> {
+    panic::set_hook(Box::new(|_| {}));
+    let mut out = io::BufWriter::new(io::stdout().lock());
+    for line in io::stdin().lock().lines() {
+        let line = line?;
+        let Some(numbers) = answer(&line) else {
+            eprintln!("oracle: no request: {line}");
+            std::process::exit(2);
+        };
+        let words: Vec<String> = numbers.iter().map(u64::to_string).collect();
+        writeln!(out, "{}", words.join(" "))?;
+    }
+    out.flush()
+}

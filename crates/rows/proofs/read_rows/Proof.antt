@@ -2,7 +2,7 @@
 -- lead to what all statements lead to from row 0 on.
 -- Assumes nothing.
 use borrow.Author.Needs.{needs}
-use Prim.Native.Nat.{ℕ, suc, _+_, _*_, _-_, _≤_, _<_}
+use Prim.Native.Nat.{ℕ, _+_, _*_, _-_, _≤_, _<_}
 use mathlib.Core.Path.{_≡_, refl, sym, ap, _∙_}
 use mathlib.Core.Bool.{Bool, true, false}
 use mathlib.Core.List.{List, [], _∷_}
@@ -13,10 +13,8 @@ use lib.ListN.{length}
 use Rattle.definition.specs.declared.Refusal.{Refusal}
 use Rattle.definition.specs.declared.Span.{Span}
 use Rattle.definition.specs.declared.Statement.{Statement}
-use Rattle.definition.specs.declared.Token.{Token}
 use Rattle.definition.specs.Basic.{Answer, refuse, give, _>>=_}
 use Rattle.definition.specs.Statement.{statements}
-use Rattle.definition.specs.Tree.{depths}
 use Rattle.definition.specs.Words.{sentences, statementWords}
 use Rattle.definition.proofs.StatementLaws.{statements-none, statements-refused, statements-skipped, statements-full, statements-kept}
 use Rattle.definition.proofs.WordLaws.{sentences-end}
@@ -27,7 +25,7 @@ use Rattle.statement.specs.Reading.{Inside, FirstKept, FirstSkipped, FirstRefus
 use Rattle.rows.specs.declared.OpenLevels.{OpenLevels}
 use Rattle.rows.specs.declared.RowsRead.{RowsRead}
 use Rattle.rows.specs.Levels.{stackOf, Nested}
-use Rattle.rows.specs.Table.{Short, Placed, putRow, putRows}
+use Rattle.rows.specs.Table.{Short, Placed, putRows}
 use Rattle.rows.specs.Reading.{Added, outcome, Held, RowsAre}
 use Rattle.rows.proofs.TableLaws.{length-putRow}
 use Rattle.rows.proofs.ReadingLaws.{outcome-kept, held-kept}
@@ -164,17 +162,8 @@ Inv-loop text work₀ at₀ fresh₀ n₀ levels₀ work at fresh n levels = Lef
 abbrev μ-loop : tie.MeasureT-loop
 μ-loop text work₀ at₀ fresh₀ n₀ levels₀ work at fresh n levels = length text - at
 
-none-open-requires : tie.Need-none-open-requires Inv-loop μ-loop
-none-open-requires c κs = search needs
-
 loop-holds : tie.Need-loop-holds Inv-loop μ-loop
 loop-holds c = search start
-
-read-statement-requires : tie.Need-read-statement-requires Inv-loop μ-loop
-read-statement-requires c κs = search needs
-
-enum-known-s : tie.Need-enum-known-s Inv-loop μ-loop
-enum-known-s c = search needs
 
 same-length : tie.Need-same-length Inv-loop μ-loop
 same-length c = c .before .before .before .before .before .loop .inv .long
@@ -187,17 +176,11 @@ add-row-requires c κs =
     let read = c .before .before .before .before .before in
     addable (read .before .loop .inv) (read .read-statement .ensures) (c .before .before .before .s .given .1) (omega arith)
 
-add-n : tie.Need-add-n Inv-loop μ-loop
-add-n c = search needs
-
 loop-less : tie.Need-loop-less Inv-loop μ-loop
 loop-less c = search (kept-less (c .before .before .before .before .before .before .before .before .before .loop .inv))
 
 loop-again : tie.Need-loop-again Inv-loop μ-loop
 loop-again c = search (add (c .before .before .before .before .before .before .before .before .before .loop .inv))
-
-enum-known-next : tie.Need-enum-known-next Inv-loop μ-loop
-enum-known-next c = search needs
 
 loop-less-2 : tie.Need-loop-less-2 Inv-loop μ-loop
 loop-less-2 c = search (skip-less (c .before .before .before .before .loop .inv))
@@ -205,17 +188,11 @@ loop-less-2 c = search (skip-less (c .before .before .before .before .loop .inv)
 loop-again-2 : tie.Need-loop-again-2 Inv-loop μ-loop
 loop-again-2 c = search (skip (c .before .before .before .before .loop .inv))
 
-enum-known-r : tie.Need-enum-known-r Inv-loop μ-loop
-enum-known-r c = search needs
-
 same-length-2 : tie.Need-same-length-2 Inv-loop μ-loop
 same-length-2 c = c .before .before .before .before .loop .inv .long
 
 returns-2 : tie.Need-returns-2 Inv-loop μ-loop
 returns-2 c = search (bad (c .before .before .before .before .loop .inv))
-
-enum-told : tie.Need-enum-told Inv-loop μ-loop
-enum-told c = search needs
 
 same-length-3 : tie.Need-same-length-3 Inv-loop μ-loop
 same-length-3 c = c .before .before .before .loop .inv .long
@@ -229,22 +206,22 @@ read-rows-spec =
     (tie.spec
     Inv-loop
     μ-loop
-    none-open-requires
+    (λ c κs. search needs)
     loop-holds
-    read-statement-requires
-    enum-known-s
+    (λ c κs. search needs)
+    (λ c. search needs)
     same-length
     returns
     add-row-requires
-    add-n
+    (λ c. search needs)
     loop-less
     loop-again
-    enum-known-next
+    (λ c. search needs)
     loop-less-2
     loop-again-2
-    enum-known-r
+    (λ c. search needs)
     same-length-2
     returns-2
-    enum-told
+    (λ c. search needs)
     same-length-3
     returns-3)

@@ -1,8 +1,7 @@
 -- `rows::sign_at` meets its contract, test by test.
 -- Assumes nothing.
-use borrow.Author.Needs.{needs}
 use Prim.Native.Nat.{ℕ}
-use mathlib.Core.Path.{_≡_, refl}
+use mathlib.Core.Path.{_≡_}
 use mathlib.Core.Bool.{true, false}
 use borrow.Author.Tests.{ne-eqb}
 use Rattle.definition.specs.declared.SignWords.{SignWords}

@@ -1,8 +1,7 @@
 -- `rows::usage_at` meets its contract, test by test.
 -- Assumes nothing.
-use borrow.Author.Needs.{needs}
 use Prim.Native.Nat.{ℕ}
-use mathlib.Core.Path.{_≡_, refl}
+use mathlib.Core.Path.{_≡_}
 use borrow.Author.Tests.{ne-eqb}
 use Rattle.definition.specs.declared.Usage.{Usage}
 use Rattle.definition.specs.declared.UsageClause.{UsageClause}

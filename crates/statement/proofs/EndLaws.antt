@@ -18,6 +18,7 @@ pub record Reached (t : List ℕ) (from place : ℕ) : Type 0 where
   pub within : place ≤ length t
   pub rest : afterStop (tokensFrom t Between from) ≡ afterStop (tokensFrom t Between place)
 
+-- at its first place
 pub reached-start : {t : List ℕ} {from : ℕ} → from ≤ length t → Reached t from from
 reached-start h = record { up = omega arith; within = h; rest = refl }
 

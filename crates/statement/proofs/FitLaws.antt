@@ -40,11 +40,13 @@ module _ (t : List ℕ) where
   StepFits (Go e c) = Fits t c
   StepFits (Fail n) = Unit
 
+  -- by a test
   either : (b : Bool) (x y : Step) → StepFits x → StepFits y → StepFits (if b then x else y)
   either true x y f g = f
   either false x y f g = g
 
   module _ (c : Clauses) (f : Fits t c) where
+    -- a clause begins
     begin-fits : (k : Keyword) → StepFits (begin k c)
     begin-fits Keyword.Picture = record { picture = omega arith; depending = f .depending; redefines = f .redefines }
     begin-fits Keyword.Redefines = record { picture = f .picture; depending = f .depending; redefines = omega arith }
@@ -57,11 +59,13 @@ module _ (t : List ℕ) where
     begin-fits Keyword.Value = f
     begin-fits Keyword.Other = f
 
+    -- a count is read
     counted-fits : (n : ℕ) (e : Expect) (o : Option ℕ) → StepFits (counted n e c o)
     counted-fits n e none = tt
     counted-fits n e (some k) = record { picture = f .picture; depending = f .depending; redefines = f .redefines }
 
     module _ (u : List ℕ) where
+      -- a word, by what is expected
       clause-fits : StepFits (onClause u c)
       clause-fits = begin-fits (keywordOf u)
 
@@ -93,11 +97,12 @@ module _ (t : List ℕ) where
       clause-step-fits Side w h = either (key "LEFT" u || key "RIGHT" u) (Go Clause c) (onClause u c) f clause-fits
       clause-step-fits Nothing w h = f
 
+  -- SEPARATE
   separated-fits : (u : List ℕ) (s : Step) → StepFits s → StepFits (separated u s)
   separated-fits u (Fail n) f = tt
   separated-fits u (Go e c) f = either (key "SEPARATE" u) _ (Go e c) (sign-fits f _) f
 
-  -- a word that lies in the text
+  -- a word that lies in the text: the step keeps the spans in it
   pub step-fits : (e : Expect) (w : Span) (u : List ℕ) (c : Clauses) → Inside t w → Fits t c → StepFits (step e w u c)
   unfolding step
   step-fits e w u c h f = separated-fits u (clauseStep e w u c) (clause-step-fits c f u e w h)
@@ -107,6 +112,7 @@ module _ (t : List ℕ) where
   AnswerFits (give c) = Fits t c
   AnswerFits (refuse r) = Unit
 
+  -- by what was expected
   pub finish-fits : (at : ℕ) (e : Expect) {c : Clauses} → Fits t c → AnswerFits (finish at e c)
   finish-fits at ACount f = tt
   finish-fits at Bound f = tt

@@ -1,2 +1,3 @@
-pub mod FitLaws
 pub mod EndLaws
+pub mod FitLaws
+pub mod ReadLaws

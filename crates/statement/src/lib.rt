@@ -339,7 +339,7 @@ fn step(e: Expect, w: Span, word: &[u8], c: Clauses) -> Step
 }
 
 // What the end of a statement gives: its clauses, or a refusal.
-pub enum Finished {
+enum Finished {
     Whole(Clauses),
     Refused(Refusal),
 }
@@ -483,7 +483,7 @@ fn skip_statement(text: &[u8], from: usize) -> usize
 }
 
 // A statement of the words after its level, and the place after it, or a refusal.
-pub enum NamedRead {
+enum NamedRead {
     Done(Statement, usize),
     Refused(Refusal),
 }

@@ -30,11 +30,13 @@ use Rattle.statement.proofs.FitLaws.{none-fit, step-fits, finish-fits, 
 use Rattle.statement.proofs.read_clauses.Statement.{statement}
 use Rattle.statement.proofs.read_clauses.Tie as tie
 
+-- the clauses are those of the words from `place` on, after what was read
 record Left (t : List ℕ) (at from place : ℕ) (e : Expect) (c : Clauses) : Type 0 where
   reached : Reached t from place
   same : clauses t at Expect.Clause noClauses (wordsFrom t from) ≡ clauses t at e c (wordsFrom t place)
   fits : Fits t c
 
+-- before the first word
 start : {t : List ℕ} {at from : ℕ} {c : Clauses} → from ≤ length t → c ≡ noClauses → Left t at from from Expect.Clause c
 start {t} h p = record { reached = reached-start h; same = rw p; fits = rw p (none-fit t) }
 
@@ -58,6 +60,7 @@ rest {t} {at} {from} {place} {e} {c} inv p = inv .same ∙ ap (λ (ts : List Tok
 
 module _ {t : List ℕ} {at from place : ℕ} {e : Expect} {c : Clauses} (inv : Left t at from place e c) {r : Next} (f : First (tokensFrom t Between place) t place r) where
   module _ {s l n : ℕ} (q : r ≡ Next.Word s l n) where
+    -- a word lies in the text, and its end is a place
     first : FirstWord (tokensFrom t Between place) t place s l n
     first = word-first _ t place f q
 
@@ -68,9 +71,11 @@ module _ {t : List ℕ} {at from place : ℕ} {e : Expect} {c : Clauses} (inv : 
     room h = let i = inside in omega arith
 
     module _ {x : Step} (p : x ≡ step e (span s l) (uppers (take (s + l - s) (drop s t))) c) where
+      -- the step is the one of the word as the definition has it
       taken : x ≡ step e (span s l) (uppers (part t (span s l))) c
       taken = simp add-sub-cancel-left at p
 
+      -- it leads on, or is refused
       go : {e′ : Expect} {c′ : Clauses} → x ≡ Go e′ c′ → Left t at from n e′ c′
       go y =
           let z = sym taken ∙ y in
@@ -83,6 +88,7 @@ module _ {t : List ℕ} {at from place : ℕ} {e : Expect} {c : Clauses} (inv : 
       fail : {k : ℕ} → x ≡ Fail k → ClausesAre t at from (ClausesRead.Refused (record { number = k; position = at; needed = 0 }))
       fail y = rest inv (first .all-are) ∙ clauses-fail t at e c (span s l) (wordsFrom t n) (sym taken ∙ y)
 
+  -- the statement ends at its period, or with the text
   stop-closed : {n : ℕ} {y : ClausesRead} → r ≡ Next.Stop n → y ≡ closing n (finish at e c) → ClausesAre t at from y
   stop-closed {n} q p =
       rw p (closes t at from n (finish at e c) (rest inv (stop-first _ t place f q .all-are) ∙ clauses-none t at e c) (finish-fits t at e (inv .fits)) (ends-stop (inv .reached) f q))

@@ -29,6 +29,7 @@ use Rattle.statement.proofs.read_levelled.Tie as tie
 abbrev all : List ℕ → ℕ → ℕ → ℕ → List Token
 all t s l from = Word (span s l) ∷ tokensFrom t Between from
 
+-- the statements after it are those after its end
 followed : (t : List ℕ) (s l : ℕ) {from n : ℕ} → Ends t from n → Followed (all t s l from) t from n
 followed t s l {from} e =
     record {
@@ -42,6 +43,7 @@ level-is : (t : List ℕ) (s l : ℕ) (v : Level) → levelled v ≡ number 256 
 level-is t s l v p = sym (simp add-sub-cancel-left at p)
 
 module _ (t : List ℕ) (s l from : ℕ) {v : Level} (p : levelled v ≡ number 256 (take (s + l - s) (drop s t))) where
+  -- the first word is no level
   bad : v ≡ Level.Bad → FirstStatement (all t s l from) t from (StatementRead.Refused (record { number = 10; position = s; needed = 0 }))
   bad e =
       record {
@@ -50,13 +52,16 @@ module _ (t : List ℕ) (s l from : ℕ) {v : Level} (p : levelled v ≡ number 
       }
 
   module _ {k : ℕ} (e : v ≡ Level.Value k) where
+    -- it is one
     read : number 256 (part t (span s l)) ≡ some k
     read = level-is t s l v p ∙ ap levelled e
 
+    -- 88 is skipped
     skipped : {n : ℕ} → k ≡ 88 → Ends t from n → FirstStatement (all t s l from) t from (StatementRead.Skipped n)
     skipped q h = record { is = statement-skipped t (span s l) (wordsFrom t from) read q; followed = followed t s l h }
 
     module _ (q : k ≡ 88 → ⊥) {y : NamedRead} (g : NamedAre t s k from y) where
+      -- any other is kept, or refused for what follows
       kept : {x : Statement} {n : ℕ} → y ≡ NamedRead.Done x n → FirstStatement (all t s l from) t from (StatementRead.Kept x n)
       kept {x} {n} i =
           let d : NamedDone t s k from x n = rw i at g in

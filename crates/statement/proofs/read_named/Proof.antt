@@ -49,6 +49,7 @@ bare {t} {at} {level} h p q q′ e =
 
 module _ (t : List ℕ) (at level from : ℕ) (h : from ≤ length t) {r : Next} (f : First (tokensFrom t Between from) t from r) where
   module _ {s l n : ℕ} (q : r ≡ Next.Word s l n) where
+    -- the name
     first : FirstWord (tokensFrom t Between from) t from s l n
     first = word-first _ t from f q
 
@@ -57,6 +58,7 @@ module _ (t : List ℕ) (at level from : ℕ) (h : from ≤ length t) {r : Next}
     within = first .within
 
     module _ {y : ClausesRead} (g : ClausesAre t at n y) where
+      -- its clauses are read, or refused
       done : {c : Clauses} {m : ℕ} → at < length t → y ≡ ClausesRead.Done c m → NamedAre t at level from (NamedRead.Done (of level at (span s l) c) m)
       done {c} {m} b e =
           let d : ClausesDone t at n c m = rw e at g in
@@ -72,6 +74,7 @@ module _ (t : List ℕ) (at level from : ℕ) (h : from ≤ length t) {r : Next}
           tokens-named t at level (first .all-are) ∙ named-refused t at level (span s l) (wordsFrom t n) d
 
   module _ {w : Span} {c : Clauses} (b : at < length t) (p : w ≡ absent) (p′ : c ≡ noClauses) where
+    -- the statement ends at its period, or with the text
     stopped : {n : ℕ} → r ≡ Next.Stop n → NamedAre t at level from (NamedRead.Done (of level at w c) n)
     stopped q = bare b (tokens-named t at level (stop-first _ t from f q .all-are)) p p′ (ends-stop (reached-start h) f q)
 

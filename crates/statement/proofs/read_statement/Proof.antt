@@ -33,20 +33,24 @@ earlier ts t low later h StatementRead.End g = g
 
 module _ (t : List ℕ) (at : ℕ) (fresh : Bool) {r : Next} (f : First (tokensFrom t (between fresh) at) t at r) where
   module _ {s l n : ℕ} (q : r ≡ Next.Word s l n) where
+    -- a first word lies in the text
     first : FirstWord (tokensFrom t (between fresh) at) t at s l n
     first = word-first _ t at f q
 
     places : (s < length t) × (s + l ≤ length t) × (n ≤ length t)
     places = let w = first in (omega arith, w .fits, w .within)
 
+    -- and its statement is the first one
     begun : (y : StatementRead) → FirstStatement (Word (span s l) ∷ tokensFrom t Between n) t n y → FirstStatement (tokensFrom t (between fresh) at) t (at + 1) y
     begun y g = let w = first in rw (w .all-are) (earlier (Word (span s l) ∷ tokensFrom t Between n) t (at + 1) n (omega arith) y g)
 
+  -- a period alone is an empty statement
   empty : {n : ℕ} → r ≡ Next.Stop n → FirstStatement (tokensFrom t (between fresh) at) t (at + 1) (StatementRead.Skipped n)
   empty {n} q =
       let s = stop-first _ t at f q in
       rw (s .all-are) (record { is = statement-empty t; followed = record { all-are = sentences-next (tokensFrom t Between n) Stop; up = omega arith; within = s .within } })
 
+  -- the text has ended
   ended : r ≡ Next.End → FirstStatement (tokensFrom t (between fresh) at) t (at + 1) StatementRead.End
   ended q = end-first _ t at f q
 

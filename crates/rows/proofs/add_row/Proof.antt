@@ -15,6 +15,7 @@ use Rattle.rows.proofs.add_row.Statement.{statement}
 use Rattle.rows.proofs.add_row.Tie as tie
 
 module _ (w : List ℕ) (n : ℕ) {o u r : OpenLevels} {s : Statement} {w′ : List ℕ} where
+  -- what the three calls say together
   added : Closed o (s .level) u → w′ ≡ putRow w n (u .count) s → Opened u (s .level) r → Placed s → Added w n o s w′ r
   added closed row opened placed =
       record {

@@ -15,6 +15,7 @@ use Rattle.rows.proofs.clauses_at.Statement.{statement}
 use Rattle.rows.proofs.clauses_at.Tie as tie
 
 module _ (w : List ℕ) (k : ℕ) {p d r : Span} {u : UsageClause} {s : SignWords} {o : Occurs} where
+  -- the clauses of parts that are read
   read :
       p ≡ spanAt (cell w k 4) →
       u ≡ usageAt (cell w k 7) →

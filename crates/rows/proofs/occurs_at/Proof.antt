@@ -10,6 +10,7 @@ use Rattle.rows.proofs.occurs_at.Statement.{statement}
 use Rattle.rows.proofs.occurs_at.Tie as tie
 
 module _ (mark low high : ℕ) where
+  -- the mark is 0, or not
   once : mark ≡ 0 → Occurs.Once ≡ occursAt mark low high
   once e = rw e
 

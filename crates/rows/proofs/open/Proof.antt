@@ -13,6 +13,7 @@ use Rattle.rows.proofs.open.Statement.{statement}
 use Rattle.rows.proofs.open.Tie as tie
 
 module _ (o : OpenLevels) (level : ℕ) where
+  -- one more level
   opened :
       length (o .levels) ≡ 256 →
       level < 256 →

@@ -14,6 +14,7 @@ use Rattle.rows.proofs.put_clauses.Statement.{statement}
 use Rattle.rows.proofs.put_clauses.Tie as tie
 
 module _ (w : List ℕ) {w₁ w₂ : List ℕ} (at : ℕ) (c : Clauses) {p d r u s y m n : ℕ} where
+  -- the first four columns, the next four, and the last
   one-run :
       w₁ ≡ sets w at (p ∷ d ∷ r ∷ u ∷ []) →
       w₂ ≡ sets w₁ (at + 4) (s ∷ y ∷ m ∷ n % 4294967296 ∷ []) →

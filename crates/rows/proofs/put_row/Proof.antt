@@ -12,6 +12,7 @@ use Rattle.rows.proofs.put_row.Statement.{statement}
 use Rattle.rows.proofs.put_row.Tie as tie
 
 module _ (w : List ℕ) {w₁ w₂ : List ℕ} (k depth : ℕ) (s : Statement) {n : ℕ} where
+  -- the first four columns, and those of the clauses
   one-run :
       w₁ ≡ sets w (20 * k) (s .level ∷ depth ∷ s .at ∷ n ∷ []) →
       w₂ ≡ sets w₁ (20 * k + 4) (clauseCells (s .clauses)) →

@@ -21,7 +21,8 @@ use Rattle.definition.proofs.WordLaws.{sentences-end}
 use Rattle.text.specs.Tokens.{between, tokensFrom}
 use Rattle.statement.specs.declared.StatementRead.{StatementRead}
 use Rattle.statement.specs.declared.StatementRead.the-variants.{Kept, Skipped, Refused, End}
-use Rattle.statement.specs.Reading.{Inside, FirstKept, FirstSkipped, FirstRefused, FirstStatement}
+use Rattle.statement.specs.Reading.{Inside, FirstKept, FirstSkipped, FirstStatement}
+use Rattle.statement.proofs.ReadLaws.{kept-read, skipped-read, refused-read, end-read}
 use Rattle.rows.specs.declared.OpenLevels.{OpenLevels}
 use Rattle.rows.specs.declared.RowsRead.{RowsRead}
 use Rattle.rows.specs.Levels.{stackOf, Nested}
@@ -50,6 +51,7 @@ record Left (t w₀ w : List ℕ) (at : ℕ) (fresh : Bool) (n : ℕ) (o : OpenL
   same : outcome w₀ 0 [] (whole t) ≡ outcome w n (stackOf o) (rest t fresh at n)
   held : Held n (rest t fresh at n) → Held 0 (whole t)
 
+-- before the first statement
 start : {t w : List ℕ} {o : OpenLevels} → length t ≤ 65535 → 16384 ≤ length w → (stackOf o ≡ []) × Nested o → Left t w w 0 true 0 o
 unfolding statementWords
 start {t} {w} {o} s r p =
@@ -64,6 +66,7 @@ start {t} {w} {o} s r p =
       held = λ h. h;
     }
 
+-- a span in a short text is short
 short-inside : (t : List ℕ) (w : Span) → length t ≤ 65535 → Inside t w → Short w
 short-inside t w h i = record { starts = omega arith; runs = omega arith }
 
@@ -77,24 +80,27 @@ module _ {t w₀ w : List ℕ} {at : ℕ} {fresh : Bool} {n : ℕ} {o : OpenLeve
       }
 
   module _ {r : StatementRead} (f : FirstStatement (tokensFrom t (between fresh) at) t (at + 1) r) where
+    -- no statement is left
     done : r ≡ End → RowsAre t w₀ (RowsRead.Rows n) w
     unfolding putRows
     done e =
-        let none : tokensFrom t (between fresh) at ≡ [] = rw e at f in
+        let none = end-read _ t (at + 1) f e in
         let p : rest t fresh at n ≡ give [] = rw (none, sentences-end) (statements-none t n) in
         record {
           is = sym (inv .same ∙ ap (outcome w n (stackOf o)) p ∙ rw add-zero);
           held = inv .held (rw p (tt, omega (arith, inv .few)));
         }
 
+    -- the next statement is refused
     bad : {q : Refusal} → r ≡ Refused q → RowsAre t w₀ (RowsRead.Refused q) w
     bad {q} e =
-        let first : FirstRefused (tokensFrom t (between fresh) at) t q = rw e at f in
+        let first = refused-read _ t (at + 1) f e in
         refused-so q (rw (first .all-are) (statements-refused t n _ _ (first .is)))
 
+    -- the next statement is skipped
     module _ {next : ℕ} (e : r ≡ Skipped next) where
       skipped : FirstSkipped (tokensFrom t (between fresh) at) t (at + 1) next
-      skipped = rw e at f
+      skipped = skipped-read _ t (at + 1) f e
 
       skip : Left t w₀ w next false n o
       skip =
@@ -113,13 +119,15 @@ module _ {t w₀ w : List ℕ} {at : ℕ} {fresh : Bool} {n : ℕ} {o : OpenLeve
       skip-less : length t - next < length t - at
       skip-less = let k = skipped .followed in omega arith
 
+    -- the next statement is kept
     module _ {s : Statement} {next : ℕ} (e : r ≡ Kept s next) where
       kept : FirstKept (tokensFrom t (between fresh) at) t (at + 1) s next
-      kept = rw e at f
+      kept = kept-read _ t (at + 1) f e
 
       kept-less : length t - next < length t - at
       kept-less = let k = kept .followed in omega arith
 
+      -- it can be stored
       placed : Placed s
       placed =
           let g = kept .fits in
@@ -136,9 +144,11 @@ module _ {t w₀ w : List ℕ} {at : ℕ} {fresh : Bool} {n : ℕ} {o : OpenLeve
       addable : n < 800 → (20 * n + 20 ≤ length w) × Nested o × Placed s
       addable l = (omega (arith, inv .room), inv .nested, placed)
 
+      -- 800 were kept before it
       full : 800 ≤ n → RowsAre t w₀ (RowsRead.Refused (record { number = 14; position = s .at; needed = 0 })) w
       full l = refused-so (record { number = 14; position = s .at; needed = 0 }) (rw (kept .followed .all-are) (statements-full t n _ _ (kept .is) l))
 
+      -- it is the next row
       add : n < 800 → {w′ : List ℕ} {o′ : OpenLevels} → Added w n o s w′ o′ → Left t w₀ w′ next false (n + 1) o′
       add l {w′} {o′} d =
           let later = rest t false next (n + 1) in

@@ -10,6 +10,7 @@ use Rattle.rows.proofs.sign_at.Statement.{statement}
 use Rattle.rows.proofs.sign_at.Tie as tie
 
 module _ (n : ℕ) where
+  -- the numbers of the four, and any other
   trailing : n ≡ 1 → SignWords.Said false false ≡ signAt n
   trailing e = rw e
 

@@ -14,6 +14,7 @@ use Rattle.rows.proofs.statement_at.Statement.{statement}
 use Rattle.rows.proofs.statement_at.Tie as tie
 
 module _ (w : List ℕ) (k : ℕ) {n : Span} {c : Clauses} where
+  -- the statement of parts that are read
   read :
       n ≡ spanAt (cell w k 3) →
       c ≡ clausesAt w k →

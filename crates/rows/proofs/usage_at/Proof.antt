@@ -10,6 +10,7 @@ use Rattle.rows.proofs.usage_at.Statement.{statement}
 use Rattle.rows.proofs.usage_at.Tie as tie
 
 module _ (n : ℕ) where
+  -- the numbers of the three usages, and any other
   display : n ≡ 1 → UsageClause.Given Usage.Display ≡ usageAt n
   display e = rw e
 

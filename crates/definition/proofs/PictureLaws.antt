@@ -28,6 +28,7 @@ rest-part t i = take-all (length t - i) (drop i t) (omega (arith, length-drop i 
 
 -- ---------------------------------------------------------------- tallies
 
+-- of two lists, one after the other
 pub tally-append : (s : String) (l m : List ℕ) → tally s (l ++ m) ≡ tally s l + tally s m
 unfolding tally
 tally-append s [] m = omega arith
@@ -40,6 +41,7 @@ tally-append s (b ∷ l) m = go (among s b) (tally-append s l m)
     go true e = omega arith
     go false e = e
 
+-- of a run: all of it, or nothing
 pub tally-run : (s : String) (b n : ℕ) → tally s (replicate n b) ≡ (if among s b then n else 0)
 unfolding tally
 tally-run s b zero = go (among s b)
@@ -56,6 +58,7 @@ tally-run s b (suc n) = go (among s b) (tally-run s b n)
     go true e = omega arith
     go false e = e
 
+-- no more than there are symbols
 pub tally-le : (s : String) (l : List ℕ) → tally s l ≤ length l
 unfolding tally
 tally-le s [] = omega arith
@@ -93,17 +96,19 @@ before-append s (b ∷ l) m = go (among "V." b) (before-append s l m)
     go true e = rw (lt-ltb 0 (suc (tally "V." l)) (omega arith))
     go false e = tally-more s b (beforePoint (l ++ m)) (beforePoint l) _ e
 
--- a run before the point: nothing of a point, all of another symbol
+-- of a point that is repeated nothing stands before the point
 point-run : (b n : ℕ) → among "V." b ≡ true → beforePoint (replicate n b) ≡ []
 unfolding beforePoint
 point-run b zero e = refl
 point-run b (suc n) e = rw (e, beforePoint)
 
+-- and all of another symbol
 other-run : (b n : ℕ) → among "V." b ≡ false → beforePoint (replicate n b) ≡ replicate n b
 unfolding beforePoint
 other-run b zero e = refl
 other-run b (suc n) e = rw (e, beforePoint, other-run b n e)
 
+-- so a run before the point counts in whole, if its symbol is no point or is not counted
 pub before-run : (s : String) (b n : ℕ) → (among "V." b ≡ true → among s b ≡ false) → tally s (beforePoint (replicate n b)) ≡ (if among s b then n else 0)
 unfolding tally
 before-run s b n h = go (among "V." b) refl
@@ -128,6 +133,7 @@ tally-sides s (b ∷ l) h = go (among "V." b) refl (tally-sides s l h)
 
 -- ---------------------------------------------------------------- the mask
 
+-- of two lists, one after the other
 pub mask-append : (l m : List ℕ) → mask (l ++ m) ≡ mask l ++ mask m
 unfolding mask
 mask-append [] m = refl
@@ -137,6 +143,7 @@ mask-append (b ∷ l) m = go (among "SVP" b) (mask-append l m)
     go true e = e
     go false e = ap (λ (r : List ℕ). b ∷ r) e
 
+-- of a run: all of it, or nothing
 pub mask-run : (b n : ℕ) → mask (replicate n b) ≡ (if among "SVP" b then [] else replicate n b)
 unfolding mask
 mask-run b zero = go (among "SVP" b)
@@ -172,16 +179,19 @@ mask-length (b ∷ l) = go (among "SVP" b) (mask-length l)
 abbrev pub onto : List ℕ → Answer (List ℕ) → Answer (List ℕ)
 onto p x = x >>= λ l. give (p ++ l)
 
+-- nothing before it
 pub onto-nil : (x : Answer (List ℕ)) → onto [] x ≡ x
 unfolding _>>=_
 onto-nil (refuse e) = refl
 onto-nil (give l) = refl
 
+-- one list before the other
 pub onto-onto : (p r : List ℕ) (x : Answer (List ℕ)) → onto p (onto r x) ≡ onto (p ++ r) x
 unfolding _>>=_
 onto-onto p r (refuse e) = refl
 onto-onto p r (give l) = ap give (sym (append-assoc p r l))
 
+-- bytes that are passed over
 expand-skip : (at n k : ℕ) (bs : List ℕ) → expand at n k bs ≡ expand at n 0 (drop k bs)
 unfolding expand
 expand-skip at n zero bs = refl
@@ -265,10 +275,12 @@ abbrev pub after : List ℕ → Option (List ℕ) → Option (List ℕ)
 after p none = none
 after p (some l) = some (p ++ l)
 
+-- nothing in front
 pub after-none : (o : Option (List ℕ)) → after [] o ≡ o
 after-none none = refl
 after-none (some l) = refl
 
+-- one more byte in front
 after-more : (p : List ℕ) (b : ℕ) (o : Option (List ℕ)) → after p (inFront b o) ≡ after (p ++ b ∷ []) o
 after-more p b none = refl
 after-more p b (some l) = ap some (sym (append-assoc p (b ∷ []) l))
@@ -289,11 +301,13 @@ module _ (t : List ℕ) (i : ℕ) where
 
 -- ---------------------------------------------------------------- the repeat of a symbol
 
+-- nothing after the symbol
 pub repeat-none : (at : ℕ) (rest : List ℕ) → length rest ≡ 0 → repeat at rest ≡ give (1, 0)
 unfolding repeat
 repeat-none at [] h = refl
 repeat-none at (b ∷ bs) h = absurd (omega arith)
 
+-- another byte after the symbol
 pub repeat-plain : (at : ℕ) (rest : List ℕ) → 0 < length rest → (getD rest 0 0 ≡ 40 → ⊥) → repeat at rest ≡ give (1, 0)
 unfolding repeat
 repeat-plain at [] h e = absurd (omega arith)

@@ -12,7 +12,7 @@ use borrow.Author.Tests.{eqb-true}
 use Rattle.definition.specs.Basic.{if_then_else_, among}
 use Rattle.definition.specs.Picture.{tally, beforePoint}
 use Rattle.definition.proofs.PictureLaws.{tally-append, tally-run, tally-le, before-append, before-run, tally-sides}
-use Rattle.picture.specs.Shape.{times, tallies, runOf, unless, joined, Small}
+use Rattle.picture.specs.Shape.{tallied, times, tallies, runOf, unless, joined, Small}
 
 -- a point is no digit
 pub no-digit : (b : ℕ) → among "V." b ≡ true → among "9Z*" b ≡ false
@@ -23,6 +23,7 @@ no-digit b h = go (eqb b 86) (eqb b 46) refl refl h
     go false true ev ep h = rw (eqb-true b 46 ep)
     go false false ev ep h = absurd (let z : _≡_ {A = ℕ} 0 1 = cc in omega arith)
 
+-- what a run adds to a list
 module _ (l : List ℕ) (b n : ℕ) where
   more : (s : String) → tally s (l ++ replicate n b) ≡ tally s l + times s b n
   more s = tally-append s l (replicate n b) ∙ ap (λ (k : ℕ). tally s l + k) (tally-run s b n)
@@ -37,45 +38,39 @@ module _ (l : List ℕ) (b n : ℕ) where
 
   -- a run after a list
   pub tallies-more : tallies (l ++ replicate n b) ≡ joined (tallies l) (runOf b n)
-  tallies-more i =
-      record {
-        symbols = more-symbols i;
-        text = more "XA" i;
-        digits = more "9Z*" i;
-        whole = more-whole i;
-        scaled = more "P" i;
-        points = more "V." i;
-        dollars = more "$" i;
-        pluses = more "+" i;
-        minuses = more "-" i;
-        signs = more "S+-CD" i;
-        edits = more "Z*.,/B0$+-CD" i;
-        hidden = more "SVP" i;
-      }
+  tallies-more i = tallied (more-symbols i) (more-whole i) (λ s. more s i)
 
--- a list of so many symbols
-module _ (l : List ℕ) (h : length l ≤ 65535) where
-  few : (s : String) → tally s l ≤ 65535
-  few s = omega (arith, tally-le s l)
+-- small counts make small tallies
+small-tallied :
+    (symbols whole : ℕ) (count : String → ℕ) →
+    symbols ≤ 65535 →
+    whole ≤ count "9Z*" →
+    ((s : String) → count s ≤ symbols) →
+    Small (tallied symbols whole count)
+small-tallied symbols whole count few part le =
+    let small : (s : String) → count s ≤ 65535 = λ s. omega (arith, le s) in
+    record {
+      symbols = few;
+      text = small "XA";
+      digits = small "9Z*";
+      whole = part;
+      scaled = small "P";
+      points = small "V.";
+      dollars = small "$";
+      pluses = small "+";
+      minuses = small "-";
+      signs = small "S+-CD";
+      edits = small "Z*.,/B0$+-CD";
+      hidden = le "SVP";
+    }
 
-  pub small : Small (tallies l)
-  small =
-      record {
-        symbols = h;
-        text = few "XA";
-        digits = few "9Z*";
-        whole = omega (arith, tally-sides "9Z*" l no-digit);
-        scaled = few "P";
-        points = few "V.";
-        dollars = few "$";
-        pluses = few "+";
-        minuses = few "-";
-        signs = few "S+-CD";
-        edits = few "Z*.,/B0$+-CD";
-        hidden = tally-le "SVP" l;
-      }
+-- so few symbols have small tallies
+pub small : (l : List ℕ) → length l ≤ 65535 → Small (tallies l)
+small l h =
+    small-tallied (length l) (tally "9Z*" (beforePoint l)) (λ s. tally s l) h (omega (arith, tally-sides "9Z*" l no-digit))
+    (λ s. tally-le s l)
 
--- a run
+-- so short a run has small tallies
 times-le : (s : String) (b n : ℕ) → times s b n ≤ n
 times-le s b n = go (among s b)
   where
@@ -83,23 +78,5 @@ times-le s b n = go (among s b)
     go true = omega arith
     go false = omega arith
 
-module _ (b n : ℕ) (h : n ≤ 65535) where
-  little : (s : String) → times s b n ≤ 65535
-  little s = omega (arith, times-le s b n)
-
-  pub small-run : Small (runOf b n)
-  small-run =
-      record {
-        symbols = h;
-        text = little "XA";
-        digits = little "9Z*";
-        whole = omega arith;
-        scaled = little "P";
-        points = little "V.";
-        dollars = little "$";
-        pluses = little "+";
-        minuses = little "-";
-        signs = little "S+-CD";
-        edits = little "Z*.,/B0$+-CD";
-        hidden = times-le "SVP" b n;
-      }
+pub small-run : (b n : ℕ) → n ≤ 65535 → Small (runOf b n)
+small-run b n h = small-tallied n (times "9Z*" b n) (λ s. times s b n) h (omega arith) (λ s. times-le s b n)

@@ -22,10 +22,11 @@ halves-append p (b ∷ l) m = halves-append (next p b) l m
 known : {A : Type 0} (b k : ℕ) (f g : ℕ → A) → f k ≡ g k → eqb b k ≡ true → f b ≡ g b
 known b k f g h e = rw (eqb-true b k e) h
 
--- the third copy of a byte changes nothing
+-- after two copies of a byte
 abbrev twice : Half → ℕ → Half
 twice p b = next (next p b) b
 
+-- the third copy changes nothing: where nothing is awaited, after a C, after a D, at last in any state
 plain : (b : ℕ) (c d s : Bool) → is "C" b ≡ c → is "D" b ≡ d → symbol b ≡ s → next (twice Half.Nothing b) b ≡ twice Half.Nothing b
 plain b true d s ec ed es = known b 67 (λ b. next (twice Half.Nothing b) b) (twice Half.Nothing) refl ec
 plain b false true s ec ed es = known b 68 (λ b. next (twice Half.Nothing b) b) (twice Half.Nothing) refl ed
@@ -50,11 +51,13 @@ still Half.C b = after-c b (is "R" b) refl
 still Half.D b = after-d b (is "B" b) refl
 still Half.Wrong b = refl
 
+-- so no later copy does
 staying : (p : Half) (b n : ℕ) → next p b ≡ p → halves p (replicate n b) ≡ p
 unfolding halves
 staying p b zero e = refl
 staying p b (suc n) e = rw (e, halves) (staying p b n e)
 
+-- two copies or more
 pub halves-more : (p : Half) (b n : ℕ) → halves p (replicate (suc (suc n)) b) ≡ next (next p b) b
 unfolding halves
 halves-more p b n = staying (twice p b) b n (still p b)
@@ -65,6 +68,7 @@ unfolding halves
 wrong-stays [] = refl
 wrong-stays (b ∷ l) = wrong-stays l
 
+-- so such a list is not legal
 wrong-ends : {p : Half} (l : List ℕ) → p ≡ Half.Wrong → false ≡ nothing (halves p l)
 wrong-ends l e = rw (e, wrong-stays l)
 

@@ -30,10 +30,12 @@ abbrev pub Missed : List (List ℕ) → ℕ → Type 0
 Missed [] x = Unit {0}
 Missed (ks ∷ kss) x = Missed kss x × (OneOf ks x → ⊥)
 
+-- the byte is one of the keys
 abbrev has : List ℕ → ℕ → Bool
 has [] x = false
 has (k ∷ ks) x = eqb x k || has ks x
 
+-- of one of the arms
 abbrev hasAny : List (List ℕ) → ℕ → Bool
 hasAny [] x = false
 hasAny (ks ∷ kss) x = has ks x || hasAny kss x
@@ -43,9 +45,11 @@ abbrev pub keyed : List (List ℕ) → String → Bool
 keyed kss ε = true
 keyed kss (c ∷ᶜ s) = hasAny kss (code c) && keyed kss s
 
+-- two tests that fail
 or-none : {a b : Bool} → a ≡ false → b ≡ false → (a || b) ≡ false
 or-none p q = rw (p, q)
 
+-- the default of one arm, and of all
 missed-one : (ks : List ℕ) (x : ℕ) → (OneOf ks x → ⊥) → has ks x ≡ false
 missed-one [] x h = refl
 missed-one (k ∷ []) x h = or-none (ne-eqb x k h) refl
@@ -55,6 +59,7 @@ missed-any : (kss : List (List ℕ)) (x : ℕ) → Missed kss x → hasAny kss x
 missed-any [] x h = refl
 missed-any (ks ∷ kss) x h = or-none (missed-one ks x (h .1)) (missed-any kss x (h .0))
 
+-- two tests that hold
 and-both : (a b : Bool) → (a && b) ≡ true → (a ≡ true) × (b ≡ true)
 and-both true b h = (refl, h)
 and-both false b h = absurd (let z : _≡_ {A = ℕ} 0 1 = cc in omega arith)

@@ -61,10 +61,11 @@ symbols-shape at usage bs (refuse r) e = rw e
 symbols-shape at usage bs (give l) e =
     rw (e, legal-halves l) (checks-shape shapeFor l (not (nothing (halves Half.Nothing l))) (mixed l) (tooLong usage l) at)
 
--- what was counted, or refused
+-- a refusal of the counting is that of the symbols
 pub counts-refused : (at : ℕ) (bs : List ℕ) {r : Refusal} → refuse r ≡ counts at bs → expand at 0 0 bs ≡ refuse r
 counts-refused at bs h = map-refused (λ l. (tallies l, halves Half.Nothing l)) (expand at 0 0 bs) (sym h)
 
+-- the checks of what was counted are those of the symbols
 pub counts-given :
     (at : ℕ) (bs : List ℕ) (usage : Usage) (x : Answer (List ℕ)) {t : Tallies} {half : Half} →
     expand at 0 0 bs ≡ x →
@@ -88,13 +89,14 @@ symbols-expanded at usage bs h =
     through _ _ h₃ λ _ _ h₄.
     e ∙ h₄
 
--- the symbols behind a shape that was read
+-- the symbols behind a shape
 pub record Behind (at : ℕ) (usage : Usage) (bs : List ℕ) (s : PicShape) : Type 0 where
   pub list : List ℕ
   pub are : symbols at usage bs ≡ give list
   pub expanded : expand at 0 0 (trim bs) ≡ give list
   pub shape : s ≡ shapeFor list
 
+-- a shape that was read has symbols behind it
 pub behind : {at : ℕ} {usage : Usage} {bs : List ℕ} {r : Shaped} → Reads at usage bs r → {s : PicShape} → r ≡ Shaped.Shape s → Behind at usage bs s
 behind {at} {usage} {bs} k {s} e =
     let given : give s ≡ (symbols at usage bs >>= λ l. give (shapeFor l)) = rw e at (k .same) in

@@ -30,10 +30,11 @@ shapeFor l =
       width = length (mask l);
     }
 
--- and by its tallies
+-- the digits of the fraction, by the tallies
 abbrev pub scaleOf : Tallies → ℕ
 scaleOf t = t .digits - t .whole + t .scaled
 
+-- the shape, by the tallies
 abbrev pub shapeOf : Tallies → PicShape
 shapeOf t =
     record {
@@ -45,16 +46,19 @@ shapeOf t =
       width = t .symbols - t .hidden;
     }
 
--- editing, 26, 27, and kind and width of a shape: the definition's, of the shape in place of the symbols
+-- `isMasked`, `mixed`, `tooLong` and `kinded` of the definition, by the shape in place of the symbols: is it edited
 abbrev pub maskedBy : Usage → PicShape → Bool
 maskedBy usage s = s .edited && isDisplay usage
 
+-- text with a digit or editing
 abbrev pub mixedBy : PicShape → Bool
 mixedBy s = ltb 0 (s .text) && (ltb 0 (s .digits) || s .edited)
 
+-- too many digits, or too long a mask
 abbrev pub longBy : Usage → PicShape → Bool
 longBy usage s = not (ltb 0 (s .text)) && (ltb 255 (s .digits) || maskedBy usage s && ltb 255 (s .width))
 
+-- kind and width
 abbrev pub kindedBy : Usage → SignClause → PicShape → Pictured
 kindedBy usage sign s =
     if ltb 0 (s .text) then pictured FieldKind.Text (s .text)
@@ -74,10 +78,12 @@ pub record Fit (usage : Usage) (s : PicShape) : Type 0 where
   pub short : longBy usage s ≡ false
   pub part : s .scale ≤ s .digits
 
+-- the answer of the code that reads a shape
 abbrev pub shapedOf : Shaped → Answer PicShape
 shapedOf (Shaped.Shape s) = give s
 shapedOf (Shaped.Refused r) = refuse r
 
+-- its shape fits
 abbrev pub FitIn : Usage → Shaped → Type 0
 FitIn usage (Shaped.Shape s) = Fit usage s
 FitIn usage (Shaped.Refused r) = Unit {0}

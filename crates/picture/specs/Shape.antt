@@ -1,4 +1,4 @@
--- What the reader counts of a picture's symbols.
+-- What the reader counts of a picture's symbols, and what it awaits of CR or DB.
 -- Assumes nothing.
 use Prim.Native.Nat.{ℕ, _+_, _-_, _≤_}
 use Prim.Native.String.{String}
@@ -13,51 +13,41 @@ use Rattle.picture.specs.declared.Tallies.{Tallies}
 use Rattle.picture.specs.declared.Half.{Half}
 use Rattle.picture.specs.declared.Counted.{Counted}
 
+-- the tallies, by a count of each set of symbols
+abbrev pub tallied : ℕ → ℕ → (String → ℕ) → Tallies
+tallied symbols whole count =
+    record {
+      symbols = symbols;
+      text = count "XA";
+      digits = count "9Z*";
+      whole = whole;
+      scaled = count "P";
+      points = count "V.";
+      dollars = count "$";
+      pluses = count "+";
+      minuses = count "-";
+      signs = count "S+-CD";
+      edits = count "Z*.,/B0$+-CD";
+      hidden = count "SVP";
+    }
+
+-- the tallies of a list of symbols
+abbrev pub tallies : List ℕ → Tallies
+tallies l = tallied (length l) (tally "9Z*" (beforePoint l)) (λ s. tally s l)
+
 -- n if the byte is one of the text's, else 0
 abbrev pub times : String → ℕ → ℕ → ℕ
 times s b n = if among s b then n else 0
 
--- the tallies of a list of symbols
-abbrev pub tallies : List ℕ → Tallies
-tallies l =
-    record {
-      symbols = length l;
-      text = tally "XA" l;
-      digits = tally "9Z*" l;
-      whole = tally "9Z*" (beforePoint l);
-      scaled = tally "P" l;
-      points = tally "V." l;
-      dollars = tally "$" l;
-      pluses = tally "+" l;
-      minuses = tally "-" l;
-      signs = tally "S+-CD" l;
-      edits = tally "Z*.,/B0$+-CD" l;
-      hidden = tally "SVP" l;
-    }
-
--- of one symbol that stands n times
+-- the tallies of one symbol that stands n times
 abbrev pub runOf : ℕ → ℕ → Tallies
-runOf b n =
-    record {
-      symbols = n;
-      text = times "XA" b n;
-      digits = times "9Z*" b n;
-      whole = times "9Z*" b n;
-      scaled = times "P" b n;
-      points = times "V." b n;
-      dollars = times "$" b n;
-      pluses = times "+" b n;
-      minuses = times "-" b n;
-      signs = times "S+-CD" b n;
-      edits = times "Z*.,/B0$+-CD" b n;
-      hidden = times "SVP" b n;
-    }
+runOf b n = tallied n (times "9Z*" b n) (λ s. times s b n)
 
--- n before the point, 0 after it
+-- n before the point, 0 after it; so many points stand already
 abbrev pub unless : ℕ → ℕ → ℕ
 unless points n = if ltb 0 points then 0 else n
 
--- of two lists, one after the other
+-- the tallies of two lists, one after the other
 abbrev pub joined : Tallies → Tallies → Tallies
 joined s t =
     record {
@@ -101,6 +91,7 @@ next Half.C b = if is "R" b then Half.Nothing else Half.Wrong
 next Half.D b = if is "B" b then Half.Nothing else Half.Wrong
 next Half.Wrong b = Half.Wrong
 
+-- and after a list of symbols
 unfoldable pub halves : Half → List ℕ → Half
 halves p [] = p
 halves p (b ∷ bs) = halves (next p b) bs
@@ -116,14 +107,17 @@ nothing Half.Wrong = false
 abbrev pub counts : ℕ → List ℕ → Answer (Tallies × Half)
 counts at bs = expand at 0 0 bs >>= λ l. give (tallies l, halves Half.Nothing l)
 
+-- the answer of the code that counts
 abbrev pub countedOf : Counted → Answer (Tallies × Half)
 countedOf (Counted.Symbols t half) = give (t, half)
 countedOf (Counted.Refused r) = refuse r
 
+-- its tallies are small
 abbrev pub SmallIn : Counted → Type 0
 SmallIn (Counted.Symbols t half) = Small t
 SmallIn (Counted.Refused r) = Unit {0}
 
+-- it is the definition's
 pub record Counts (at : ℕ) (bs : List ℕ) (r : Counted) : Type 0 where
   pub same : countedOf r ≡ counts at bs
   pub small : SmallIn r

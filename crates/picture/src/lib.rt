@@ -141,7 +141,8 @@ pub struct Tallies {
     pub hidden: usize,
 }
 
-// The tallies of one symbol that stands n times.
+// The tallies of one symbol that stands n times. Neighbours, as `/` and `0`, have arms of their own here and in `is_symbol`:
+// in one arm they would be a range, of which its proof has two cases.
 fn run(b: u8, n: usize) -> Tallies
     ensures { λ r. ⌜ r ≡ runOf b n ⌝ }
 {
@@ -276,7 +277,7 @@ pub enum Half {
     Wrong,
 }
 
-// Whether a byte is a symbol by itself. No two keys of an arm are neighbours: such a pair would be a range, and the arm two.
+// Whether a byte is a symbol by itself.
 fn is_symbol(b: u8) -> bool
     ensures { λ r. ⌜ r ≡ symbol b ⌝ }
 {

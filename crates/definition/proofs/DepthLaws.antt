@@ -1,15 +1,14 @@
 -- The open levels give the nesting of the forest: one step of closing levels and of the depths; open levels stay few; and the depth that a statement
 -- gets from the open levels is how deep it stands in the forest.
 -- Assumes nothing.
-use Prim.Native.Nat.{ℕ, zero, suc, _+_, _≤_, _<_}
+use Prim.Native.Nat.{ℕ, suc, _+_, _≤_, _<_}
 use mathlib.Core.Path.{_≡_, refl, sym, ap, _∙_}
 use mathlib.Core.List.{List, [], _∷_, _++_, append-assoc}
 use native.Mathlib.Omega.{arith}
-use lib.Dec.{ltb}
 use lib.ListN.{length}
 use borrow.Author.Tests.{lt-ltb, le-ltb}
 use Rattle.definition.specs.declared.Statement.{Statement}
-use Rattle.definition.specs.Tree.{Forest, leaf, item, above, notAbove, forest, stillOpen, depths, nesting}
+use Rattle.definition.specs.Tree.{Forest, item, above, notAbove, forest, stillOpen, depths, nesting}
 use Rattle.definition.proofs.Lists.{tested}
 
 -- ---------------------------------------------------------------- one step

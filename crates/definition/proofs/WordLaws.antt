@@ -14,7 +14,7 @@ use Rattle.definition.specs.declared.Mode.the-variants.{Dropped}
 use Rattle.definition.specs.declared.Token.{Token}
 use Rattle.definition.specs.declared.Token.the-variants.{Word, Stop}
 use Rattle.definition.specs.Basic.{if_then_else_, is, white, same}
-use Rattle.definition.specs.Words.{cutHere, ends, byteKind, next, completed, completedEnd, tokens, onFirst, sentences}
+use Rattle.definition.specs.Words.{cutHere, ends, byteKind, next, completed, completedEnd, tokens, firstWords, afterStop, onFirst, sentences}
 use Rattle.definition.proofs.Lists.{drop-next}
 
 -- ---------------------------------------------------------------- two words
@@ -117,18 +117,6 @@ module _ (t : List ℕ) (m : Mode) (i : ℕ) where
   tokens-end h = rw (drop-of-length-le t h)
 
 -- ---------------------------------------------------------------- statements
-
--- the words of the first statement
-abbrev pub firstWords : List Token → List Span
-firstWords [] = []
-firstWords (Stop ∷ ts) = []
-firstWords (Word w ∷ ts) = w ∷ firstWords ts
-
--- the tokens after the first statement
-abbrev pub afterStop : List Token → List Token
-afterStop [] = []
-afterStop (Stop ∷ ts) = ts
-afterStop (Word w ∷ ts) = afterStop ts
 
 -- the statements are the first one and those after it
 pub sentences-next : (ts : List Token) (t : Token) → sentences (t ∷ ts) ≡ firstWords (t ∷ ts) ∷ sentences (afterStop (t ∷ ts))

@@ -90,3 +90,14 @@ sentences (Word w ∷ ts) = onFirst w (sentences ts)
 
 unfoldable pub statementWords : List ℕ → List (List Span)
 statementWords text = sentences (tokens Fresh 0 (view text))
+
+-- the words of the first statement, and the tokens after it: a reader goes statement by statement (`WordLaws`, of the proofs, says how)
+abbrev pub firstWords : List Token → List Span
+firstWords [] = []
+firstWords (Stop ∷ ts) = []
+firstWords (Word w ∷ ts) = w ∷ firstWords ts
+
+abbrev pub afterStop : List Token → List Token
+afterStop [] = []
+afterStop (Stop ∷ ts) = ts
+afterStop (Word w ∷ ts) = afterStop ts

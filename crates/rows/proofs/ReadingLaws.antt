@@ -1,7 +1,7 @@
 -- Laws of the reading into rows: one kept statement more; and what a caller has of an answer.
 -- Assumes nothing.
-use Prim.Native.Nat.{ℕ, suc, _+_, _*_, _≤_, _<_}
-use mathlib.Core.Path.{_≡_, refl, sym, ap, _∙_}
+use Prim.Native.Nat.{ℕ, suc, _+_, _*_, _≤_}
+use mathlib.Core.Path.{_≡_, refl, ap, _∙_}
 use mathlib.Core.List.{List, [], _∷_}
 use native.Mathlib.Numerals.{add-one}
 use native.Mathlib.Omega.{arith}
@@ -15,7 +15,7 @@ use Rattle.definition.specs.Words.{statementWords}
 use Rattle.definition.proofs.DepthLaws.{length-depths, depths-nesting}
 use Rattle.rows.specs.declared.RowsRead.{RowsRead}
 use Rattle.rows.specs.Table.{Storable, Storables, putRow, putRows, statementsFrom, depthsFrom}
-use Rattle.rows.specs.Reading.{stopped, ready, outcome, outcomeOf, Held, RowsAre}
+use Rattle.rows.specs.Reading.{stopped, ready, outcome, Held, RowsAre}
 use Rattle.rows.proofs.TableLaws.{length-putRows, statements-put, depths-put}
 
 -- ---------------------------------------------------------------- one kept statement more

@@ -2,7 +2,7 @@
 -- row leaves alone; lengths are kept.
 -- Assumes nothing.
 use Prim.Native.Nat.{ℕ, zero, suc, _+_, _*_, _/_, _%_, _≤_, _<_}
-use mathlib.Core.Path.{_≡_, refl, sym, ap, ap₂, _∙_}
+use mathlib.Core.Path.{_≡_, refl, ap, ap₂, _∙_}
 use mathlib.Core.Bool.{Bool, true, false}
 use mathlib.Core.List.{List, [], _∷_}
 use mathlib.Core.Logic.{⊎-elim}
@@ -16,14 +16,13 @@ use Rattle.definition.specs.declared.Usage.{Usage}
 use Rattle.definition.specs.declared.UsageClause.{UsageClause}
 use Rattle.definition.specs.declared.SignWords.{SignWords}
 use Rattle.definition.specs.declared.Occurs.{Occurs}
-use Rattle.definition.specs.declared.Clauses.{Clauses}
 use Rattle.definition.specs.declared.Statement.{Statement}
 use Rattle.definition.specs.Basic.{span}
 use Rattle.definition.specs.Listing.{flag}
 use Rattle.definition.specs.Statement.{clausesOf}
 use Rattle.definition.proofs.Lists.{order}
 use Rattle.rows.specs.Table.{spanCode, spanAt, usageCode, usageAt, signCode, signAt, markOf, countOf, occursAt}
-use Rattle.rows.specs.Table.{Short, Brief, Storable, Storables, cells, putRow, putRows, cell, depthAt, clausesAt, statementAt, statementsFrom, depthsFrom}
+use Rattle.rows.specs.Table.{Short, Storable, Storables, cells, putRow, putRows, cell, depthAt, clausesAt, statementAt, statementsFrom, depthsFrom}
 
 -- ---------------------------------------------------------------- the parts, read back
 
@@ -148,6 +147,19 @@ module _ (w : List ℕ) (a depth : ℕ) (s : Statement) where
   -- and the other rows are as before
   pub statement-other : (k : ℕ) → (k ≡ a → ⊥) → statementAt (putRow w a depth s) k ≡ statementAt w k
   statement-other k n = statement-same (putRow w a depth s) k w (λ c l. cell-other w a depth s k n c (omega arith))
+
+-- a number stored in a column that no statement takes leaves the statements alone
+module _ (w : List ℕ) (a c v : ℕ) (low : 13 ≤ c) (high : c < 20) where
+  cell-set : (k d : ℕ) → d < 13 → cell (set w (20 * a + c) v) k d ≡ cell w k d
+  cell-set k d h = getD-set-other w (20 * a + c) (20 * k + d) v 0 (λ e. omega arith)
+
+  pub statement-set : (k : ℕ) → statementAt (set w (20 * a + c) v) k ≡ statementAt w k
+  statement-set k = statement-same (set w (20 * a + c) v) k w (cell-set k)
+
+  pub statements-set : (k n : ℕ) → statementsFrom (set w (20 * a + c) v) k n ≡ statementsFrom w k n
+  unfolding statementsFrom
+  statements-set k zero = refl
+  statements-set k (suc n) = ap₂ (λ (x : Statement) (xs : List Statement). x ∷ xs) (statement-set k) (statements-set (suc k) n)
 
 -- ---------------------------------------------------------------- a run of rows
 

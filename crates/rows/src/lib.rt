@@ -62,7 +62,7 @@ fn span_code(w: Span) -> u32
 }
 
 // The span that a number holds.
-fn span_at(n: u32) -> Span
+pub fn span_at(n: u32) -> Span
     ensures { λ r. ⌜ r ≡ spanAt n ⌝ }
 {
     Span {
@@ -154,7 +154,7 @@ fn sign_at(n: u32) -> SignWords
 }
 
 // 1 for true, 0 for false.
-fn flag_of(b: bool) -> u32
+pub fn flag_of(b: bool) -> u32
     ensures { λ r. ⌜ r ≡ flag b ⌝ }
 {
     if b {
@@ -191,13 +191,6 @@ fn occurs_at(mark: u32, low: u32, high: u32) -> Occurs
         return Occurs::Once;
     }
     Occurs::Times(high as u64 * 4294967296 + low as u64)
-}
-
-// A level as a number of 32 bits.
-fn level_code(level: u8) -> u32
-    ensures { λ r. ⌜ r ≡ level ⌝ }
-{
-    level as u32
 }
 
 // Four numbers stored from a place on.
@@ -253,7 +246,7 @@ pub fn put_row(work: &mut [u32], k: usize, depth: u32, s: Statement)
     put_four(
         work,
         base,
-        level_code(s.level),
+        s.level as u32,
         depth,
         s.at as u32,
         span_code(name),
@@ -283,7 +276,7 @@ pub fn statement_at(work: &[u32], k: usize) -> Statement
     ensures { λ r. ⌜ r ≡ statementAt (now (work .entry)) k ⌝ }
 {
     Statement {
-        level: (work[20 * k + 0] % 256) as u8,
+        level: (work[20 * k] % 256) as u8,
         at: work[20 * k + 2] as usize,
         name: span_at(work[20 * k + 3]),
         clauses: clauses_at(work, k),
@@ -307,7 +300,7 @@ fn none_open() -> OpenLevels
 }
 
 // Closes the levels that are not smaller than a statement's.
-pub fn close(o: OpenLevels, level: u8) -> OpenLevels
+fn close(o: OpenLevels, level: u8) -> OpenLevels
     requires { ⌜ Nested o ⌝ }
     ensures { λ r. ⌜ Closed o level r ⌝ }
 {
@@ -329,7 +322,7 @@ pub fn close(o: OpenLevels, level: u8) -> OpenLevels
 }
 
 // Opens a statement's level, after the others were closed.
-pub fn open(o: OpenLevels, level: u8) -> OpenLevels
+fn open(o: OpenLevels, level: u8) -> OpenLevels
     requires { ⌜ (o .count ≤ level) × Rising (stackOf o) ⌝ }
     ensures { λ r. ⌜ Opened o level r ⌝ }
 {

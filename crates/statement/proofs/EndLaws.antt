@@ -6,7 +6,8 @@ use mathlib.Core.List.{List}
 use native.Mathlib.Omega.{arith}
 use lib.ListN.{length}
 use Rattle.definition.specs.declared.Mode.the-variants.{Between}
-use Rattle.definition.proofs.WordLaws.{afterStop, tokens-end}
+use Rattle.definition.proofs.WordLaws.{tokens-end}
+use Rattle.definition.specs.Words.{afterStop}
 use Rattle.text.specs.declared.Next.{Next}
 use Rattle.text.specs.Tokens.{tokensFrom, First}
 use Rattle.text.proofs.TokenLaws.{end-first, word-first, stop-first}

@@ -14,8 +14,7 @@ use Rattle.definition.specs.declared.Statement.{Statement}
 use Rattle.definition.specs.declared.Token.{Token}
 use Rattle.definition.specs.Basic.{Answer, refuse, give}
 use Rattle.definition.specs.Statement.{noClauses, clauses, named, statement}
-use Rattle.definition.specs.Words.{sentences}
-use Rattle.definition.proofs.WordLaws.{firstWords, afterStop}
+use Rattle.definition.specs.Words.{sentences, firstWords, afterStop}
 use Rattle.text.specs.Tokens.{tokensFrom}
 use Rattle.statement.specs.declared.Finished.{Finished}
 use Rattle.statement.specs.declared.ClausesRead.{ClausesRead}

@@ -1,5 +1,7 @@
 //! The original Rust as an oracle. Each line of standard input is a request, each line of standard output its answer:
-//! decimal numbers with a blank between them.
+//! decimal numbers with a blank between them. To build it, where FOLDER holds the Rust files:
+//!
+//!     ORACLE_SRC=FOLDER CARGO_TARGET_DIR=target/oracle cargo build --release --offline --manifest-path tools/oracle/Cargo.toml
 //!
 //! Requests; HEX is the text, two digits a byte:
 //! - `C HEX`: a copybook, read by `copybook::parse`.

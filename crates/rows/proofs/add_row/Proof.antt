@@ -15,6 +15,7 @@ use Rattle.rows.proofs.add_row.Statement.{statement}
 use Rattle.rows.proofs.add_row.Tie as tie
 
 module _ (w : List ℕ) (n : ℕ) {o u r : OpenLevels} {s : Statement} {w′ : List ℕ} where
+  -- what the three calls say together
   added : Closed o (s .level) u → w′ ≡ putRow w n (u .count) s → Opened u (s .level) r → Placed s → Added w n o s w′ r
   added closed row opened placed =
       record {
@@ -24,25 +25,10 @@ module _ (w : List ℕ) (n : ℕ) {o u r : OpenLevels} {s : Statement} {w′ : L
         storable = record { level = closed .byte; placed = placed };
       }
 
-close-requires : tie.Need-close-requires
-close-requires c κs = search needs
-
-cast-put-row : tie.Need-cast-put-row
-cast-put-row c = search needs
-
-put-row-requires : tie.Need-put-row-requires
-put-row-requires c κs = search needs
-
-open-requires : tie.Need-open-requires
-open-requires c κs = search needs
-
-same-length : tie.Need-same-length
-same-length c = search needs
-
 returns : tie.Need-returns
 returns c = search added
 
 pub add-row-spec : {M : Type 1} → statement M
 add-row-spec =
     tie.close
-    (tie.spec close-requires cast-put-row put-row-requires open-requires same-length returns)
+    (tie.spec (λ c κs. search needs) (λ c. search needs) (λ c κs. search needs) (λ c κs. search needs) (λ c. search needs) returns)

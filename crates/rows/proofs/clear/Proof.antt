@@ -17,10 +17,12 @@ record Left (w₀ w : List ℕ) (i : ℕ) : Type 0 where
   long : length w ≡ length w₀
   filled : w ≡ replicate i 0 ++ drop i w₀
 
+-- before the first store
 start : (w₀ : List ℕ) → Left w₀ w₀ 0
 start w₀ = record { within = omega arith; long = refl; filled = fill-none w₀ 0 }
 
 module _ {w₀ w : List ℕ} {i : ℕ} (inv : Left w₀ w i) where
+  -- one store
   next : i < length w → Left w₀ (set w i 0) (i + 1)
   next h =
       record {
@@ -29,6 +31,7 @@ module _ {w₀ w : List ℕ} {i : ℕ} (inv : Left w₀ w i) where
         filled = ap (λ (x : List ℕ). set x i 0) (inv .filled) ∙ fill-more i 0 w₀ (omega arith);
       }
 
+  -- all were stored
   done : length w ≤ i → w ≡ replicate (length w₀) 0
   done h = let e : i ≡ length w₀ = omega arith in inv .filled ∙ rw (e, drop-length, append-nil)
 

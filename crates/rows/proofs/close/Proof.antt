@@ -21,10 +21,12 @@ record Left (level : ℕ) (levels : List ℕ) (n₀ n : ℕ) : Type 0 where
   within : n ≤ n₀
   rest : stillOpen level (topDown levels n₀) ≡ stillOpen level (topDown levels n)
 
+-- all are left
 start : {level : ℕ} {levels : List ℕ} {n : ℕ} → level < 256 → n ≤ 256 → Rising (topDown levels n) → Left level levels n n
 start b f r = record { byte = b; few = f; rising = r; within = omega arith; rest = refl }
 
 module _ {level : ℕ} {levels : List ℕ} {n₀ n : ℕ} (inv : Left level levels n₀ n) where
+  -- the innermost is closed
   next : 0 < n → level ≤ getD levels (n - 1) 0 → Left level levels n₀ (n - 1)
   next h l =
       record {
@@ -46,9 +48,11 @@ module _ {level : ℕ} {levels : List ℕ} {n₀ n : ℕ} (inv : Left level leve
         rising = rw same (open-rising level (topDown levels n₀) (inv .rising));
       }
 
+  -- the innermost stays open
   found : 0 < n → getD levels (n - 1) 0 < level → Closed (record { levels = levels; count = n₀ }) level (record { levels = levels; count = n })
   found h l = all-stay (rw (down-next levels n h) (sym (open-smaller level (getD levels (n - 1) 0) (topDown levels (n - 1)) l)))
 
+  -- none is left
   none-left : n ≤ 0 → Closed (record { levels = levels; count = n₀ }) level (record { levels = levels; count = n })
   none-left h = all-stay (let e : n ≡ 0 = omega arith in rw (e, down-none) (sym (open-none level)))
 
@@ -61,20 +65,8 @@ abbrev μ-loop : tie.MeasureT-loop
 loop-holds : tie.Need-loop-holds Inv-loop μ-loop
 loop-holds c = search start
 
-sub-if1 : tie.Need-sub-if1 Inv-loop μ-loop
-sub-if1 c = search needs
-
-array-read-if1 : tie.Need-array-read-if1 Inv-loop μ-loop
-array-read-if1 c = search needs
-
 returns : tie.Need-returns Inv-loop μ-loop
 returns c = found (c .before .before .loop .inv) (omega arith) (omega arith)
-
-sub-n : tie.Need-sub-n Inv-loop μ-loop
-sub-n c = search needs
-
-loop-less : tie.Need-loop-less Inv-loop μ-loop
-loop-less c = search needs
 
 loop-again : tie.Need-loop-again Inv-loop μ-loop
 loop-again c = search next
@@ -89,10 +81,10 @@ close-spec =
     Inv-loop
     μ-loop
     loop-holds
-    sub-if1
-    array-read-if1
+    (λ c. search needs)
+    (λ c. search needs)
     returns
-    sub-n
-    loop-less
+    (λ c. search needs)
+    (λ c. search needs)
     loop-again
     returns-2)

@@ -2,7 +2,7 @@
 -- Assumes nothing.
 use borrow.Author.Needs.{needs}
 use Prim.Native.Nat.{ℕ, _≤_, _<_}
-use mathlib.Core.Path.{_≡_, refl}
+use mathlib.Core.Path.{_≡_}
 use mathlib.Core.List.{List}
 use borrow.Author.Tests.{lt-ltb, le-ltb}
 use Rattle.definition.specs.declared.Check.{Check}
@@ -14,14 +14,17 @@ use Rattle.rows.proofs.entry_checks.Statement.{statement}
 use Rattle.rows.proofs.entry_checks.Tie as tie
 
 module _ (t : List ℕ) (work : ℕ) {a : Check} (p : checkOf a ≡ textChecks t) where
+  -- the text is refused
   bad : {r : Refusal} → a ≡ Refused r → refuse r ≡ entryChecks t work
   unfolding entryChecks _>>=_
   bad e = rw (← p, e)
 
+  -- work memory is too small
   short : a ≡ Passed → work < 16384 → refused 3 0 ≡ entryChecks t work
   unfolding entryChecks _>>=_
   short e h = rw (← p, e, lt-ltb work 16384 h)
 
+  -- neither
   passed : a ≡ Passed → 16384 ≤ work → give tt ≡ entryChecks t work
   unfolding entryChecks _>>=_
   passed e h = rw (← p, e, le-ltb work 16384 h)

@@ -1,9 +1,6 @@
 -- `rows::none_open` meets its contract.
 -- Assumes nothing.
-use borrow.Author.Needs.{needs}
-use Prim.Native.Nat.{ℕ, _≤_}
-use mathlib.Core.Path.{_≡_, refl}
-use mathlib.Core.List.{List, []}
+use mathlib.Core.Path.{refl}
 use native.Mathlib.Omega.{arith}
 use Rattle.rows.specs.Levels.{topDown}
 use Rattle.rows.proofs.none_open.Statement.{statement}

@@ -2,7 +2,7 @@
 -- Assumes nothing.
 use borrow.Author.Needs.{needs}
 use Prim.Native.Nat.{ℕ, _+_, _*_}
-use mathlib.Core.Path.{_≡_, refl}
+use mathlib.Core.Path.{_≡_}
 use borrow.Author.Tests.{ne-eqb}
 use Rattle.definition.specs.declared.Occurs.{Occurs}
 use Rattle.rows.specs.Table.{occursAt}
@@ -10,6 +10,7 @@ use Rattle.rows.proofs.occurs_at.Statement.{statement}
 use Rattle.rows.proofs.occurs_at.Tie as tie
 
 module _ (mark low high : ℕ) where
+  -- the mark is 0, or not
   once : mark ≡ 0 → Occurs.Once ≡ occursAt mark low high
   once e = rw e
 

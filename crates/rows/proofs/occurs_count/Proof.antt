@@ -9,6 +9,7 @@ use Rattle.rows.specs.Table.{countOf}
 use Rattle.rows.proofs.occurs_count.Statement.{statement}
 use Rattle.rows.proofs.occurs_count.Tie as tie
 
+-- without OCCURS, and with it
 once : {o : Occurs} → o ≡ Occurs.Once → (0 ≡ countOf o) × (countOf o < 18446744073709551616)
 once e = rw e (refl, omega arith)
 

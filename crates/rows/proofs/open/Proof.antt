@@ -2,7 +2,7 @@
 -- Assumes nothing.
 use borrow.Author.Needs.{needs}
 use Prim.Native.Nat.{ℕ, _+_, _≤_, _<_}
-use mathlib.Core.Path.{_≡_, refl}
+use mathlib.Core.Path.{_≡_}
 use native.Mathlib.Omega.{arith}
 use lib.ListN.{length, set}
 use Rattle.definition.proofs.DepthLaws.{Rising}
@@ -13,6 +13,7 @@ use Rattle.rows.proofs.open.Statement.{statement}
 use Rattle.rows.proofs.open.Tie as tie
 
 module _ (o : OpenLevels) (level : ℕ) where
+  -- one more level
   opened :
       length (o .levels) ≡ 256 →
       level < 256 →

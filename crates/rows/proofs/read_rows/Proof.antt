@@ -2,7 +2,7 @@
 -- lead to what all statements lead to from row 0 on.
 -- Assumes nothing.
 use borrow.Author.Needs.{needs}
-use Prim.Native.Nat.{ℕ, suc, _+_, _*_, _-_, _≤_, _<_}
+use Prim.Native.Nat.{ℕ, _+_, _*_, _-_, _≤_, _<_}
 use mathlib.Core.Path.{_≡_, refl, sym, ap, _∙_}
 use mathlib.Core.Bool.{Bool, true, false}
 use mathlib.Core.List.{List, [], _∷_}
@@ -13,21 +13,20 @@ use lib.ListN.{length}
 use Rattle.definition.specs.declared.Refusal.{Refusal}
 use Rattle.definition.specs.declared.Span.{Span}
 use Rattle.definition.specs.declared.Statement.{Statement}
-use Rattle.definition.specs.declared.Token.{Token}
 use Rattle.definition.specs.Basic.{Answer, refuse, give, _>>=_}
 use Rattle.definition.specs.Statement.{statements}
-use Rattle.definition.specs.Tree.{depths}
 use Rattle.definition.specs.Words.{sentences, statementWords}
 use Rattle.definition.proofs.StatementLaws.{statements-none, statements-refused, statements-skipped, statements-full, statements-kept}
 use Rattle.definition.proofs.WordLaws.{sentences-end}
 use Rattle.text.specs.Tokens.{between, tokensFrom}
 use Rattle.statement.specs.declared.StatementRead.{StatementRead}
 use Rattle.statement.specs.declared.StatementRead.the-variants.{Kept, Skipped, Refused, End}
-use Rattle.statement.specs.Reading.{Inside, FirstKept, FirstSkipped, FirstRefused, FirstStatement}
+use Rattle.statement.specs.Reading.{Inside, FirstKept, FirstSkipped, FirstStatement}
+use Rattle.statement.proofs.ReadLaws.{kept-read, skipped-read, refused-read, end-read}
 use Rattle.rows.specs.declared.OpenLevels.{OpenLevels}
 use Rattle.rows.specs.declared.RowsRead.{RowsRead}
 use Rattle.rows.specs.Levels.{stackOf, Nested}
-use Rattle.rows.specs.Table.{Short, Placed, putRow, putRows}
+use Rattle.rows.specs.Table.{Short, Placed, putRows}
 use Rattle.rows.specs.Reading.{Added, outcome, Held, RowsAre}
 use Rattle.rows.proofs.TableLaws.{length-putRow}
 use Rattle.rows.proofs.ReadingLaws.{outcome-kept, held-kept}
@@ -52,6 +51,7 @@ record Left (t w₀ w : List ℕ) (at : ℕ) (fresh : Bool) (n : ℕ) (o : OpenL
   same : outcome w₀ 0 [] (whole t) ≡ outcome w n (stackOf o) (rest t fresh at n)
   held : Held n (rest t fresh at n) → Held 0 (whole t)
 
+-- before the first statement
 start : {t w : List ℕ} {o : OpenLevels} → length t ≤ 65535 → 16384 ≤ length w → (stackOf o ≡ []) × Nested o → Left t w w 0 true 0 o
 unfolding statementWords
 start {t} {w} {o} s r p =
@@ -66,6 +66,7 @@ start {t} {w} {o} s r p =
       held = λ h. h;
     }
 
+-- a span in a short text is short
 short-inside : (t : List ℕ) (w : Span) → length t ≤ 65535 → Inside t w → Short w
 short-inside t w h i = record { starts = omega arith; runs = omega arith }
 
@@ -79,24 +80,27 @@ module _ {t w₀ w : List ℕ} {at : ℕ} {fresh : Bool} {n : ℕ} {o : OpenLeve
       }
 
   module _ {r : StatementRead} (f : FirstStatement (tokensFrom t (between fresh) at) t (at + 1) r) where
+    -- no statement is left
     done : r ≡ End → RowsAre t w₀ (RowsRead.Rows n) w
     unfolding putRows
     done e =
-        let none : tokensFrom t (between fresh) at ≡ [] = rw e at f in
+        let none = end-read _ t (at + 1) f e in
         let p : rest t fresh at n ≡ give [] = rw (none, sentences-end) (statements-none t n) in
         record {
           is = sym (inv .same ∙ ap (outcome w n (stackOf o)) p ∙ rw add-zero);
           held = inv .held (rw p (tt, omega (arith, inv .few)));
         }
 
+    -- the next statement is refused
     bad : {q : Refusal} → r ≡ Refused q → RowsAre t w₀ (RowsRead.Refused q) w
     bad {q} e =
-        let first : FirstRefused (tokensFrom t (between fresh) at) t q = rw e at f in
+        let first = refused-read _ t (at + 1) f e in
         refused-so q (rw (first .all-are) (statements-refused t n _ _ (first .is)))
 
+    -- the next statement is skipped
     module _ {next : ℕ} (e : r ≡ Skipped next) where
       skipped : FirstSkipped (tokensFrom t (between fresh) at) t (at + 1) next
-      skipped = rw e at f
+      skipped = skipped-read _ t (at + 1) f e
 
       skip : Left t w₀ w next false n o
       skip =
@@ -115,13 +119,15 @@ module _ {t w₀ w : List ℕ} {at : ℕ} {fresh : Bool} {n : ℕ} {o : OpenLeve
       skip-less : length t - next < length t - at
       skip-less = let k = skipped .followed in omega arith
 
+    -- the next statement is kept
     module _ {s : Statement} {next : ℕ} (e : r ≡ Kept s next) where
       kept : FirstKept (tokensFrom t (between fresh) at) t (at + 1) s next
-      kept = rw e at f
+      kept = kept-read _ t (at + 1) f e
 
       kept-less : length t - next < length t - at
       kept-less = let k = kept .followed in omega arith
 
+      -- it can be stored
       placed : Placed s
       placed =
           let g = kept .fits in
@@ -138,9 +144,11 @@ module _ {t w₀ w : List ℕ} {at : ℕ} {fresh : Bool} {n : ℕ} {o : OpenLeve
       addable : n < 800 → (20 * n + 20 ≤ length w) × Nested o × Placed s
       addable l = (omega (arith, inv .room), inv .nested, placed)
 
+      -- 800 were kept before it
       full : 800 ≤ n → RowsAre t w₀ (RowsRead.Refused (record { number = 14; position = s .at; needed = 0 })) w
       full l = refused-so (record { number = 14; position = s .at; needed = 0 }) (rw (kept .followed .all-are) (statements-full t n _ _ (kept .is) l))
 
+      -- it is the next row
       add : n < 800 → {w′ : List ℕ} {o′ : OpenLevels} → Added w n o s w′ o′ → Left t w₀ w′ next false (n + 1) o′
       add l {w′} {o′} d =
           let later = rest t false next (n + 1) in
@@ -164,17 +172,8 @@ Inv-loop text work₀ at₀ fresh₀ n₀ levels₀ work at fresh n levels = Lef
 abbrev μ-loop : tie.MeasureT-loop
 μ-loop text work₀ at₀ fresh₀ n₀ levels₀ work at fresh n levels = length text - at
 
-none-open-requires : tie.Need-none-open-requires Inv-loop μ-loop
-none-open-requires c κs = search needs
-
 loop-holds : tie.Need-loop-holds Inv-loop μ-loop
 loop-holds c = search start
-
-read-statement-requires : tie.Need-read-statement-requires Inv-loop μ-loop
-read-statement-requires c κs = search needs
-
-enum-known-s : tie.Need-enum-known-s Inv-loop μ-loop
-enum-known-s c = search needs
 
 same-length : tie.Need-same-length Inv-loop μ-loop
 same-length c = c .before .before .before .before .before .loop .inv .long
@@ -187,17 +186,11 @@ add-row-requires c κs =
     let read = c .before .before .before .before .before in
     addable (read .before .loop .inv) (read .read-statement .ensures) (c .before .before .before .s .given .1) (omega arith)
 
-add-n : tie.Need-add-n Inv-loop μ-loop
-add-n c = search needs
-
 loop-less : tie.Need-loop-less Inv-loop μ-loop
 loop-less c = search (kept-less (c .before .before .before .before .before .before .before .before .before .loop .inv))
 
 loop-again : tie.Need-loop-again Inv-loop μ-loop
 loop-again c = search (add (c .before .before .before .before .before .before .before .before .before .loop .inv))
-
-enum-known-next : tie.Need-enum-known-next Inv-loop μ-loop
-enum-known-next c = search needs
 
 loop-less-2 : tie.Need-loop-less-2 Inv-loop μ-loop
 loop-less-2 c = search (skip-less (c .before .before .before .before .loop .inv))
@@ -205,17 +198,11 @@ loop-less-2 c = search (skip-less (c .before .before .before .before .loop .inv)
 loop-again-2 : tie.Need-loop-again-2 Inv-loop μ-loop
 loop-again-2 c = search (skip (c .before .before .before .before .loop .inv))
 
-enum-known-r : tie.Need-enum-known-r Inv-loop μ-loop
-enum-known-r c = search needs
-
 same-length-2 : tie.Need-same-length-2 Inv-loop μ-loop
 same-length-2 c = c .before .before .before .before .loop .inv .long
 
 returns-2 : tie.Need-returns-2 Inv-loop μ-loop
 returns-2 c = search (bad (c .before .before .before .before .loop .inv))
-
-enum-told : tie.Need-enum-told Inv-loop μ-loop
-enum-told c = search needs
 
 same-length-3 : tie.Need-same-length-3 Inv-loop μ-loop
 same-length-3 c = c .before .before .before .loop .inv .long
@@ -229,22 +216,22 @@ read-rows-spec =
     (tie.spec
     Inv-loop
     μ-loop
-    none-open-requires
+    (λ c κs. search needs)
     loop-holds
-    read-statement-requires
-    enum-known-s
+    (λ c κs. search needs)
+    (λ c. search needs)
     same-length
     returns
     add-row-requires
-    add-n
+    (λ c. search needs)
     loop-less
     loop-again
-    enum-known-next
+    (λ c. search needs)
     loop-less-2
     loop-again-2
-    enum-known-r
+    (λ c. search needs)
     same-length-2
     returns-2
-    enum-told
+    (λ c. search needs)
     same-length-3
     returns-3)

@@ -1,8 +1,7 @@
 -- `rows::sign_at` meets its contract, test by test.
 -- Assumes nothing.
-use borrow.Author.Needs.{needs}
 use Prim.Native.Nat.{ℕ}
-use mathlib.Core.Path.{_≡_, refl}
+use mathlib.Core.Path.{_≡_}
 use mathlib.Core.Bool.{true, false}
 use borrow.Author.Tests.{ne-eqb}
 use Rattle.definition.specs.declared.SignWords.{SignWords}
@@ -11,6 +10,7 @@ use Rattle.rows.proofs.sign_at.Statement.{statement}
 use Rattle.rows.proofs.sign_at.Tie as tie
 
 module _ (n : ℕ) where
+  -- the numbers of the four, and any other
   trailing : n ≡ 1 → SignWords.Said false false ≡ signAt n
   trailing e = rw e
 

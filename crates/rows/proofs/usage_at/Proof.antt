@@ -1,8 +1,7 @@
 -- `rows::usage_at` meets its contract, test by test.
 -- Assumes nothing.
-use borrow.Author.Needs.{needs}
 use Prim.Native.Nat.{ℕ}
-use mathlib.Core.Path.{_≡_, refl}
+use mathlib.Core.Path.{_≡_}
 use borrow.Author.Tests.{ne-eqb}
 use Rattle.definition.specs.declared.Usage.{Usage}
 use Rattle.definition.specs.declared.UsageClause.{UsageClause}
@@ -11,6 +10,7 @@ use Rattle.rows.proofs.usage_at.Statement.{statement}
 use Rattle.rows.proofs.usage_at.Tie as tie
 
 module _ (n : ℕ) where
+  -- the numbers of the three usages, and any other
   display : n ≡ 1 → UsageClause.Given Usage.Display ≡ usageAt n
   display e = rw e
 

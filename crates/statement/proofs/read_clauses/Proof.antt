@@ -19,7 +19,7 @@ use Rattle.definition.specs.declared.Token.{Token}
 use Rattle.definition.specs.Basic.{uppers, span, part, Answer, refuse, give}
 use Rattle.definition.specs.Statement.{noClauses, step, finish, clauses}
 use Rattle.definition.proofs.StatementLaws.{clauses-none, clauses-go, clauses-fail}
-use Rattle.definition.proofs.WordLaws.{firstWords}
+use Rattle.definition.specs.Words.{firstWords}
 use Rattle.text.specs.declared.Next.{Next}
 use Rattle.text.specs.Tokens.{tokensFrom, FirstWord, First}
 use Rattle.text.proofs.TokenLaws.{end-first, word-first, word-less, stop-first}

@@ -13,9 +13,9 @@ use Rattle.definition.specs.declared.Statement.{Statement}
 use Rattle.definition.specs.declared.Token.{Token}
 use Rattle.definition.specs.declared.Token.the-variants.{Word}
 use Rattle.definition.specs.Basic.{span, part, number}
-use Rattle.definition.specs.Words.{sentences}
+use Rattle.definition.specs.Words.{sentences, firstWords}
 use Rattle.definition.proofs.StatementLaws.{statement-bad, statement-skipped, statement-kept, statement-refused}
-use Rattle.definition.proofs.WordLaws.{firstWords, sentences-next}
+use Rattle.definition.proofs.WordLaws.{sentences-next}
 use Rattle.text.specs.declared.Level.{Level}
 use Rattle.text.specs.Tokens.{tokensFrom}
 use Rattle.text.specs.Words.{levelled}

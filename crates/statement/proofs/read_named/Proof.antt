@@ -15,7 +15,7 @@ use Rattle.definition.specs.declared.Token.{Token}
 use Rattle.definition.specs.Basic.{span, absent}
 use Rattle.definition.specs.Statement.{noClauses, named}
 use Rattle.definition.proofs.StatementLaws.{named-none, named-given, named-refused}
-use Rattle.definition.proofs.WordLaws.{firstWords}
+use Rattle.definition.specs.Words.{firstWords}
 use Rattle.text.specs.declared.Next.{Next}
 use Rattle.text.specs.Tokens.{tokensFrom, FirstWord, First}
 use Rattle.text.proofs.TokenLaws.{end-first, word-first, stop-first}

@@ -1,0 +1,584 @@
+#!/usr/bin/env python3
+"""Copybooks and pictures to compare with, made from a seed: `generate`. As a program it prints them as the oracle's requests.
+
+    tools/inputs.py COUNT SEED
+
+Where each thing that a comparison must cover is made:
+  folds with repeated names, own-name groups in the same and in other case, redefiners of redefiners, DEPENDING ON inside
+    folds, names that differ only in case                                       Maker.folded, FOLDS
+  absent names beside FILLER                                                    Maker.fillers, FOLDS
+  periods and `*>` in every place, comment lines, CR LF, VT, FF, TAB            at_every_place, Maker.marked, Maker.spread
+  bare clauses at a statement's end                                             bare_clauses
+  repeated clauses, SEPARATE in odd places and after VALUE                      REPEATED, Maker.soup
+  level 88, levels 0 255 256 +05 0005                                           LEVELS, levels
+  counts 0, +3, around 2^31 and 2^64; sums around 2^31                          COUNTS, counts, LARGE
+  dropped roots with clauses                                                    ROOTS, Maker.nested
+  two refusals in one copybook                                                  ORDER, Maker.damaged
+  nested groups with SYNC items                                                 Maker.nested; depth 64 and 65: chains
+  damaged copies of good copybooks                                              Maker.damaged
+  801 statements, 65,536 bytes, bytes over 127                                  edges, Maker.marked
+  pictures: every symbol alone, pairs                                           alone, Maker.picture_pair
+    floats, CR and DB split by repeats, zero repeats, counts, stray brackets    PICTURES, Maker.picture_odd
+    white space around and inside the brackets, lower case                      SPACED, Maker.picture_odd
+    every usage and sign                                                        EVERY, Maker.picture
+"""
+
+import collections
+import random
+import re
+import sys
+
+
+class Input(collections.namedtuple("Input", "text usage sign family")):
+    """A copybook (usage None), or a picture with a usage and a sign. The text is bytes."""
+
+    def request(self):
+        word = "C" if self.usage is None else f"P {self.usage} {self.sign}"
+        return f"{word} {self.text.hex()}"
+
+    def __str__(self):
+        text = repr(self.text)[1:]
+        shown = text if len(text) < 2000 else f"{text[:1000]} .. {text[-200:]} ({len(self.text)} bytes)"
+        which = "copybook" if self.usage is None else f"picture, usage {self.usage}, sign {self.sign}"
+        return f"{which} [{self.family}]: {shown}"
+
+
+# ---------------------------------------------------------------- written inputs
+
+SYMBOLS = "XA9PVSZ*.,/B0$+-CDR"
+KEYWORDS = """PIC PICTURE IS REDEFINES OCCURS TO TIMES DEPENDING ON USAGE DISPLAY COMP COMPUTATIONAL COMP-3 COMPUTATIONAL-3
+    PACKED-DECIMAL COMP-4 COMPUTATIONAL-4 COMP-5 COMPUTATIONAL-5 BINARY COMP-1 SIGN LEADING TRAILING SEPARATE CHARACTER
+    SYNC SYNCHRONIZED LEFT RIGHT VALUE VALUES FILLER""".split()
+LEVELS = ["0", "1", "00", "05", "0005", "+05", "+5", "+0", "88", "088", "+88", "49", "66", "77", "254", "255", "0255", "256", "+256", "999",
+          "-1", "-0", "+", "++5", "5A", "A5", "5,", "5.5", "1e1", "0x5", "05" + "0" * 30, "0" * 30 + "5", "99999999999999999999"]
+COUNTS = ["0", "00", "+0", "1", "+3", "003", "2147483646", "2147483647", "2147483648", "4294967295", "4294967296", "9223372036854775807",
+          "9223372036854775808", "18446744073709551614", "18446744073709551615", "18446744073709551616", "+18446744073709551615",
+          "000018446744073709551615", "184467440737095516150", "36893488147419103233", "-1", "-0", "+", "++3", "3A", "A", "3,", "3.5", "TO", "TIMES"]
+SNIPPETS = [".", ". ", " .", "..", ". .", "*", "*>", "**>", "***>", "* >", ".*>", ".**>", ". *>", ">", "\n", "\n*", "\n *", "\n*>", "\n.", "\n .*", "*>\n", "*\n",
+            ".\n", ".\n*", "\r", "\r\n", ".\r\n", "\r\n*", "\r*", ".\r", "\x0b", "\x0c", "\t", "\x0b*", ".\x0b", ".\x0c*", "\n\x0c*", "\x1c", ".\x1f", "\x00", "\x7f", " *> C.\n", "\x80"]
+BARE = ["PIC", "PICTURE", "PIC IS", "REDEFINES", "OCCURS", "OCCURS 3", "OCCURS 3 TO", "OCCURS 3 TO 4", "OCCURS 3 TIMES", "OCCURS 3 DEPENDING", "OCCURS 3 DEPENDING ON",
+        "OCCURS 3 TO 4 TIMES DEPENDING ON", "OCCURS 3 TIMES DEPENDING", "OCCURS TIMES", "OCCURS TO", "OCCURS 3 TO TIMES", "DEPENDING", "DEPENDING ON", "SIGN", "SIGN IS",
+        "SIGN LEADING", "SIGN IS SEPARATE", "USAGE", "USAGE IS", "SYNC", "SYNCHRONIZED", "SYNC LEFT", "VALUE", "VALUES", "IS", "TO", "TIMES", "SEPARATE", "COMP", "BINARY"]
+REPEATED = """
+05 A OCCURS 2 OCCURS 3 PIC X.
+05 A OCCURS 2 TO 4 OCCURS 3 PIC X.
+05 A OCCURS 3 DEPENDING ON N OCCURS 2 PIC X.
+05 A OCCURS 3 DEPENDING ON N OCCURS 2 DEPENDING ON M PIC X.
+05 A OCCURS 3 DEPENDING ON N OCCURS PIC X.
+05 A PIC X PIC 9.
+05 A PIC X(3) PICTURE IS 9(2).
+05 A PIC X PIC.
+05 A PIC X PIC IS.
+05 A PIC IS. 10 B PIC X. 05 C PIC X.
+05 A PIC X PIC. 10 B PIC X. 05 C PIC X.
+05 A PIC IS IS.
+05 A PIC IS IS X.
+05 A PIC PIC X.
+05 A PIC PIC PIC X.
+05 A PICTURE OCCURS 3.
+05 A PIC X. 05 B PIC X. 05 C REDEFINES A REDEFINES B PIC X.
+05 A PIC X. 05 B PIC X. 05 C REDEFINES B REDEFINES A PIC X(4).
+05 A PIC X. 05 C REDEFINES A REDEFINES.
+05 A PIC X. 05 C REDEFINES A PIC X REDEFINES.
+05 A PIC X. 05 C REDEFINES REDEFINES A PIC X.
+05 A PIC 9(4) COMP COMP-3.
+05 A PIC 9(4) COMP-3 COMP.
+05 A PIC 9(4) COMP DISPLAY.
+05 A PIC 9(4) USAGE COMP USAGE DISPLAY.
+05 A USAGE USAGE IS COMP PIC 9.
+05 A USAGE IS IS COMP PIC 9(9).
+05 A PIC S9 SIGN LEADING SIGN TRAILING SEPARATE.
+05 A PIC S9 SIGN LEADING SEPARATE SIGN TRAILING.
+05 A PIC S9 SIGN TRAILING SEPARATE SIGN.
+05 A PIC S9 SIGN SEPARATE SIGN IS.
+05 A PIC S9 SEPARATE SIGN LEADING.
+05 A PIC S9 SIGN LEADING VALUE SEPARATE.
+05 A PIC S9 SIGN VALUE SEPARATE.
+05 A PIC S9 SIGN IS VALUE 1 SEPARATE.
+05 A PIC S9 VALUE 1 SIGN LEADING SEPARATE.
+05 A SIGN LEADING PIC SEPARATE.
+05 A SIGN SEPARATE LEADING PIC S9.
+05 A SIGN IS SEPARATE PIC S9.
+05 A SIGN PIC S9 SEPARATE.
+05 A SIGN LEADING PIC S9 OCCURS 2 SEPARATE CHARACTER.
+05 SEPARATE SIGN LEADING PIC S9.
+05 A SIGN SIGN LEADING SEPARATE PIC S9.
+05 A SIGN IS IS LEADING SEPARATE PIC S9.
+05 A PIC S9 SIGN LEADING REDEFINES SEPARATE.
+05 A PIC X. 05 B SYNC SYNC LEFT RIGHT PIC 9(4) COMP.
+05 A PIC X. 05 B SYNC LEFT LEFT COMP PIC 9(9).
+05 A PIC X. 05 B SYNC PIC 9(9) COMP REDEFINES A.
+05 A VALUE PIC X.
+05 A PIC X VALUE PIC 9.
+05 A PIC X VALUE 3 OCCURS 3.
+05 A PIC X VALUES ARE 3 REDEFINES B.
+""".strip().split("\n")
+FOLDS = """
+05 A PIC X. 05 B REDEFINES A PIC X(3). 05 C REDEFINES A PIC X(2).
+05 A PIC X. 05 B REDEFINES A PIC X(3). 05 C REDEFINES B PIC X(2).
+05 A PIC X. 05 B REDEFINES A PIC X(3). 05 C REDEFINES B PIC X(2). 05 D REDEFINES C PIC X(9).
+05 A PIC X. 05 B REDEFINES A PIC X(3). 05 B PIC X. 05 C REDEFINES B PIC X.
+05 A PIC X. 05 A PIC X(2). 05 B REDEFINES A PIC X(3). 05 A PIC X(4). 05 C REDEFINES A PIC X(5).
+05 A PIC X. 05 A REDEFINES A PIC X(2). 05 A REDEFINES A PIC X(3).
+05 A PIC X. 05 a PIC X(2). 05 B REDEFINES A PIC X(3). 05 C REDEFINES a PIC X.
+05 G. 10 G PIC X. 10 H PIC X. 05 B REDEFINES G PIC X(5). 05 C PIC X.
+05 G. 10 g PIC X. 10 H PIC X. 05 B REDEFINES G PIC X(5). 05 C PIC X.
+05 G OCCURS 2. 10 G PIC X. 05 B REDEFINES G PIC X. 05 C REDEFINES g PIC X(4). 05 D PIC X.
+05 G. 10 H. 15 G PIC X. 05 B REDEFINES G PIC X(5).
+05 Z PIC X. 05 G. 10 G PIC X(3). 10 H REDEFINES G PIC X. 05 B REDEFINES G. 10 B PIC X. 05 C REDEFINES B PIC X.
+05 A PIC X(2). 05 B REDEFINES A OCCURS 3 PIC X. 05 C PIC X.
+05 A OCCURS 4 PIC X(2). 05 B REDEFINES A PIC X. 05 C PIC X.
+05 A OCCURS 0 PIC X(2). 05 B REDEFINES A OCCURS 0 PIC X. 05 C PIC X.
+05 N PIC 9. 05 A OCCURS 3 DEPENDING ON N PIC X. 05 B REDEFINES A PIC X(2). 05 C PIC X.
+05 N PIC 9. 05 A PIC X. 05 B REDEFINES A OCCURS 5 DEPENDING ON N PIC X(2). 05 C PIC X.
+05 N PIC 9. 05 G. 10 G OCCURS 3 DEPENDING ON N PIC X. 05 B REDEFINES G OCCURS 2 TO 5 DEPENDING N PIC X(2). 05 C REDEFINES G PIC X.
+01 R. 05 N PIC 9. 05 G. 10 A PIC X. 10 B REDEFINES A OCCURS 5 DEPENDING ON N PIC X(2). 05 H REDEFINES G PIC X(3).
+05 A PIC X. 05 B PIC X. 05 B REDEFINES A PIC X. 05 C REDEFINES B PIC X.
+05 A PIC X. 05 B PIC X. 05 A REDEFINES B PIC X. 05 C REDEFINES A PIC X. 05 D REDEFINES B PIC X(3).
+05 A PIC X. 05 B REDEFINES A PIC X. 05 A PIC X(2). 05 C REDEFINES B PIC X.
+05. 10 A PIC X. 05 FILLER PIC X(2). 05 B REDEFINES FILLER PIC X(3).
+05 FILLER PIC X(2). 05. 10 A PIC X. 05 B REDEFINES FILLER PIC X(3).
+05. 10 FILLER PIC X. 05 B REDEFINES filler PIC X(3). 05 C REDEFINES FILLER PIC X.
+05. 10 Filler PIC X. 05 B REDEFINES FILLER PIC X(3). 05 C REDEFINES Filler PIC X.
+05 FILLER. 10. 15 A PIC X. 05 B REDEFINES FILLER PIC X(3).
+05. 10. 15 A PIC X. 05 filler REDEFINES FILLER PIC X(3). 05 C REDEFINES FILLER PIC X.
+05 filler. 10. 15 A PIC X. 05 B REDEFINES filler PIC X(3).
+05. 05 A PIC X.
+05 A PIC X. 05 B REDEFINES A PIC 9(4) COMP SYNC. 05 C PIC 9(4) COMP SYNC.
+05 A PIC X. 05 B REDEFINES C PIC X. 05 C PIC X.
+05 A PIC X. 05 B REDEFINES B PIC X.
+""".strip().split("\n")
+ROOTS = """
+01 R.
+01 R PIC X.
+01 R OCCURS 9. 05 A PIC X.
+01 R OCCURS 18446744073709551615. 05 A PIC X.
+01 R REDEFINES Q. 05 A PIC X.
+01 R OCCURS 3 DEPENDING ON N. 05 A PIC X.
+01 R SYNC COMP PIC Q. 05 A PIC X. 05 B PIC 9(4) COMP SYNC.
+01 R PIC X(. 05 A PIC X.
+01 R. 02 S OCCURS 2. 05 A PIC X. 05 B PIC X.
+01 R. 05 A PIC X. 01 Q. 05 B PIC X.
+01 R. 05 A PIC X. 01 Q REDEFINES R. 05 B PIC X(2).
+05 R. 01 Q. 05 B PIC X.
+05 A PIC X. 03 B PIC X. 04 C PIC X.
+10 A PIC X. 05 B. 07 C PIC X. 06 D PIC X. 03 E PIC X.
+01 R. 05 A PIC X. 03 B PIC X. 05 C PIC X.
+01 R. 10 A PIC X. 05 B. 10 C PIC X. 07 D PIC X.
+0 R. 1 A PIC X. 0 B PIC X.
+255 A PIC X. 255 B PIC X.
+254 A. 255 B PIC X.
+01 R. 88 Q VALUE 1. 05 A PIC X. 88 Y.
+88 Q. 01 R. 05 A PIC X.
+88. 088 X. 05 A PIC X.
+01 A PIC X. 88 B VALUE 1.
+""".strip().split("\n")
+ORDER = """
+05 A REDEFINES Q.
+05 A REDEFINES Q PIC X9.
+05 A REDEFINES Q PIC 9(256).
+05 A REDEFINES Q OCCURS 2147483648 PIC X.
+05 A PIC Q. 05 B OCCURS X PIC X.
+05 A OCCURS. 256 B.
+256 B. 05 A OCCURS.
+05 A OCCURS 3 TO. 05 B OCCURS.
+05 A PIC X. 05 B REDEFINES Q PIC X. 05 C.
+05 Z PIC X. 05 G REDEFINES Q. 10 A PIC Q.
+05 Z PIC X. 05 G REDEFINES Q. 10 A.
+05 Z PIC X. 05 G REDEFINES Q OCCURS 2147483648. 10 A REDEFINES B PIC 9(.
+05 Z PIC X. 05 G OCCURS 2147483648. 10 A PIC 9(A).
+05 Z PIC X. 05 G REDEFINES Q. 10 A PIC X. 10 B PIC X. 10 B REDEFINES A PIC X. 10 C REDEFINES B PIC X.
+05 Z PIC X. 05 G. 10 A PIC X. 10 B PIC X. 10 B REDEFINES A PIC X. 10 C REDEFINES B PIC X. 05 D.
+05 D PIC XZ. 05 G. 10 A PIC X. 10 B PIC X. 10 B REDEFINES A PIC X. 10 C REDEFINES B PIC X.
+05 A PIC X. 05 B PIC X. 05 B REDEFINES A PIC X. 05 C REDEFINES B PIC X. 05 D PIC Q.
+""".strip().split("\n")
+LARGE = """
+05 A OCCURS 2147483647 PIC X. 05 B PIC X(0).
+05 A OCCURS 2147483646 PIC X. 05 B PIC X.
+05 A OCCURS 2147483647 PIC X. 05 B PIC X.
+05 A OCCURS 1073741824 PIC X(2).
+05 A OCCURS 1073741823 PIC X(2). 05 B PIC X.
+05 A OCCURS 1073741823 PIC X(2). 05 B PIC XX.
+05 A OCCURS 2147483645 PIC X. 05 B PIC 9(4) COMP SYNC.
+05 A OCCURS 2147483645 PIC X. 05 B OCCURS 0 PIC 9(4) COMP SYNC.
+05 A OCCURS 2147483647 PIC X. 05 B OCCURS 0 PIC 9(4) COMP SYNC.
+05 A OCCURS 2147483641 PIC X. 05 B OCCURS 0 PIC 9(18) COMP SYNC.
+05 A OCCURS 2147483640 PIC X. 05 B OCCURS 0 PIC 9(18) COMP SYNC.
+05 A OCCURS 2147483648 PIC X(0).
+05 A OCCURS 2147483647 DEPENDING ON N PIC X.
+05 A OCCURS 2147483647 DEPENDING ON N PIC XX.
+05 A OCCURS 2147483648 DEPENDING ON N PIC X(0).
+05 Z PIC X. 05 G OCCURS 65536. 10 A OCCURS 32767 PIC X.
+05 Z PIC X. 05 G OCCURS 65536. 10 A OCCURS 32768 PIC X.
+05 Z PIC X. 05 G OCCURS 4294967296. 10 A OCCURS 4294967296 PIC X.
+05 Z PIC X. 05 G OCCURS 0. 10 A OCCURS 2147483647 PIC X.
+05 Z PIC X. 05 G OCCURS 0. 10 A OCCURS 2147483648 PIC X(0). 05 B PIC Q.
+05 B PIC Q. 05 G OCCURS 2147483648 PIC X.
+05 Z PIC X. 05 G REDEFINES Z OCCURS 2147483647 PIC X.
+05 Y PIC X. 05 Z PIC X. 05 G REDEFINES Z OCCURS 2147483646 PIC X.
+05 Y PIC X. 05 Z PIC X. 05 G REDEFINES Z OCCURS 2147483647 PIC X.
+05 Z PIC X. 05 G REDEFINES Z OCCURS 2147483648 PIC X.
+05 A PIC X. 05 B OCCURS 2147483647 DEPENDING ON N PIC X. 05 C REDEFINES B PIC X. 05 D PIC X.
+05 A OCCURS 2147483645 PIC X. 05 B PIC X. 05 C REDEFINES B OCCURS 2 DEPENDING ON N PIC X(2).
+05 A OCCURS 2147483646 PIC X. 05 B PIC X. 05 C REDEFINES B OCCURS 9 DEPENDING ON N PIC X(2).
+""".strip().split("\n")
+GOOD = [
+    "01 FISH. 05 TAG PIC X(5). 05 SIRE PIC 9(4) COMP SYNC. 05 WT OCCURS 3 PIC 9(3)V9.",
+    "05 A PIC ZZ9.99. 05 B PIC S9(4) SIGN TRAILING SEPARATE. 05 C PIC S9(5)V99 COMP-3.",
+    "05 A PIC X(2). 05 B REDEFINES A PIC X(5). 05 C PIC X.",
+    "05 N PIC 9(2). 05 T OCCURS 1 TO 5 TIMES DEPENDING ON N PIC X(3). 05 Z PIC X.",
+    "01 R. 05 G OCCURS 2. 10 A PIC X. 10 B PIC S9(9) BINARY SYNCHRONIZED RIGHT. 05 H REDEFINES G. 10 K PIC $$,$$9.99CR.",
+    "01 R.\n* NOTE\n   05 A PICTURE IS X VALUE 'Y'. *> END.\n   88 YES VALUE 'Y'.\n   05 FILLER PIC 9(3).\n",
+    "01 R.\r\n  05 A USAGE IS COMP-5 PIC 9(9) SYNC.\r\n  05 B PIC X.\r\n",
+]
+PICTURES = """
+9 99 9(4) 9(5) 9(9) 9(10) S9 S9(4) S9(5)V99 SV9 V V9 9V P PP 99P 9P9 P9 PV9 VP S SS VV 9V9V9 9.9.9 9V9.9 9.9V9 ZZ9.99 Z(4)9 Z Z.Z *** ***.** *9 $ $$ $$$9 $$$,$$9.99 $9 $$$.$$
++ ++ +++9 +9 9+ - -- --9 9- +- ++-- $+- $$++-- +++.++ --.-- $.$ +$$9 9CR 9DB CR DB CRCR CRDB C D R CC DD RC BD CX DX XCR XDB C(1)R C(1)R(1) CR(1) CR(2) C(2)R C(0)R CR(0) C(1)9R D(1)B
+D(1)B(1) DB(2) D(2)B DB(0) D(0)B D(0)X C(0)X C(0) CB DR CRB DBB DBR 9(3)C(1)R X(0) 9(0) S(0) V(0) 9V(0)9 9.(0)9 Z(0) Q(0) Q(0)9 X(0)9 9(0)X $(0) +(0)9 X XX X(3) A A(2) XA AX X9 9X XS XV XP SX
+XZ X0 XB X/ X, X. X+ A9 AP AV AS X(3)9 X$ X$$ B 0 / , . 9B9 9/9 9,9 909 B0/, 0(3) /(2) ( ) () (( )) (3) (3)9 ((3) ((3)) )(3) 9( 9) 9() 9(( 9)) 9(3 9(3)) 9((3) 9(3)(2) 9(3)( 9(A) 9(+3) 9(-3) 9(+)
+9(++3) 9(3.0) 9(003) 9(3)V 9(3)V9(2) 9(2)(3)9 9(2)((3) S(2)9 (+1) )(2)9 9(3)) 9(1)(1) ZZ9(0) 9(255) 9(256) 9(257) S9(255) 9(254)V9 9(255)V9 9(254)P P(255) P(256) V9(255) V9(256) Z(255) Z(256) *(256) 0(255)
+0(256) B(255)9 B(254)9 B(253)9V $(255) $(256) $(257) +(256) -(257) 9(255)CR 9(253)CR 9(254)CR 9(254)- +9(254) +9(255) S(256) V(256) S(300)9 X(255) X(256) X(257) A(300) X(65534) X(65535) X(65536) X(65537) 9(65535)
+9(65536) S(65535) S(65535)9 V(65535)S Z(65535) Z(65536) X(65535)X X(65534)X X(65535)X(0) X(65535)( X(65536)( X(65536)9( Q(65535) Q(65536) X(32768)X(32767) X(32768)X(32768) 9(999999) X(999999) X(1000000) X(1000001)
+9(4294967296) 9(4294967299) X(18446744073709551615) X(18446744073709551616) X(+18446744073709551615) X(18446744073709551619) 9(18446744073709551616)Q 9(0018446744073709551616) X(184467440737095516150) Q(18446744073709551615)
+9(18446744073709551615)( x(3) a 9(3)v9 s9 zz9 z(3).99 9cr 9Db 9cR db p9 b9 v9
+""".split()
+EVERY = ["9(4)", "S9(4)", "S9(3)V99", "9V9", "S", "SP", "ZZ9.9", "SZ9", "+9(5)", "9(9)CR", "S9(10)", "X", "XS", "V9(256)", ""]
+SPACED = [" 9", "9 ", " 9(3) ", "\t9\n", "\r\nX\x0b\x0c", "9( 3)", "9(3 )", "9( 3 )", "9(\t3\n)", "9( + 3)", "9( +3 )", "9(3 3)", "9 (3)", "9( )", "9(3) 9", "9 9", "", " ", "\n\t",
+          "9(\x0b3\x0c)", "9(\x1c3)", "\x1c9", "9(3)\x00", "X\u0080", "\u00ff", "9(\u00a03)", " (3)", "( 3)", " )", "9(3 "]
+
+
+# ---------------------------------------------------------------- inputs in every combination
+
+
+def edges():
+    """Texts at the limits of the entry: nothing, 65,535 and 65,536 bytes, 800 and 801 statements."""
+    yield from ("", " ", "\n", ".", ". . .", "*", "*>", "* A.\n", "\r\n\r\n", "05", "05.", "05 A", "A", "+", "\x80", "05 A PIC X.\xff")
+    for n in (65535, 65536):
+        yield "05 A PIC X." + " " * (n - 11)
+    for n in (799, 800, 801):
+        yield "1.\n" * n
+    yield "88.\n" * 300 + "1.\n" * 800 + "88.\n"
+
+
+def chains():
+    """Groups in groups. With no second root the outermost is dropped; the innermost list is at depth n - 2 then, else n - 1."""
+    for n in (5, 65, 66, 67):
+        text = "".join(f"{k} G. " for k in range(1, n)) + f"{n} A PIC X."
+        yield from (text, text + " 1 B PIC X.")
+
+
+def at_every_place():
+    """Each snippet at each place of a short copybook."""
+    text = "05 A PIC X."
+    for snippet in SNIPPETS:
+        for i in range(len(text) + 1):
+            yield text[:i] + snippet + text[i:]
+            if i % 4 == 0:
+                yield text[:i] + snippet + text[i:] + " 05 B PIC 9."
+
+
+def bare_clauses():
+    for clause in BARE:
+        for before in ("05 A", "05 A OCCURS 2 PIC S9(4) COMP", "05 A PIC X. 05 B REDEFINES A PIC 99"):
+            for end in (".", "", " . 05 C PIC X.", ". 10 C PIC X."):
+                yield f"{before} {clause}{end}"
+
+
+def levels():
+    for level in LEVELS:
+        yield f"{level} A PIC X."
+        yield f"01 R. {level} A PIC X. 05 B PIC X."
+        yield f"{level}. 05 B PIC X."
+
+
+def counts():
+    for count in COUNTS:
+        yield f"05 A OCCURS {count} PIC X."
+        yield f"05 A OCCURS {count}. 05 B PIC X."
+        yield f"05 Z PIC X. 05 A OCCURS 1 TO {count} TIMES DEPENDING ON Z PIC X(2). 05 B PIC X."
+        yield f"05 A OCCURS {count} TO 2 PIC X(0)."
+        yield f"01 R OCCURS {count}. 05 A OCCURS 2 PIC X."
+
+
+def alone():
+    """Every byte alone, and every symbol twice and repeated."""
+    for b in range(128):
+        yield chr(b)
+    for s in SYMBOLS:
+        yield from (s + s, s + "(1)", s + "(2)", s + "(0)", "9" + s, s + "9", "X" + s, "S" + s, "9V" + s)
+
+
+# ---------------------------------------------------------------- random inputs
+
+
+class Maker:
+    """Inputs at random."""
+
+    def __init__(self, seed):
+        self.r = random.Random(seed)
+
+    def chance(self, p):
+        return self.r.random() < p
+
+    def one(self, options):
+        return self.r.choice(options)
+
+    # pictures
+
+    def repeat(self):
+        return self.one(["", "", "", "", "(1)", "(2)", "(3)", "(0)", "(%d)" % self.r.randint(0, 12), "(0%d)" % self.r.randint(0, 9), "(+2)"])
+
+    def picture_random(self, symbols=SYMBOLS):
+        return "".join(self.one(symbols) + self.repeat() for _ in range(self.r.randint(1, 7)))
+
+    def picture_pair(self):
+        return self.one(SYMBOLS) + self.repeat() + self.one(SYMBOLS) + self.repeat()
+
+    def picture_number(self):
+        sign = self.one(["", "", "S"])
+        return sign + "9(%d)" % self.r.randint(0, 20) + self.one(["", "", "V9", "V99", "V9(%d)" % self.r.randint(0, 9), "P", "PP", "V"])
+
+    def picture_edited(self):
+        head = self.one(["", "$", "$$$", "+", "+++", "-", "---", "$$,$$", "Z(%d)" % self.r.randint(0, 9), "***", "ZZ,ZZ", "+$$$"])
+        return head + "9" * self.r.randint(0, 3) + self.one(["", ".99", ".9(3)", "V99", ".ZZ", "BB", "/9", "0"]) + self.one(["", "", "+", "-", "CR", "DB", "C(1)R", "D(1)B(1)"])
+
+    def picture_odd(self):
+        """A picture with one thing put in, taken out or changed."""
+        p = self.one([self.picture_random, self.picture_number, self.picture_edited, lambda: self.one(PICTURES), lambda: self.one(SPACED)])()
+        for _ in range(self.r.randint(1, 2)):
+            i = self.r.randint(0, len(p))
+            put = self.one(list("()XQ9.CRDB ") + ["(2)", "(0)", "( 1 )", "(\t2\r)", " ", "(255)", "(256)"])
+            p = self.one([p[:i] + put + p[i:], p[:i] + p[i + 1:], p[:i] + put + p[i + 1:]])
+        return p
+
+    def picture_text(self):
+        make = self.one([self.picture_random, self.picture_pair, self.picture_number, self.picture_edited, self.picture_odd, lambda: self.picture_random("9SVZ$+-.P"),
+                         lambda: self.picture_random("CRDB9")])
+        p = make()
+        return p.lower() if self.chance(0.15) else p
+
+    def usage(self):
+        return self.one([0, 0, 1, 2])
+
+    def sign(self):
+        return self.r.randrange(5)
+
+    def picture(self):
+        return "random", self.picture_text(), self.usage(), self.sign()
+
+    # copybooks
+
+    def cased(self, word):
+        return word if self.chance(0.8) else self.one([word.lower(), word.title(), "".join(self.one([c.lower(), c.upper()]) for c in word)])
+
+    def name(self):
+        return self.one(["A", "B", "C", "a", "b", "D", "N", "n", "GRP", "Grp", "FILLER", "filler", "X-1", "X-1", "AMOUNT", "PIC", "OCCURS", "5", "A.B", "*A", "A*"])
+
+    def word_picture(self):
+        """A picture that is one word, mostly a good one."""
+        roll = self.r.random()
+        if roll < 0.62:
+            p = self.one(["X", "X(3)", "X(5)", "XX", "A(2)", "9", "99", "9(4)", "9(5)", "9(9)", "9(10)", "S9(4)", "S9(9)", "S9(5)V99", "9(3)V9", "SV99", "99P", "ZZ9", "ZZ9.99",
+                          "$$$9", "--9.9", "9(3)CR", "9/9", "S", "X(0)", "9(0)"])
+        elif roll < 0.8:
+            p = self.picture_number()
+        elif roll < 0.9:
+            p = self.picture_edited()
+        elif roll < 0.985:
+            p = self.picture_text()
+        else:
+            p = self.one(["9(255)", "9(256)", "X(256)", "Z(255)", "Z(256)", "X(65535)", "X(65536)", "9(18446744073709551616)"])
+        return "".join(p.split()) or "X"
+
+    def count(self):
+        return self.one(["0", "1", "2", "3", "5", "+3", "02"]) if self.chance(0.97) else self.one(COUNTS)
+
+    def clauses(self, group, names):
+        """The words of a statement's clauses, which fit together more often than not."""
+        parts = []
+        if not group and self.chance(0.97):
+            parts.append([self.one(["PIC", "PIC", "PICTURE"])] + (["IS"] if self.chance(0.2) else []) + [self.word_picture()])
+        if self.chance(0.3):
+            usage = self.one(["COMP", "COMP", "COMP", "BINARY", "COMP-4", "COMPUTATIONAL-5", "COMP-3", "PACKED-DECIMAL", "DISPLAY", "COMP-1"])
+            parts.append(self.one([[], ["USAGE"], ["USAGE", "IS"]]) + [usage])
+        if self.chance(0.3):
+            parts.append([self.one(["SYNC", "SYNCHRONIZED"])] + self.one([[], [], ["LEFT"], ["RIGHT"]]))
+        if self.chance(0.2):
+            part = ["OCCURS", self.count()] + (["TO", self.count()] if self.chance(0.3) else []) + (["TIMES"] if self.chance(0.4) else [])
+            parts.append(part + (["DEPENDING"] + self.one([["ON"], ["ON"], []]) + [self.name()] if self.chance(0.3) else []))
+        if names and self.chance(0.2):
+            parts.append(["REDEFINES", self.one(names) if self.chance(0.9) else self.name()])
+        if self.chance(0.15):
+            parts.append(["SIGN"] + self.one([[], ["IS"]]) + self.one([["LEADING"], ["TRAILING"], []]) + self.one([[], ["SEPARATE"], ["SEPARATE", "CHARACTER"]]))
+        if self.chance(0.05):
+            parts.append(self.one([["JUSTIFIED"], ["BLANK", "WHEN", "ZERO"], ["VALUE", "ZERO"], ["VALUE", "'A.", "B'"]]))
+        if self.chance(0.3):
+            self.r.shuffle(parts)
+        return [w for p in parts for w in p]
+
+    def siblings(self, level, depth, left):
+        """The statements of a sibling list, each a list of words; `left` holds how many may still be made."""
+        out, names = [], []
+        level += self.r.randint(1, 5)
+        for _ in range(self.r.randint(1, 4)):
+            left[0] -= 1
+            group = depth > 0 and left[0] > 0 and self.chance(0.4)
+            name = self.name() if self.chance(0.98) else None
+            number = f"{level:02}" if self.chance(0.97) else self.one([str(level), f"+{level}", f"{level:04}", "88", str(max(0, level - 1))])
+            out.append([number] + ([name] + self.clauses(group, names) if name else []))
+            names.append(name or "FILLER")
+            if group:
+                out += self.siblings(level, depth - 1, left)
+            if left[0] <= 0:
+                break
+        return out
+
+    def statements(self, most):
+        root = [["01", "R"] + (self.clauses(True, []) if self.chance(0.2) else [])] if self.chance(0.5) else []
+        depth = self.one([0, 1, 2, 3, 5])
+        return root + self.siblings(1 if root else 0, depth, [self.r.randint(1, most)])
+
+    def joined(self, statements):
+        return " ".join(" ".join(s) + "." for s in statements)
+
+    def nested(self):
+        return "nested", self.joined(self.statements(8))
+
+    def long(self):
+        return "long", self.joined(self.statements(24))[:900]
+
+    def spread(self):
+        """The same over lines, with every kind of white space, comments, and keywords in any case."""
+        text = ""
+        for s in self.statements(6):
+            words = [self.cased(w) if w in KEYWORDS else w for w in s]
+            for w in words:
+                text += w + self.one([" ", " ", " ", "  ", "\n", "\r\n", "\t", "\x0b", "\x0c", "\n   ", " \r ", " *> X. Y\n", "\n* Z.\n", "\n \t* Z.\r\n"])
+            text = text.rstrip() if self.chance(0.8) else text
+            text += self.one([". ", ".\n", ".\n", ".\r\n", ".\t", ".*> C\n", ". *> C. D\n", " .\n", "\n.\n", ".\n\n* C\n", ".\x0c", "."])
+        return "spread", text
+
+    def soup(self):
+        """Any words after a level."""
+        def word():
+            roll = self.r.random()
+            if roll < 0.7:
+                return self.cased(self.one(KEYWORDS))
+            if roll < 0.82:
+                return self.one(["0", "1", "2", "3", "+3", "05"])
+            return self.one(["X", "S9", "9(4)", "Z9", "S9V9", "A", "B", "N"])
+
+        out = []
+        for k in range(self.r.randint(1, 3)):
+            words = [word() for _ in range(self.r.randint(1, 9))]
+            if self.chance(0.7):
+                words.insert(self.r.randint(0, len(words)), "PIC " + self.one(["X", "S9", "9(4)", "S9(9)"]))
+            out.append(["05", self.one("ABC")] + words)
+        return "soup", self.joined(out)
+
+    def folded(self):
+        """Sibling lists of few names, of which most redefine one another."""
+        pool = self.one([["A", "B"], ["A", "a", "B"], ["A", "B", "C"], ["G", "g", "A"], ["A", "B", "C", "D"]])
+
+        def item():
+            return self.one(["PIC X", "PIC X(2)", "PIC X(%d)" % self.r.randint(0, 9), "PIC 9(4) COMP SYNC", "PIC 9(9) COMP", "PIC 9(10) COMP SYNC", "PIC ZZ9.9", "PIC S9(3) COMP-3"])
+
+        def occurs():
+            return "" if self.chance(0.75) else self.one([" OCCURS %d" % self.r.randint(0, 3), " OCCURS 2 TIMES", " OCCURS 1 TO 3 DEPENDING ON N", " OCCURS 4 DEPENDING %s" % self.one(pool)])
+
+        def rows(level, depth, most):
+            out, seen = [], []
+            for _ in range(self.r.randint(2, most)):
+                name = self.one(pool)
+                target = (" REDEFINES " + self.cased(self.one(seen) if self.chance(0.93) else self.one(pool))) if seen and self.chance(0.55) else ""
+                if depth > 0 and self.chance(0.35):
+                    out.append(f"{level:02} {name}{target}{occurs()}.")
+                    inner = rows(level + 5, depth - 1, 3)
+                    if self.chance(0.5):
+                        inner[0] = f"{level + 5:02} {self.one([name, name, name.swapcase()])} {item()}."
+                    out += inner
+                else:
+                    out.append(f"{level:02} {name}{target} {item()}{occurs()}.")
+                seen.append(name)
+            return out
+
+        root = self.chance(0.3)
+        return "folded", " ".join((["01 R."] if root else []) + rows(5, self.one([0, 1, 1, 2]), 6))
+
+    def fillers(self):
+        """Statements with only a level beside FILLER in any case."""
+        out = []
+        for _ in range(self.r.randint(2, 5)):
+            name = self.one(["FILLER", "filler", "Filler", "A", "", ""])
+            target = self.one(["", "", " REDEFINES FILLER", " REDEFINES filler", " REDEFINES A"]) if out and name else ""
+            if not name or self.chance(0.3):
+                out.append(f"05 {name}{target}.".replace(" .", "."))
+                for _ in range(self.r.randint(1, 2)):
+                    out.append(f"10 {self.one(['FILLER', 'filler', 'A', 'B'])} PIC {self.one(['X', 'X(3)'])}.")
+            else:
+                out.append(f"05 {name}{target} PIC {self.one(['X', 'X(2)', '9(4) COMP SYNC'])}.")
+        return "fillers", " ".join(out)
+
+    def marked(self):
+        """Snippets put into a copybook."""
+        text = self.one(GOOD) if self.chance(0.5) else self.joined(self.statements(4))
+        for _ in range(self.r.randint(1, 3)):
+            i = self.r.randint(0, len(text))
+            text = text[:i] + self.one(SNIPPETS) + text[i:]
+        return "marked", text
+
+    def damaged(self):
+        """A good copybook with bytes deleted, doubled, swapped or replaced. No repeat count grows so that the oracle could not be asked."""
+        good = self.one(GOOD + FOLDS) if self.chance(0.5) else self.joined(self.statements(5))
+        while True:
+            text = good
+            for _ in range(self.r.randint(1, 3)):
+                i = self.r.randrange(len(text))
+                text = self.one([
+                    text[:i] + text[i + 1:],
+                    text[:i] + text[i] + text[i:],
+                    text[:i] + text[i + 1:i + 2] + text[i] + text[i + 2:],
+                    text[:i] + chr(self.r.choice([self.r.randrange(128), ord(self.one(good))])) + text[i + 1:],
+                ])
+            if not re.search(r"\(\s*\+?0*[1-9]\d{6,}", text):
+                return "damaged", text
+
+    def copybook(self):
+        makers = [self.nested] * 5 + [self.folded] * 5 + [self.soup] * 4 + [self.spread] * 3 + [self.marked] * 3 + [self.damaged] * 4 + [self.fillers] + [self.long]
+        return self.one(makers)()
+
+
+def generate(count, seed):
+    """Different inputs, a third of them pictures. Up to two fifths are written here: the lists first, then some of what is made in every
+    combination. The others are random."""
+    m = Maker(seed)
+
+    def shuffled(parts):
+        out = [(family, text) for family, texts in parts for text in texts]
+        m.r.shuffle(out)
+        return out
+
+    copybooks = shuffled([("fold", FOLDS), ("repeated", REPEATED), ("root", ROOTS), ("order", ORDER), ("large", LARGE), ("good", GOOD), ("chains", chains())])
+    copybooks += shuffled([(f.__name__, f()) for f in (edges, at_every_place, bare_clauses, levels, counts)])
+    pictures = [(*p, m.usage(), m.sign()) for p in shuffled([("written", PICTURES), ("spaced", SPACED), ("alone", alone())])]
+    pictures += [("every", text, usage, sign) for text in EVERY for usage in range(3) for sign in range(5)]
+    m.r.shuffle(pictures)
+    third = count // 3
+    inputs = {}
+
+    def put(family, text, usage=None, sign=None):
+        # A character is a byte here; over 127, no UTF-8.
+        i = Input(text.encode("latin-1"), usage, sign, family)
+        inputs.setdefault(i[:3], i)
+
+    for row in copybooks[:(count - third) * 2 // 5] + pictures[:third * 2 // 5]:
+        put(*row)
+    written = len(inputs)
+    while len(inputs) < count:
+        put(*(m.picture() if (len(inputs) - written) % 3 == 0 else m.copybook()))
+    return list(inputs.values())
+
+
+if __name__ == "__main__":
+    for made in generate(int(sys.argv[1]), int(sys.argv[2])):
+        print(made.request())

@@ -3,9 +3,9 @@
 
     tools/compare_definition.py ORACLE_SRC COUNT SEED [--repo DIR] [--batch N] [--shrink N] [--scratch DIR]
 
-ORACLE_SRC is the folder with the Rust files; tools/oracle is built from it, and asked. The inputs come from inputs.py. The definition is the crate `definition` of the
-repository (--repo names another one). It is copied to a scratch repository, where antt computes its answer to each input: the bytes of
-the listing, read back into the oracle's numbers, or the refusal. Nothing is run but antt; no code of ours takes part.
+ORACLE_SRC is the folder with the Rust files; tools/oracle is built from it, and asked. COUNT inputs are made by inputs.py from SEED.
+The definition is the crate `definition` of the repository (--repo names another one). It is copied to a scratch repository, where antt
+computes its answer to each input: the bytes of the listing, read back into the oracle's numbers, or the refusal.
 
 Each input must get the same list of numbers, or the same refusal, from both. Left out, and counted by number, are the inputs that the
 definition turns down with a refusal that document 01 adds to the Rust's; of these, the reason is checked as far as it shows (`due`).

@@ -3,14 +3,14 @@
 use Prim.Native.Nat.{ℕ, zero, suc, _+_, _-_, _≤_, _<_}
 use mathlib.Core.Path.{_≡_, refl, _∙_, ap}
 use mathlib.Core.Bool.{Bool, true, false}
-use mathlib.Core.List.{List, [], _∷_}
+use mathlib.Core.List.{List, [], _∷_, _++_}
 use mathlib.Core.Logic.{_⊎_, inl, inr}
 use native.Mathlib.Numerals.{add-one}
 use native.Mathlib.Nat.{zero-add}
 use native.Mathlib.Omega.{arith}
 use lib.Dec.{ltb}
-use lib.ListN.{length, getD, take, drop}
-use lib.Seq.{drop-cons, take-nil}
+use lib.ListN.{length, getD, take, drop, length-drop}
+use lib.Seq.{drop-cons, take-suc, take-nil, take-all}
 use borrow.Author.Tests.{ltb-true, ltb-false}
 
 decide : (b : Bool) (n m : ℕ) → ltb n m ≡ b → (n < m) ⊎ (m ≤ n)
@@ -32,6 +32,13 @@ tested {P = P} n m less notLess = go (ltb n m) refl
 -- one more element, at the code's i + 1
 pub drop-next : (t : List ℕ) (i : ℕ) → i < length t → drop i t ≡ getD t i 0 ∷ drop (i + 1) t
 drop-next t i h = rw (add-one, drop-cons t i 0)
+
+pub take-next : (t : List ℕ) (i : ℕ) → i < length t → take (i + 1) t ≡ take i t ++ getD t i 0 ∷ []
+take-next t i h = rw (add-one, take-suc t i 0 h)
+
+-- what `&t[i..]` is
+pub rest-part : (t : List ℕ) (i : ℕ) → take (length t - i) (drop i t) ≡ drop i t
+rest-part t i = take-all (length t - i) (drop i t) (omega (arith, length-drop i t))
 
 -- the first n after m elements stand among the first m + n
 pub take-drop {ℓ} : {A : Type ℓ} (n m : ℕ) (l : List A) → take n (drop m l) ≡ drop m (take (m + n) l)

@@ -16,15 +16,7 @@ use borrow.Author.Tests.{eq-eqb, ne-eqb, lt-ltb, le-ltb}
 use Rattle.definition.specs.declared.Refusal.{Refusal}
 use Rattle.definition.specs.Basic.{if_then_else_, among, white, upper, count, Answer, refuse, give, _>>=_, refused, orRefuse}
 use Rattle.definition.specs.Picture.{trimStart, trim, inFront, beforeClose, repeat, expand, tally, beforePoint, afterPoint, mask}
-use Rattle.definition.proofs.Lists.{drop-next}
-
--- one more element, at the code's i + 1
-take-next : (t : List ℕ) (i : ℕ) → i < length t → take (i + 1) t ≡ take i t ++ getD t i 0 ∷ []
-take-next t i h = rw (add-one, take-suc t i 0 h)
-
--- what `&t[i..]` is
-pub rest-part : (t : List ℕ) (i : ℕ) → take (length t - i) (drop i t) ≡ drop i t
-rest-part t i = take-all (length t - i) (drop i t) (omega (arith, length-drop i t))
+use Rattle.definition.proofs.Lists.{drop-next, take-next}
 
 -- ---------------------------------------------------------------- tallies
 

@@ -9,7 +9,8 @@ use lib.ListN.{length, getD, take, drop, replicate, length-drop}
 use Rattle.definition.specs.declared.Refusal.{Refusal}
 use Rattle.definition.specs.Basic.{upper, refuse, give, _>>=_}
 use Rattle.definition.specs.Picture.{repeat, expand, tally, beforePoint}
-use Rattle.definition.proofs.PictureLaws.{rest-part, onto, onto-nil, onto-onto, expand-end, expand-refused, expand-many, expand-more}
+use Rattle.definition.proofs.Lists.{rest-part}
+use Rattle.definition.proofs.PictureLaws.{onto, onto-nil, onto-onto, expand-end, expand-refused, expand-many, expand-more}
 use Rattle.picture.specs.declared.Tallies.{Tallies}
 use Rattle.picture.specs.declared.Half.{Half}
 use Rattle.picture.specs.declared.Repeat.{Repeat}

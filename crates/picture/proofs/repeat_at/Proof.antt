@@ -11,7 +11,8 @@ use lib.Seq.{length-take-le}
 use borrow.Author.Needs.{needs}
 use Rattle.definition.specs.Basic.{count, _>>=_}
 use Rattle.definition.specs.Picture.{trim, beforeClose}
-use Rattle.definition.proofs.PictureLaws.{rest-part, repeat-none, repeat-plain, repeat-open}
+use Rattle.definition.proofs.Lists.{rest-part}
+use Rattle.definition.proofs.PictureLaws.{repeat-none, repeat-plain, repeat-open}
 use Rattle.text.specs.declared.Number.{Number}
 use Rattle.text.specs.Words.{valued}
 use Rattle.picture.specs.declared.Repeat.{Repeat}

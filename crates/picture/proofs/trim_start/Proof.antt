@@ -7,7 +7,8 @@ use native.Mathlib.Omega.{arith}
 use lib.ListN.{length, getD, take, drop}
 use Rattle.definition.specs.Basic.{white}
 use Rattle.definition.specs.Picture.{trimStart}
-use Rattle.definition.proofs.PictureLaws.{rest-part, front-end, front-white, front-stop}
+use Rattle.definition.proofs.Lists.{rest-part}
+use Rattle.definition.proofs.PictureLaws.{front-end, front-white, front-stop}
 use Rattle.picture.proofs.trim_start.Statement.{statement}
 use Rattle.picture.proofs.trim_start.Tie as tie
 use Rattle.picture.proofs.trim_start.Reads as reads

@@ -10,8 +10,8 @@ use lib.Seq.{length-sets}
 use Rattle.definition.specs.declared.Refusal.{Refusal}
 use Rattle.definition.specs.Basic.{upper, Answer, give}
 use Rattle.definition.specs.Picture.{repeat, expand, mask}
-use Rattle.definition.proofs.Lists.{order}
-use Rattle.definition.proofs.PictureLaws.{rest-part, onto, expand-end, expand-refused, expand-many, expand-more}
+use Rattle.definition.proofs.Lists.{order, rest-part}
+use Rattle.definition.proofs.PictureLaws.{onto, expand-end, expand-refused, expand-many, expand-more}
 use Rattle.picture.specs.declared.Repeat.{Repeat}
 use Rattle.picture.specs.Repeats.{Repeated, repeatOf}
 use Rattle.picture.specs.Masks.{Room, put, Wrote}

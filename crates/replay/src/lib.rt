@@ -7,6 +7,7 @@ ghost use Prim.Native.Nat.{_+_, _≤_, _<_};
 ghost use lib.ListN.{length};
 ghost use Rattle.io.specs.Counts.{Counts};
 ghost use Rattle.replay.specs.Places.{Later, Bounded, Inside, Holds, Decodes, Filled, Fair};
+use definition::Refusal;
 use libc::STDOUT_FILENO;
 use text::Next;
 use text::Number;
@@ -172,6 +173,28 @@ pub fn flag(list: &[u8], p: Reached, b: bool) -> Reached
     number(list, p, 0)
 }
 
+// Goes on where the test holds.
+pub fn only(list: &[u8], p: Reached, test: bool) -> Reached
+    requires { ⌜ Inside (now list) p ⌝ }
+    ensures { λ r. ⌜ Inside (now (list .entry)) r ⌝ }
+{
+    if test {
+        return p;
+    }
+    Reached::Differs
+}
+
+// Goes on where the next words are 0 and the refusal's number, position and needed length.
+pub fn refusal(list: &[u8], p: Reached, r: Refusal) -> Reached
+    requires { ⌜ Inside (now list) p ⌝ }
+    ensures { λ r. ⌜ Inside (now (list .entry)) r ⌝ }
+{
+    let p = number(list, p, 0);
+    let p = number(list, p, r.number as u64);
+    let p = number(list, p, r.position as u64);
+    number(list, p, r.needed as u64)
+}
+
 // A byte as a number of 64 bits.
 fn wide(b: u8) -> u64 {
     b as u64
@@ -284,7 +307,9 @@ pub fn read_list(name: &[u8], buf: &mut [u8]) -> usize
 {
     let fd = os::open_read(name);
     if fd < 0 {
-        os::fail(name);
+        io::write_all(STDOUT_FILENO, b"cannot be opened: ");
+        io::write_all(STDOUT_FILENO, name);
+        io::write_all(STDOUT_FILENO, b"\n");
         return 0;
     }
     let n = io::read_full(fd, buf);
@@ -300,7 +325,7 @@ pub struct Tally {
 
 // No case yet.
 pub fn no_cases() -> Tally
-    ensures { λ r. ⌜ r ≡ record { cases = 0; agree = 0 } ⌝ }
+    ensures { λ r. ⌜ Fair 0 r ⌝ }
 {
     Tally { cases: 0, agree: 0 }
 }

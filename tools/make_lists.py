@@ -8,6 +8,9 @@ with a fixed seed, so that the same lists are made each time:
 
 - crates/test_picture/data/pictures.txt: pictures with the Rust's answers.
 - crates/test_picture/data/document.txt: pictures with the answers of document 01 that the Rust cannot give, written here by hand.
+- crates/test_reader/data/texts.txt: copybook texts with the answers of tools/reader_list.py, a reading by document 01. Where the Rust has
+  an answer, the two are compared: its refusals 10 to 13, and where it accepts a copybook without REDEFINES, the names, the nesting, the
+  counts and the DEPENDING ON names.
 
 A list has the lexical form of a copybook: a case is the words up to a period. An input is one word: %XX stands for a byte, and % alone for
 the empty input. What follows are decimal numbers.
@@ -20,6 +23,7 @@ import pathlib
 import sys
 
 import compare_definition as compare
+import reader_list
 from compare_definition import Input
 
 CRATES = compare.HERE.parent / "crates"
@@ -202,6 +206,95 @@ def document():
     return [[usage, sign, escaped(text.encode("latin-1")), room, *picture, *mask] for usage, sign, text, room, picture, mask in DOCUMENT]
 
 
+# ---------------------------------------------------------------- copybook texts
+
+TEXTS = 900
+NESTED = "".join(f"{k} G{k}. " for k in range(256))
+LIMITS = ["1.\n" * 800, "1.\n" * 801, "1.\n" * 800 + "1 A OCCURS.\n", "1.\n" * 800 + "256.\n", "88.\n" * 50 + "1.\n" * 800 + "88 A.\n* 1.\n..", NESTED, NESTED + "255 A. 254 B. 0 C."]
+NAMES = ["05 A", "05", "05.", "05 . A", "05 A.B PIC X.", "05 PIC X.", "05 OCCURS 3.", "05 *A PIC X.", "05\n*A\nB PIC X.", "05 A*> B\nC PIC X.", "05 .A. B.", "05 A..", "05 A.. 05 B.", "05 A .05 B."]
+
+
+def text_inputs():
+    """The limits, what is written by hand, some of what is made in every combination, then random copybooks."""
+    m = compare.Maker(SEED)
+    written = [LIMITS, NAMES, compare.FOLDS, compare.REPEATED, compare.ROOTS, compare.ORDER, compare.LARGE, compare.GOOD, compare.chains(), compare.levels()]
+    written.append(text for text in compare.edges() if len(text) < 2000)
+    for made, count in ((compare.at_every_place(), 150), (compare.bare_clauses(), 120), (compare.counts(), 60)):
+        written.append(m.r.sample(list(made), count))
+    yield from itertools.chain(*written)
+    while True:
+        yield m.copybook()[1]
+
+
+def rust_entries(answer):
+    """The entries of a copybook that the Rust accepts: depth, name, occurs mark and count, DEPENDING ON name."""
+    left = iter(answer[1:])
+
+    def text():
+        return bytes(next(left) for _ in range(next(left)))
+
+    def entry(depth):
+        name = text()
+        next(left), next(left)
+        kind = next(left)
+        details = [next(left) for _ in range({1: 0, 2: 2, 3: 1, 4: 4, 5: 3, 6: 1}[kind])]
+        if kind == 5:
+            text()
+        yield depth, name, next(left), next(left), text()
+        text()
+        for _ in range(details[0] if kind == 6 else 0):
+            yield from entry(depth + 1)
+
+    next(left), next(left)
+    return [e for _ in range(next(left)) for e in entry(0)]
+
+
+def read_entries(text):
+    """The same of the kept statements, with the only root left out if it has children."""
+    kept = reader_list.kept_statements(text)
+    root = len(kept) > 1 and all(s.depth for s in kept[1:])
+
+    def row(s):
+        occurs = (0, 0) if s.occurs is None else (1, s.occurs)
+        return s.depth - root, s.name.text if s.name else b"FILLER", *occurs, s.depending.text if s.depending else b""
+
+    return [row(s) for s in kept[root:]]
+
+
+def compared(text, reading, answer):
+    """Whether the Rust's answer says something of the reading; ends the program where it says something else."""
+    number = reading[1] if reading[0] == 0 else 0
+    if number in (1, 2, 14) or answer[0] not in (0, 1):
+        return False
+    refusal = answer[1] if answer[0] == 0 else 0
+    if number or 10 <= refusal <= 13:
+        same = number == refusal
+    elif answer[0] == 1 and not any(s.redefines for s in reader_list.kept_statements(text)):
+        same = rust_entries(answer) == read_entries(text)
+    else:
+        return False
+    if not same:
+        sys.exit(f"the Rust reads {text!r} otherwise: {answer}, {reading}")
+    return True
+
+
+def texts(oracle):
+    inputs = {}
+    for text in text_inputs():
+        i = Input(text.encode("latin-1"), None, None, "")
+        inputs.setdefault(i.text, i)
+        if len(inputs) == TEXTS:
+            break
+    inputs = list(inputs.values())
+    cases, asked = [], collections.Counter()
+    for i, answer in zip(inputs, oracle.ask(inputs)):
+        reading = reader_list.reading(i.text)
+        asked["refused" if reading[0] == 0 else "read", compared(i.text, reading, answer)] += 1
+        cases.append([escaped(i.text), *reading])
+    print(", ".join(f"{what}{', compared with the Rust' if rust else ''}: {n}" for (what, rust), n in sorted(asked.items())))
+    return cases
+
+
 def main():
     parser = argparse.ArgumentParser(description="Writes the lists that the test programs replay.")
     parser.add_argument("oracle_src", type=pathlib.Path, help="the folder with the Rust files")
@@ -212,6 +305,8 @@ def main():
     write("test_picture", "document.txt", "Made by tools/make_lists.py: pictures with the answers of document 01.\n"
           "Usage, sign, picture, length of the output; the answer of parse_pic; the answer of mask.\n"
           "A refusal is 0, its number, its position and the needed length.", document())
+    write("test_reader", "texts.txt", "Made by tools/make_lists.py: copybook texts with the answers of tools/reader_list.py.\n"
+          "Where the Rust has an answer, the two were compared.", texts(oracle))
 
 
 if __name__ == "__main__":

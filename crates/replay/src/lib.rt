@@ -195,9 +195,12 @@ pub fn refusal(list: &[u8], p: Reached, r: Refusal) -> Reached
     number(list, p, r.needed as u64)
 }
 
-// A byte as a number of 64 bits.
-fn wide(b: u8) -> u64 {
-    b as u64
+// Goes on where the next word is this byte, as a number.
+pub fn byte(list: &[u8], p: Reached, b: u8) -> Reached
+    requires { ⌜ Inside (now list) p ⌝ }
+    ensures { λ r. ⌜ Inside (now (list .entry)) r ⌝ }
+{
+    number(list, p, b as u64)
 }
 
 // Goes on where the next words are these bytes.
@@ -208,7 +211,7 @@ pub fn bytes(list: &[u8], p: Reached, s: &[u8]) -> Reached
     let mut place = p;
     let mut i = 0;
     while i < s.len() {
-        place = number(list, place, wide(s[i]));
+        place = byte(list, place, s[i]);
         i += 1;
     }
     place

@@ -55,11 +55,6 @@ fn storage_number(repr: NumRepr) -> u64 {
     }
 }
 
-// A byte as a number of 64 bits.
-fn wide(b: u8) -> u64 {
-    b as u64
-}
-
 // ---------------------------------------------------------------- one answer
 
 // Goes on where the next words are the kind and its details.
@@ -87,8 +82,8 @@ fn kind(list: &[u8], p: Reached, k: FieldKind) -> Reached
             sign,
         } => {
             let p = replay::number(list, p, 4);
-            let p = replay::number(list, p, wide(precision));
-            let p = replay::number(list, p, wide(scale));
+            let p = replay::byte(list, p, precision);
+            let p = replay::byte(list, p, scale);
             let p = replay::number(list, p, storage_number(repr));
             return replay::number(list, p, sign_number(sign));
         }
@@ -98,8 +93,8 @@ fn kind(list: &[u8], p: Reached, k: FieldKind) -> Reached
             signed,
         } => {
             let p = replay::number(list, p, 5);
-            let p = replay::number(list, p, wide(precision));
-            let p = replay::number(list, p, wide(scale));
+            let p = replay::byte(list, p, precision);
+            let p = replay::byte(list, p, scale);
             return replay::flag(list, p, signed);
         }
         FieldKind::Group => {
@@ -221,28 +216,6 @@ fn rust_answer(list: &[u8], p: Reached, picture: &[u8], usage: Usage, sign: Sign
     }
 }
 
-// Whether the case at a place of the Rust's list agrees.
-fn rust_case(list: &[u8], at: usize) -> bool
-    requires { ⌜ at ≤ length (now list) ⌝ }
-{
-    let mut word = [0u8; 1000];
-    let usage = replay::take_number(list, Reached::At(at));
-    let place = usage.place;
-    let sign = replay::take_number(list, place);
-    let place = sign.place;
-    let input = replay::take_input(list, place, &mut word);
-    let place = input.place;
-    let n = input.len;
-    let p = rust_answer(
-        list,
-        place,
-        &word[..n],
-        usage_of(usage.value),
-        sign_of(sign.value),
-    );
-    replay::is_whole(list, p)
-}
-
 // ---------------------------------------------------------------- a case of the document's list
 
 // Goes on where the answer of `parse_pic` is that of the next words.
@@ -305,8 +278,45 @@ fn document_mask(list: &[u8], p: Reached, picture: &[u8], usage: Usage, room: u6
     mask_within(list, p, picture, usage, &mut out, room as usize)
 }
 
-// Whether the case at a place of the document's list agrees.
-fn document_case(list: &[u8], at: usize) -> bool
+// Goes on where the next words are the room for the mask, and the answers of `parse_pic` and `mask`.
+fn document_answer(
+    list: &[u8],
+    p: Reached,
+    picture: &[u8],
+    usage: Usage,
+    sign: SignClause,
+) -> Reached
+    requires { ⌜ Inside (now list) p ⌝ }
+    ensures { λ r. ⌜ Inside (now (list .entry)) r ⌝ }
+{
+    let room = replay::take_number(list, p);
+    let place = room.place;
+    let p = document_picture(list, place, picture, usage, sign);
+    document_mask(list, p, picture, usage, room.value)
+}
+
+// ---------------------------------------------------------------- lists
+
+// Goes on where the next words are the answer to a picture, in the document's list or in the Rust's.
+fn answer(
+    list: &[u8],
+    p: Reached,
+    picture: &[u8],
+    usage: Usage,
+    sign: SignClause,
+    document: bool,
+) -> Reached
+    requires { ⌜ Inside (now list) p ⌝ }
+    ensures { λ r. ⌜ Inside (now (list .entry)) r ⌝ }
+{
+    if document {
+        return document_answer(list, p, picture, usage, sign);
+    }
+    rust_answer(list, p, picture, usage, sign)
+}
+
+// Whether the case at a place agrees.
+fn is_agreed(list: &[u8], at: usize, document: bool) -> bool
     requires { ⌜ at ≤ length (now list) ⌝ }
 {
     let mut word = [0u8; 1000];
@@ -317,29 +327,15 @@ fn document_case(list: &[u8], at: usize) -> bool
     let input = replay::take_input(list, place, &mut word);
     let place = input.place;
     let n = input.len;
-    let room = replay::take_number(list, place);
-    let place = room.place;
-    let p = document_picture(
+    let p = answer(
         list,
         place,
         &word[..n],
         usage_of(usage.value),
         sign_of(sign.value),
+        document,
     );
-    let p = document_mask(list, p, &word[..n], usage_of(usage.value), room.value);
     replay::is_whole(list, p)
-}
-
-// ---------------------------------------------------------------- lists
-
-// Whether the case at a place agrees, of the document's list or of the Rust's.
-fn is_agreed(list: &[u8], at: usize, document: bool) -> bool
-    requires { ⌜ at ≤ length (now list) ⌝ }
-{
-    if document {
-        return document_case(list, at);
-    }
-    rust_case(list, at)
 }
 
 // Replays the case at a place, if there is one.

@@ -48,12 +48,8 @@ fn sign_number(s: SignWords) -> u64 {
     }
 }
 
-// A byte as a number of 64 bits, and a number of 32.
-fn wide(b: u8) -> u64 {
-    b as u64
-}
-
-fn wide32(n: u32) -> u64 {
+// A number of work memory as one of 64 bits.
+fn wide(n: u32) -> u64 {
     n as u64
 }
 
@@ -113,9 +109,9 @@ fn row(list: &[u8], p: Reached, work: &[u32], k: usize) -> Reached
     let s = rows::statement_at(work, k);
     let name = s.name;
     let c = s.clauses;
-    let p = replay::number(list, p, wide(s.level));
+    let p = replay::byte(list, p, s.level);
     let p = replay::number(list, p, s.at as u64);
-    let p = replay::number(list, p, wide32(work[20 * k + 1]));
+    let p = replay::number(list, p, wide(work[20 * k + 1]));
     let p = span(list, p, name);
     clauses(list, p, c)
 }

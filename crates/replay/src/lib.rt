@@ -1,7 +1,7 @@
 // Lists of cases, for the programs that replay answers. A list has the lexical form of a copybook: a case is the words up to a period that
-// ends a statement, and a line that begins with `*` is a comment. An input is one word, in which %XX stands for a byte and a last % for
-// nothing; an expected answer is a word for each of its numbers. A case is read word by word, and the reading goes on from one word to the
-// next as long as each is the expected one.
+// ends a statement, and a line that begins with `*` is a comment. An input is one word, in which %XX stands for a byte; the word % is the
+// empty input. An expected answer is a word for each of its numbers. A case is read word by word, and the reading goes on from one word to
+// the next as long as each is the expected one.
 ghost use mathlib.Core.Path.{_≡_};
 ghost use Prim.Native.Nat.{_+_, _≤_, _<_};
 ghost use lib.ListN.{length};
@@ -20,7 +20,7 @@ pub enum Reached {
     Differs,
 }
 
-// The first token at a place or after it. Nothing but blanks stands before place 0.
+// The first token at a place or after it. Place 0 begins a line; any other place that is asked for stands after a word or a period.
 fn token(list: &[u8], at: usize) -> Next
     requires { ⌜ at ≤ length (now list) ⌝ }
     ensures { λ r. ⌜ Bounded (now (list .entry)) at r ⌝ }

@@ -1,0 +1,42 @@
+-- What a caller learns of the places from a token, from the place that was reached, and from a word.
+-- Assumes nothing.
+use Prim.Native.Nat.{ℕ, _+_, _-_, _<_, _≤_, _^_}
+use mathlib.Core.Path.{_≡_}
+use mathlib.Core.List.{List}
+use native.Mathlib.Omega.{arith}
+use lib.ListN.{length}
+use mir.Val.{Fits}
+use mir.Syntax.{w64}
+use Rattle.definition.specs.declared.Token.{Token}
+use Rattle.text.specs.declared.Next.{Next}
+use Rattle.text.specs.Tokens.{First}
+use Rattle.replay.specs.declared.Reached.{Reached}
+use Rattle.replay.specs.declared.Word.{Word}
+use Rattle.replay.specs.Places.{Later, WordIn, Bounded, Inside, Holds}
+
+-- a token of the text lies within the list
+pub bounded : (all : List Token) (list : List ℕ) (at : ℕ) (r : Next) → First all list at r → Bounded list at r
+bounded all list at (Next.Word start len next) f = record { fits = f .fits; after = record { up = f .up; within = f .within } }
+bounded all list at (Next.Stop next) f = record { up = f .up; within = f .within }
+bounded all list at Next.End f = tt
+
+-- the place that was reached
+pub inside-at : (list : List ℕ) (p : Reached) (at : ℕ) → Inside list p → p ≡ Reached.At at → at ≤ length list
+inside-at list p at i e = rw e at i
+
+module _ (list : List ℕ) (at : ℕ) (r : Next) (b : Bounded list at r) where
+  -- the token is a word
+  module _ {start len next : ℕ} (e : r ≡ Next.Word start len next) where
+    pub word-in : WordIn list at start len next
+    word-in = rw e at b
+
+    pub word-holds : Holds list (record { start = start; len = len; place = Reached.At next })
+    word-holds = let w = word-in in record { fits = w .fits; inside = w .after .within }
+
+  -- the token ends a case
+  pub stop-in : {next : ℕ} → r ≡ Next.Stop next → Later list at next
+  stop-in e = rw e at b
+
+-- no word holds as well
+pub none-holds : {list : List ℕ} {w : Word} → w ≡ record { start = 0; len = 0; place = Reached.Differs } → Holds list w
+none-holds e = rw e (record { fits = omega arith; inside = tt })

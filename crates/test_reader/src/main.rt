@@ -1,0 +1,273 @@
+// Replays readings of copybook texts from data/texts.txt, and of texts too long for a list. A case: the text, and what tools/reader_list.py
+// answers, which names the numbers; where the Rust has an answer, that was compared with it when the list was made.
+ghost use Prim.Native.Nat.{_+_, _*_, _≤_, _<_};
+ghost use lib.ListN.{length};
+ghost use Rattle.replay.specs.Places.{Inside, Fair};
+use definition::Check;
+use definition::Clauses;
+use definition::Occurs;
+use definition::SignWords;
+use definition::Span;
+use definition::Usage;
+use definition::UsageClause;
+use replay::Reached;
+use replay::Tally;
+use rows::RowsRead;
+
+// What stands in work memory before a call.
+const FILL: u32 = 4294967295;
+
+// ---------------------------------------------------------------- numbers for the parts of a statement
+
+fn usage_number(u: UsageClause) -> u64 {
+    match u {
+        UsageClause::Absent => 0,
+        UsageClause::Given(v) => match v {
+            Usage::Display => 3,
+            Usage::Comp3 => 1,
+            Usage::Comp => 2,
+        },
+    }
+}
+
+fn sign_number(s: SignWords) -> u64 {
+    match s {
+        SignWords::Absent => 0,
+        SignWords::Said { leading, separate } => {
+            if leading {
+                if separate {
+                    return 4;
+                }
+                return 2;
+            }
+            if separate {
+                return 3;
+            }
+            1
+        }
+    }
+}
+
+// A number of work memory as one of 64 bits.
+fn wide(n: u32) -> u64 {
+    n as u64
+}
+
+// ---------------------------------------------------------------- one row
+
+// Goes on where the next words are the start and the length of a span.
+fn span(list: &[u8], p: Reached, w: Span) -> Reached
+    requires { ⌜ Inside (now list) p ⌝ }
+    ensures { λ r. ⌜ Inside (now (list .entry)) r ⌝ }
+{
+    let p = replay::number(list, p, w.start as u64);
+    replay::number(list, p, w.len as u64)
+}
+
+// Goes on where the next words are the mark and the count of OCCURS.
+fn occurs(list: &[u8], p: Reached, o: Occurs) -> Reached
+    requires { ⌜ Inside (now list) p ⌝ }
+    ensures { λ r. ⌜ Inside (now (list .entry)) r ⌝ }
+{
+    match o {
+        Occurs::Once => {
+            let p = replay::number(list, p, 0);
+            return replay::number(list, p, 0);
+        }
+        Occurs::Times(n) => {
+            let p = replay::number(list, p, 1);
+            return replay::number(list, p, n);
+        }
+    }
+}
+
+// Goes on where the next words are the clauses.
+fn clauses(list: &[u8], p: Reached, c: Clauses) -> Reached
+    requires { ⌜ Inside (now list) p ⌝ }
+    ensures { λ r. ⌜ Inside (now (list .entry)) r ⌝ }
+{
+    let picture = c.picture;
+    let usage = c.usage;
+    let sign = c.sign;
+    let times = c.occurs;
+    let depending = c.depending;
+    let redefines = c.redefines;
+    let p = span(list, p, picture);
+    let p = replay::number(list, p, usage_number(usage));
+    let p = replay::number(list, p, sign_number(sign));
+    let p = replay::flag(list, p, c.sync);
+    let p = occurs(list, p, times);
+    let p = span(list, p, depending);
+    span(list, p, redefines)
+}
+
+// Goes on where the next words are the statement in row k and its depth.
+fn row(list: &[u8], p: Reached, work: &[u32], k: usize) -> Reached
+    requires { ⌜ Inside (now list) p × (20 * k + 20 ≤ length (now work)) ⌝ }
+    ensures { λ r. ⌜ Inside (now (list .entry)) r ⌝ }
+{
+    let s = rows::statement_at(work, k);
+    let name = s.name;
+    let c = s.clauses;
+    let p = replay::byte(list, p, s.level);
+    let p = replay::number(list, p, s.at as u64);
+    let p = replay::number(list, p, wide(work[20 * k + 1]));
+    let p = span(list, p, name);
+    clauses(list, p, c)
+}
+
+// Goes on where the next words are the first n rows.
+fn all_rows(list: &[u8], p: Reached, work: &[u32], n: usize) -> Reached
+    requires { ⌜ Inside (now list) p × (20 * n ≤ length (now work)) ⌝ }
+    ensures { λ r. ⌜ Inside (now (list .entry)) r ⌝ }
+{
+    let mut place = p;
+    let mut k = 0;
+    while k < n {
+        place = row(list, place, work, k);
+        k += 1;
+    }
+    place
+}
+
+// ---------------------------------------------------------------- one text
+
+// Goes on where the next words are what reading a text gives, that has passed the checks of the entry.
+fn read_answer(list: &[u8], p: Reached, text: &[u8], work: &mut [u32]) -> Reached
+    requires { ⌜ Inside (now list) p × (length (now text) ≤ 65535) × (16384 ≤ length (now work)) ⌝ }
+    ensures { λ r. ⌜ Inside (now (list .entry)) r ⌝ }
+{
+    match rows::read_rows(text, work) {
+        RowsRead::Rows(n) => {
+            if 800 < n {
+                return Reached::Differs;
+            }
+            let p = replay::number(list, p, 1);
+            let p = replay::number(list, p, n as u64);
+            return all_rows(list, p, work, n);
+        }
+        RowsRead::Refused(r) => {
+            return replay::refusal(list, p, r);
+        }
+    }
+}
+
+// Goes on where the next words are the answer to a text.
+fn answer(list: &[u8], p: Reached, text: &[u8], work: &mut [u32]) -> Reached
+    requires { ⌜ Inside (now list) p ⌝ }
+    ensures { λ r. ⌜ Inside (now (list .entry)) r ⌝ }
+{
+    match rows::entry_checks(text, work.len()) {
+        Check::Passed => {
+            if 65535 < text.len() {
+                return Reached::Differs;
+            }
+            if work.len() < 16384 {
+                return Reached::Differs;
+            }
+            return read_answer(list, p, text, work);
+        }
+        Check::Refused(r) => {
+            return replay::refusal(list, p, r);
+        }
+    }
+}
+
+// Whether the case at a place of the list agrees.
+fn is_agreed(list: &[u8], at: usize) -> bool
+    requires { ⌜ at ≤ length (now list) ⌝ }
+{
+    let mut text = [0u8; 65536];
+    let mut work = [FILL; 16384];
+    let input = replay::take_input(list, Reached::At(at), &mut text);
+    let place = input.place;
+    let n = input.len;
+    let p = answer(list, place, &text[..n], &mut work);
+    replay::is_whole(list, p)
+}
+
+// ---------------------------------------------------------------- the list
+
+// Replays the case at a place, if there is one.
+fn replay_case(list: &[u8], at: usize, t: Tally) -> Tally
+    requires { ⌜ (at < length (now list)) × Fair at t ⌝ }
+    ensures { λ r. ⌜ Fair (at + 1) r ⌝ }
+{
+    if replay::is_case(list, at) {
+        return replay::add_case(t, is_agreed(list, at));
+    }
+    t
+}
+
+// Replays a list.
+fn replay_list(list: &[u8]) -> Tally {
+    let mut t = replay::no_cases();
+    let mut at = 0;
+    while at < list.len() {
+        t = replay_case(list, at, t);
+        at = replay::after_case(list, at);
+    }
+    t
+}
+
+// Reads the list, replays it, and prints how many of its cases agree.
+fn replay_file() {
+    let mut list = [0u8; 400000];
+    let n = replay::read_list(b"texts.txt", &mut list);
+    replay::print_tally(b"texts", replay_list(&list[..n]));
+}
+
+// ---------------------------------------------------------------- limits
+
+// Whether the answer to a text, with just enough work memory, is the one case of a list.
+fn is_answered(list: &[u8], text: &[u8]) -> bool {
+    let mut work = [FILL; 16384];
+    let p = answer(list, Reached::At(0), text, &mut work);
+    replay::is_whole(list, p)
+}
+
+// The same with one number less of work memory.
+fn is_answered_short(list: &[u8], text: &[u8]) -> bool {
+    let mut work = [FILL; 16383];
+    let p = answer(list, Reached::At(0), text, &mut work);
+    replay::is_whole(list, p)
+}
+
+// 65,535 bytes are read to their end, and 65,536 are refused with 1, whatever the work memory.
+fn replay_long() -> Tally
+    ensures { λ r. ⌜ Fair 4 r ⌝ }
+{
+    let mut text = [b' '; 65536];
+    text[65531] = b'0';
+    text[65532] = b'5';
+    text[65534] = b'A';
+    let t = replay::no_cases();
+    let t = replay::add_case(
+        t,
+        is_answered(
+            b"1 1 5 65531 0 65534 1 0 0 0 0 0 0 0 0 0 0 0.",
+            &text[..65535],
+        ),
+    );
+    let t = replay::add_case(t, is_answered(b"0 1 0 0.", &text));
+    let t = replay::add_case(t, is_answered_short(b"0 3 0 0.", &text[..65535]));
+    replay::add_case(t, is_answered_short(b"0 1 0 0.", &text))
+}
+
+// A byte over 127 at the end of 65,535 is refused with 2 there, whatever the work memory; the empty text needs work memory too.
+fn replay_short(t: Tally) -> Tally
+    requires { ⌜ Fair 4 t ⌝ }
+    ensures { λ r. ⌜ Fair 8 r ⌝ }
+{
+    let mut text = [b' '; 65535];
+    text[65534] = 128;
+    let t = replay::add_case(t, is_answered(b"0 2 65534 0.", &text));
+    let t = replay::add_case(t, is_answered_short(b"0 2 65534 0.", &text));
+    let t = replay::add_case(t, is_answered_short(b"0 3 0 0.", b""));
+    replay::add_case(t, is_answered(b"1 0.", b""))
+}
+
+fn main() {
+    replay_file();
+    replay::print_tally(b"limits", replay_short(replay_long()));
+}

@@ -1,0 +1,177 @@
+"""A copybook's kept statements by document 01, read by its words: Text, Statement and Levels, and where a call is turned down.
+
+It shares nothing with the crates: `reading(text)` is the answer that the reader has to give, as numbers. `0 NUMBER POSITION NEEDED` is a
+refusal. `1 COUNT` is followed by the statements, 16 numbers for each: level, position, depth, name; picture, usage, sign, sync, occurs
+mark and count, DEPENDING ON name, REDEFINES name. A name or a picture is its start and its length, both 0 if absent. Usage: 0 none said,
+1 COMP-3, 2 COMP. Sign: 0 none said, else 1, plus 1 for LEADING, plus 2 for SEPARATE.
+"""
+
+import collections
+import re
+
+WHITE = b"\t\n\x0b\x0c\r "
+MOST_BYTES, MOST_STATEMENTS = 65535, 800
+
+COMP3 = ("COMP-3", "COMPUTATIONAL-3", "PACKED-DECIMAL")
+COMP = ("COMP", "COMPUTATIONAL", "COMP-4", "COMPUTATIONAL-4", "COMP-5", "COMPUTATIONAL-5", "BINARY")
+
+Word = collections.namedtuple("Word", "at text")
+Statement = collections.namedtuple("Statement", "level at depth name picture usage sign sync occurs depending redefines")
+
+
+class Refused(Exception):
+    """A refusal: its number and its position."""
+
+
+# ---------------------------------------------------------------- Text
+
+
+def read_bytes(text):
+    """The bytes that are read, each with its position."""
+    kept, start = [], 0
+    for line in text.split(b"\n"):  # Lines end at byte 10.
+        if not line.lstrip(WHITE).startswith(b"*"):  # A line whose first non-blank is `*` is dropped;
+            code = line.partition(b"*>")[0]  # from `*>` on, a line is cut;
+            kept += [(code[k:k + 1], start + k) for k in range(len(code))]
+            kept.append((b" ", None))  # each line ends in a blank.
+        start += len(line) + 1
+    return kept
+
+
+def statements(text):
+    """The words of each statement."""
+    kept = read_bytes(text)
+    words, word = [], None
+    for k, (byte, at) in enumerate(kept):
+        # A period ends a statement only before white space or the end.
+        ends = byte == b"." and (k + 1 == len(kept) or kept[k + 1][0] in WHITE)
+        if ends or byte in WHITE:
+            if word:
+                words.append(word)
+            word = None
+        else:
+            word = Word(word.at, word.text + byte) if word else Word(at, byte)
+        if ends:
+            if words:  # Empty statements are skipped;
+                yield words
+            words = []
+    if words:  # a last one may lack its period.
+        yield words
+
+
+# ---------------------------------------------------------------- Statement
+
+
+def number(word, limit):
+    """A number below the limit, leading `+` and zeros allowed; or None."""
+    if re.fullmatch(rb"\+?[0-9]+", word.text) and int(word.text) < limit:
+        return int(word.text)
+    return None
+
+
+def clauses(words):
+    """What the words after a statement's name say."""
+    at = words[0].at
+    upper = [w.text.upper().decode("latin-1") for w in words]
+    said = dict(picture=None, usage=0, sign=0, sync=0, occurs=None, depending=None, redefines=None)
+
+    def is_word(i, *keys):
+        return i < len(words) and upper[i] in keys
+
+    def word(i):
+        return words[i] if i < len(words) else None
+
+    def counted(i, refusal):
+        n = number(words[i], 2 ** 64) if i < len(words) else None
+        if n is None:
+            raise Refused(refusal, at)
+        return n
+
+    i = 2
+    while i < len(words):
+        key = upper[i]
+        i += 1
+        if key in ("PIC", "PICTURE"):
+            i += is_word(i, "IS")
+            said["picture"] = word(i)
+            i += 1
+        elif key == "REDEFINES":
+            said["redefines"] = word(i)
+            i += 1
+        elif key == "OCCURS":
+            count = counted(i, 11)
+            i += 1
+            if is_word(i, "TO"):
+                count = counted(i + 1, 12)
+                i += 2
+            i += is_word(i, "TIMES")
+            if is_word(i, "DEPENDING"):
+                i += 1
+                i += is_word(i, "ON")
+                if i >= len(words):
+                    raise Refused(13, at)
+                said["depending"] = words[i]
+                i += 1
+            said["occurs"] = count
+        elif key == "USAGE":
+            i += is_word(i, "IS")
+        elif key in COMP3:
+            said["usage"] = 1
+        elif key in COMP:
+            said["usage"] = 2
+        elif key == "SIGN":
+            i += is_word(i, "IS")
+            # SEPARATE counts anywhere at or after the word following SIGN [IS].
+            said["sign"] = 1 + is_word(i, "LEADING") + 2 * ("SEPARATE" in upper[i:])
+            i += 1
+        elif key in ("SYNC", "SYNCHRONIZED"):
+            said["sync"] = 1
+            i += is_word(i, "LEFT", "RIGHT")
+        elif key in ("VALUE", "VALUES"):
+            break  # VALUE ends the reading.
+    return said
+
+
+# ---------------------------------------------------------------- Levels, and the refusals in their order
+
+
+def kept_statements(text):
+    if len(text) > MOST_BYTES:
+        raise Refused(1, 0)
+    for at, byte in enumerate(text):
+        if byte > 127:
+            raise Refused(2, at)
+    kept, open_levels = [], []
+    for words in statements(text):
+        level = number(words[0], 256)  # First word: level, 0 to 255.
+        if level is None:
+            raise Refused(10, words[0].at)
+        if level == 88:  # Level 88 is skipped.
+            continue
+        said = clauses(words)
+        if len(kept) == MOST_STATEMENTS:  # The 801st kept statement, after its clauses.
+            raise Refused(14, words[0].at)
+        # A statement's parent is the nearest earlier open one with a smaller level.
+        while open_levels and open_levels[-1] >= level:
+            open_levels.pop()
+        name = words[1] if len(words) > 1 else None  # Second word: name, whatever it says.
+        kept.append(Statement(level, words[0].at, len(open_levels), name, **said))
+        open_levels.append(level)
+    return kept
+
+
+def numbers(s):
+    def span(word):
+        return [word.at, len(word.text)] if word else [0, 0]
+
+    occurs = [0, 0] if s.occurs is None else [1, s.occurs]
+    return [s.level, s.at, s.depth, *span(s.name), *span(s.picture), s.usage, s.sign, s.sync, *occurs, *span(s.depending), *span(s.redefines)]
+
+
+def reading(text):
+    """The answer, as numbers."""
+    try:
+        kept = kept_statements(text)
+    except Refused as r:
+        return [0, *r.args, 0]
+    return [1, len(kept)] + [n for s in kept for n in numbers(s)]

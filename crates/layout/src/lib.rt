@@ -1,0 +1,4 @@
+// Sibling lists laid out.
+pub struct Nothing {
+    pub n: u8,
+}

@@ -1,9 +1,12 @@
 pub mod Lists
 pub mod Answers
+pub mod NumberLaws
+pub mod WordLaws
 pub mod StatementLaws
 pub mod TreeLaws
 pub mod LayoutLaws
 pub mod ListingLaws
+pub mod CallsLaws
 pub mod Pieces
 pub mod Alignment
 pub mod Slack

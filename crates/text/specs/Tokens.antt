@@ -1,0 +1,66 @@
+-- What the answers of the functions that walk over tokens say, in terms of the definition's tokens from a place on.
+-- Assumes nothing.
+use Prim.Native.Nat.{ℕ, _+_, _<_, _≤_}
+use mathlib.Core.Path.{_≡_}
+use mathlib.Core.Bool.{Bool, true, false}
+use mathlib.Core.List.{List, [], _∷_}
+use lib.ListN.{length, drop}
+use Rattle.definition.specs.declared.ByteKind.{ByteKind}
+use Rattle.definition.specs.declared.ByteKind.the-variants.{Newline, Blank, Cut, Star, Period, Other}
+use Rattle.definition.specs.declared.Mode.{Mode}
+use Rattle.definition.specs.declared.Mode.the-variants.{Fresh, Between, Dropped, Within}
+use Rattle.definition.specs.declared.Token.{Token}
+use Rattle.definition.specs.Basic.{span}
+use Rattle.definition.specs.Words.{upTo, tokens}
+use Rattle.text.specs.declared.Next.{Next}
+
+-- between words, where a line has only blanks so far or not
+abbrev pub between : Bool → Mode
+between true = Fresh
+between false = Between
+
+-- the tokens of a text from a place on
+abbrev pub tokensFrom : List ℕ → Mode → ℕ → List Token
+tokensFrom text m at = tokens m at (drop at text)
+
+-- a byte of this kind goes on with a word
+abbrev pub inWord : ByteKind → Bool
+inWord Newline = false
+inWord Blank = false
+inWord Cut = false
+inWord Star = true
+inWord Period = false
+inWord Other = true
+
+-- what is dropped from a place on ends at r
+pub record NextLine (text : List ℕ) (at r : ℕ) : Type 0 where
+  pub up : at ≤ r
+  pub within : r ≤ length text
+  pub rest : tokensFrom text Dropped at ≡ tokensFrom text Fresh r
+
+-- a word that goes on at a place ends at r, wherever it began
+pub record WordEnd (text : List ℕ) (at r : ℕ) : Type 0 where
+  pub up : at ≤ r
+  pub within : r ≤ length text
+  pub rest : (s : ℕ) → tokensFrom text (Within s) at ≡ upTo s r ∷ tokensFrom text Between r
+
+-- the first of the tokens from a place on is a word, and the others are those from `next` on
+pub record FirstWord (all : List Token) (text : List ℕ) (at start len next : ℕ) : Type 0 where
+  pub all-are : all ≡ Token.Word (span start len) ∷ tokensFrom text Between next
+  pub up : at < next
+  pub within : next ≤ length text
+  pub begins : at ≤ start
+  pub fits : start + len ≤ length text
+  pub nonempty : 0 < len
+
+-- the first of the tokens from a place on ends a statement
+pub record FirstStop (all : List Token) (text : List ℕ) (at next : ℕ) : Type 0 where
+  pub all-are : all ≡ Token.Stop ∷ tokensFrom text Between next
+  pub up : at < next
+  pub within : next ≤ length text
+
+-- what an answer says of all tokens from a place on
+abbrev pub First : List Token → List ℕ → ℕ → Next → Type 0
+First all text at (Next.Word start len next) = FirstWord all text at start len next
+First all text at (Next.Stop next) = FirstStop all text at next
+First all text at Next.End = all ≡ []

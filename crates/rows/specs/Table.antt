@@ -1,0 +1,165 @@
+-- A table of rows in lent work memory: row k stands at 20 * k, one row for each kept statement, in copybook order. Columns 0 to 12 hold the
+-- statement and its depth; the others are the layout's.
+--   0 level  1 depth  2 at  3 name  4 picture  5 depending  6 redefines  7 usage  8 sign  9 sync  10 occurs or not  11, 12 its count, low and high
+-- A span is one number, for a text has at most 65,535 bytes; a count takes two.
+-- Assumes nothing.
+use Prim.Native.Nat.{ℕ, zero, suc, _+_, _*_, _/_, _%_, _≤_, _<_}
+use mathlib.Core.List.{List, [], _∷_, _++_}
+use mathlib.Core.Bool.{Bool, true, false}
+use lib.Dec.{eqb}
+use lib.ListN.{length, getD, set}
+use Rattle.definition.specs.declared.Span.{Span}
+use Rattle.definition.specs.declared.Usage.{Usage}
+use Rattle.definition.specs.declared.UsageClause.{UsageClause}
+use Rattle.definition.specs.declared.SignWords.{SignWords}
+use Rattle.definition.specs.declared.Occurs.{Occurs}
+use Rattle.definition.specs.declared.Clauses.{Clauses}
+use Rattle.definition.specs.declared.Statement.{Statement}
+use Rattle.definition.specs.Basic.{if_then_else_, span}
+use Rattle.definition.specs.Listing.{flag}
+use Rattle.definition.specs.Statement.{clausesOf}
+
+-- ---------------------------------------------------------------- a number for each part
+
+-- a span as one number, and back
+abbrev pub spanCode : Span → ℕ
+spanCode w = w .start * 65536 + w .len
+
+abbrev pub spanAt : ℕ → Span
+spanAt n = span (n / 65536) (n % 65536)
+
+-- a usage as a number, and back
+abbrev pub usageCode : UsageClause → ℕ
+usageCode UsageClause.Absent = 0
+usageCode (UsageClause.Given Usage.Display) = 1
+usageCode (UsageClause.Given Usage.Comp3) = 2
+usageCode (UsageClause.Given Usage.Comp) = 3
+
+abbrev pub usageAt : ℕ → UsageClause
+usageAt n =
+    if eqb n 1 then UsageClause.Given Usage.Display
+    else if eqb n 2 then UsageClause.Given Usage.Comp3
+    else if eqb n 3 then UsageClause.Given Usage.Comp
+    else UsageClause.Absent
+
+-- what is said of the sign as a number, and back
+abbrev pub signCode : SignWords → ℕ
+signCode SignWords.Absent = 0
+signCode (SignWords.Said false false) = 1
+signCode (SignWords.Said true false) = 2
+signCode (SignWords.Said false true) = 3
+signCode (SignWords.Said true true) = 4
+
+abbrev pub signAt : ℕ → SignWords
+signAt n =
+    if eqb n 1 then SignWords.Said false false
+    else if eqb n 2 then SignWords.Said true false
+    else if eqb n 3 then SignWords.Said false true
+    else if eqb n 4 then SignWords.Said true true
+    else SignWords.Absent
+
+-- whether OCCURS is said, and its count
+abbrev pub markOf : Occurs → ℕ
+markOf Occurs.Once = 0
+markOf (Occurs.Times n) = 1
+
+abbrev pub countOf : Occurs → ℕ
+countOf Occurs.Once = 0
+countOf (Occurs.Times n) = n
+
+-- and back, from the mark and the count's two parts
+abbrev pub occursAt : ℕ → ℕ → ℕ → Occurs
+occursAt mark low high = if eqb mark 0 then Occurs.Once else Occurs.Times (high * 4294967296 + low)
+
+-- ---------------------------------------------------------------- what a row can hold
+
+-- a span of a text that has at most 65,535 bytes
+pub record Short (w : Span) : Type 0 where
+  pub starts : w .start ≤ 65535
+  pub runs : w .len ≤ 65535
+
+-- the clauses of a statement of such a text
+pub record Brief (c : Clauses) : Type 0 where
+  pub picture : Short (c .picture)
+  pub depending : Short (c .depending)
+  pub redefines : Short (c .redefines)
+
+-- a statement of such a text
+pub record Storable (s : Statement) : Type 0 where
+  pub at : s .at ≤ 65535
+  pub name : Short (s .name)
+  pub clauses : Brief (s .clauses)
+
+-- and its numbers are those of their types in the code
+pub record Ranged (s : Statement) : Type 0 where
+  pub level : s .level < 256
+  pub count : countOf (s .clauses .occurs) < 18446744073709551616
+
+-- ---------------------------------------------------------------- rows
+
+-- the columns of a statement: level, depth, place and name
+abbrev pub placeCells : ℕ → Statement → List ℕ
+placeCells depth s = s .level ∷ depth ∷ s .at ∷ spanCode (s .name) ∷ []
+
+-- the spans of the clauses
+abbrev pub spanCells : Clauses → List ℕ
+spanCells c = spanCode (c .picture) ∷ spanCode (c .depending) ∷ spanCode (c .redefines) ∷ []
+
+-- usage, sign and SYNC
+abbrev pub markCells : Clauses → List ℕ
+markCells c = usageCode (c .usage) ∷ signCode (c .sign) ∷ flag (c .sync) ∷ []
+
+-- OCCURS
+abbrev pub occursCells : Occurs → List ℕ
+occursCells o = markOf o ∷ countOf o % 4294967296 ∷ countOf o / 4294967296 ∷ []
+
+abbrev pub cells : ℕ → Statement → List ℕ
+cells depth s = placeCells depth s ++ spanCells (s .clauses) ++ markCells (s .clauses) ++ occursCells (s .clauses .occurs)
+
+-- w with these numbers stored from b + c on, one by one
+abbrev pub store : List ℕ → ℕ → ℕ → List ℕ → List ℕ
+store w b c [] = w
+store w b c (v ∷ vs) = store (set w (b + c) v) b (suc c) vs
+
+-- w with a statement in row k
+unfoldable pub putRow : List ℕ → ℕ → ℕ → Statement → List ℕ
+putRow w k depth s = store w (20 * k) 0 (cells depth s)
+
+-- w with statements, and their depths, from row k on
+unfoldable pub putRows : List ℕ → ℕ → List ℕ → List Statement → List ℕ
+putRows w k ds [] = w
+putRows w k [] (s ∷ ss) = w
+putRows w k (d ∷ ds) (s ∷ ss) = putRows (putRow w k d s) (suc k) ds ss
+
+-- a column of row k
+abbrev pub cell : List ℕ → ℕ → ℕ → ℕ
+cell w k c = getD w (20 * k + c) 0
+
+-- the depth of the statement in row k
+abbrev pub depthAt : List ℕ → ℕ → ℕ
+depthAt w k = cell w k 1
+
+-- the clauses of the statement in row k
+abbrev pub clausesAt : List ℕ → ℕ → Clauses
+clausesAt w k =
+    clausesOf
+    (spanAt (cell w k 4))
+    (usageAt (cell w k 7))
+    (signAt (cell w k 8))
+    (eqb (cell w k 9) 1)
+    (occursAt (cell w k 10) (cell w k 11) (cell w k 12))
+    (spanAt (cell w k 5))
+    (spanAt (cell w k 6))
+
+-- the statement in row k
+abbrev pub statementAt : List ℕ → ℕ → Statement
+statementAt w k = record { level = cell w k 0 % 256; at = cell w k 2; name = spanAt (cell w k 3); clauses = clausesAt w k }
+
+-- n statements from row k on, and their depths
+unfoldable pub statementsFrom : List ℕ → ℕ → ℕ → List Statement
+statementsFrom w k zero = []
+statementsFrom w k (suc n) = statementAt w k ∷ statementsFrom w (suc k) n
+
+unfoldable pub depthsFrom : List ℕ → ℕ → ℕ → List ℕ
+depthsFrom w k zero = []
+depthsFrom w k (suc n) = depthAt w k ∷ depthsFrom w (suc k) n

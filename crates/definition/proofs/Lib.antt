@@ -4,6 +4,7 @@ pub mod NumberLaws
 pub mod WordLaws
 pub mod StatementLaws
 pub mod TreeLaws
+pub mod DepthLaws
 pub mod LayoutLaws
 pub mod ListingLaws
 pub mod CallsLaws

@@ -4,10 +4,11 @@
 -- A span is one number, for a text has at most 65,535 bytes; a count takes two.
 -- Assumes nothing.
 use Prim.Native.Nat.{ℕ, zero, suc, _+_, _*_, _/_, _%_, _≤_, _<_}
-use mathlib.Core.List.{List, [], _∷_, _++_}
+use mathlib.Core.List.{List, [], _∷_}
 use mathlib.Core.Bool.{Bool, true, false}
 use lib.Dec.{eqb}
-use lib.ListN.{length, getD, set}
+use lib.ListN.{getD}
+use lib.Seq.{sets}
 use Rattle.definition.specs.declared.Span.{Span}
 use Rattle.definition.specs.declared.Usage.{Usage}
 use Rattle.definition.specs.declared.UsageClause.{UsageClause}
@@ -78,52 +79,49 @@ pub record Short (w : Span) : Type 0 where
   pub starts : w .start ≤ 65535
   pub runs : w .len ≤ 65535
 
--- the clauses of a statement of such a text
+-- clauses in such a text
 pub record Brief (c : Clauses) : Type 0 where
   pub picture : Short (c .picture)
   pub depending : Short (c .depending)
   pub redefines : Short (c .redefines)
 
--- a statement of such a text
-pub record Storable (s : Statement) : Type 0 where
+-- a statement in such a text
+pub record Placed (s : Statement) : Type 0 where
   pub at : s .at ≤ 65535
   pub name : Short (s .name)
   pub clauses : Brief (s .clauses)
 
--- and its numbers are those of their types in the code
-pub record Ranged (s : Statement) : Type 0 where
+-- its level is a byte too: what a row gives back as it was
+pub record Storable (s : Statement) : Type 0 where
   pub level : s .level < 256
-  pub count : countOf (s .clauses .occurs) < 18446744073709551616
+  pub placed : Placed s
+
+abbrev pub Storables : List Statement → Type 0
+Storables [] = Unit {0}
+Storables (s ∷ ss) = Storable s × Storables ss
 
 -- ---------------------------------------------------------------- rows
 
--- the columns of a statement: level, depth, place and name
-abbrev pub placeCells : ℕ → Statement → List ℕ
-placeCells depth s = s .level ∷ depth ∷ s .at ∷ spanCode (s .name) ∷ []
-
--- the spans of the clauses
-abbrev pub spanCells : Clauses → List ℕ
-spanCells c = spanCode (c .picture) ∷ spanCode (c .depending) ∷ spanCode (c .redefines) ∷ []
-
--- usage, sign and SYNC
-abbrev pub markCells : Clauses → List ℕ
-markCells c = usageCode (c .usage) ∷ signCode (c .sign) ∷ flag (c .sync) ∷ []
-
--- OCCURS
-abbrev pub occursCells : Occurs → List ℕ
-occursCells o = markOf o ∷ countOf o % 4294967296 ∷ countOf o / 4294967296 ∷ []
+-- the columns of the clauses, and of a statement at a depth
+abbrev pub clauseCells : Clauses → List ℕ
+clauseCells c =
+    spanCode (c .picture)
+    ∷ spanCode (c .depending)
+    ∷ spanCode (c .redefines)
+    ∷ usageCode (c .usage)
+    ∷ signCode (c .sign)
+    ∷ flag (c .sync)
+    ∷ markOf (c .occurs)
+    ∷ countOf (c .occurs) % 4294967296
+    ∷ countOf (c .occurs) / 4294967296
+    ∷ []
 
 abbrev pub cells : ℕ → Statement → List ℕ
-cells depth s = placeCells depth s ++ spanCells (s .clauses) ++ markCells (s .clauses) ++ occursCells (s .clauses .occurs)
-
--- w with these numbers stored from b + c on, one by one
-abbrev pub store : List ℕ → ℕ → ℕ → List ℕ → List ℕ
-store w b c [] = w
-store w b c (v ∷ vs) = store (set w (b + c) v) b (suc c) vs
+cells depth s = s .level ∷ depth ∷ s .at ∷ spanCode (s .name) ∷ clauseCells (s .clauses)
 
 -- w with a statement in row k
 unfoldable pub putRow : List ℕ → ℕ → ℕ → Statement → List ℕ
-putRow w k depth s = store w (20 * k) 0 (cells depth s)
+putRow w k depth s = sets w (20 * k) (cells depth s)
 
 -- w with statements, and their depths, from row k on
 unfoldable pub putRows : List ℕ → ℕ → List ℕ → List Statement → List ℕ

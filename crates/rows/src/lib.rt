@@ -1,15 +1,23 @@
 // Kept statements as rows in lent work memory, with the open levels that give each its depth, and the entry's own checks.
 ghost use mathlib.Core.Path.{_≡_};
 ghost use Prim.Native.Nat.{_+_, _*_, _≤_, _<_};
+ghost use mathlib.Core.List.{[], _∷_};
 ghost use lib.ListN.{length};
+ghost use lib.Seq.{sets};
 ghost use Rattle.definition.specs.Calls.{entryChecks, checkOf, cleared};
 ghost use Rattle.definition.specs.Listing.{flag};
-ghost use Rattle.rows.specs.Table.{spanCode, spanAt, usageCode, usageAt, signCode, signAt, markOf, countOf, occursAt, Short};
+ghost use Rattle.definition.proofs.DepthLaws.{Rising};
+ghost use Rattle.rows.specs.Levels.{stackOf, Nested, Closed, Opened};
+ghost use Rattle.rows.specs.Reading.{Added};
+ghost use Rattle.rows.specs.Table.{spanCode, spanAt, usageCode, usageAt, signCode, signAt, markOf, countOf, occursAt};
+ghost use Rattle.rows.specs.Table.{Short, Brief, Placed, clauseCells, putRow, clausesAt, statementAt};
 use definition::Check;
+use definition::Clauses;
 use definition::Occurs;
 use definition::Refusal;
 use definition::SignWords;
 use definition::Span;
+use definition::Statement;
 use definition::Usage;
 use definition::UsageClause;
 
@@ -182,4 +190,170 @@ fn occurs_at(mark: u32, low: u32, high: u32) -> Occurs
         return Occurs::Once;
     }
     Occurs::Times(high as u64 * 4294967296 + low as u64)
+}
+
+// A level as a number of 32 bits.
+fn level_code(level: u8) -> u32
+    ensures { λ r. ⌜ r ≡ level ⌝ }
+{
+    level as u32
+}
+
+// Four numbers stored from a place on.
+fn put_four(work: &mut [u32], at: usize, a: u32, b: u32, c: u32, d: u32)
+    requires { ⌜ at + 4 ≤ length (now work) ⌝ }
+    ensures { λ _. ⌜ now (work .exit) ≡ sets (now (work .entry)) at (a ∷ b ∷ c ∷ d ∷ []) ⌝ }
+{
+    work[at] = a;
+    work[at + 1] = b;
+    work[at + 2] = c;
+    work[at + 3] = d;
+}
+
+// The columns of the clauses, from a place on.
+fn put_clauses(work: &mut [u32], at: usize, c: Clauses)
+    requires { ⌜ (at + 9 ≤ length (now work)) × Brief c ⌝ }
+    ensures { λ _. ⌜ now (work .exit) ≡ sets (now (work .entry)) at (clauseCells c) ⌝ }
+{
+    let picture = c.picture;
+    let depending = c.depending;
+    let redefines = c.redefines;
+    let usage = c.usage;
+    let sign = c.sign;
+    let occurs = c.occurs;
+    let count = occurs_count(occurs);
+    put_four(
+        work,
+        at,
+        span_code(picture),
+        span_code(depending),
+        span_code(redefines),
+        usage_code(usage),
+    );
+    put_four(
+        work,
+        at + 4,
+        sign_code(sign),
+        flag_of(c.sync),
+        occurs_mark(occurs),
+        (count % 4294967296) as u32,
+    );
+    work[at + 8] = (count / 4294967296) as u32;
+}
+
+// A statement and its depth into row k.
+pub fn put_row(work: &mut [u32], k: usize, depth: u32, s: Statement)
+    requires { ⌜ (20 * k + 20 ≤ length (now work)) × Placed s ⌝ }
+    ensures { λ _. ⌜ now (work .exit) ≡ putRow (now (work .entry)) k depth s ⌝ }
+{
+    let base = 20 * k;
+    let name = s.name;
+    let clauses = s.clauses;
+    put_four(
+        work,
+        base,
+        level_code(s.level),
+        depth,
+        s.at as u32,
+        span_code(name),
+    );
+    put_clauses(work, base + 4, clauses);
+}
+
+// The clauses of the statement in row k.
+fn clauses_at(work: &[u32], k: usize) -> Clauses
+    requires { ⌜ 20 * k + 20 ≤ length (now work) ⌝ }
+    ensures { λ r. ⌜ r ≡ clausesAt (now (work .entry)) k ⌝ }
+{
+    Clauses {
+        picture: span_at(work[20 * k + 4]),
+        usage: usage_at(work[20 * k + 7]),
+        sign: sign_at(work[20 * k + 8]),
+        sync: work[20 * k + 9] == 1,
+        occurs: occurs_at(work[20 * k + 10], work[20 * k + 11], work[20 * k + 12]),
+        depending: span_at(work[20 * k + 5]),
+        redefines: span_at(work[20 * k + 6]),
+    }
+}
+
+// The statement in row k.
+pub fn statement_at(work: &[u32], k: usize) -> Statement
+    requires { ⌜ 20 * k + 20 ≤ length (now work) ⌝ }
+    ensures { λ r. ⌜ r ≡ statementAt (now (work .entry)) k ⌝ }
+{
+    Statement {
+        level: (work[20 * k + 0] % 256) as u8,
+        at: work[20 * k + 2] as usize,
+        name: span_at(work[20 * k + 3]),
+        clauses: clauses_at(work, k),
+    }
+}
+
+// The levels that are open, the innermost last, and how many.
+pub struct OpenLevels {
+    pub levels: [u8; 256],
+    pub count: usize,
+}
+
+// No level is open.
+fn none_open() -> OpenLevels
+    ensures { λ r. ⌜ (stackOf r ≡ []) × Nested r ⌝ }
+{
+    OpenLevels {
+        levels: [0; 256],
+        count: 0,
+    }
+}
+
+// Closes the levels that are not smaller than a statement's.
+pub fn close(o: OpenLevels, level: u8) -> OpenLevels
+    requires { ⌜ Nested o ⌝ }
+    ensures { λ r. ⌜ Closed o level r ⌝ }
+{
+    let levels = o.levels;
+    let mut n = o.count;
+    while 0 < n {
+        if levels[n - 1] < level {
+            return OpenLevels {
+                levels: levels,
+                count: n,
+            };
+        }
+        n -= 1;
+    }
+    OpenLevels {
+        levels: levels,
+        count: n,
+    }
+}
+
+// Opens a statement's level, after the others were closed.
+pub fn open(o: OpenLevels, level: u8) -> OpenLevels
+    requires { ⌜ (o .count ≤ level) × Rising (stackOf o) ⌝ }
+    ensures { λ r. ⌜ Opened o level r ⌝ }
+{
+    let mut levels = o.levels;
+    let n = o.count;
+    levels[n] = level;
+    OpenLevels {
+        levels: levels,
+        count: n + 1,
+    }
+}
+
+// A statement into row n, at the depth that the open levels give; its level is open then.
+fn add_row(work: &mut [u32], n: usize, o: OpenLevels, s: Statement) -> OpenLevels
+    requires { ⌜ (20 * n + 20 ≤ length (now work)) × Nested o × Placed s ⌝ }
+    ensures { λ r. ⌜ Added (now (work .entry)) n o s (now (work .exit)) r ⌝ }
+{
+    let level = s.level;
+    let outer = close(o, level);
+    put_row(work, n, outer.count as u32, s);
+    open(outer, level)
+}
+
+// The number of rows that a text has, or why it is refused.
+pub enum RowsRead {
+    Rows(usize),
+    Refused(Refusal),
 }

@@ -1,0 +1,206 @@
+-- Laws of the table: each part of a statement is read back from its number, a statement from its row, and the statements from their rows; what a
+-- row leaves alone; lengths are kept.
+-- Assumes nothing.
+use Prim.Native.Nat.{ℕ, zero, suc, _+_, _*_, _/_, _%_, _≤_, _<_}
+use mathlib.Core.Path.{_≡_, refl, sym, ap, ap₂, _∙_}
+use mathlib.Core.Bool.{Bool, true, false}
+use mathlib.Core.List.{List, [], _∷_}
+use mathlib.Core.Logic.{⊎-elim}
+use native.Mathlib.Nat.{add-zero, div-add-mod', mod-eq-of-lt}
+use native.Mathlib.Omega.{arith}
+use lib.Dec.{eqb, lit<}
+use lib.ListN.{length, getD, set, length-set}
+use lib.Seq.{sets, length-sets, getD-set-other, getD-set-same}
+use Rattle.definition.specs.declared.Span.{Span}
+use Rattle.definition.specs.declared.Usage.{Usage}
+use Rattle.definition.specs.declared.UsageClause.{UsageClause}
+use Rattle.definition.specs.declared.SignWords.{SignWords}
+use Rattle.definition.specs.declared.Occurs.{Occurs}
+use Rattle.definition.specs.declared.Clauses.{Clauses}
+use Rattle.definition.specs.declared.Statement.{Statement}
+use Rattle.definition.specs.Basic.{span}
+use Rattle.definition.specs.Listing.{flag}
+use Rattle.definition.specs.Statement.{clausesOf}
+use Rattle.definition.proofs.Lists.{order}
+use Rattle.rows.specs.Table.{spanCode, spanAt, usageCode, usageAt, signCode, signAt, markOf, countOf, occursAt}
+use Rattle.rows.specs.Table.{Short, Brief, Storable, Storables, cells, putRow, putRows, cell, depthAt, clausesAt, statementAt, statementsFrom, depthsFrom}
+
+-- ---------------------------------------------------------------- the parts, read back
+
+span-back : (w : Span) → Short w → spanAt (spanCode w) ≡ w
+span-back w h =
+    let start : spanCode w / 65536 ≡ w .start = omega arith in
+    let len : spanCode w % 65536 ≡ w .len = omega arith in
+    ap₂ span start len
+
+usage-back : (u : UsageClause) → usageAt (usageCode u) ≡ u
+usage-back UsageClause.Absent = refl
+usage-back (UsageClause.Given Usage.Display) = refl
+usage-back (UsageClause.Given Usage.Comp3) = refl
+usage-back (UsageClause.Given Usage.Comp) = refl
+
+sign-back : (s : SignWords) → signAt (signCode s) ≡ s
+sign-back SignWords.Absent = refl
+sign-back (SignWords.Said false false) = refl
+sign-back (SignWords.Said true false) = refl
+sign-back (SignWords.Said false true) = refl
+sign-back (SignWords.Said true true) = refl
+
+flag-back : (b : Bool) → eqb (flag b) 1 ≡ b
+flag-back true = refl
+flag-back false = refl
+
+occurs-back : (o : Occurs) → occursAt (markOf o) (countOf o % 4294967296) (countOf o / 4294967296) ≡ o
+occurs-back Occurs.Once = refl
+occurs-back (Occurs.Times n) = ap Occurs.Times (div-add-mod' n 4294967296)
+
+-- ---------------------------------------------------------------- a run of stores
+
+getD-below : (vs l : List ℕ) (i j : ℕ) → j < i → getD (sets l i vs) j 0 ≡ getD l j 0
+getD-below [] l i j h = refl
+getD-below (v ∷ vs) l i j h = getD-below vs (set l i v) (suc i) j (omega arith) ∙ getD-set-other l i j v 0 (omega arith)
+
+getD-above : (vs l : List ℕ) (i j : ℕ) → i + length vs ≤ j → getD (sets l i vs) j 0 ≡ getD l j 0
+getD-above [] l i j h = refl
+getD-above (v ∷ vs) l i j h = getD-above vs (set l i v) (suc i) j (omega arith) ∙ getD-set-other l i j v 0 (omega arith)
+
+getD-in : (vs l : List ℕ) (i c : ℕ) → c < length vs → i + length vs ≤ length l → getD (sets l i vs) (i + c) 0 ≡ getD vs c 0
+getD-in [] l i c h fits = absurd (omega arith)
+getD-in (v ∷ vs) l i zero h fits =
+    rw add-zero (getD-below vs (set l i v) (suc i) i (omega arith) ∙ getD-set-same l i v 0 (omega arith))
+getD-in (v ∷ vs) l i (suc c) h fits =
+    let e : i + suc c ≡ suc i + c = omega arith in
+    ap (λ (n : ℕ). getD (sets (set l i v) (suc i) vs) n 0) e
+    ∙ getD-in vs (set l i v) (suc i) c (omega arith) (simp length-set (omega arith))
+
+-- ---------------------------------------------------------------- columns
+
+module _ (w : List ℕ) (a depth : ℕ) (s : Statement) where
+  pub length-putRow : length (putRow w a depth s) ≡ length w
+  unfolding putRow
+  length-putRow = length-sets w (20 * a) (cells depth s)
+
+  -- a stored column, the columns of a row that no statement takes, and the columns of another row
+  cell-put : 20 * a + 20 ≤ length w → (c : ℕ) → c < 13 → cell (putRow w a depth s) a c ≡ getD (cells depth s) c 0
+  unfolding putRow
+  cell-put h c l = getD-in (cells depth s) w (20 * a) c l (omega arith)
+
+  pub cell-beyond : (c : ℕ) → 13 ≤ c → cell (putRow w a depth s) a c ≡ cell w a c
+  unfolding putRow
+  cell-beyond c l = getD-above (cells depth s) w (20 * a) (20 * a + c) (omega arith)
+
+  pub cell-other : (k : ℕ) → (k ≡ a → ⊥) → (c : ℕ) → c < 20 → cell (putRow w a depth s) k c ≡ cell w k c
+  unfolding putRow
+  cell-other k n c l =
+      ⊎-elim
+      (λ (less : k < a). getD-below (cells depth s) w (20 * a) (20 * k + c) (omega arith))
+      (λ (more : a ≤ k). getD-above (cells depth s) w (20 * a) (20 * k + c) (omega arith))
+      (order k a)
+
+-- ---------------------------------------------------------------- one row
+
+module _ (w : List ℕ) (k : ℕ) where
+  -- a statement depends on its 13 columns alone
+  pub statement-same : (w′ : List ℕ) → ((c : ℕ) → c < 13 → cell w k c ≡ cell w′ k c) → statementAt w k ≡ statementAt w′ k
+  statement-same w′ h =
+      cc (h 0 (lit< tt), h 2 (lit< tt), h 3 (lit< tt), h 4 (lit< tt), h 5 (lit< tt), h 6 (lit< tt), h 7 (lit< tt), h 8 (lit< tt), h 9 (lit< tt), h 10 (lit< tt), h 11 (lit< tt), h 12 (lit< tt))
+
+  -- columns that are a statement's hold the statement
+  module _ (depth : ℕ) (s : Statement) (h : (c : ℕ) → c < 13 → cell w k c ≡ getD (cells depth s) c 0) (fits : Storable s) where
+    clauses-held : clausesAt w k ≡ s .clauses
+    clauses-held =
+        let c = s .clauses in
+        let b = fits .placed .clauses in
+        let same : clausesAt w k ≡ clausesOf (c .picture) (c .usage) (c .sign) (c .sync) (c .occurs) (c .depending) (c .redefines) =
+        cc (
+          ap spanAt (h 4 (lit< tt)) ∙ span-back (c .picture) (b .picture),
+          ap usageAt (h 7 (lit< tt)) ∙ usage-back (c .usage),
+          ap signAt (h 8 (lit< tt)) ∙ sign-back (c .sign),
+          ap (λ (n : ℕ). eqb n 1) (h 9 (lit< tt)) ∙ flag-back (c .sync),
+          h 10 (lit< tt),
+          h 11 (lit< tt),
+          h 12 (lit< tt),
+          occurs-back (c .occurs),
+          ap spanAt (h 5 (lit< tt)) ∙ span-back (c .depending) (b .depending),
+          ap spanAt (h 6 (lit< tt)) ∙ span-back (c .redefines) (b .redefines),
+        ) in
+        same
+
+    statement-held : statementAt w k ≡ s
+    statement-held =
+        let same : statementAt w k ≡ record { level = s .level; at = s .at; name = s .name; clauses = s .clauses } =
+        cc (
+          ap (λ (n : ℕ). n % 256) (h 0 (lit< tt)) ∙ mod-eq-of-lt (fits .level),
+          h 2 (lit< tt),
+          ap spanAt (h 3 (lit< tt)) ∙ span-back (s .name) (fits .placed .name),
+          clauses-held,
+        ) in
+        same
+
+module _ (w : List ℕ) (a depth : ℕ) (s : Statement) where
+  -- a stored statement is read back, and its depth
+  pub statement-put : 20 * a + 20 ≤ length w → Storable s → statementAt (putRow w a depth s) a ≡ s
+  statement-put h fits = statement-held (putRow w a depth s) a depth s (cell-put w a depth s h) fits
+
+  pub depth-put : 20 * a + 20 ≤ length w → depthAt (putRow w a depth s) a ≡ depth
+  depth-put h = cell-put w a depth s h 1 (lit< tt)
+
+  -- and the other rows are as before
+  pub statement-other : (k : ℕ) → (k ≡ a → ⊥) → statementAt (putRow w a depth s) k ≡ statementAt w k
+  statement-other k n = statement-same (putRow w a depth s) k w (λ c l. cell-other w a depth s k n c (omega arith))
+
+-- ---------------------------------------------------------------- a run of rows
+
+pub length-putRows : (ds : List ℕ) (ss : List Statement) (w : List ℕ) (a : ℕ) → length (putRows w a ds ss) ≡ length w
+unfolding putRows
+length-putRows ds [] w a = refl
+length-putRows [] (s ∷ ss) w a = refl
+length-putRows (d ∷ ds) (s ∷ ss) w a = length-putRows ds ss (putRow w a d s) (suc a) ∙ length-putRow w a d s
+
+-- rows before the run are as before
+cell-before : (ds : List ℕ) (ss : List Statement) (w : List ℕ) (a k : ℕ) → k < a → (c : ℕ) → c < 20 → cell (putRows w a ds ss) k c ≡ cell w k c
+unfolding putRows
+cell-before ds [] w a k h c l = refl
+cell-before [] (s ∷ ss) w a k h c l = refl
+cell-before (d ∷ ds) (s ∷ ss) w a k h c l =
+    cell-before ds ss (putRow w a d s) (suc a) k (omega arith) c l ∙ cell-other w a d s k (λ e. omega arith) c l
+
+pub statement-before : (ds : List ℕ) (ss : List Statement) (w : List ℕ) (a k : ℕ) → k < a → statementAt (putRows w a ds ss) k ≡ statementAt w k
+statement-before ds ss w a k h = statement-same (putRows w a ds ss) k w (λ c l. cell-before ds ss w a k h c (omega arith))
+
+-- the stored statements are read back
+pub statements-put :
+    (ds : List ℕ) (ss : List Statement) (w : List ℕ) (a : ℕ) →
+    length ds ≡ length ss →
+    20 * (a + length ss) ≤ length w →
+    Storables ss →
+    statementsFrom (putRows w a ds ss) a (length ss) ≡ ss
+unfolding putRows statementsFrom
+statements-put ds [] w a e h fits = refl
+statements-put [] (s ∷ ss) w a e h fits = absurd (omega arith)
+statements-put (d ∷ ds) (s ∷ ss) w a e h fits =
+    let w₁ = putRow w a d s in
+    let first = statement-before ds ss w₁ (suc a) a (omega arith) ∙ statement-put w a d s (omega arith) (fits .0) in
+    let more = statements-put ds ss w₁ (suc a) (omega arith) (omega (arith, length-putRow w a d s)) (fits .1) in
+    ap₂ (λ (x : Statement) (xs : List Statement). x ∷ xs) first more
+
+-- and their depths
+pub depths-put :
+    (ds : List ℕ) (ss : List Statement) (w : List ℕ) (a : ℕ) →
+    length ds ≡ length ss →
+    20 * (a + length ss) ≤ length w →
+    depthsFrom (putRows w a ds ss) a (length ss) ≡ ds
+unfolding putRows depthsFrom
+depths-put [] [] w a e h = refl
+depths-put (d ∷ ds) [] w a e h = absurd (omega arith)
+depths-put [] (s ∷ ss) w a e h = absurd (omega arith)
+depths-put (d ∷ ds) (s ∷ ss) w a e h =
+    let w₁ = putRow w a d s in
+    let first = cell-before ds ss w₁ (suc a) a (omega arith) 1 (lit< tt) ∙ depth-put w a d s (omega arith) in
+    let more = depths-put ds ss w₁ (suc a) (omega arith) (omega (arith, length-putRow w a d s)) in
+    ap₂ (λ (x : ℕ) (xs : List ℕ). x ∷ xs) first more
+
+pub length-statements : (w : List ℕ) (a n : ℕ) → length (statementsFrom w a n) ≡ n
+unfolding statementsFrom
+length-statements w a zero = refl
+length-statements w a (suc n) = ap suc (length-statements w (suc a) n)

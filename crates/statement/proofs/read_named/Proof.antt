@@ -1,0 +1,144 @@
+-- `statement::read_named` meets its contract: a name and clauses, or the statement ends.
+-- Assumes nothing.
+use borrow.Author.Needs.{needs}
+use Prim.Native.Nat.{ℕ, _<_, _≤_}
+use mathlib.Core.Path.{_≡_, ap, _∙_}
+use mathlib.Core.List.{List, []}
+use native.Mathlib.Omega.{arith}
+use lib.ListN.{length}
+use Rattle.definition.specs.declared.Clauses.{Clauses}
+use Rattle.definition.specs.declared.Mode.the-variants.{Between}
+use Rattle.definition.specs.declared.Refusal.{Refusal}
+use Rattle.definition.specs.declared.Span.{Span}
+use Rattle.definition.specs.declared.Statement.{Statement}
+use Rattle.definition.specs.declared.Token.{Token}
+use Rattle.definition.specs.Basic.{span, absent}
+use Rattle.definition.specs.Statement.{noClauses, named}
+use Rattle.definition.proofs.StatementLaws.{named-none, named-given, named-refused}
+use Rattle.definition.proofs.WordLaws.{firstWords}
+use Rattle.text.specs.declared.Next.{Next}
+use Rattle.text.specs.Tokens.{tokensFrom, FirstWord, First}
+use Rattle.text.proofs.TokenLaws.{end-first, word-first, stop-first}
+use Rattle.statement.specs.declared.ClausesRead.{ClausesRead}
+use Rattle.statement.specs.declared.NamedRead.{NamedRead}
+use Rattle.statement.specs.Reading.{wordsFrom, Ends, ClausesDone, ClausesAre, NamedAre}
+use Rattle.statement.proofs.EndLaws.{reached-start, reached-word, ends-stop, ends-text, ends-on}
+use Rattle.statement.proofs.FitLaws.{none-fit}
+use Rattle.statement.proofs.read_named.Statement.{statement}
+use Rattle.statement.proofs.read_named.Tie as tie
+
+-- the statement of a level at a position, with a name and clauses
+abbrev of : ℕ → ℕ → Span → Clauses → Statement
+of level at w c = record { level = level; at = at; name = w; clauses = c }
+
+-- the words after the level, where the tokens from the place on are known
+tokens-named : (t : List ℕ) (at level : ℕ) {ts us : List Token} → ts ≡ us → named t at level (firstWords ts) ≡ named t at level (firstWords us)
+tokens-named t at level p = ap (λ (vs : List Token). named t at level (firstWords vs)) p
+
+-- there are none
+bare :
+    {t : List ℕ} {at level from n : ℕ} {w : Span} {c : Clauses} →
+    at < length t →
+    named t at level (wordsFrom t from) ≡ named t at level [] →
+    w ≡ absent →
+    c ≡ noClauses →
+    Ends t from n →
+    NamedAre t at level from (NamedRead.Done (of level at w c) n)
+bare {t} {at} {level} h p q q′ e =
+    rw (q, q′) (record { is = p ∙ named-none t at level; fits = record { begins = h; name = omega arith; clauses = none-fit t }; ends = e })
+
+module _ (t : List ℕ) (at level from : ℕ) (h : from ≤ length t) {r : Next} (f : First (tokensFrom t Between from) t from r) where
+  module _ {s l n : ℕ} (q : r ≡ Next.Word s l n) where
+    first : FirstWord (tokensFrom t Between from) t from s l n
+    first = word-first _ t from f q
+
+    -- the clauses begin in the text
+    within : n ≤ length t
+    within = first .within
+
+    module _ {y : ClausesRead} (g : ClausesAre t at n y) where
+      done : {c : Clauses} {m : ℕ} → at < length t → y ≡ ClausesRead.Done c m → NamedAre t at level from (NamedRead.Done (of level at (span s l) c) m)
+      done {c} {m} b e =
+          let d : ClausesDone t at n c m = rw e at g in
+          record {
+            is = tokens-named t at level (first .all-are) ∙ named-given t at level (span s l) (wordsFrom t n) (d .is);
+            fits = record { begins = b; name = first .fits; clauses = d .fits };
+            ends = ends-on (reached-word (reached-start h) f q) (d .ends);
+          }
+
+      refused : {x : Refusal} → y ≡ ClausesRead.Refused x → NamedAre t at level from (NamedRead.Refused x)
+      refused {x} e =
+          let d : ClausesAre t at n (ClausesRead.Refused x) = rw e at g in
+          tokens-named t at level (first .all-are) ∙ named-refused t at level (span s l) (wordsFrom t n) d
+
+  module _ {w : Span} {c : Clauses} (b : at < length t) (p : w ≡ absent) (p′ : c ≡ noClauses) where
+    stopped : {n : ℕ} → r ≡ Next.Stop n → NamedAre t at level from (NamedRead.Done (of level at w c) n)
+    stopped q = bare b (tokens-named t at level (stop-first _ t from f q .all-are)) p p′ (ends-stop (reached-start h) f q)
+
+    ended : r ≡ Next.End → NamedAre t at level from (NamedRead.Done (of level at w c) (length t))
+    ended q = bare b (tokens-named t at level (end-first _ t from f q)) p p′ (ends-text (reached-start h) f q)
+
+next-token-requires : tie.Need-next-token-requires
+next-token-requires c κs = search needs
+
+enum-known-start : tie.Need-enum-known-start
+enum-known-start c = search needs
+
+read-clauses-requires : tie.Need-read-clauses-requires
+read-clauses-requires c κs = search within
+
+enum-known-c : tie.Need-enum-known-c
+enum-known-c c = search needs
+
+returns : tie.Need-returns
+returns c = search done
+
+enum-known-r : tie.Need-enum-known-r
+enum-known-r c = search needs
+
+returns-2 : tie.Need-returns-2
+returns-2 c = search refused
+
+enum-known-next : tie.Need-enum-known-next
+enum-known-next c = search needs
+
+nowhere-requires : tie.Need-nowhere-requires
+nowhere-requires c κs = search needs
+
+no-clauses-requires : tie.Need-no-clauses-requires
+no-clauses-requires c κs = search needs
+
+returns-3 : tie.Need-returns-3
+returns-3 c = search stopped
+
+enum-told : tie.Need-enum-told
+enum-told c = search needs
+
+nowhere-requires-2 : tie.Need-nowhere-requires-2
+nowhere-requires-2 c κs = search needs
+
+no-clauses-requires-2 : tie.Need-no-clauses-requires-2
+no-clauses-requires-2 c κs = search needs
+
+returns-4 : tie.Need-returns-4
+returns-4 c = search ended
+
+pub read-named-spec : {M : Type 1} → statement M
+read-named-spec =
+    tie.close
+    (tie.spec
+    next-token-requires
+    enum-known-start
+    read-clauses-requires
+    enum-known-c
+    returns
+    enum-known-r
+    returns-2
+    enum-known-next
+    nowhere-requires
+    no-clauses-requires
+    returns-3
+    enum-told
+    nowhere-requires-2
+    no-clauses-requires-2
+    returns-4)

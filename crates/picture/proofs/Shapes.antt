@@ -1,0 +1,80 @@
+-- Laws of the shape: by the tallies it is that of the symbols, and the checks of the shape are those of the symbols.
+-- Assumes nothing.
+use Prim.Native.Nat.{ℕ, _+_, _-_}
+use mathlib.Core.Path.{_≡_, refl, sym, ap, ap₂, _∙_}
+use mathlib.Core.Bool.{Bool, true, false, not}
+use mathlib.Core.List.{List}
+use native.Mathlib.Omega.{arith}
+use lib.ListN.{length}
+use Rattle.definition.specs.declared.Refusal.{Refusal}
+use Rattle.definition.specs.declared.Usage.{Usage}
+use Rattle.definition.specs.Basic.{Answer, refuse, give, _>>=_, refuseIf}
+use Rattle.definition.specs.Picture.{trim, expand, tally, beforePoint, afterPoint, fraction, mask, legal, mixed, tooLong, symbols}
+use Rattle.definition.proofs.Answers.{given-same}
+use Rattle.definition.proofs.PictureLaws.{tally-sides, mask-length}
+use Rattle.picture.specs.declared.Tallies.{Tallies}
+use Rattle.picture.specs.declared.Half.{Half}
+use Rattle.picture.specs.declared.PicShape.{PicShape}
+use Rattle.picture.specs.Shape.{tallies, halves, nothing, counts}
+use Rattle.picture.specs.Kinds.{scaleOf, shapeOf, shapeFor, judged}
+use Rattle.picture.proofs.Halves.{legal-halves}
+use Rattle.picture.proofs.Counting.{no-digit}
+
+-- the shape by the tallies
+module _ (l : List ℕ) where
+  scale-same : scaleOf (tallies l) ≡ fraction l
+  scale-same = omega (arith, tally-sides "9Z*" l no-digit)
+
+  width-same : length l - tally "SVP" l ≡ length (mask l)
+  width-same = omega (arith, mask-length l)
+
+  pub shape-same : shapeOf (tallies l) ≡ shapeFor l
+  shape-same i =
+      record {
+        text = shapeFor l .text;
+        digits = tally "9Z*" (beforePoint l) + (tally "$" l - 1) + (tally "+" l - 1) + (tally "-" l - 1) + scale-same i;
+        scale = scale-same i;
+        signed = shapeFor l .signed;
+        edited = shapeFor l .edited;
+        width = width-same i
+      }
+
+-- the checks, then the shape
+checks-shape :
+    {A B : Type 0} (f : A → B) (a : A) (x y z : Bool) (at : ℕ) →
+    ((refuseIf x 25 at >>= λ _. refuseIf y 26 at >>= λ _. refuseIf z 27 at >>= λ _. give a) >>= λ v. give (f v)) ≡
+    (refuseIf x 25 at >>= λ _. refuseIf y 26 at >>= λ _. refuseIf z 27 at >>= λ _. give (f a))
+unfolding _>>=_
+checks-shape f a true y z at = refl
+checks-shape f a false true z at = refl
+checks-shape f a false false true at = refl
+checks-shape f a false false false at = refl
+
+-- the shape of the symbols that are not refused
+pub symbols-shape :
+    (at : ℕ) (usage : Usage) (bs : List ℕ) (x : Answer (List ℕ)) →
+    expand at 0 0 (trim bs) ≡ x →
+    (symbols at usage bs >>= λ l. give (shapeFor l)) ≡ (x >>= λ l. judged at usage (shapeFor l) (halves Half.Nothing l))
+unfolding _>>=_ symbols
+symbols-shape at usage bs (refuse r) e = rw e
+symbols-shape at usage bs (give l) e =
+    rw (e, legal-halves l) (checks-shape shapeFor l (not (nothing (halves Half.Nothing l))) (mixed l) (tooLong usage l) at)
+
+-- what was counted, or refused
+pub counts-refused : (at : ℕ) (bs : List ℕ) (x : Answer (List ℕ)) {r : Refusal} → expand at 0 0 bs ≡ x → refuse r ≡ counts at bs → x ≡ refuse r
+unfolding _>>=_
+counts-refused at bs (refuse y) e h = ap refuse (let q = rw e at h in cc)
+counts-refused at bs (give l) e h = absurd (let q = rw e at h in let z : _≡_ {A = ℕ} 0 1 = cc in omega arith)
+
+pub counts-given :
+    (at : ℕ) (bs : List ℕ) (usage : Usage) (x : Answer (List ℕ)) {t : Tallies} {half : Half} →
+    expand at 0 0 bs ≡ x →
+    give (t, half) ≡ counts at bs →
+    judged at usage (shapeOf t) half ≡ (x >>= λ l. judged at usage (shapeFor l) (halves Half.Nothing l))
+unfolding _>>=_
+counts-given at bs usage (refuse y) e h = absurd (let q = rw e at h in let z : _≡_ {A = ℕ} 0 1 = cc in omega arith)
+counts-given at bs usage (give l) {t} {half} e h =
+    let both = given-same (rw e at h) in
+    let same : t ≡ tallies l = ap (λ (x : Tallies × Half). x .0) both in
+    let awaited : half ≡ halves Half.Nothing l = ap (λ (x : Tallies × Half). x .1) both in
+    ap₂ (judged at usage) (ap shapeOf same ∙ shape-same l) awaited

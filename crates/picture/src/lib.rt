@@ -1,0 +1,727 @@
+// The picture reader.
+ghost use mathlib.Core.Path.{_≡_};
+ghost use mathlib.Core.Bool.{Bool, _&&_};
+ghost use Prim.Native.Nat.{_+_, _-_, _≤_, _<_, max};
+ghost use lib.ListN.{length, drop, getD, replicate};
+ghost use mathlib.Core.List.{[], reverse};
+ghost use Rattle.definition.specs.Picture.{display as displayOf, numeric as numericOf, picture as pictureIn, isDisplay, trimStart, trim as trimmed, symbol, resolveSign, isEmbedded, signBytes, compWidth, byteWidth};
+ghost use Rattle.definition.specs.Calls.{pictureAnswer, pictureOf};
+ghost use Rattle.picture.specs.Shape.{tallies, runOf, unless, joined, Small, next, halves, nothing, Counts};
+ghost use Rattle.picture.specs.Kinds.{shapeOf, maskedBy, mixedBy, longBy, kindedBy, Fit, Judged, Reads};
+ghost use Rattle.picture.specs.Repeats.{Closed, Repeated};
+use definition::Check;
+use definition::FieldKind;
+use definition::NumRepr;
+use definition::PicAnswer;
+use definition::Pictured;
+use definition::Refusal;
+use definition::SignClause;
+use definition::SignKind;
+use definition::Usage;
+use text::Number;
+
+// The bytes of a COMP item of so many digits.
+fn comp_width(digits: usize) -> usize
+    ensures { λ r. ⌜ r ≡ compWidth digits ⌝ }
+{
+    match digits {
+        0..=4 => 2,
+        5..=9 => 4,
+        _ => 8,
+    }
+}
+
+// The bytes of a COMP-3 item of so many digits.
+fn byte_width(digits: usize) -> usize
+    ensures { λ r. ⌜ r ≡ byteWidth digits ⌝ }
+{
+    digits / 2 + 1
+}
+
+// The sign that an item has, by its sign symbols and its SIGN clause.
+fn resolve_sign(signed: bool, clause: SignClause) -> SignKind
+    ensures { λ r. ⌜ r ≡ resolveSign signed clause ⌝ }
+{
+    if signed {
+        match clause {
+            SignClause::Absent => SignKind::Embedded,
+            SignClause::Given(k) => k,
+        }
+    } else {
+        SignKind::Unsigned
+    }
+}
+
+// The bytes of a sign of its own.
+fn sign_bytes(sign: SignKind) -> usize
+    ensures { λ r. ⌜ r ≡ signBytes sign ⌝ }
+{
+    match sign {
+        SignKind::Unsigned => 0,
+        SignKind::Embedded => 0,
+        SignKind::LeadingSeparate => 1,
+        SignKind::TrailingSeparate => 1,
+    }
+}
+
+// How often the symbols of each set stand in a list of symbols: all symbols; X A; 9 Z *; those of them before the point; P;
+// V and `.`; `$`; `+`; `-`; the signs S + - C D; the editing symbols; and S V P, which take no byte of a mask.
+pub struct Tallies {
+    pub symbols: usize,
+    pub text: usize,
+    pub digits: usize,
+    pub whole: usize,
+    pub scaled: usize,
+    pub points: usize,
+    pub dollars: usize,
+    pub pluses: usize,
+    pub minuses: usize,
+    pub signs: usize,
+    pub edits: usize,
+    pub hidden: usize,
+}
+
+// The tallies of one symbol that stands n times.
+fn run(b: u8, n: usize) -> Tallies
+    ensures { λ r. ⌜ r ≡ runOf b n ⌝ }
+{
+    let mut r = Tallies {
+        symbols: n,
+        text: 0,
+        digits: 0,
+        whole: 0,
+        scaled: 0,
+        points: 0,
+        dollars: 0,
+        pluses: 0,
+        minuses: 0,
+        signs: 0,
+        edits: 0,
+        hidden: 0,
+    };
+    match b {
+        b'X' | b'A' => {
+            r.text = n;
+            return r;
+        }
+        b'9' => {
+            r.digits = n;
+            r.whole = n;
+            return r;
+        }
+        b'Z' | b'*' => {
+            r.digits = n;
+            r.whole = n;
+            r.edits = n;
+            return r;
+        }
+        b'P' => {
+            r.scaled = n;
+            r.hidden = n;
+            return r;
+        }
+        b'V' => {
+            r.points = n;
+            r.hidden = n;
+            return r;
+        }
+        b'S' => {
+            r.signs = n;
+            r.hidden = n;
+            return r;
+        }
+        b'.' => {
+            r.points = n;
+            r.edits = n;
+            return r;
+        }
+        b',' | b'/' | b'B' => {
+            r.edits = n;
+            return r;
+        }
+        b'0' => {
+            r.edits = n;
+            return r;
+        }
+        b'$' => {
+            r.dollars = n;
+            r.edits = n;
+            return r;
+        }
+        b'+' => {
+            r.pluses = n;
+            r.signs = n;
+            r.edits = n;
+            return r;
+        }
+        b'-' => {
+            r.minuses = n;
+            r.signs = n;
+            r.edits = n;
+            return r;
+        }
+        b'C' => {
+            r.signs = n;
+            r.edits = n;
+            return r;
+        }
+        b'D' => {
+            r.signs = n;
+            r.edits = n;
+            return r;
+        }
+        _ => {
+            return r;
+        }
+    }
+}
+
+// A count before the point, and 0 after it.
+fn before_point(points: usize, n: usize) -> usize
+    ensures { λ r. ⌜ r ≡ unless points n ⌝ }
+{
+    if points == 0 {
+        return n;
+    }
+    0
+}
+
+// The tallies of two lists of symbols, one after the other.
+fn join(s: Tallies, t: Tallies) -> Tallies
+    requires { ⌜ Small s × Small t ⌝ }
+    ensures { λ r. ⌜ r ≡ joined s t ⌝ }
+{
+    let whole = before_point(s.points, t.whole);
+    Tallies {
+        symbols: s.symbols + t.symbols,
+        text: s.text + t.text,
+        digits: s.digits + t.digits,
+        whole: s.whole + whole,
+        scaled: s.scaled + t.scaled,
+        points: s.points + t.points,
+        dollars: s.dollars + t.dollars,
+        pluses: s.pluses + t.pluses,
+        minuses: s.minuses + t.minuses,
+        signs: s.signs + t.signs,
+        edits: s.edits + t.edits,
+        hidden: s.hidden + t.hidden,
+    }
+}
+
+// What of CR or DB is awaited: nothing, an R, a B; or a byte that is no symbol was seen.
+pub enum Half {
+    Nothing,
+    C,
+    D,
+    Wrong,
+}
+
+// Whether a byte is a symbol by itself.
+fn is_symbol(b: u8) -> bool
+    ensures { λ r. ⌜ r ≡ symbol b ⌝ }
+{
+    match b {
+        b'X' | b'A' | b'9' | b'P' | b'V' | b'S' | b'Z' | b'0' => true,
+        b'*' | b'.' | b',' | b'$' | b'B' => true,
+        b'/' | b'+' | b'-' => true,
+        _ => false,
+    }
+}
+
+// What is awaited after one more symbol.
+fn next_half(p: Half, b: u8) -> Half
+    ensures { λ r. ⌜ r ≡ next p b ⌝ }
+{
+    match p {
+        Half::Nothing => first_half(b),
+        Half::C => {
+            if b == b'R' {
+                return Half::Nothing;
+            }
+            Half::Wrong
+        }
+        Half::D => {
+            if b == b'B' {
+                return Half::Nothing;
+            }
+            Half::Wrong
+        }
+        Half::Wrong => Half::Wrong,
+    }
+}
+
+// What is awaited after a symbol where nothing was.
+fn first_half(b: u8) -> Half
+    ensures { λ r. ⌜ r ≡ next Half.Nothing b ⌝ }
+{
+    if b == b'C' {
+        return Half::C;
+    }
+    if b == b'D' {
+        return Half::D;
+    }
+    if is_symbol(b) {
+        return Half::Nothing;
+    }
+    Half::Wrong
+}
+
+// What is awaited after a symbol that stands n times: no state changes after the second.
+fn half_after(p: Half, b: u8, n: usize) -> Half
+    ensures { λ r. ⌜ r ≡ halves p (replicate n b) ⌝ }
+{
+    if n == 0 {
+        return p;
+    }
+    let q = next_half(p, b);
+    if n == 1 {
+        return q;
+    }
+    next_half(q, b)
+}
+
+// A text without the white space in front.
+fn trim_start(s: &[u8]) -> &[u8]
+    ensures { λ r. ⌜ now r ≡ trimStart (now (s .entry)) ⌝ }
+{
+    let mut i = 0;
+    while i < s.len() {
+        if text::is_white(s[i]) {
+            i += 1;
+        } else {
+            return &s[i..];
+        }
+    }
+    &s[i..]
+}
+
+// A text without the white space at its end.
+fn trim_end(s: &[u8]) -> &[u8]
+    ensures { λ r. ⌜ now r ≡ reverse (trimStart (reverse (now (s .entry)))) ⌝ }
+{
+    let mut e = s.len();
+    while 0 < e {
+        if text::is_white(s[e - 1]) {
+            e -= 1;
+        } else {
+            return &s[0..e];
+        }
+    }
+    &s[0..e]
+}
+
+// A text without the white space around it.
+fn trim(s: &[u8]) -> &[u8]
+    ensures { λ r. ⌜ now r ≡ trimmed (now (s .entry)) ⌝ }
+{
+    trim_end(trim_start(s))
+}
+
+// Where the first `)` of a text stands, or the text's length.
+fn close_at(s: &[u8]) -> usize
+    ensures { λ r. ⌜ Closed (now (s .entry)) r ⌝ }
+{
+    let mut i = 0;
+    while i < s.len() {
+        if s[i] == b')' {
+            return i;
+        }
+        i += 1;
+    }
+    i
+}
+
+// How often a symbol stands, and how many bytes after it say so; or why that cannot be read.
+pub enum Repeat {
+    Times { n: usize, skip: usize },
+    Refused(Refusal),
+}
+
+// The repeat of a symbol by the text after it; a refusal carries `at`.
+fn repeat_at(rest: &[u8], at: usize) -> Repeat
+    ensures { λ r. ⌜ Repeated at (now (rest .entry)) r ⌝ }
+{
+    if rest.len() == 0 {
+        return Repeat::Times { n: 1, skip: 0 };
+    }
+    if rest[0] == b'(' {
+        let inside = &rest[1..];
+        let k = close_at(inside);
+        if k < inside.len() {
+            let word = trim(&inside[0..k]);
+            match text::count_of(word) {
+                Number::Value(n) => {
+                    return Repeat::Times {
+                        n: n as usize,
+                        skip: k + 2,
+                    };
+                }
+                Number::Bad => {
+                    return Repeat::Refused(Refusal {
+                        number: 23,
+                        position: at,
+                        needed: 0,
+                    });
+                }
+            }
+        } else {
+            return Repeat::Refused(Refusal {
+                number: 22,
+                position: at,
+                needed: 0,
+            });
+        }
+    }
+    Repeat::Times { n: 1, skip: 0 }
+}
+
+// The symbols of a picture, counted, with what is awaited of CR or DB; or why they cannot be read.
+pub enum Counted {
+    Symbols { tallies: Tallies, half: Half },
+    Refused(Refusal),
+}
+
+// No symbol.
+fn none_yet() -> Tallies
+    ensures { λ r. ⌜ r ≡ tallies [] ⌝ }
+{
+    Tallies {
+        symbols: 0,
+        text: 0,
+        digits: 0,
+        whole: 0,
+        scaled: 0,
+        points: 0,
+        dollars: 0,
+        pluses: 0,
+        minuses: 0,
+        signs: 0,
+        edits: 0,
+        hidden: 0,
+    }
+}
+
+// The symbols of a trimmed picture, counted run by run: 22, 23, and 24 for over 65,535 of them, as they come.
+fn count_symbols(picture: &[u8], at: usize) -> Counted
+    ensures { λ r. ⌜ Counts at (now (picture .entry)) r ⌝ }
+{
+    let mut s = none_yet();
+    let mut half = Half::Nothing;
+    let mut i = 0;
+    while i < picture.len() {
+        let b = text::upper(picture[i]);
+        let next = i + 1;
+        match repeat_at(&picture[next..], at) {
+            Repeat::Times { n, skip } => {
+                if 65535 - s.symbols < n {
+                    return Counted::Refused(Refusal {
+                        number: 24,
+                        position: at,
+                        needed: 0,
+                    });
+                }
+                i = next + skip;
+                half = half_after(half, b, n);
+                s = join(s, run(b, n));
+            }
+            Repeat::Refused(r) => {
+                return Counted::Refused(r);
+            }
+        }
+    }
+    Counted::Symbols { tallies: s, half }
+}
+
+// What a picture's kind and width depend on: its X and A, its digits, those of the fraction, whether it has a sign symbol,
+// whether it is edited, and the length of its mask.
+pub struct PicShape {
+    pub text: usize,
+    pub digits: usize,
+    pub scale: usize,
+    pub signed: bool,
+    pub edited: bool,
+    pub width: usize,
+}
+
+// One less, or 0.
+fn less_one(n: usize) -> usize
+    ensures { λ r. ⌜ r ≡ n - 1 ⌝ }
+{
+    if n == 0 {
+        return 0;
+    }
+    n - 1
+}
+
+// The shape by the tallies: each of `$`, `+`, `-` adds its count less one to the digits.
+fn shape_of(t: Tallies) -> PicShape
+    requires { ⌜ Small t ⌝ }
+    ensures { λ r. ⌜ r ≡ shapeOf t ⌝ }
+{
+    let dollars = less_one(t.dollars);
+    let pluses = less_one(t.pluses);
+    let minuses = less_one(t.minuses);
+    let scale = t.digits - t.whole + t.scaled;
+    PicShape {
+        text: t.text,
+        digits: t.whole + dollars + pluses + minuses + scale,
+        scale,
+        signed: 0 < t.signs,
+        edited: 0 < t.edits,
+        width: t.symbols - t.hidden,
+    }
+}
+
+// Whether no half of CR or DB is left over, and every byte was a symbol.
+fn is_legal(half: Half) -> bool
+    ensures { λ r. ⌜ r ≡ nothing half ⌝ }
+{
+    match half {
+        Half::Nothing => true,
+        Half::C => false,
+        Half::D => false,
+        Half::Wrong => false,
+    }
+}
+
+fn is_display(usage: Usage) -> bool
+    ensures { λ r. ⌜ r ≡ isDisplay usage ⌝ }
+{
+    match usage {
+        Usage::Display => true,
+        Usage::Comp3 => false,
+        Usage::Comp => false,
+    }
+}
+
+// Whether the item is edited: only under DISPLAY.
+fn is_masked(s: PicShape, usage: Usage) -> bool
+    ensures { λ r. ⌜ r ≡ maskedBy usage s ⌝ }
+{
+    if s.edited {
+        return is_display(usage);
+    }
+    false
+}
+
+// Whether text is mixed with a digit or editing.
+fn is_mixed(s: PicShape) -> bool
+    ensures { λ r. ⌜ r ≡ mixedBy s ⌝ }
+{
+    if s.text == 0 {
+        return false;
+    }
+    if 0 < s.digits {
+        return true;
+    }
+    s.edited
+}
+
+// Whether a picture that is no text has over 255 digits, or an edited one a mask over 255.
+fn is_long(s: PicShape, usage: Usage) -> bool
+    ensures { λ r. ⌜ r ≡ longBy usage s ⌝ }
+{
+    if 0 < s.text {
+        return false;
+    }
+    if 255 < s.digits {
+        return true;
+    }
+    if is_masked(s, usage) {
+        return 255 < s.width;
+    }
+    false
+}
+
+// A shape, or why a picture has none.
+pub enum Shaped {
+    Shape(PicShape),
+    Refused(Refusal),
+}
+
+// Why a picture is refused, with no length needed.
+fn refusal(number: u32, at: usize) -> Shaped
+    ensures { λ r. ⌜ r ≡ Shaped.Refused (record { number = number; position = at; needed = 0 }) ⌝ }
+{
+    Shaped::Refused(Refusal {
+        number,
+        position: at,
+        needed: 0,
+    })
+}
+
+// The last checks: 25 a byte that is no symbol, 26 text with a digit or editing, 27 too many digits or too long a mask.
+fn check_shape(s: PicShape, half: Half, usage: Usage, at: usize) -> Shaped
+    requires { ⌜ s .scale ≤ s .digits ⌝ }
+    ensures { λ r. ⌜ Judged at usage s half r ⌝ }
+{
+    if is_legal(half) {
+        if is_mixed(s) {
+            return refusal(26, at);
+        }
+        if is_long(s, usage) {
+            return refusal(27, at);
+        }
+        return Shaped::Shape(s);
+    }
+    refusal(25, at)
+}
+
+// The shape of a picture that is not refused, or its first refusal of 22 to 27.
+fn read_shape(picture: &[u8], at: usize, usage: Usage) -> Shaped
+    ensures { λ r. ⌜ Reads at usage (now (picture .entry)) r ⌝ }
+{
+    let word = trim(picture);
+    match count_symbols(word, at) {
+        Counted::Symbols { tallies, half } => {
+            let s = shape_of(tallies);
+            return check_shape(s, half, usage, at);
+        }
+        Counted::Refused(r) => {
+            return Shaped::Refused(r);
+        }
+    }
+}
+
+// Whether a sign stands in a digit's zone.
+fn is_zoned(signed: bool, sign: SignKind) -> bool
+    ensures { λ r. ⌜ r ≡ (signed && isEmbedded sign) ⌝ }
+{
+    if signed {
+        match sign {
+            SignKind::Unsigned => false,
+            SignKind::Embedded => true,
+            SignKind::LeadingSeparate => false,
+            SignKind::TrailingSeparate => false,
+        }
+    } else {
+        false
+    }
+}
+
+// A number in DISPLAY.
+fn display(digits: usize, scale: usize, signed: bool, sign: SignKind) -> Pictured
+    requires { ⌜ (digits ≤ 255) × (scale ≤ 255) ⌝ }
+    ensures { λ r. ⌜ r ≡ displayOf digits scale signed sign ⌝ }
+{
+    let width = digits + sign_bytes(sign);
+    if is_zoned(signed, sign) {
+        return Pictured {
+            kind: FieldKind::Decimal {
+                precision: digits as u8,
+                scale: scale as u8,
+                repr: NumRepr::Zoned,
+                sign,
+            },
+            width,
+        };
+    }
+    if scale == 0 {
+        return Pictured {
+            kind: FieldKind::Int { signed, sign },
+            width,
+        };
+    }
+    Pictured {
+        kind: FieldKind::Decimal {
+            precision: digits as u8,
+            scale: scale as u8,
+            repr: NumRepr::Display,
+            sign,
+        },
+        width,
+    }
+}
+
+// A number in any usage.
+fn numeric(usage: Usage, digits: usize, scale: usize, signed: bool, clause: SignClause) -> Pictured
+    requires { ⌜ (digits ≤ 255) × (scale ≤ 255) ⌝ }
+    ensures { λ r. ⌜ r ≡ numericOf usage digits scale signed clause ⌝ }
+{
+    match usage {
+        Usage::Display => {
+            let sign = resolve_sign(signed, clause);
+            return display(digits, scale, signed, sign);
+        }
+        Usage::Comp3 => {
+            return Pictured {
+                kind: FieldKind::Decimal {
+                    precision: digits as u8,
+                    scale: scale as u8,
+                    repr: NumRepr::Comp3,
+                    sign: SignKind::Embedded,
+                },
+                width: byte_width(digits),
+            };
+        }
+        Usage::Comp => {
+            return Pictured {
+                kind: FieldKind::Binary { signed },
+                width: comp_width(digits),
+            };
+        }
+    }
+}
+
+// At least 1.
+fn one_at_least(n: usize) -> usize
+    ensures { λ r. ⌜ r ≡ max 1 n ⌝ }
+{
+    if n == 0 {
+        return 1;
+    }
+    n
+}
+
+// Kind and width of a shape that passed the checks.
+fn kind_of(s: PicShape, usage: Usage, sign: SignClause) -> Pictured
+    requires { ⌜ Fit usage s ⌝ }
+    ensures { λ r. ⌜ r ≡ kindedBy usage sign s ⌝ }
+{
+    if 0 < s.text {
+        return Pictured {
+            kind: FieldKind::Text,
+            width: s.text,
+        };
+    }
+    if is_masked(s, usage) {
+        let precision = one_at_least(s.digits);
+        return Pictured {
+            kind: FieldKind::Edited {
+                precision: precision as u8,
+                scale: s.scale as u8,
+                signed: s.signed,
+            },
+            width: s.width,
+        };
+    }
+    numeric(usage, s.digits, s.scale, s.signed, sign)
+}
+
+// Kind and width of a picture inside a copybook; a refusal carries `at`.
+pub fn picture_at(picture: &[u8], at: usize, usage: Usage, sign: SignClause) -> PicAnswer
+    ensures { λ r. ⌜ pictureOf r ≡ pictureIn at usage sign (now (picture .entry)) ⌝ }
+{
+    match read_shape(picture, at, usage) {
+        Shaped::Shape(s) => {
+            return PicAnswer::Accepted(kind_of(s, usage, sign));
+        }
+        Shaped::Refused(r) => {
+            return PicAnswer::Refused(r);
+        }
+    }
+}
+
+// Kind and width of a picture.
+pub fn parse_pic(picture: &[u8], usage: Usage, sign: SignClause) -> PicAnswer
+    ensures { λ r. ⌜ pictureOf r ≡ pictureAnswer usage sign (now (picture .entry)) ⌝ }
+{
+    match text::text_checks(picture) {
+        Check::Passed => {
+            return picture_at(picture, 0, usage, sign);
+        }
+        Check::Refused(r) => {
+            return PicAnswer::Refused(r);
+        }
+    }
+}

@@ -1,13 +1,7 @@
--- Laws of the numbers that words spell: one more digit, a byte that is none, the end, a number that is too large already, and a word in
--- upper case.
+-- Laws of the numbers that words spell: one more digit, a byte that is none, the end, and a number that is too large already.
 -- Assumes nothing.
-<<<<<<< HEAD
 use Prim.Native.Nat.{ℕ, _+_, _*_, _-_, _≤_, _<_}
 use mathlib.Core.Path.{_≡_, refl, sym, _∙_}
-=======
-use Prim.Native.Nat.{ℕ, zero, suc, _+_, _*_, _-_, _≤_, _<_}
-use mathlib.Core.Path.{_≡_, refl, ap}
->>>>>>> statement
 use mathlib.Core.Bool.{Bool, true, false, _&&_}
 use mathlib.Core.List.{List, [], _∷_}
 use mathlib.Core.Logic.{_⊎_, inl, inr, ⊎-elim}
@@ -15,15 +9,9 @@ use mathlib.Core.Option.{Option, none, some}
 use native.Mathlib.Omega.{arith}
 use lib.Dec.{leb, ltb}
 use lib.ListN.{length, getD, drop, drop-of-length-le}
-<<<<<<< HEAD
 use borrow.Author.Tests.{eq-eqb, ne-eqb, le-leb, lt-leb, le-ltb, ltb-true}
 use Rattle.definition.specs.Basic.{if_then_else_, is, upper, uppers, digits, numeral, below, number}
 use Rattle.definition.proofs.Lists.{order, drop-next}
-=======
-use borrow.Author.Tests.{eq-eqb, ne-eqb, le-leb, lt-leb, lt-ltb, le-ltb, ltb-true, leb-true}
-use Rattle.definition.specs.Basic.{if_then_else_, is, upper, uppers, digits, numeral, below, number}
-use Rattle.definition.proofs.Lists.{drop-next}
->>>>>>> statement
 
 -- the digits from i on, after n was read
 module _ (w : List ℕ) (i n : ℕ) where
@@ -91,7 +79,6 @@ unfolding number
 number-less limit [] h = absurd (let z : _≡_ {A = ℕ} 0 1 = cc in omega arith)
 number-less limit (b ∷ bs) h = below-less limit (if is "+" b then numeral bs else numeral (b ∷ bs)) h
 
-<<<<<<< HEAD
 -- ---------------------------------------------------------------- letter case
 
 -- upper case leaves a byte as it is, or the byte is a letter, above the digits and the plus
@@ -123,29 +110,6 @@ digits-uppers (b ∷ bs) n =
     (cased b)
 
 numeral-uppers : (bs : List ℕ) → numeral (uppers bs) ≡ numeral bs
-=======
--- a byte in upper case is the byte itself, or both are letters
-upper-is : (b : ℕ) → (upper b ≡ b) ⊎ ((57 < b) × (57 < upper b))
-upper-is b = go (leb 97 b) refl (leb b 122)
-  where
-    go : (s : Bool) → leb 97 b ≡ s → (t : Bool) → ((if s && t then b - 32 else b) ≡ b) ⊎ ((57 < b) × (57 < (if s && t then b - 32 else b)))
-    go false e t = inl refl
-    go true e false = inl refl
-    go true e true = inr (let h = leb-true 97 b e in (omega arith, omega arith))
-
--- upper case changes no number
-pub digits-uppers : (bs : List ℕ) (n : ℕ) → digits n (uppers bs) ≡ digits n bs
-unfolding digits
-digits-uppers [] n = refl
-digits-uppers (b ∷ bs) n =
-    let on = digits-uppers bs (n * 10 + (b - 48)) in
-    ⊎-elim
-    (λ e. rw e (ap (λ (o : Option ℕ). if leb 48 b && leb b 57 then o else none) on))
-    (λ h. rw (le-leb 48 (upper b) (omega arith), lt-leb (upper b) 57 (h .1), le-leb 48 b (omega arith), lt-leb b 57 (h .0)))
-    (upper-is b)
-
-pub numeral-uppers : (bs : List ℕ) → numeral (uppers bs) ≡ numeral bs
->>>>>>> statement
 numeral-uppers [] = refl
 numeral-uppers (b ∷ bs) = digits-uppers (b ∷ bs) 0
 
@@ -154,13 +118,7 @@ unfolding number
 number-uppers limit [] = refl
 number-uppers limit (b ∷ bs) =
     ⊎-elim
-<<<<<<< HEAD
     (λ (e : upper b ≡ b). rw (← digits-uppers (b ∷ bs) 0, ← numeral-uppers bs, e))
     (λ (h : (57 < b) × (57 < upper b)).
     rw (ne-eqb (upper b) 43 (λ e. omega arith), ne-eqb b 43 (λ e. omega arith), ← digits-uppers (b ∷ bs) 0))
     (cased b)
-=======
-    (λ e. rw (numeral-uppers (b ∷ bs), numeral-uppers bs) (ap (λ (u : ℕ). below limit (if is "+" u then numeral bs else numeral (b ∷ bs))) e))
-    (λ h. rw (ne-eqb (upper b) 43 (λ q. omega arith), ne-eqb b 43 (λ q. omega arith), numeral-uppers (b ∷ bs)))
-    (upper-is b)
->>>>>>> statement

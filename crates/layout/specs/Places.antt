@@ -1,18 +1,17 @@
 -- What the layout adds to the rows of the table: columns 13 to 17 of row k hold the offset, the width and the kind of its entry, the previous
 -- sibling (0 for none, else its row and 1) and the number of rows below it.
 -- Assumes nothing.
-use Prim.Native.Nat.{ℕ, zero, suc, _+_, _*_, _-_, _/_, _%_}
-use mathlib.Core.Bool.{Bool, true, false}
+use Prim.Native.Nat.{ℕ, zero, suc, _+_, _*_, _-_, _/_, _%_, _≤_, _<_}
+use mathlib.Core.Bool.{Bool, true, false, _&&_}
 use mathlib.Core.List.{List, [], _∷_}
-use lib.Dec.{eqb, leb}
-use lib.ListN.{length}
+use lib.Dec.{eqb}
 use lib.Seq.{sets}
 use Rattle.definition.specs.declared.Refusal.{Refusal}
 use Rattle.definition.specs.declared.SignKind.{SignKind}
 use Rattle.definition.specs.declared.NumRepr.{NumRepr}
 use Rattle.definition.specs.declared.FieldKind.{FieldKind}
 use Rattle.definition.specs.declared.Entry.{Entry}
-use Rattle.definition.specs.Basic.{if_then_else_, Answer, refuse, give}
+use Rattle.definition.specs.Basic.{if_then_else_, given, Answer, refuse, give}
 use Rattle.definition.specs.Tree.{forest}
 use Rattle.definition.specs.Fold.{Entries, end, entry, Place}
 use Rattle.definition.specs.Layout.{Laid}
@@ -53,6 +52,15 @@ kindOfCode n =
     else if eqb k 5 then FieldKind.Edited (d % 256) (d / 256 % 256) (eqb (d / 65536 % 2) 1)
     else FieldKind.Group
 
+-- a kind that its number gives back: its precision and scale are bytes
+abbrev pub Bytes : FieldKind → Type 0
+Bytes FieldKind.Text = Unit {0}
+Bytes (FieldKind.Int signed sign) = Unit {0}
+Bytes (FieldKind.Binary signed) = Unit {0}
+Bytes (FieldKind.Decimal precision scale repr sign) = (precision < 256) × (scale < 256)
+Bytes (FieldKind.Edited precision scale signed) = (precision < 256) × (scale < 256)
+Bytes FieldKind.Group = Unit {0}
+
 -- ---------------------------------------------------------------- places
 
 abbrev pub placeCells : Entry → ℕ → ℕ → List ℕ
@@ -89,15 +97,28 @@ entryIn w k =
       redefines = c .redefines;
     }
 
--- the siblings up to `last`, the latest first; at most n of them are followed
-unfoldable pub seenFrom : List ℕ → ℕ → ℕ → List Place
-seenFrom w zero last = []
-seenFrom w (suc n) zero = []
-seenFrom w (suc n) (suc k) =
-    if leb (20 * k + 20) (length w) then record { name = spanAt (cell w k 3); offset = cell w k 13 } ∷ seenFrom w n (cell w k 16) else []
+-- the name and the offset of the entry in row k
+abbrev pub placeAt : List ℕ → ℕ → Place
+placeAt w k = record { name = spanAt (cell w k 3); offset = cell w k 13 }
 
+-- an earlier sibling before the others, or left out: of bases, a redefiner
+abbrev pub withSibling : Bool → List ℕ → ℕ → List Place → List Place
+withSibling bases w k ps = if bases && given (spanAt (cell w k 6)) then ps else placeAt w k ∷ ps
+
+-- among the first n rows, the siblings from `last` back, the latest first, or those of them that are bases
+unfoldable pub seenFrom : Bool → List ℕ → ℕ → ℕ → List Place
+seenFrom bases w zero last = []
+seenFrom bases w (suc k) last =
+    if eqb last (suc k) then withSibling bases w k (seenFrom bases w k (cell w k 16))
+    else seenFrom bases w k last
+
+-- the siblings from `last` back
 abbrev pub seenAt : List ℕ → ℕ → List Place
-seenAt w last = seenFrom w last last
+seenAt w last = seenFrom false w last last
+
+-- those of them that are bases
+abbrev pub basesAt : List ℕ → ℕ → List Place
+basesAt w last = seenFrom true w last last
 
 -- ---------------------------------------------------------------- a list laid in the table
 

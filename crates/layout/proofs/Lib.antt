@@ -1,2 +1,4 @@
 pub mod BareLaws
 pub mod KindLaws
+pub mod PlaceLaws
+pub mod RowLaws

@@ -7,13 +7,14 @@ use mathlib.Core.List.{List, [], _∷_}
 use lib.Dec.{eqb}
 use lib.Seq.{sets}
 use Rattle.definition.specs.declared.Refusal.{Refusal}
+use Rattle.definition.specs.declared.Span.{Span}
 use Rattle.definition.specs.declared.SignKind.{SignKind}
 use Rattle.definition.specs.declared.NumRepr.{NumRepr}
 use Rattle.definition.specs.declared.FieldKind.{FieldKind}
 use Rattle.definition.specs.declared.Entry.{Entry}
 use Rattle.definition.specs.Basic.{if_then_else_, given, Answer, refuse, give}
 use Rattle.definition.specs.Tree.{forest}
-use Rattle.definition.specs.Fold.{Entries, end, entry, Place}
+use Rattle.definition.specs.Fold.{Entries, end, entry, sameName, Place}
 use Rattle.definition.specs.Layout.{Laid}
 use Rattle.definition.specs.Listing.{flag, signByte, storageByte}
 use Rattle.definition.specs.Search.{entries#}
@@ -101,15 +102,16 @@ entryIn w k =
 abbrev pub placeAt : List ℕ → ℕ → Place
 placeAt w k = record { name = spanAt (cell w k 3); offset = cell w k 13 }
 
--- an earlier sibling before the others, or left out: of bases, a redefiner
-abbrev pub withSibling : Bool → List ℕ → ℕ → List Place → List Place
-withSibling bases w k ps = if bases && given (spanAt (cell w k 6)) then ps else placeAt w k ∷ ps
+-- a search for bases leaves redefiners out
+abbrev pub leftOut : Bool → List ℕ → ℕ → Bool
+leftOut bases w k = bases && given (spanAt (cell w k 6))
 
 -- among the first n rows, the siblings from `last` back, the latest first, or those of them that are bases
 unfoldable pub seenFrom : Bool → List ℕ → ℕ → ℕ → List Place
 seenFrom bases w zero last = []
 seenFrom bases w (suc k) last =
-    if eqb last (suc k) then withSibling bases w k (seenFrom bases w k (cell w k 16))
+    if eqb last (suc k) then
+    (if leftOut bases w k then seenFrom bases w k (cell w k 16) else placeAt w k ∷ seenFrom bases w k (cell w k 16))
     else seenFrom bases w k last
 
 -- the siblings from `last` back
@@ -119,6 +121,10 @@ seenAt w last = seenFrom false w last last
 -- those of them that are bases
 abbrev pub basesAt : List ℕ → ℕ → List Place
 basesAt w last = seenFrom true w last last
+
+-- row k is what a search for a name ends at
+abbrev pub isTarget : List ℕ → Span → Bool → List ℕ → ℕ → Bool
+isTarget text target bases w k = if leftOut bases w k then false else sameName text target (spanAt (cell w k 3))
 
 -- ---------------------------------------------------------------- a list laid in the table
 

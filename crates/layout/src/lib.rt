@@ -1,15 +1,24 @@
 // Sibling lists laid out in the rows of work memory: the place of each item, and the checks of each list.
 ghost use mathlib.Core.Path.{_≡_};
-ghost use Prim.Native.Nat.{_+_, _*_, _-_, _≤_, _<_};
+ghost use Prim.Native.Nat.{_+_, _*_, _≤_, _<_};
 ghost use lib.ListN.{length};
-ghost use Rattle.definition.specs.Basic.{part};
-ghost use Rattle.definition.specs.Fold.{sameName};
+ghost use Rattle.definition.specs.Basic.{if_then_else_, given, part, fewest};
+ghost use Rattle.definition.specs.Fold.{sameName, find, times};
+ghost use Rattle.definition.specs.Layout.{start, entryOf};
 ghost use Rattle.definition.specs.Listing.{flag, signByte, storageByte};
-ghost use Rattle.layout.specs.Places.{kindCode, signOfByte, storageOfByte, kindOfCode};
+ghost use Rattle.definition.specs.Picture.{isBinary};
+ghost use Rattle.rows.specs.Table.{spanAt};
+ghost use Rattle.layout.specs.Places.{kindCode, signOfByte, storageOfByte, kindOfCode, putPlace, seenFrom, seenAt, leftOut, isTarget};
+ghost use Rattle.layout.specs.Steps.{ChildrenEnd, found, startOf, endOf, endingOf};
+use definition::Entry;
 use definition::FieldKind;
 use definition::NumRepr;
+use definition::Occurs;
+use definition::Pictured;
+use definition::Refusal;
 use definition::SignKind;
 use definition::Span;
+use definition::Statement;
 
 // The part of the text that a span fills, cut off at the text's end.
 pub fn part_of(text: &[u8], w: Span) -> &[u8]
@@ -96,7 +105,10 @@ pub fn kind_code(kind: FieldKind) -> u32
             scale,
             repr,
             sign,
-        } => 4 + 8 * (byte_code(precision) + 256 * (byte_code(scale) + 256 * (storage_byte(repr) + 4 * sign_byte(sign)))),
+        } => 4
+            + 8
+                * (byte_code(precision)
+                    + 256 * (byte_code(scale) + 256 * (storage_byte(repr) + 4 * sign_byte(sign)))),
         FieldKind::Edited {
             precision,
             scale,
@@ -151,9 +163,7 @@ pub fn kind_of_code(n: u32) -> FieldKind
         };
     }
     if k == 3 {
-        return FieldKind::Binary {
-            signed: d % 2 == 1,
-        };
+        return FieldKind::Binary { signed: d % 2 == 1 };
     }
     if k == 4 {
         return FieldKind::Decimal {
@@ -171,4 +181,256 @@ pub fn kind_of_code(n: u32) -> FieldKind
         };
     }
     FieldKind::Group
+}
+
+// An item's place into row k: its offset, width and kind, the sibling before it (its row and 1, or 0) and the rows below it.
+fn put_place(work: &mut [u32], k: usize, last: usize, below: usize, e: Entry)
+    requires { ⌜ (20 * k + 20 ≤ length (now work)) × (last < 4294967296) × (below < 4294967296) × (e .offset < 4294967296) × (e .width < 4294967296) ⌝ }
+    ensures { λ _. ⌜ now (work .exit) ≡ putPlace (now (work .entry)) k last below e ⌝ }
+{
+    let at = 20 * k + 13;
+    let kind = e.kind;
+    work[at] = e.offset as u32;
+    work[at + 1] = e.width as u32;
+    work[at + 2] = kind_code(kind);
+    work[at + 3] = last as u32;
+    work[at + 4] = below as u32;
+}
+
+// The end of the children of row i, among the rows up to `to`.
+pub fn end_of(work: &[u32], i: usize, to: usize) -> usize
+    requires { ⌜ (i < to) × (20 * to ≤ length (now work)) ⌝ }
+    ensures { λ r. ⌜ ChildrenEnd (now (work .entry)) i to r ⌝ }
+{
+    let level = work[20 * i + 0] % 256;
+    let mut j = i + 1;
+    while j < to {
+        if work[20 * j + 0] % 256 <= level {
+            return j;
+        }
+        j += 1;
+    }
+    j
+}
+
+// The offset that a name stands for, or that it stands for none.
+pub enum Target {
+    At(usize),
+    Nothing,
+}
+
+// A number of 32 bits as a place.
+fn wide(n: u32) -> usize
+    ensures { λ r. ⌜ (r ≡ n) × (r < 4294967296) ⌝ }
+{
+    n as usize
+}
+
+// The span that a number holds.
+fn span_in(n: u32) -> Span
+    ensures { λ r. ⌜ r ≡ spanAt n ⌝ }
+{
+    Span {
+        start: (n / 65536) as usize,
+        len: (n % 65536) as usize,
+    }
+}
+
+// Whether the search passes over row k: one for bases passes over a redefiner.
+fn passed_over(work: &[u32], k: usize, bases: bool) -> bool
+    requires { ⌜ 20 * k + 20 ≤ length (now work) ⌝ }
+    ensures { λ r. ⌜ r ≡ leftOut bases (now (work .entry)) k ⌝ }
+{
+    if bases {
+        let redefines = span_in(work[20 * k + 6]);
+        return 0 < redefines.len;
+    }
+    false
+}
+
+// Whether row k is what a search for this name ends at.
+fn is_target(text: &[u8], work: &[u32], target: Span, k: usize, bases: bool) -> bool
+    requires { ⌜ 20 * k + 20 ≤ length (now work) ⌝ }
+    ensures { λ r. ⌜ r ≡ isTarget (now (text .entry)) target bases (now (work .entry)) k ⌝ }
+{
+    if passed_over(work, k, bases) {
+        return false;
+    }
+    let name = span_in(work[20 * k + 3]);
+    same_names(text, target, name)
+}
+
+// The offset of the latest sibling of that name from `last` back, or of the latest base of that name.
+fn find_target(text: &[u8], work: &[u32], target: Span, last: usize, bases: bool) -> Target
+    requires { ⌜ 20 * last ≤ length (now work) ⌝ }
+    ensures { λ r. ⌜ found r ≡ find (now (text .entry)) target (seenFrom bases (now (work .entry)) last last) ⌝ }
+{
+    let mut k = last;
+    while 0 < k {
+        let row = k - 1;
+        if is_target(text, work, target, row, bases) {
+            return Target::At(wide(work[20 * row + 13]));
+        }
+        let before = wide(work[20 * row + 16]);
+        if row < before {
+            return Target::Nothing;
+        }
+        k = before;
+    }
+    Target::Nothing
+}
+
+// Whether a kind is binary.
+fn is_binary(kind: FieldKind) -> bool
+    ensures { λ r. ⌜ r ≡ isBinary kind ⌝ }
+{
+    match kind {
+        FieldKind::Text => false,
+        FieldKind::Int { signed, sign } => false,
+        FieldKind::Binary { signed } => true,
+        FieldKind::Decimal {
+            precision,
+            scale,
+            repr,
+            sign,
+        } => false,
+        FieldKind::Edited {
+            precision,
+            scale,
+            signed,
+        } => false,
+        FieldKind::Group => false,
+    }
+}
+
+// The first multiple of the width from the cursor on.
+fn aligned(cursor: usize, width: usize) -> usize
+    requires { ⌜ (cursor ≤ 2147483647) × (width ≤ 2147483647) ⌝ }
+    ensures { λ r. ⌜ r ≡ cursor + fewest width cursor ⌝ }
+{
+    if width == 0 {
+        return cursor;
+    }
+    cursor + (width - cursor % width) % width
+}
+
+// Where an item starts, or why it cannot be placed.
+pub enum Start {
+    At(usize),
+    Refused(Refusal),
+}
+
+// Where an item starts: 28 for a REDEFINES that names no earlier sibling.
+fn start_of(
+    text: &[u8],
+    work: &[u32],
+    s: Statement,
+    c: Pictured,
+    last: usize,
+    cursor: usize,
+) -> Start
+    requires { ⌜ (20 * last ≤ length (now work)) × (cursor ≤ 2147483647) × (c .width ≤ 2147483647) ⌝ }
+    ensures { λ r. ⌜ startOf r ≡ start (now (text .entry)) s c (seenAt (now (work .entry)) last) cursor ⌝ }
+{
+    let clauses = s.clauses;
+    let redefines = clauses.redefines;
+    if 0 < redefines.len {
+        match find_target(text, work, redefines, last, false) {
+            Target::At(offset) => {
+                return Start::At(offset);
+            }
+            Target::Nothing => {
+                return Start::Refused(Refusal {
+                    number: 28,
+                    position: s.at,
+                    needed: 0,
+                });
+            }
+        }
+    }
+    if clauses.sync {
+        let kind = c.kind;
+        if is_binary(kind) {
+            return Start::At(aligned(cursor, c.width));
+        }
+    }
+    Start::At(cursor)
+}
+
+// An item's entry.
+fn entry_of(s: Statement, c: Pictured, offset: usize) -> Entry
+    ensures { λ r. ⌜ r ≡ entryOf s c offset ⌝ }
+{
+    let clauses = s.clauses;
+    let name = s.name;
+    let kind = c.kind;
+    let picture = clauses.picture;
+    let occurs = clauses.occurs;
+    let depending = clauses.depending;
+    let redefines = clauses.redefines;
+    Entry {
+        at: s.at,
+        name,
+        offset,
+        width: c.width,
+        kind,
+        picture,
+        occurs,
+        depending,
+        redefines,
+    }
+}
+
+// How often an item stands.
+fn times_of(o: Occurs) -> u64
+    ensures { λ r. ⌜ r ≡ times o ⌝ }
+{
+    match o {
+        Occurs::Once => 1,
+        Occurs::Times(n) => n,
+    }
+}
+
+// Where an entry ends, or that one of its numbers is too large.
+pub enum Ending {
+    At(usize),
+    TooLarge,
+}
+
+// Where an entry ends: 29 is due where its count, offset, bytes or end are above 2,147,483,647.
+fn entry_end(e: Entry) -> Ending
+    requires { ⌜ e .width ≤ 2147483647 ⌝ }
+    ensures { λ r. ⌜ endingOf r ≡ endOf e ⌝ }
+{
+    let occurs = e.occurs;
+    let n = times_of(occurs);
+    if 2147483647 < n {
+        return Ending::TooLarge;
+    }
+    let offset = e.offset;
+    if 2147483647 < offset {
+        return Ending::TooLarge;
+    }
+    let total = e.width * n as usize;
+    if 2147483647 < total {
+        return Ending::TooLarge;
+    }
+    let depending = e.depending;
+    if 0 < depending.len {
+        return Ending::At(offset);
+    }
+    if 2147483647 < offset + total {
+        return Ending::TooLarge;
+    }
+    Ending::At(offset + total)
+}
+
+// The cursor after an entry: a REDEFINES never moves it.
+fn advanced(cursor: usize, redefines: Span, end: usize) -> usize
+    ensures { λ r. ⌜ r ≡ (if given redefines then cursor else end) ⌝ }
+{
+    if 0 < redefines.len {
+        return cursor;
+    }
+    end
 }

@@ -51,7 +51,7 @@ module _ (l : List ℕ) (b n : ℕ) where
         minuses = more "-" i;
         signs = more "S+-CD" i;
         edits = more "Z*.,/B0$+-CD" i;
-        hidden = more "SVP" i;
+        hidden = more "SVP" i
       }
 
 -- a list of so many symbols
@@ -73,7 +73,7 @@ module _ (l : List ℕ) (h : length l ≤ 65535) where
         minuses = few "-";
         signs = few "S+-CD";
         edits = few "Z*.,/B0$+-CD";
-        hidden = tally-le "SVP" l;
+        hidden = tally-le "SVP" l
       }
 
 -- a run
@@ -102,5 +102,5 @@ module _ (b n : ℕ) (h : n ≤ 65535) where
         minuses = little "-";
         signs = little "S+-CD";
         edits = little "Z*.,/B0$+-CD";
-        hidden = times-le "SVP" b n;
+        hidden = times-le "SVP" b n
       }

@@ -36,7 +36,7 @@ module _ (l : List ℕ) where
         scale = scale-same i;
         signed = shapeFor l .signed;
         edited = shapeFor l .edited;
-        width = width-same i;
+        width = width-same i
       }
 
 -- the checks, then the shape

@@ -27,7 +27,7 @@ shapeFor l =
       scale = fraction l;
       signed = isSigned l;
       edited = isEdited l;
-      width = length (mask l);
+      width = length (mask l)
     }
 
 -- and by its tallies
@@ -42,7 +42,7 @@ shapeOf t =
       scale = scaleOf t;
       signed = ltb 0 (t .signs);
       edited = ltb 0 (t .edits);
-      width = t .symbols - t .hidden;
+      width = t .symbols - t .hidden
     }
 
 -- editing, 26, 27, and kind and width of a shape: the definition's, of the shape in place of the symbols

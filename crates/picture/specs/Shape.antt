@@ -32,7 +32,7 @@ tallies l =
       minuses = tally "-" l;
       signs = tally "S+-CD" l;
       edits = tally "Z*.,/B0$+-CD" l;
-      hidden = tally "SVP" l;
+      hidden = tally "SVP" l
     }
 
 -- of one symbol that stands n times
@@ -50,7 +50,7 @@ runOf b n =
       minuses = times "-" b n;
       signs = times "S+-CD" b n;
       edits = times "Z*.,/B0$+-CD" b n;
-      hidden = times "SVP" b n;
+      hidden = times "SVP" b n
     }
 
 -- n before the point, 0 after it
@@ -72,7 +72,7 @@ joined s t =
       minuses = s .minuses + t .minuses;
       signs = s .signs + t .signs;
       edits = s .edits + t .edits;
-      hidden = s .hidden + t .hidden;
+      hidden = s .hidden + t .hidden
     }
 
 -- no tally is above 65,535, and those of a part are not above the whole's

@@ -40,7 +40,7 @@ start t at {s} e =
       seen = [];
       counted = e;
       halved = refl;
-      same = sym (onto-nil (expand at 0 0 t)) ∙ ap (λ (k : ℕ). onto [] (expand at k 0 t)) (sym none);
+      same = sym (onto-nil (expand at 0 0 t)) ∙ ap (λ (k : ℕ). onto [] (expand at k 0 t)) (sym none)
     }
 
 module _ {t : List ℕ} {at : ℕ} {s : Tallies} {half : Half} {i : ℕ} (inv : Left t at s half i) where
@@ -52,7 +52,7 @@ module _ {t : List ℕ} {at : ℕ} {s : Tallies} {half : Half} {i : ℕ} (inv : 
   done h =
       record {
         same = rw (inv .same, expand-end at (s .symbols) t i h, append-nil, inv .counted, inv .halved);
-        small = small-s;
+        small = small-s
       }
 
   module _ (h : i < length t) {r : Repeat} (q : Repeated at (take (length t - (i + 1)) (drop (i + 1) t)) r) where
@@ -100,9 +100,9 @@ module _ {t : List ℕ} {at : ℕ} {s : Tallies} {half : Half} {i : ℕ} (inv : 
               counted = grown ∙ ap (λ (x : Tallies). joined x (runOf b n)) (inv .counted) ∙ sym (tallies-more (inv .seen) b n);
               halved = hs ∙ ap (λ (x : Half). halves x (replicate n b)) (inv .halved) ∙ sym (halves-append Half.Nothing (inv .seen) (replicate n b));
               same =
-                  inv .same ∙
-                  ap (onto (inv .seen)) (expand-more at (s .symbols) t i h given (omega (arith, inv .few))) ∙
-                  rw (← p, many) (onto-onto (inv .seen) (replicate n b) (expand at (s .symbols + n) 0 (drop (i + 1 + skip) t)));
+                inv .same ∙
+                ap (onto (inv .seen)) (expand-more at (s .symbols) t i h given (omega (arith, inv .few))) ∙
+                rw (← p, many) (onto-onto (inv .seen) (replicate n b) (expand at (s .symbols + n) 0 (drop (i + 1 + skip) t)))
             }
 
 abbrev Inv-loop : tie.InvT-loop

@@ -37,7 +37,7 @@ other b n h =
       minuses = none "-" b n refl h i;
       signs = none "S+-CD" b n refl h i;
       edits = none "Z*.,/B0$+-CD" b n refl h i;
-      hidden = none "SVP" b n refl h i;
+      hidden = none "SVP" b n refl h i
     }
 
 returns : tie.Need-returns

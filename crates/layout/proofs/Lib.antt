@@ -2,3 +2,4 @@ pub mod BareLaws
 pub mod KindLaws
 pub mod PlaceLaws
 pub mod RowLaws
+pub mod ItemLaws

@@ -10,6 +10,7 @@ use lib.Dec.{ltb}
 use Rattle.definition.specs.declared.Span.{Span}
 use Rattle.definition.specs.declared.Statement.{Statement}
 use Rattle.definition.specs.declared.Entry.{Entry}
+use Rattle.definition.specs.declared.Pictured.{Pictured}
 use Rattle.definition.specs.Basic.{if_then_else_, given, Answer, refuse, give, _>>=_, refused, refuseIf}
 use Rattle.definition.specs.Tree.{Forest, leaf, item}
 use Rattle.definition.specs.Fold.{Entries, end, entry, entryEnd, Place, placeOf, find, redefiners, withRedefiners}
@@ -68,6 +69,28 @@ bare text depth seen cursor reach (item s kids later) = do
   _ ← refuseIf (tooLarge e) 29 (s .at)
   l ← bare text depth (placeOf e ∷ seen) (advance cursor e) (max reach (entryEnd e)) later
   give (record { entries = entry e (inner .entries) (l .entries); width = l .width })
+
+-- one item of such a list, and its members
+pub record ItemLaid : Type 0 where
+  pub own : Entry
+  pub members : Entries
+
+-- the entry of an item whose kind and width are known
+unfoldable pub placed : List ℕ → Statement → Pictured → List Place → ℕ → Answer Entry
+placed text s c seen cursor = do
+  offset ← start text s c seen cursor
+  _ ← refuseIf (tooLarge (entryOf s c offset)) 29 (s .at)
+  give (entryOf s c offset)
+
+-- one item: its inner list, its kind and width, and its place (`BareLaws` says that a list is its first item and the rest)
+unfoldable pub bareItem : List ℕ → ℕ → List Place → ℕ → Statement → Forest → Answer ItemLaid
+bareItem text depth seen cursor s kids = do
+  _ ← shallow (suc depth) kids
+  inner ← bare text (suc depth) [] 0 0 kids
+  _ ← foldCheck text [] (inner .entries)
+  c ← content text s kids (inner .width)
+  e ← placed text s c seen cursor
+  give (record { own = e; members = inner .entries })
 
 -- the whole record, with no list folded; its refusals are those of `layout`
 unfoldable pub bareRecord : List ℕ → Forest → Answer Entries

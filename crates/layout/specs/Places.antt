@@ -2,6 +2,7 @@
 -- sibling (0 for none, else its row and 1) and the number of rows below it.
 -- Assumes nothing.
 use Prim.Native.Nat.{ℕ, zero, suc, _+_, _*_, _-_, _/_, _%_, _≤_, _<_}
+use mathlib.Core.Path.{_≡_}
 use mathlib.Core.Bool.{Bool, true, false, _&&_}
 use mathlib.Core.List.{List, [], _∷_}
 use lib.Dec.{eqb}
@@ -12,14 +13,16 @@ use Rattle.definition.specs.declared.SignKind.{SignKind}
 use Rattle.definition.specs.declared.NumRepr.{NumRepr}
 use Rattle.definition.specs.declared.FieldKind.{FieldKind}
 use Rattle.definition.specs.declared.Entry.{Entry}
+use Rattle.definition.specs.declared.Pictured.{Pictured}
 use Rattle.definition.specs.Basic.{if_then_else_, given, Answer, refuse, give}
-use Rattle.definition.specs.Tree.{forest}
-use Rattle.definition.specs.Fold.{Entries, end, entry, sameName, Place}
-use Rattle.definition.specs.Layout.{Laid}
+use Rattle.definition.specs.Tree.{Forest, leaf, item, forest}
+use Rattle.definition.specs.Fold.{Entries, end, entry, entryEnd, sameName, Place}
+use Rattle.definition.specs.Layout.{advance, Laid}
+use Rattle.definition.specs.Owner.{size}
 use Rattle.definition.specs.Listing.{flag, signByte, storageByte}
 use Rattle.definition.specs.Search.{entries#}
-use Rattle.rows.specs.Table.{spanAt, cell, clausesAt, statementsFrom}
-use Rattle.layout.specs.Bare.{bare}
+use Rattle.rows.specs.Table.{spanAt, cell, clausesAt, statementAt, statementsFrom}
+use Rattle.layout.specs.Bare.{bare, ItemLaid, placed, bareItem}
 
 -- ---------------------------------------------------------------- a number for a kind
 
@@ -126,6 +129,18 @@ basesAt w last = seenFrom true w last last
 abbrev pub isTarget : List ℕ → Span → Bool → List ℕ → ℕ → Bool
 isTarget text target bases w k = if leftOut bases w k then false else sameName text target (spanAt (cell w k 3))
 
+-- ---------------------------------------------------------------- the entries in the table
+
+-- the entries in the rows from k on, in the shape of the forest of their statements
+unfoldable pub entriesIn : List ℕ → ℕ → Forest → Entries
+entriesIn w k leaf = end
+entriesIn w k (item s kids later) = entry (entryIn w k) (entriesIn w (suc k) kids) (entriesIn w (suc k + size kids) later)
+
+-- each row of a list, from row k on, names the sibling before it; `last` is the one before the first
+abbrev pub Linked : List ℕ → ℕ → ℕ → Forest → Type 0
+Linked w k last leaf = Unit {0}
+Linked w k last (item s kids later) = (cell w k 16 ≡ last) × Linked w (suc k + size kids) (suc k) later
+
 -- ---------------------------------------------------------------- a list laid in the table
 
 -- a refusal, or the width of the list, its last sibling and the table
@@ -144,3 +159,29 @@ layRest text w i to depth last cursor reach = after w i last (bare text depth (s
 -- a whole list
 abbrev pub layTable : List ℕ → List ℕ → ℕ → ℕ → ℕ → Outcome
 layTable text w from to depth = layRest text w from to depth 0 0 0
+
+-- ---------------------------------------------------------------- an item laid in the table
+
+-- a refusal, or the cursor after the item, where it ends and the table
+pub data ItemOutcome : Type 0 where
+  halted : Refusal → ItemOutcome
+  placing : ℕ → ℕ → List ℕ → ItemOutcome
+
+-- the item of row i with its members' places
+abbrev pub afterItem : List ℕ → ℕ → ℕ → ℕ → Answer ItemLaid → ItemOutcome
+afterItem w i last cursor (refuse r) = halted r
+afterItem w i last cursor (give x) = placing (advance cursor (x .own)) (entryEnd (x .own)) (putPlaces w i last (entry (x .own) (x .members) end))
+
+-- row i, whose children are the rows up to j, laid after the sibling `last`
+abbrev pub layItem : List ℕ → List ℕ → ℕ → ℕ → ℕ → ℕ → ℕ → ItemOutcome
+layItem text w i j depth last cursor =
+    afterItem w i last cursor (bareItem text depth (seenAt w last) cursor (statementAt w i) (forest (statementsFrom w (suc i) (j - suc i))))
+
+-- the item of row i alone
+abbrev pub afterOwn : List ℕ → ℕ → ℕ → ℕ → ℕ → Answer Entry → ItemOutcome
+afterOwn w i last below cursor (refuse r) = halted r
+afterOwn w i last below cursor (give e) = placing (advance cursor e) (entryEnd e) (putPlace w i last below e)
+
+-- row i, its kind and width known and `below` rows below it laid, placed after the sibling `last`
+abbrev pub placeRow : List ℕ → List ℕ → ℕ → ℕ → ℕ → ℕ → Pictured → ItemOutcome
+placeRow text w i below last cursor c = afterOwn w i last below cursor (placed text (statementAt w i) c (seenAt w last) cursor)

@@ -1,10 +1,10 @@
 -- The steps of laying one item: the end of its children among the rows, where it starts and where it ends.
 -- Assumes nothing.
-use Prim.Native.Nat.{ℕ, suc, _+_, _-_, _≤_, _<_}
+use Prim.Native.Nat.{ℕ, suc, _+_, _*_, _-_, _≤_, _<_}
 use mathlib.Core.Path.{_≡_}
 use mathlib.Core.List.{List}
 use mathlib.Core.Option.{Option, none, some}
-use Rattle.definition.specs.declared.Statement.{Statement}
+use lib.ListN.{length}
 use Rattle.definition.specs.declared.Entry.{Entry}
 use Rattle.definition.specs.Basic.{if_then_else_, Answer, refuse, give}
 use Rattle.definition.specs.Tree.{higher}
@@ -14,6 +14,9 @@ use Rattle.rows.specs.Table.{statementAt, statementsFrom}
 use Rattle.layout.specs.declared.Target.{Target}
 use Rattle.layout.specs.declared.Start.{Start}
 use Rattle.layout.specs.declared.Ending.{Ending}
+use Rattle.layout.specs.declared.ItemAnswer.{ItemAnswer}
+use Rattle.layout.specs.declared.LaidList.{LaidList}
+use Rattle.layout.specs.Places.{Outcome, stopped, ready, ItemOutcome, halted, placing}
 
 -- j is the end of the children of row i, among the rows up to `to`
 pub record ChildrenEnd (w : List ℕ) (i to j : ℕ) : Type 0 where
@@ -36,3 +39,17 @@ endOf e = if tooLarge e then none else some (entryEnd e)
 abbrev pub endingOf : Ending → Option ℕ
 endingOf (Ending.At end) = some end
 endingOf Ending.TooLarge = none
+
+-- what an answer says, with the table as the call leaves it; after a refusal its contents are left open
+abbrev pub itemOf : ItemAnswer → List ℕ → ItemOutcome
+itemOf (ItemAnswer.Done cursor end) w = placing cursor end w
+itemOf (ItemAnswer.Refused r) w = halted r
+
+abbrev pub listOf : LaidList → List ℕ → Outcome
+listOf (LaidList.Done width last) w = ready width last w
+listOf (LaidList.Refused r) w = stopped r
+
+-- the table has rows up to `to`
+pub record Room (w : List ℕ) (to : ℕ) : Type 0 where
+  pub fits : 20 * to ≤ length w
+  pub small : to < 4294967296

@@ -4,21 +4,29 @@ ghost use Prim.Native.Nat.{_+_, _*_, _≤_, _<_};
 ghost use lib.ListN.{length};
 ghost use Rattle.definition.specs.Basic.{if_then_else_, given, part, fewest};
 ghost use Rattle.definition.specs.Fold.{sameName, find, times};
-ghost use Rattle.definition.specs.Layout.{start, entryOf};
+ghost use Rattle.definition.specs.Layout.{content, start, entryOf};
+ghost use Rattle.definition.specs.Calls.{pictureOf, checkOf};
+ghost use Rattle.definition.specs.Statement.{usageOf, signOf};
+ghost use Rattle.definition.specs.Tree.{Forest.leaf, forest};
 ghost use Rattle.definition.specs.Listing.{flag, signByte, storageByte};
 ghost use Rattle.definition.specs.Picture.{isBinary};
 ghost use Rattle.rows.specs.Table.{spanAt};
-ghost use Rattle.layout.specs.Places.{kindCode, signOfByte, storageOfByte, kindOfCode, putPlace, seenFrom, seenAt, leftOut, isTarget};
-ghost use Rattle.layout.specs.Steps.{ChildrenEnd, found, startOf, endOf, endingOf};
+ghost use Rattle.layout.specs.Places.{kindCode, signOfByte, storageOfByte, kindOfCode, putPlace, seenFrom, seenAt, leftOut, isTarget, placeRow};
+ghost use Rattle.layout.specs.Steps.{ChildrenEnd, found, startOf, endOf, endingOf, itemOf};
 use definition::Entry;
 use definition::FieldKind;
 use definition::NumRepr;
 use definition::Occurs;
+use definition::PicAnswer;
 use definition::Pictured;
 use definition::Refusal;
+use definition::SignClause;
 use definition::SignKind;
+use definition::SignWords;
 use definition::Span;
 use definition::Statement;
+use definition::Usage;
+use definition::UsageClause;
 
 // The part of the text that a span fills, cut off at the text's end.
 pub fn part_of(text: &[u8], w: Span) -> &[u8]
@@ -433,4 +441,95 @@ fn advanced(cursor: usize, redefines: Span, end: usize) -> usize
         return cursor;
     }
     end
+}
+
+// The usage that a statement means.
+fn usage_of(u: UsageClause) -> Usage
+    ensures { λ r. ⌜ r ≡ usageOf u ⌝ }
+{
+    match u {
+        UsageClause::Absent => Usage::Display,
+        UsageClause::Given(v) => v,
+    }
+}
+
+// The sign that a picture is read with.
+fn sign_of(s: SignWords) -> SignClause
+    ensures { λ r. ⌜ r ≡ signOf s ⌝ }
+{
+    match s {
+        SignWords::Absent => SignClause::Absent,
+        SignWords::Said { leading, separate } => {
+            if separate {
+                if leading {
+                    return SignClause::Given(SignKind::LeadingSeparate);
+                }
+                return SignClause::Given(SignKind::TrailingSeparate);
+            }
+            SignClause::Given(SignKind::Embedded)
+        }
+    }
+}
+
+// Kind and width of an item without children: 21 for no picture, and the picture's own refusals.
+fn elementary(text: &[u8], s: Statement) -> PicAnswer
+    ensures { λ r. ⌜ pictureOf r ≡ content (now (text .entry)) s leaf 0 ⌝ }
+{
+    let clauses = s.clauses;
+    let picture = clauses.picture;
+    if 0 < picture.len {
+        let usage = clauses.usage;
+        let sign = clauses.sign;
+        return picture::picture_at(part_of(text, picture), s.at, usage_of(usage), sign_of(sign));
+    }
+    PicAnswer::Refused(Refusal {
+        number: 21,
+        position: s.at,
+        needed: 0,
+    })
+}
+
+// The cursor after an item and where the item ends, or why it is refused.
+pub enum ItemAnswer {
+    Done { cursor: usize, end: usize },
+    Refused(Refusal),
+}
+
+// How wide a list is and its last sibling, or why it is refused.
+pub enum LaidList {
+    Done { width: usize, last: usize },
+    Refused(Refusal),
+}
+
+// The item of row i placed, after `below` rows below it: 28, then 29.
+fn place(text: &[u8], work: &mut [u32], i: usize, below: usize, last: usize, cursor: usize, c: Pictured) -> ItemAnswer
+    requires { ⌜ (20 * i + 20 ≤ length (now work)) × (last ≤ i) × (i < 4294967296) × (below < 4294967296) × (cursor ≤ 2147483647) × (c .width ≤ 2147483647) ⌝ }
+    ensures { λ r. ⌜ itemOf r (now (work .exit)) ≡ placeRow (now (text .entry)) (now (work .entry)) i below last cursor c ⌝ }
+{
+    let s = rows::statement_at(work, i);
+    match start_of(text, work, s, c, last, cursor) {
+        Start::At(offset) => {
+            let e = entry_of(s, c, offset);
+            match entry_end(e) {
+                Ending::At(end) => {
+                    put_place(work, i, last, below, e);
+                    let redefines = e.redefines;
+                    return ItemAnswer::Done {
+                        cursor: advanced(cursor, redefines, end),
+                        end,
+                    };
+                }
+                Ending::TooLarge => {
+                    return ItemAnswer::Refused(Refusal {
+                        number: 29,
+                        position: s.at,
+                        needed: 0,
+                    });
+                }
+            }
+        }
+        Start::Refused(r) => {
+            return ItemAnswer::Refused(r);
+        }
+    }
 }

@@ -36,7 +36,7 @@ bind-same (refuse r) f g h = refl
 bind-same (give x) f g h = h x
 
 -- the same first step, and then ways of going on that agree up to `fin`
-bind-along :
+pub bind-along :
     {A B C : Type 0} (a : Answer A) (f : A → Answer C) (g : A → Answer B) (fin : B → Answer C) →
     ((x : A) → f x ≡ (g x >>= fin)) →
     (a >>= f) ≡ ((a >>= g) >>= fin)

@@ -3,3 +3,5 @@ pub mod KindLaws
 pub mod PlaceLaws
 pub mod RowLaws
 pub mod ItemLaws
+pub mod ContentLaws
+pub mod ListLaws

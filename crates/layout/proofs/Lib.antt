@@ -5,3 +5,5 @@ pub mod RowLaws
 pub mod ItemLaws
 pub mod ContentLaws
 pub mod ListLaws
+pub mod EntriesLaws
+pub mod FoldLaws

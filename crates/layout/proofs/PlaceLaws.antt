@@ -62,7 +62,7 @@ module _ (w : List ℕ) (a last below : ℕ) (e : Entry) where
   place-in h c l = getD-in (placeCells e last below) w (20 * a + 13) c (20 * a + (13 + c)) (omega arith) l (omega arith)
 
   -- the columns of the statements
-  kept-place : (k c : ℕ) → c < 13 → cell (putPlace w a last below e) k c ≡ cell w k c
+  pub kept-place : (k c : ℕ) → c < 13 → cell (putPlace w a last below e) k c ≡ cell w k c
   unfolding putPlace
   kept-place k c l =
       ⊎-elim

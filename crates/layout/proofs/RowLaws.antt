@@ -40,6 +40,13 @@ module _ (w : List ℕ) where
   pub forest-empty : (a b : ℕ) → b ≤ a → forest (statementsFrom w a (b - a)) ≡ leaf
   forest-empty a b h = ap forest (stretch-none a b h) ∙ forest-none
 
+  -- a row's children end somewhere
+  pub children-end : (i to : ℕ) → i < to → ChildrenEnd w i to (suc i + higher (statementAt w i .level) (statementsFrom w (suc i) (to - suc i)))
+  children-end i to h =
+      let rest = statementsFrom w (suc i) (to - suc i) in
+      let most : higher (statementAt w i .level) rest ≤ to - suc i = rw length-statements at (higher-length (statementAt w i .level) rest) in
+      record { low = omega arith; high = omega arith; is = refl }
+
   -- the forest of the rows i to before `to`: row i, its children up to j, and the rest
   pub forest-split :
       (i to j : ℕ) →

@@ -4,11 +4,12 @@ use Prim.Native.Nat.{ℕ, suc, _+_, _*_, _-_, _≤_, _<_}
 use mathlib.Core.Path.{_≡_}
 use mathlib.Core.List.{List}
 use mathlib.Core.Option.{Option, none, some}
+use lib.Dec.{ltb}
 use lib.ListN.{length}
 use Rattle.definition.specs.declared.Entry.{Entry}
-use Rattle.definition.specs.Basic.{if_then_else_, Answer, refuse, give}
-use Rattle.definition.specs.Tree.{higher}
-use Rattle.definition.specs.Fold.{entryEnd}
+use Rattle.definition.specs.Basic.{if_then_else_, given, Answer, refuse, give, refuseIf}
+use Rattle.definition.specs.Tree.{Forest, forest, higher}
+use Rattle.definition.specs.Fold.{entryEnd, Place, find}
 use Rattle.definition.specs.Layout.{tooLarge}
 use Rattle.rows.specs.Table.{statementAt, statementsFrom}
 use Rattle.layout.specs.declared.Target.{Target}
@@ -53,3 +54,15 @@ listOf (LaidList.Refused r) w = stopped r
 pub record Room (w : List ℕ) (to : ℕ) : Type 0 where
   pub fits : 20 * to ≤ length w
   pub small : to < 4294967296
+
+-- 30 for one entry: a redefiner that starts before its base
+abbrev pub checkBase : ℕ → ℕ → Option ℕ → Answer (Unit {0})
+checkBase at offset none = give tt
+checkBase at offset (some base) = refuseIf (ltb offset base) 30 at
+
+abbrev pub checkEntry : List ℕ → List Place → Entry → Answer (Unit {0})
+checkEntry text bases e = if given (e .redefines) then checkBase (e .at) (e .offset) (find text (e .redefines) bases) else give tt
+
+-- the statements of the rows a to before b, as a forest
+abbrev pub rowsForest : List ℕ → ℕ → ℕ → Forest
+rowsForest w a b = forest (statementsFrom w a (b - a))

@@ -11,8 +11,11 @@ ghost use Rattle.definition.specs.Tree.{Forest.leaf, forest};
 ghost use Rattle.definition.specs.Listing.{flag, signByte, storageByte};
 ghost use Rattle.definition.specs.Picture.{isBinary};
 ghost use Rattle.rows.specs.Table.{spanAt};
-ghost use Rattle.layout.specs.Places.{kindCode, signOfByte, storageOfByte, kindOfCode, putPlace, seenFrom, seenAt, leftOut, isTarget, placeRow};
-ghost use Rattle.layout.specs.Steps.{ChildrenEnd, found, startOf, endOf, endingOf, itemOf};
+ghost use Rattle.layout.specs.Places.{kindCode, signOfByte, storageOfByte, kindOfCode, putPlace, seenFrom, seenAt, leftOut, isTarget, basesAt, entryIn, entriesIn, Linked, placeRow};
+ghost use Rattle.layout.specs.Steps.{ChildrenEnd, found, startOf, endOf, endingOf, itemOf, checkEntry, rowsForest};
+ghost use Rattle.layout.specs.Bare.{foldCheck};
+ghost use mathlib.Core.List.{[]};
+use definition::Check;
 use definition::Entry;
 use definition::FieldKind;
 use definition::NumRepr;
@@ -532,4 +535,54 @@ fn place(text: &[u8], work: &mut [u32], i: usize, below: usize, last: usize, cur
             return ItemAnswer::Refused(r);
         }
     }
+}
+
+// Refusal 30 for the entry of row i: a redefiner that starts before its base; the siblings before it go back from `last`.
+fn check_entry(text: &[u8], work: &[u32], i: usize, last: usize) -> Check
+    requires { ⌜ (20 * i + 20 ≤ length (now work)) × (last ≤ i) ⌝ }
+    ensures { λ r. ⌜ checkOf r ≡ checkEntry (now (text .entry)) (basesAt (now (work .entry)) last) (entryIn (now (work .entry)) i) ⌝ }
+{
+    let s = rows::statement_at(work, i);
+    let clauses = s.clauses;
+    let redefines = clauses.redefines;
+    if 0 < redefines.len {
+        match find_target(text, work, redefines, last, true) {
+            Target::At(base) => {
+                let offset = wide(work[20 * i + 13]);
+                if offset < base {
+                    return Check::Refused(Refusal {
+                        number: 30,
+                        position: s.at,
+                        needed: 0,
+                    });
+                }
+                return Check::Passed;
+            }
+            Target::Nothing => {
+                return Check::Passed;
+            }
+        }
+    }
+    Check::Passed
+}
+
+// Refusal 30 for the list in the rows from `from` up to `to`, as it is laid: its first redefiner that starts before its base.
+pub fn fold_check(text: &[u8], work: &[u32], from: usize, to: usize) -> Check
+    requires { ⌜ (20 * to ≤ length (now work)) × Linked (now work) from 0 (rowsForest (now work) from to) ⌝ }
+    ensures { λ r. ⌜ checkOf r ≡ foldCheck (now (text .entry)) [] (entriesIn (now (work .entry)) from (rowsForest (now (work .entry)) from to)) ⌝ }
+{
+    let mut i = from;
+    let mut last = 0;
+    while i < to {
+        match check_entry(text, work, i, last) {
+            Check::Passed => {
+                last = i + 1;
+                i = end_of(work, i, to);
+            }
+            Check::Refused(r) => {
+                return Check::Refused(r);
+            }
+        }
+    }
+    Check::Passed
 }

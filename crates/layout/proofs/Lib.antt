@@ -7,3 +7,4 @@ pub mod ContentLaws
 pub mod ListLaws
 pub mod EntriesLaws
 pub mod FoldLaws
+pub mod LayLaws

@@ -61,6 +61,7 @@ bases-after w i last h l = go (given (entryIn w i .redefines)) refl
   where
     before : seenFrom true w i (cell w i 16) ≡ basesAt w last
     before = ap (seenFrom true w i) h ∙ seen-low true w i last l
+
     go : (b : Bool) → given (entryIn w i .redefines) ≡ b → basesAt w (suc i) ≡ basesAfter (entryIn w i) (basesAt w last)
     go true g = seen-out true w i g ∙ before ∙ ap (λ (b : Bool). if b then basesAt w last else placeOf (entryIn w i) ∷ basesAt w last) (sym g)
     go false g =
@@ -103,10 +104,10 @@ module _ {t w : List ℕ} {from to i last : ℕ} (inv : Checking t w from to i l
         back = omega (arith, h .low);
         linked = l .1;
         same =
-        inv .same
-        ∙ ap (foldCheck t (basesAt w last)) (entries-step w i to j h)
-        ∙ fold-passed t (basesAt w last) (entryIn w i) (entriesIn w (suc i) (rowsForest w (suc i) j)) (entriesIn w j (rowsForest w j to)) e
-        ∙ ap (λ (ps : List Place). foldCheck t ps (entriesIn w j (rowsForest w j to))) (sym (bases-after w i last (l .0) (inv .back)));
+            inv .same
+            ∙ ap (foldCheck t (basesAt w last)) (entries-step w i to j h)
+            ∙ fold-passed t (basesAt w last) (entryIn w i) (entriesIn w (suc i) (rowsForest w (suc i) j)) (entriesIn w j (rowsForest w j to)) e
+            ∙ ap (λ (ps : List Place). foldCheck t ps (entriesIn w j (rowsForest w j to))) (sym (bases-after w i last (l .0) (inv .back)));
       }
 
   pub checking-refused : {r : Refusal} → checkEntry t (basesAt w last) (entryIn w i) ≡ refuse r → foldCheck t [] (entriesIn w from (rowsForest w from to)) ≡ refuse r

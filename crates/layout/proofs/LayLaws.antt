@@ -108,7 +108,7 @@ module _ (text w : List ℕ) (i to j depth last cursor reach : ℕ) (h : Childre
   list-stop e =
       list-split
       ∙ ap (λ (a : Answer ItemLaid). after w i last (a >>= restAfter text depth (seenAt w last) cursor reach (statementAt w i) (rowsForest w (suc i) j) (rowsForest w j to)))
-        (halted-was w i last cursor (bareItem text depth (seenAt w last) cursor (statementAt w i) (rowsForest w (suc i) j)) e)
+      (halted-was w i last cursor (bareItem text depth (seenAt w last) cursor (statementAt w i) (rowsForest w (suc i) j)) e)
 
   pub list-step :
       {c e : ℕ} {w′ : List ℕ} →
@@ -191,8 +191,8 @@ module _ (text w : List ℕ) (i j depth last cursor : ℕ) (h : j ≤ suc i) whe
   leaf-place {c} e =
       own-then w i last cursor end (placed text (statementAt w i) c (seenAt w last) cursor)
       ∙ sym
-        (ap (afterItem w i last cursor) leaf-item
-        ∙ ap (λ (a : Answer Pictured). afterItem w i last cursor (a >>= λ d. placed text (statementAt w i) d (seenAt w last) cursor >>= λ o. give (record { own = o; members = end }))) (sym e))
+      (ap (afterItem w i last cursor) leaf-item
+      ∙ ap (λ (a : Answer Pictured). afterItem w i last cursor (a >>= λ d. placed text (statementAt w i) d (seenAt w last) cursor >>= λ o. give (record { own = o; members = end }))) (sym e))
 
 pub leaf-narrow : (text : List ℕ) (s : Statement) {c : Pictured} → give c ≡ content text s leaf 0 → c .width ≤ 2147483647
 leaf-narrow text s e = omega (arith, leaf-bounded text s 0 (sym e) .width)
@@ -293,6 +293,6 @@ module _ (text w : List ℕ) (i j depth last cursor : ℕ) (h : suc i < j) where
           ∙ ap (λ (x : ℕ). placeRow text w₂ i x last cursor c) (sym (n .many))
           ∙ ap (λ (x : Statement). afterOwn w₂ i last (entries# es) cursor (placed text x c (seenAt w₂ last) cursor)) (statement-places es w (suc i) 0 i)
           ∙ ap (λ (x : List Place). afterOwn w₂ i last (entries# es) cursor (placed text (statementAt w i) c x cursor))
-            (seen-same false w₂ w last last (λ k m p q. before-places es w (suc i) 0 k m (omega arith) q))
+          (seen-same false w₂ w last last (λ k m p q. before-places es w (suc i) 0 k m (omega arith) q))
           ∙ own-then w i last cursor es (placed text (statementAt w i) c (seenAt w last) cursor)
           ∙ sym (ap (afterItem w i last cursor) (group-item e))

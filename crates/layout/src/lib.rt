@@ -1,6 +1,6 @@
 // Sibling lists laid out in the rows of work memory: the place of each item, and the checks of each list.
 ghost use mathlib.Core.Path.{_≡_};
-ghost use Prim.Native.Nat.{_+_, _*_, _≤_, _<_};
+ghost use Prim.Native.Nat.{_+_, _*_, _-_, _≤_, _<_, max};
 ghost use lib.ListN.{length};
 ghost use Rattle.definition.specs.Basic.{if_then_else_, given, part, fewest};
 ghost use Rattle.definition.specs.Fold.{sameName, find, times};
@@ -11,8 +11,8 @@ ghost use Rattle.definition.specs.Tree.{Forest.leaf, forest};
 ghost use Rattle.definition.specs.Listing.{flag, signByte, storageByte};
 ghost use Rattle.definition.specs.Picture.{isBinary};
 ghost use Rattle.rows.specs.Table.{spanAt};
-ghost use Rattle.layout.specs.Places.{kindCode, signOfByte, storageOfByte, kindOfCode, putPlace, seenFrom, seenAt, leftOut, isTarget, basesAt, entryIn, entriesIn, Linked, placeRow};
-ghost use Rattle.layout.specs.Steps.{ChildrenEnd, found, startOf, endOf, endingOf, itemOf, checkEntry, rowsForest};
+ghost use Rattle.layout.specs.Places.{kindCode, signOfByte, storageOfByte, kindOfCode, putPlace, seenFrom, seenAt, leftOut, isTarget, basesAt, entryIn, entriesIn, Linked, placeRow, layItem, layTable};
+ghost use Rattle.layout.specs.Steps.{ChildrenEnd, found, startOf, endOf, endingOf, itemOf, listOf, Room, checkEntry, rowsForest};
 ghost use Rattle.layout.specs.Bare.{foldCheck};
 ghost use mathlib.Core.List.{[]};
 use definition::Check;
@@ -505,7 +505,15 @@ pub enum LaidList {
 }
 
 // The item of row i placed, after `below` rows below it: 28, then 29.
-fn place(text: &[u8], work: &mut [u32], i: usize, below: usize, last: usize, cursor: usize, c: Pictured) -> ItemAnswer
+fn place(
+    text: &[u8],
+    work: &mut [u32],
+    i: usize,
+    below: usize,
+    last: usize,
+    cursor: usize,
+    c: Pictured,
+) -> ItemAnswer
     requires { ⌜ (20 * i + 20 ≤ length (now work)) × (last ≤ i) × (i < 4294967296) × (below < 4294967296) × (cursor ≤ 2147483647) × (c .width ≤ 2147483647) ⌝ }
     ensures { λ r. ⌜ itemOf r (now (work .exit)) ≡ placeRow (now (text .entry)) (now (work .entry)) i below last cursor c ⌝ }
 {
@@ -585,4 +593,100 @@ pub fn fold_check(text: &[u8], work: &[u32], from: usize, to: usize) -> Check
         }
     }
     Check::Passed
+}
+
+// The larger of two numbers.
+fn most(a: usize, b: usize) -> usize
+    ensures { λ r. ⌜ r ≡ max a b ⌝ }
+{
+    if a < b {
+        return b;
+    }
+    a
+}
+
+// Lays out row i, whose children are the rows up to j, after the sibling `last`. 20 for an inner list that is too deep; then
+// the inner list and its check; then the item's own checks.
+fn lay_item(
+    text: &[u8],
+    work: &mut [u32],
+    i: usize,
+    j: usize,
+    depth_left: u32,
+    last: usize,
+    cursor: usize,
+) -> ItemAnswer
+    requires { ⌜ (i < j) × Room (now work) j × («depth_left» ≤ 64) × (last ≤ i) × (cursor ≤ 2147483647) ⌝ }
+    ensures { λ r. ⌜ itemOf r (now (work .exit)) ≡ layItem (now (text .entry)) (now (work .entry)) i j (64 - «depth_left») last cursor ⌝ }
+{
+    let first = i + 1;
+    if first < j {
+        if depth_left == 0 {
+            return ItemAnswer::Refused(Refusal {
+                number: 20,
+                position: wide(work[20 * first + 2]),
+                needed: 0,
+            });
+        }
+        match lay_list(text, work, first, j, depth_left - 1) {
+            LaidList::Done { width, last: inner } => match fold_check(text, work, first, j) {
+                Check::Passed => {
+                    return place(
+                        text,
+                        work,
+                        i,
+                        j - first,
+                        last,
+                        cursor,
+                        Pictured {
+                            kind: FieldKind::Group,
+                            width,
+                        },
+                    );
+                }
+                Check::Refused(r) => {
+                    return ItemAnswer::Refused(r);
+                }
+            },
+            LaidList::Refused(r) => {
+                return ItemAnswer::Refused(r);
+            }
+        }
+    }
+    let s = rows::statement_at(work, i);
+    match elementary(text, s) {
+        PicAnswer::Accepted(c) => {
+            return place(text, work, i, 0, last, cursor, c);
+        }
+        PicAnswer::Refused(r) => {
+            return ItemAnswer::Refused(r);
+        }
+    }
+}
+
+// Lays out the siblings in the rows from `from` up to `to`: each starts where the cursor is, and the list is as wide as its
+// largest end. The remaining depth falls at each group.
+pub fn lay_list(text: &[u8], work: &mut [u32], from: usize, to: usize, depth_left: u32) -> LaidList
+    requires { ⌜ Room (now work) to × («depth_left» ≤ 64) ⌝ }
+    ensures { λ r. ⌜ listOf r (now (work .exit)) ≡ layTable (now (text .entry)) (now (work .entry)) from to (64 - «depth_left») ⌝ }
+{
+    let mut i = from;
+    let mut last = 0;
+    let mut cursor = 0;
+    let mut reach = 0;
+    while i < to {
+        let j = end_of(work, i, to);
+        match lay_item(text, work, i, j, depth_left, last, cursor) {
+            ItemAnswer::Done { cursor: next, end } => {
+                last = i + 1;
+                cursor = next;
+                reach = most(reach, end);
+                i = j;
+            }
+            ItemAnswer::Refused(r) => {
+                return LaidList::Refused(r);
+            }
+        }
+    }
+    LaidList::Done { width: reach, last }
 }

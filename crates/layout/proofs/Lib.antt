@@ -8,3 +8,4 @@ pub mod ListLaws
 pub mod EntriesLaws
 pub mod FoldLaws
 pub mod LayLaws
+pub mod SizeLaws

@@ -1,0 +1,140 @@
+-- A list laid bare is its first item and the rest; what the entries of a laid list have of the list's statements.
+-- Assumes nothing.
+use Prim.Native.Nat.{ℕ, zero, suc, _+_, max, _≤_, _<_}
+use mathlib.Core.Path.{_≡_, refl, sym, ap, subst, _∙_}
+use mathlib.Core.Bool.{Bool, true, false}
+use mathlib.Core.List.{List, [], _∷_}
+use native.Mathlib.Omega.{arith}
+use Rattle.definition.specs.declared.Statement.{Statement}
+use Rattle.definition.specs.declared.Entry.{Entry}
+use Rattle.definition.specs.declared.Pictured.{Pictured}
+use Rattle.definition.specs.declared.Refusal.{Refusal}
+use Rattle.definition.specs.Basic.{Answer, refuse, give, _>>=_, refuseIf}
+use Rattle.definition.specs.Tree.{Forest, leaf, item}
+use Rattle.definition.specs.Fold.{Entries, end, entry, entryEnd, largest, Place, placeOf}
+use Rattle.definition.specs.Layout.{shallow, content, start, entryOf, tooLarge, advance, Laid}
+use Rattle.definition.specs.Owner.{size}
+use Rattle.definition.specs.Search.{entries#}
+use Rattle.definition.proofs.Answers.{through, given-same, not-refused}
+use Rattle.layout.specs.Bare.{foldCheck, bare, ItemLaid, placed, bareItem}
+use Rattle.layout.specs.Places.{Bytes}
+use Rattle.layout.proofs.BareLaws.{bind-along}
+use Rattle.layout.proofs.ContentLaws.{content-bytes}
+use Rattle.layout.proofs.ItemLaws.{within}
+
+-- ---------------------------------------------------------------- the first item, and the rest
+
+-- a place, its check, and what comes next
+place-along :
+    {B C : Type 0} (a : Answer ℕ) (check : ℕ → Answer (Unit {0})) (v : ℕ → Entry) (g : Entry → Answer B) (fin : B → Answer C) (next : ℕ → Answer C) →
+    ((o : ℕ) → next o ≡ (g (v o) >>= fin)) →
+    (a >>= λ o. check o >>= λ _. next o) ≡ (((a >>= λ o. check o >>= λ _. give (v o)) >>= g) >>= fin)
+unfolding _>>=_
+place-along (refuse r) check v g fin next h = refl
+place-along (give o) check v g fin next h = go (check o)
+  where
+    go : (u : Answer (Unit {0})) → (u >>= λ _. next o) ≡ (((u >>= λ _. give (v o)) >>= g) >>= fin)
+    go (refuse r) = refl
+    go (give x) = h o
+
+module _ (text : List ℕ) (depth : ℕ) (seen : List Place) (cursor reach : ℕ) (s : Statement) (kids later : Forest) where
+  -- what comes after the first item
+  abbrev pub restAfter : ItemLaid → Answer Laid
+  restAfter x =
+      bare text depth (placeOf (x .own) ∷ seen) (advance cursor (x .own)) (max reach (entryEnd (x .own))) later >>= λ l.
+      give (record { entries = entry (x .own) (x .members) (l .entries); width = l .width })
+
+  pub bare-split : bare text depth seen cursor reach (item s kids later) ≡ (bareItem text depth seen cursor s kids >>= restAfter)
+  unfolding bare bareItem placed _>>=_
+  bare-split =
+      bind-along (shallow (suc depth) kids) _ _ restAfter λ _.
+      bind-along (bare text (suc depth) [] 0 0 kids) _ _ restAfter λ inner.
+      bind-along (foldCheck text [] (inner .entries)) _ _ restAfter λ _.
+      bind-along (content text s kids (inner .width)) _ _ restAfter λ c.
+      place-along (start text s c seen cursor) (λ o. refuseIf (tooLarge (entryOf s c o)) 29 (s .at)) (entryOf s c) (λ e. give (record { own = e; members = inner .entries })) restAfter _ (λ o. refl)
+
+-- ---------------------------------------------------------------- an item that was laid
+
+-- its inner list, kind and width, and its place
+pub record ItemIs (text : List ℕ) (depth : ℕ) (s : Statement) (kids : Forest) (x : ItemLaid) : Type 0 where
+  pub inner : Laid
+  pub inner-laid : bare text (suc depth) [] 0 0 kids ≡ give inner
+  pub members : inner .entries ≡ x .members
+  pub contents : Pictured
+  pub contents-are : content text s kids (inner .width) ≡ give contents
+  pub offset : ℕ
+  pub own : entryOf s contents offset ≡ x .own
+  pub fits : tooLarge (entryOf s contents offset) ≡ false
+
+pub item-is :
+    (text : List ℕ) (depth : ℕ) (seen : List Place) (cursor : ℕ) (s : Statement) (kids : Forest) {x : ItemLaid} →
+    bareItem text depth seen cursor s kids ≡ give x →
+    ItemIs text depth s kids x
+unfolding bareItem placed
+item-is text depth seen cursor s kids h =
+    through _ _ h λ _ _ h₁.
+    through _ _ h₁ λ inner e₂ h₂.
+    through _ _ h₂ λ _ _ h₃.
+    through _ _ h₃ λ c e₄ h₄.
+    through _ _ h₄ λ e e₅ h₅.
+    through _ _ e₅ λ o e₆ h₆.
+    through _ _ h₆ λ u e₇ h₇.
+    let same : record { own = e; members = inner .entries } ≡ _ = given-same h₅ in
+    record {
+      inner = inner;
+      inner-laid = e₂;
+      members = ap (λ (y : ItemLaid). y .members) same;
+      contents = c;
+      contents-are = e₄;
+      offset = o;
+      own = given-same h₇ ∙ ap (λ (y : ItemLaid). y .own) same;
+      fits = not-refused (tooLarge (entryOf s c o)) 29 (s .at) e₇;
+    }
+
+-- ---------------------------------------------------------------- entries of statements
+
+-- an entry has its statement's words, and a kind that its number gives back
+pub record EntryOf (s : Statement) (e : Entry) : Type 0 where
+  pub place : ℕ
+  pub contents : Pictured
+  pub is : e ≡ entryOf s contents place
+  pub bytes : Bytes (contents .kind)
+
+-- a list of entries has an entry for each statement of a forest, in its shape
+abbrev pub Of : Forest → Entries → Type 0
+Of leaf end = Unit {0}
+Of leaf (entry e members later) = ⊥
+Of (item s kids later) end = ⊥
+Of (item s kids later) (entry e members more) = EntryOf s e × Of kids members × Of later more
+
+pub of-size : (f : Forest) (es : Entries) → Of f es → entries# es ≡ size f
+of-size leaf end h = refl
+of-size leaf (entry e members later) h = absurd h
+of-size (item s kids later) end h = absurd h
+of-size (item s kids later) (entry e members more) h = omega (arith, of-size kids members (h .1), of-size later more (h .2))
+
+-- what a laid list has of its forest
+pub record BareIs (f : Forest) (l : Laid) : Type 0 where
+  pub of : Of f (l .entries)
+  pub width : l .width ≤ 2147483647
+
+module _ (text : List ℕ) where
+  pub bare-is :
+      (f : Forest) (depth : ℕ) (seen : List Place) (cursor reach : ℕ) {l : Laid} →
+      reach ≤ 2147483647 →
+      bare text depth seen cursor reach f ≡ give l →
+      BareIs f l
+  unfolding bare
+  bare-is leaf depth seen cursor reach h e = subst (BareIs leaf) (given-same e) (record { of = tt; width = h })
+  bare-is (item s kids later) depth seen cursor reach h e =
+      through _ _ (sym (bare-split text depth seen cursor reach s kids later) ∙ e) λ x e₁ h₁.
+      through _ _ h₁ λ more e₂ h₂.
+      let i = item-is text depth seen cursor s kids e₁ in
+      let members = bare-is kids (suc depth) [] 0 0 (omega arith) (i .inner-laid) in
+      let ends = within (entryOf s (i .contents) (i .offset)) (i .fits) .ends in
+      let ends′ : entryEnd (x .own) ≤ 2147483647 = subst (λ (y : Entry). entryEnd y ≤ 2147483647) (i .own) ends in
+      let rest = bare-is later depth (placeOf (x .own) ∷ seen) (advance cursor (x .own)) (max reach (entryEnd (x .own))) (omega arith) e₂ in
+      let own : EntryOf s (x .own) =
+      record { place = i .offset; contents = i .contents; is = sym (i .own); bytes = content-bytes text s kids (i .inner .width) (i .contents-are) } in
+      subst (BareIs (item s kids later)) (given-same h₂)
+      (record { of = (own, subst (Of kids) (i .members) (members .of), rest .of); width = rest .width })

@@ -1,0 +1,87 @@
+-- `layout::end_of` meets its contract: the run of higher levels from j on is what is left of the run from i + 1 on.
+-- Assumes nothing.
+use borrow.Author.Needs.{needs}
+use Prim.Native.Nat.{ℕ, suc, _+_, _-_, _*_, _%_, _≤_, _<_}
+use mathlib.Core.Path.{_≡_, refl, sym, ap, _∙_}
+use mathlib.Core.List.{List}
+use native.Mathlib.Numerals.{add-one}
+use native.Mathlib.Omega.{arith}
+use lib.ListN.{getD}
+use Rattle.definition.specs.Tree.{higher}
+use Rattle.definition.proofs.TreeLaws.{higher-none, higher-hit, higher-miss}
+use Rattle.rows.specs.Table.{statementAt, statementsFrom}
+use Rattle.layout.specs.Steps.{ChildrenEnd}
+use Rattle.layout.proofs.RowLaws.{stretch-cons, stretch-none}
+use Rattle.layout.proofs.end_of.Statement.{statement}
+use Rattle.layout.proofs.end_of.Tie as tie
+
+-- the run goes on at j
+record Left (w : List ℕ) (i to level j : ℕ) : Type 0 where
+  same-level : level ≡ statementAt w i .level
+  low : i < j
+  high : j ≤ to
+  is : j + higher level (statementsFrom w j (to - j)) ≡ suc i + higher level (statementsFrom w (suc i) (to - suc i))
+
+start : (w : List ℕ) (i to : ℕ) → i < to → Left w i to (getD w (20 * i + 0) 0 % 256) (i + 1)
+start w i to h = record { same-level = refl; low = omega arith; high = omega arith; is = rw add-one }
+
+module _ {w : List ℕ} {i to level j : ℕ} (inv : Left w i to level j) where
+  next : j < to → level < getD w (20 * j + 0) 0 % 256 → Left w i to level (j + 1)
+  next h l =
+      let step : higher level (statementsFrom w j (to - j)) ≡ suc (higher level (statementsFrom w (suc j) (to - suc j))) =
+      ap (higher level) (stretch-cons w j to h) ∙ higher-hit level (statementAt w j) (statementsFrom w (suc j) (to - suc j)) l in
+      record { same-level = inv .same-level; low = omega arith; high = omega arith; is = rw add-one (omega (arith, inv .is, step)) }
+
+  ended : higher level (statementsFrom w j (to - j)) ≡ 0 → ChildrenEnd w i to j
+  ended e =
+      record {
+        low = inv .low;
+        high = inv .high;
+        is = rw (← inv .same-level) (omega (arith, inv .is));
+      }
+
+  found : j < to → getD w (20 * j + 0) 0 % 256 ≤ level → ChildrenEnd w i to j
+  found h l = ended (ap (higher level) (stretch-cons w j to h) ∙ higher-miss level (statementAt w j) (statementsFrom w (suc j) (to - suc j)) l)
+
+  done : to ≤ j → ChildrenEnd w i to j
+  done h = ended (ap (higher level) (stretch-none w j to h) ∙ higher-none level)
+
+abbrev Inv-loop : tie.InvT-loop
+Inv-loop work i to level j₀ j = Left work i to level j
+
+abbrev μ-loop : tie.MeasureT-loop
+μ-loop work i to level j₀ j = to - j
+
+loop-holds : tie.Need-loop-holds Inv-loop μ-loop
+loop-holds c = search start
+
+returns : tie.Need-returns Inv-loop μ-loop
+returns c = search found
+
+loop-again : tie.Need-loop-again Inv-loop μ-loop
+loop-again c = search next
+
+returns-2 : tie.Need-returns-2 Inv-loop μ-loop
+returns-2 c = search done
+
+pub end-of-spec : {M : Type 1} → statement M
+end-of-spec =
+    tie.close
+    (tie.spec
+    Inv-loop
+    μ-loop
+    (λ c. search needs)
+    (λ c. search needs)
+    (λ c. search needs)
+    (λ c. search needs)
+    (λ c. search needs)
+    loop-holds
+    (λ c. search needs)
+    (λ c. search needs)
+    (λ c. search needs)
+    (λ c. search needs)
+    returns
+    (λ c. search needs)
+    (λ c. search needs)
+    loop-again
+    returns-2)

@@ -1,0 +1,64 @@
+-- `layout::put_place` meets its contract: its stores are a run of stores.
+-- Assumes nothing.
+use borrow.Author.Needs.{needs}
+use Prim.Native.Nat.{ℕ, suc, _+_, _*_}
+use mathlib.Core.Path.{_≡_, refl}
+use mathlib.Core.List.{List}
+use native.Mathlib.Numerals.{towards-suc}
+use native.Mathlib.Omega.{arith}
+use lib.ListN.{set, length-set}
+use Rattle.definition.specs.declared.Entry.{Entry}
+use Rattle.layout.specs.Places.{kindCode, putPlace}
+use Rattle.layout.proofs.put_place.Statement.{statement}
+use Rattle.layout.proofs.put_place.Tie as tie
+
+one-run :
+    (w : List ℕ) (k last below : ℕ) (e : Entry) {n : ℕ} →
+    n ≡ kindCode (e .kind) →
+    set (set (set (set (set w (20 * k + 13) (e .offset)) (20 * k + 13 + 1) (e .width)) (20 * k + 13 + 2) n) (20 * k + 13 + 3) last) (20 * k + 13 + 4) below
+    ≡ putPlace w k last below e
+unfolding putPlace
+one-run w k last below e q = rw q (simp towards-suc)
+
+slice-write-work-2 : tie.Need-slice-write-work-2
+slice-write-work-2 c = simp length-set (omega arith)
+
+slice-write-work-3 : tie.Need-slice-write-work-3
+slice-write-work-3 c = simp length-set (omega arith)
+
+slice-write-work-4 : tie.Need-slice-write-work-4
+slice-write-work-4 c = simp length-set (omega arith)
+
+slice-write-work-5 : tie.Need-slice-write-work-5
+slice-write-work-5 c = simp length-set (omega arith)
+
+returns : tie.Need-returns
+returns c = search one-run
+
+pub put-place-spec : {M : Type 1} → statement M
+put-place-spec =
+    tie.close
+    (tie.spec
+    (λ c. search needs)
+    (λ c. search needs)
+    (λ c. search needs)
+    (λ c. search needs)
+    (λ c. search needs)
+    (λ c. search needs)
+    (λ c. search needs)
+    (λ c. search needs)
+    slice-write-work-2
+    (λ c κs. search needs)
+    (λ c. search needs)
+    (λ c. search needs)
+    slice-write-work-3
+    (λ c. search needs)
+    (λ c. search needs)
+    (λ c. search needs)
+    slice-write-work-4
+    (λ c. search needs)
+    (λ c. search needs)
+    (λ c. search needs)
+    slice-write-work-5
+    (λ c. search needs)
+    returns)

@@ -1,0 +1,187 @@
+-- What the layout adds to the rows of the table: columns 13 to 17 of row k hold the offset, the width and the kind of its entry, the previous
+-- sibling (0 for none, else its row and 1) and the number of rows below it.
+-- Assumes nothing.
+use Prim.Native.Nat.{ℕ, zero, suc, _+_, _*_, _-_, _/_, _%_, _≤_, _<_}
+use mathlib.Core.Path.{_≡_}
+use mathlib.Core.Bool.{Bool, true, false, _&&_}
+use mathlib.Core.List.{List, [], _∷_}
+use lib.Dec.{eqb}
+use lib.Seq.{sets}
+use Rattle.definition.specs.declared.Refusal.{Refusal}
+use Rattle.definition.specs.declared.Span.{Span}
+use Rattle.definition.specs.declared.SignKind.{SignKind}
+use Rattle.definition.specs.declared.NumRepr.{NumRepr}
+use Rattle.definition.specs.declared.FieldKind.{FieldKind}
+use Rattle.definition.specs.declared.Entry.{Entry}
+use Rattle.definition.specs.declared.Pictured.{Pictured}
+use Rattle.definition.specs.Basic.{if_then_else_, given, Answer, refuse, give}
+use Rattle.definition.specs.Tree.{Forest, leaf, item, forest}
+use Rattle.definition.specs.Fold.{Entries, end, entry, entryEnd, sameName, Place}
+use Rattle.definition.specs.Layout.{advance, Laid}
+use Rattle.definition.specs.Owner.{size}
+use Rattle.definition.specs.Listing.{flag, signByte, storageByte}
+use Rattle.definition.specs.Search.{entries#}
+use Rattle.rows.specs.Table.{spanAt, cell, clausesAt, statementAt, statementsFrom}
+use Rattle.layout.specs.Bare.{bare, ItemLaid, placed, bareItem}
+
+-- ---------------------------------------------------------------- a number for a kind
+
+abbrev pub kindCode : FieldKind → ℕ
+kindCode FieldKind.Text = 1
+kindCode (FieldKind.Int signed sign) = 2 + 8 * (flag signed + 2 * signByte sign)
+kindCode (FieldKind.Binary signed) = 3 + 8 * flag signed
+kindCode (FieldKind.Decimal precision scale repr sign) = 4 + 8 * (precision + 256 * (scale + 256 * (storageByte repr + 4 * signByte sign)))
+kindCode (FieldKind.Edited precision scale signed) = 5 + 8 * (precision + 256 * (scale + 256 * flag signed))
+kindCode FieldKind.Group = 6
+
+abbrev pub signOfByte : ℕ → SignKind
+signOfByte n =
+    if eqb n 1 then SignKind.Embedded
+    else if eqb n 2 then SignKind.LeadingSeparate
+    else if eqb n 3 then SignKind.TrailingSeparate
+    else SignKind.Unsigned
+
+abbrev pub storageOfByte : ℕ → NumRepr
+storageOfByte n = if eqb n 1 then NumRepr.Comp3 else if eqb n 2 then NumRepr.Zoned else NumRepr.Display
+
+-- and back
+abbrev pub kindOfCode : ℕ → FieldKind
+kindOfCode n =
+    let k = n % 8 in
+    let d = n / 8 in
+    if eqb k 1 then FieldKind.Text
+    else if eqb k 2 then FieldKind.Int (eqb (d % 2) 1) (signOfByte (d / 2 % 4))
+    else if eqb k 3 then FieldKind.Binary (eqb (d % 2) 1)
+    else if eqb k 4 then FieldKind.Decimal (d % 256) (d / 256 % 256) (storageOfByte (d / 65536 % 4)) (signOfByte (d / 262144 % 4))
+    else if eqb k 5 then FieldKind.Edited (d % 256) (d / 256 % 256) (eqb (d / 65536 % 2) 1)
+    else FieldKind.Group
+
+-- a kind that its number gives back: its precision and scale are bytes
+abbrev pub Bytes : FieldKind → Type 0
+Bytes FieldKind.Text = Unit {0}
+Bytes (FieldKind.Int signed sign) = Unit {0}
+Bytes (FieldKind.Binary signed) = Unit {0}
+Bytes (FieldKind.Decimal precision scale repr sign) = (precision < 256) × (scale < 256)
+Bytes (FieldKind.Edited precision scale signed) = (precision < 256) × (scale < 256)
+Bytes FieldKind.Group = Unit {0}
+
+-- ---------------------------------------------------------------- places
+
+abbrev pub placeCells : Entry → ℕ → ℕ → List ℕ
+placeCells e last below = e .offset ∷ e .width ∷ kindCode (e .kind) ∷ last ∷ below ∷ []
+
+-- w with the place of an entry in row k, after the sibling `last`
+unfoldable pub putPlace : List ℕ → ℕ → ℕ → ℕ → Entry → List ℕ
+putPlace w k last below e = sets w (20 * k + 13) (placeCells e last below)
+
+-- w with the places of a list of entries, and of those below them, from row k on, after the sibling `last`
+unfoldable pub putPlaces : List ℕ → ℕ → ℕ → Entries → List ℕ
+putPlaces w k last end = w
+putPlaces w k last (entry e members later) =
+    putPlaces (putPlaces (putPlace w k last (entries# members) e) (suc k) 0 members) (suc k + entries# members) (suc k) later
+
+-- the last sibling of such a list
+unfoldable pub lastOf : ℕ → ℕ → Entries → ℕ
+lastOf k last end = last
+lastOf k last (entry e members later) = lastOf (suc k + entries# members) (suc k) later
+
+-- the entry in row k
+abbrev pub entryIn : List ℕ → ℕ → Entry
+entryIn w k =
+    let c = clausesAt w k in
+    record {
+      at = cell w k 2;
+      name = spanAt (cell w k 3);
+      offset = cell w k 13;
+      width = cell w k 14;
+      kind = kindOfCode (cell w k 15);
+      picture = c .picture;
+      occurs = c .occurs;
+      depending = c .depending;
+      redefines = c .redefines;
+    }
+
+-- the name and the offset of the entry in row k
+abbrev pub placeAt : List ℕ → ℕ → Place
+placeAt w k = record { name = spanAt (cell w k 3); offset = cell w k 13 }
+
+-- a search for bases leaves redefiners out
+abbrev pub leftOut : Bool → List ℕ → ℕ → Bool
+leftOut bases w k = bases && given (spanAt (cell w k 6))
+
+-- among the first n rows, the siblings from `last` back, the latest first, or those of them that are bases
+unfoldable pub seenFrom : Bool → List ℕ → ℕ → ℕ → List Place
+seenFrom bases w zero last = []
+seenFrom bases w (suc k) last =
+    if eqb last (suc k) then
+    (if leftOut bases w k then seenFrom bases w k (cell w k 16) else placeAt w k ∷ seenFrom bases w k (cell w k 16))
+    else seenFrom bases w k last
+
+-- the siblings from `last` back
+abbrev pub seenAt : List ℕ → ℕ → List Place
+seenAt w last = seenFrom false w last last
+
+-- those of them that are bases
+abbrev pub basesAt : List ℕ → ℕ → List Place
+basesAt w last = seenFrom true w last last
+
+-- row k is what a search for a name ends at
+abbrev pub isTarget : List ℕ → Span → Bool → List ℕ → ℕ → Bool
+isTarget text target bases w k = if leftOut bases w k then false else sameName text target (spanAt (cell w k 3))
+
+-- ---------------------------------------------------------------- the entries in the table
+
+-- the entries in the rows from k on, in the shape of the forest of their statements
+unfoldable pub entriesIn : List ℕ → ℕ → Forest → Entries
+entriesIn w k leaf = end
+entriesIn w k (item s kids later) = entry (entryIn w k) (entriesIn w (suc k) kids) (entriesIn w (suc k + size kids) later)
+
+-- each row of a list, from row k on, names the sibling before it; `last` is the one before the first
+abbrev pub Linked : List ℕ → ℕ → ℕ → Forest → Type 0
+Linked w k last leaf = Unit {0}
+Linked w k last (item s kids later) = (cell w k 16 ≡ last) × Linked w (suc k + size kids) (suc k) later
+
+-- ---------------------------------------------------------------- a list laid in the table
+
+-- a refusal, or the width of the list, its last sibling and the table
+pub data Outcome : Type 0 where
+  stopped : Refusal → Outcome
+  ready : ℕ → ℕ → List ℕ → Outcome
+
+abbrev pub after : List ℕ → ℕ → ℕ → Answer Laid → Outcome
+after w k last (refuse r) = stopped r
+after w k last (give l) = ready (l .width) (lastOf k last (l .entries)) (putPlaces w k last (l .entries))
+
+-- the rest of a list, rows i to before `to`, laid after the sibling `last`
+abbrev pub layRest : List ℕ → List ℕ → ℕ → ℕ → ℕ → ℕ → ℕ → ℕ → Outcome
+layRest text w i to depth last cursor reach = after w i last (bare text depth (seenAt w last) cursor reach (forest (statementsFrom w i (to - i))))
+
+-- a whole list
+abbrev pub layTable : List ℕ → List ℕ → ℕ → ℕ → ℕ → Outcome
+layTable text w from to depth = layRest text w from to depth 0 0 0
+
+-- ---------------------------------------------------------------- an item laid in the table
+
+-- a refusal, or the cursor after the item, where it ends and the table
+pub data ItemOutcome : Type 0 where
+  halted : Refusal → ItemOutcome
+  placing : ℕ → ℕ → List ℕ → ItemOutcome
+
+-- the item of row i with its members' places
+abbrev pub afterItem : List ℕ → ℕ → ℕ → ℕ → Answer ItemLaid → ItemOutcome
+afterItem w i last cursor (refuse r) = halted r
+afterItem w i last cursor (give x) = placing (advance cursor (x .own)) (entryEnd (x .own)) (putPlaces w i last (entry (x .own) (x .members) end))
+
+-- row i, whose children are the rows up to j, laid after the sibling `last`
+abbrev pub layItem : List ℕ → List ℕ → ℕ → ℕ → ℕ → ℕ → ℕ → ItemOutcome
+layItem text w i j depth last cursor =
+    afterItem w i last cursor (bareItem text depth (seenAt w last) cursor (statementAt w i) (forest (statementsFrom w (suc i) (j - suc i))))
+
+-- the item of row i alone
+abbrev pub afterOwn : List ℕ → ℕ → ℕ → ℕ → ℕ → Answer Entry → ItemOutcome
+afterOwn w i last below cursor (refuse r) = halted r
+afterOwn w i last below cursor (give e) = placing (advance cursor e) (entryEnd e) (putPlace w i last below e)
+
+-- row i, its kind and width known and `below` rows below it laid, placed after the sibling `last`
+abbrev pub placeRow : List ℕ → List ℕ → ℕ → ℕ → ℕ → ℕ → Pictured → ItemOutcome
+placeRow text w i below last cursor c = afterOwn w i last below cursor (placed text (statementAt w i) c (seenAt w last) cursor)

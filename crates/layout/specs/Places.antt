@@ -1,7 +1,7 @@
 -- What the layout adds to the rows of the table: columns 13 to 17 of row k hold the offset, the width and the kind of its entry, the previous
 -- sibling (0 for none, else its row and 1) and the number of rows below it.
 -- Assumes nothing.
-use Prim.Native.Nat.{ℕ, zero, suc, _+_, _*_, _-_, _/_, _%_, _≤_, _<_}
+use Prim.Native.Nat.{ℕ, zero, suc, _+_, _*_, _-_, _/_, _%_, _<_}
 use mathlib.Core.Path.{_≡_}
 use mathlib.Core.Bool.{Bool, true, false, _&&_}
 use mathlib.Core.List.{List, [], _∷_}
@@ -131,6 +131,10 @@ isTarget text target bases w k = if leftOut bases w k then false else sameName t
 
 -- ---------------------------------------------------------------- the entries in the table
 
+-- the statements of the rows a to before b, as a forest
+abbrev pub rowsForest : List ℕ → ℕ → ℕ → Forest
+rowsForest w a b = forest (statementsFrom w a (b - a))
+
 -- the entries in the rows from k on, in the shape of the forest of their statements
 unfoldable pub entriesIn : List ℕ → ℕ → Forest → Entries
 entriesIn w k leaf = end
@@ -154,7 +158,7 @@ after w k last (give l) = ready (l .width) (lastOf k last (l .entries)) (putPlac
 
 -- the rest of a list, rows i to before `to`, laid after the sibling `last`
 abbrev pub layRest : List ℕ → List ℕ → ℕ → ℕ → ℕ → ℕ → ℕ → ℕ → Outcome
-layRest text w i to depth last cursor reach = after w i last (bare text depth (seenAt w last) cursor reach (forest (statementsFrom w i (to - i))))
+layRest text w i to depth last cursor reach = after w i last (bare text depth (seenAt w last) cursor reach (rowsForest w i to))
 
 -- a whole list
 abbrev pub layTable : List ℕ → List ℕ → ℕ → ℕ → ℕ → Outcome
@@ -175,7 +179,7 @@ afterItem w i last cursor (give x) = placing (advance cursor (x .own)) (entryEnd
 -- row i, whose children are the rows up to j, laid after the sibling `last`
 abbrev pub layItem : List ℕ → List ℕ → ℕ → ℕ → ℕ → ℕ → ℕ → ItemOutcome
 layItem text w i j depth last cursor =
-    afterItem w i last cursor (bareItem text depth (seenAt w last) cursor (statementAt w i) (forest (statementsFrom w (suc i) (j - suc i))))
+    afterItem w i last cursor (bareItem text depth (seenAt w last) cursor (statementAt w i) (rowsForest w (suc i) j))
 
 -- the item of row i alone
 abbrev pub afterOwn : List ℕ → ℕ → ℕ → ℕ → ℕ → Answer Entry → ItemOutcome

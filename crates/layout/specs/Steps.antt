@@ -8,7 +8,7 @@ use lib.Dec.{ltb}
 use lib.ListN.{length}
 use Rattle.definition.specs.declared.Entry.{Entry}
 use Rattle.definition.specs.Basic.{if_then_else_, given, Answer, refuse, give, refuseIf}
-use Rattle.definition.specs.Tree.{Forest, forest, higher}
+use Rattle.definition.specs.Tree.{higher}
 use Rattle.definition.specs.Fold.{entryEnd, Place, find}
 use Rattle.definition.specs.Layout.{tooLarge}
 use Rattle.rows.specs.Table.{statementAt, statementsFrom}
@@ -62,7 +62,3 @@ checkBase at offset (some base) = refuseIf (ltb offset base) 30 at
 
 abbrev pub checkEntry : List ℕ → List Place → Entry → Answer (Unit {0})
 checkEntry text bases e = if given (e .redefines) then checkBase (e .at) (e .offset) (find text (e .redefines) bases) else give tt
-
--- the statements of the rows a to before b, as a forest
-abbrev pub rowsForest : List ℕ → ℕ → ℕ → Forest
-rowsForest w a b = forest (statementsFrom w a (b - a))

@@ -26,6 +26,7 @@ use Rattle.layout.specs.Bare.{bare, ItemLaid, placed, bareItem}
 
 -- ---------------------------------------------------------------- a number for a kind
 
+-- the kind's own number, and above it what it holds
 abbrev pub kindCode : FieldKind → ℕ
 kindCode FieldKind.Text = 1
 kindCode (FieldKind.Int signed sign) = 2 + 8 * (flag signed + 2 * signByte sign)
@@ -34,6 +35,7 @@ kindCode (FieldKind.Decimal precision scale repr sign) = 4 + 8 * (precision + 25
 kindCode (FieldKind.Edited precision scale signed) = 5 + 8 * (precision + 256 * (scale + 256 * flag signed))
 kindCode FieldKind.Group = 6
 
+-- a sign from the listing's number
 abbrev pub signOfByte : ℕ → SignKind
 signOfByte n =
     if eqb n 1 then SignKind.Embedded
@@ -41,10 +43,11 @@ signOfByte n =
     else if eqb n 3 then SignKind.TrailingSeparate
     else SignKind.Unsigned
 
+-- a storage from the listing's number
 abbrev pub storageOfByte : ℕ → NumRepr
 storageOfByte n = if eqb n 1 then NumRepr.Comp3 else if eqb n 2 then NumRepr.Zoned else NumRepr.Display
 
--- and back
+-- a kind from its number
 abbrev pub kindOfCode : ℕ → FieldKind
 kindOfCode n =
     let k = n % 8 in
@@ -67,6 +70,7 @@ Bytes FieldKind.Group = Unit {0}
 
 -- ---------------------------------------------------------------- places
 
+-- columns 13 to 17
 abbrev pub placeCells : Entry → ℕ → ℕ → List ℕ
 placeCells e last below = e .offset ∷ e .width ∷ kindCode (e .kind) ∷ last ∷ below ∷ []
 
@@ -152,6 +156,7 @@ pub data Outcome : Type 0 where
   stopped : Refusal → Outcome
   ready : ℕ → ℕ → List ℕ → Outcome
 
+-- what a list's answer leads to, in the rows from k on, after the sibling `last`
 abbrev pub after : List ℕ → ℕ → ℕ → Answer Laid → Outcome
 after w k last (refuse r) = stopped r
 after w k last (give l) = ready (l .width) (lastOf k last (l .entries)) (putPlaces w k last (l .entries))

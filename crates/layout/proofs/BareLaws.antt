@@ -1,6 +1,6 @@
 -- Laying and folding in two steps is the definition's layout.
 -- Assumes nothing.
-use Prim.Native.Nat.{ℕ, zero, suc, max}
+use Prim.Native.Nat.{ℕ, suc, max}
 use mathlib.Core.Path.{_≡_, refl, sym, _∙_, ap}
 use mathlib.Core.Bool.{Bool, true, false}
 use mathlib.Core.List.{List, [], _∷_}
@@ -8,14 +8,13 @@ use mathlib.Core.Option.{Option, none, some}
 use lib.Dec.{ltb}
 use Rattle.definition.specs.declared.Statement.{Statement}
 use Rattle.definition.specs.declared.Entry.{Entry}
-use Rattle.definition.specs.declared.Pictured.{Pictured}
-use Rattle.definition.specs.Basic.{if_then_else_, given, Answer, refuse, give, _>>=_, refused, refuseIf}
+use Rattle.definition.specs.Basic.{given, Answer, refuse, give, _>>=_, refuseIf}
 use Rattle.definition.specs.Tree.{Forest, leaf, item}
 use Rattle.definition.specs.Fold.{Entries, end, entry, entryEnd, Place, placeOf, find, redefiners, withRedefiners, fold}
 use Rattle.definition.specs.Layout.{shallow, content, start, entryOf, tooLarge, advance, Laid, lay}
 use Rattle.definition.specs.Record.{endsFit, layout}
-use Rattle.definition.proofs.LayoutLaws.{fold-none, fold-base, fold-alone}
-use Rattle.layout.specs.Bare.{foldCheck, hasBase, foldedList, foldedBelow, foldedAll, bare, bareRecord}
+use Rattle.definition.proofs.LayoutLaws.{fold-base, fold-alone}
+use Rattle.layout.specs.Bare.{foldCheck, foldedList, foldedBelow, foldedAll, bare, bareRecord}
 
 -- ---------------------------------------------------------------- answers
 

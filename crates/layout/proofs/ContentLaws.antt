@@ -1,6 +1,6 @@
 -- Bounds of what a picture says: its width, its precision and its scale.
 -- Assumes nothing.
-use Prim.Native.Nat.{ℕ, zero, suc, _+_, _/_, max, _≤_, _<_}
+use Prim.Native.Nat.{ℕ, zero, suc, _+_, _≤_}
 use mathlib.Core.Path.{_≡_, refl, sym, ap, subst, _∙_}
 use mathlib.Core.Bool.{Bool, true, false, _&&_, _||_, not}
 use mathlib.Core.List.{List, [], _∷_, _++_}
@@ -15,9 +15,9 @@ use Rattle.definition.specs.declared.NumRepr.{NumRepr}
 use Rattle.definition.specs.declared.FieldKind.{FieldKind}
 use Rattle.definition.specs.declared.Pictured.{Pictured}
 use Rattle.definition.specs.declared.Statement.{Statement}
-use Rattle.definition.specs.Basic.{if_then_else_, upper, Answer, refuse, give, _>>=_}
+use Rattle.definition.specs.Basic.{if_then_else_, upper, give, _>>=_}
 use Rattle.definition.specs.Tree.{Forest, leaf, item}
-use Rattle.definition.specs.Picture.{expand, tally, allDigits, fraction, isText, isMasked, mask, pictured, isEmbedded, resolveSign, signBytes, display, numeric, kinded, tooLong, symbols, picture}
+use Rattle.definition.specs.Picture.{expand, allDigits, fraction, isText, isMasked, mask, isEmbedded, resolveSign, signBytes, display, numeric, kinded, tooLong, symbols, picture}
 use Rattle.definition.specs.Layout.{content}
 use Rattle.definition.proofs.Answers.{through, given-same, not-refused, or-false}
 use Rattle.definition.proofs.PictureLaws.{tally-le, mask-length}

@@ -1,6 +1,6 @@
 -- The check of a list, entry by entry, along the rows that hold it.
 -- Assumes nothing.
-use Prim.Native.Nat.{ℕ, zero, suc, _+_, _-_, _≤_, _<_}
+use Prim.Native.Nat.{ℕ, suc, _+_, _≤_}
 use mathlib.Core.Path.{_≡_, refl, sym, ap, subst, _∙_}
 use mathlib.Core.Bool.{Bool, true, false}
 use mathlib.Core.List.{List, [], _∷_}
@@ -9,13 +9,12 @@ use native.Mathlib.Omega.{arith}
 use Rattle.definition.specs.declared.Refusal.{Refusal}
 use Rattle.definition.specs.declared.Entry.{Entry}
 use Rattle.definition.specs.Basic.{if_then_else_, given, Answer, refuse, give, _>>=_}
-use Rattle.definition.specs.Tree.{Forest, leaf, item}
-use Rattle.definition.specs.Fold.{Entries, end, entry, Place, placeOf, find}
+use Rattle.definition.specs.Fold.{Entries, entry, Place, placeOf, find}
 use Rattle.definition.specs.Owner.{size}
-use Rattle.rows.specs.Table.{cell, statementAt}
+use Rattle.rows.specs.Table.{cell}
 use Rattle.layout.specs.Bare.{foldCheck}
-use Rattle.layout.specs.Places.{seenFrom, basesAt, entryIn, entriesIn, Linked}
-use Rattle.layout.specs.Steps.{ChildrenEnd, checkEntry, rowsForest}
+use Rattle.layout.specs.Places.{seenFrom, basesAt, entryIn, entriesIn, Linked, rowsForest}
+use Rattle.layout.specs.Steps.{ChildrenEnd, checkEntry}
 use Rattle.layout.proofs.BareLaws.{check-base, check-alone, check-under}
 use Rattle.layout.proofs.EntriesLaws.{size-stretch}
 use Rattle.layout.proofs.PlaceLaws.{seen-low, seen-out, seen-in}

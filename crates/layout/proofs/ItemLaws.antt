@@ -1,10 +1,10 @@
 -- Laws of one item: what it means that 29 is not due, and one step of placing an item.
 -- Assumes nothing.
-use Prim.Native.Nat.{ℕ, _+_, _≤_, _<_}
-use mathlib.Core.Path.{_≡_, refl, sym, ap, _∙_}
+use Prim.Native.Nat.{ℕ, _≤_}
+use mathlib.Core.Path.{_≡_, refl, ap, _∙_}
 use mathlib.Core.Bool.{Bool, true, false, _||_}
 use mathlib.Core.List.{List}
-use mathlib.Core.Option.{Option, none, some}
+use mathlib.Core.Option.{none, some}
 use native.Mathlib.Omega.{arith}
 use lib.Dec.{ltb}
 use borrow.Author.Tests.{ltb-false}
@@ -12,7 +12,7 @@ use Rattle.definition.specs.declared.Refusal.{Refusal}
 use Rattle.definition.specs.declared.Statement.{Statement}
 use Rattle.definition.specs.declared.Entry.{Entry}
 use Rattle.definition.specs.declared.Pictured.{Pictured}
-use Rattle.definition.specs.Basic.{if_then_else_, Answer, refuse, give, _>>=_, refused}
+use Rattle.definition.specs.Basic.{if_then_else_, refuse, give, _>>=_, refused}
 use Rattle.definition.specs.Fold.{times, total, entryEnd, largest, Place}
 use Rattle.definition.specs.Layout.{start, entryOf, tooLarge}
 use Rattle.definition.proofs.Answers.{or-false}

@@ -1,11 +1,11 @@
 -- Laws of the layout in the table: a list goes on after its first item; an item is its inner list and then its own place.
 -- Assumes nothing.
-use Prim.Native.Nat.{ℕ, zero, suc, _+_, _*_, _-_, max, _≤_, _<_}
+use Prim.Native.Nat.{ℕ, suc, _+_, _*_, _-_, max, _≤_, _<_}
 use mathlib.Core.Path.{_≡_, refl, sym, ap, subst, _∙_}
 use mathlib.Core.Bool.{Bool, true, false}
 use mathlib.Core.List.{List, [], _∷_}
 use native.Mathlib.Omega.{arith}
-use lib.Dec.{lit<, ltb}
+use lib.Dec.{lit<}
 use lib.ListN.{length}
 use borrow.Author.Tests.{lt-ltb, le-ltb}
 use Rattle.definition.specs.declared.Refusal.{Refusal}
@@ -13,25 +13,25 @@ use Rattle.definition.specs.declared.FieldKind.{FieldKind}
 use Rattle.definition.specs.declared.Pictured.{Pictured}
 use Rattle.definition.specs.declared.Statement.{Statement}
 use Rattle.definition.specs.declared.Entry.{Entry}
-use Rattle.definition.specs.Basic.{if_then_else_, given, Answer, refuse, give, _>>=_, refused, refuseIf}
+use Rattle.definition.specs.Basic.{if_then_else_, given, Answer, refuse, give, _>>=_}
 use Rattle.definition.specs.Tree.{Forest, leaf, item, forest}
 use Rattle.definition.specs.Picture.{pictured}
 use Rattle.definition.specs.Fold.{Entries, end, entry, entryEnd, Place, placeOf}
-use Rattle.definition.specs.Layout.{shallow, content, start, entryOf, tooLarge, advance, Laid}
+use Rattle.definition.specs.Layout.{shallow, content, entryOf, advance, Laid}
 use Rattle.definition.specs.Owner.{size}
 use Rattle.definition.specs.Search.{entries#}
-use Rattle.rows.specs.Table.{cell, spanAt, statementAt, statementsFrom}
+use Rattle.rows.specs.Table.{cell, spanAt, statementAt}
 use Rattle.layout.specs.Bare.{foldCheck, bare, ItemLaid, placed, bareItem}
-use Rattle.layout.specs.Places.{putPlace, putPlaces, lastOf, placeAt, seenFrom, seenAt, entriesIn, Linked, Outcome, stopped, ready, after, layRest, layTable}
-use Rattle.layout.specs.Places.{ItemOutcome, halted, placing, afterItem, layItem, afterOwn, placeRow}
-use Rattle.layout.specs.Steps.{ChildrenEnd, rowsForest}
-use Rattle.layout.proofs.ContentLaws.{Bounded, leaf-bounded}
+use Rattle.layout.specs.Places.{putPlaces, lastOf, placeAt, seenFrom, seenAt, entriesIn, stopped, ready, after, layRest, layTable, rowsForest}
+use Rattle.layout.specs.Places.{halted, placing, afterItem, layItem, afterOwn, placeRow}
+use Rattle.layout.specs.Steps.{ChildrenEnd}
+use Rattle.layout.proofs.ContentLaws.{leaf-bounded}
 use Rattle.layout.proofs.EntriesLaws.{size-stretch, rows-forest, Held, places-held}
 use Rattle.layout.proofs.FoldLaws.{next-row}
 use Rattle.layout.proofs.ItemLaws.{within}
-use Rattle.layout.proofs.ListLaws.{restAfter, bare-split, ItemIs, item-is, of-size, bare-is}
-use Rattle.layout.proofs.PlaceLaws.{length-places, kept-places, before-places, statement-places, statements-places, place-late, first-offset, first-last, seen-low, seen-in, seen-same}
-use Rattle.layout.proofs.RowLaws.{stretch-cons, forest-empty, forest-split, children-end}
+use Rattle.layout.proofs.ListLaws.{restAfter, bare-split, item-is, of-size, bare-is}
+use Rattle.layout.proofs.PlaceLaws.{kept-places, before-places, statement-places, statements-places, place-late, first-offset, first-last, seen-low, seen-in, seen-same}
+use Rattle.layout.proofs.RowLaws.{forest-empty, forest-split, children-end}
 
 -- ---------------------------------------------------------------- what an outcome says
 
@@ -197,10 +197,10 @@ module _ (text w : List ℕ) (i j depth last cursor : ℕ) (h : j ≤ suc i) whe
 pub leaf-narrow : (text : List ℕ) (s : Statement) {c : Pictured} → give c ≡ content text s leaf 0 → c .width ≤ 2147483647
 leaf-narrow text s e = omega (arith, leaf-bounded text s 0 (sym e) .width)
 
--- ---------------------------------------------------------------- the inner list
+-- ---------------------------------------------------------------- a list that is ready
 
--- an inner list that is ready: what was laid, and what the rows hold of it
-pub record Inner (text w : List ℕ) (a b depth width : ℕ) (w₁ : List ℕ) : Type 0 where
+-- what was laid, and what the rows hold of it
+pub record LaidRows (text w : List ℕ) (a b depth width : ℕ) (w₁ : List ℕ) : Type 0 where
   pub laid : Laid
   pub is : bare text depth [] 0 0 (rowsForest w a b) ≡ give laid
   pub wide : laid .width ≡ width
@@ -215,8 +215,8 @@ module _ (text w : List ℕ) (a b depth : ℕ) where
   unfolding seenFrom
   list-begins = refl
 
-  pub inner-is : {width l : ℕ} {w₁ : List ℕ} → a ≤ b → 20 * b ≤ length w → layTable text w a b depth ≡ ready width l w₁ → Inner text w a b depth width w₁
-  inner-is {width} {l} {w₁} h fits e =
+  pub laid-rows : {width l : ℕ} {w₁ : List ℕ} → a ≤ b → 20 * b ≤ length w → layTable text w a b depth ≡ ready width l w₁ → LaidRows text w a b depth width w₁
+  laid-rows {width} {l} {w₁} h fits e =
       let f = rowsForest w a b in
       let r = readied w a 0 (bare text depth [] 0 0 f) (sym list-begins ∙ e) in
       let is = bare-is text f depth [] 0 0 (omega arith) (r .is) in
@@ -265,7 +265,7 @@ module _ (text w : List ℕ) (i j depth last cursor : ℕ) (h : suc i < j) where
     unfolding bareItem _>>=_
     inner-stop e = rw (not-deep, inner-refused text w (suc i) j (suc depth) e)
 
-    module _ {width : ℕ} {w₁ : List ℕ} (n : Inner text w (suc i) j (suc depth) width w₁) where
+    module _ {width : ℕ} {w₁ : List ℕ} (n : LaidRows text w (suc i) j (suc depth) width w₁) where
       -- the check of the inner list, as the rows hold it
       checked : {a : Answer (Unit {0})} → a ≡ foldCheck text [] (entriesIn w₁ (suc i) (rowsForest w₁ (suc i) j)) → foldCheck text [] (n .laid .entries) ≡ a
       checked e = sym (e ∙ ap (foldCheck text []) (n .held .entries))

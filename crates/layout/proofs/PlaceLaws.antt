@@ -1,12 +1,11 @@
 -- Laws of the places in the table: what a place leaves alone, and how it is read back; places written in another order; the earlier siblings.
 -- Assumes nothing.
-use Prim.Native.Nat.{ℕ, zero, suc, _+_, _*_, _-_, _≤_, _<_}
-use mathlib.Core.Path.{_≡_, refl, sym, ap, ap₂, _∙_}
+use Prim.Native.Nat.{ℕ, zero, suc, _+_, _*_, _≤_, _<_}
+use mathlib.Core.Path.{_≡_, refl, ap, ap₂, _∙_}
 use mathlib.Core.Bool.{Bool, true, false}
 use mathlib.Core.List.{List, [], _∷_}
 use mathlib.Core.Logic.{⊎-elim}
-use mathlib.Core.Option.{Option, none, some}
-use native.Mathlib.Nat.{add-zero}
+use mathlib.Core.Option.{some}
 use native.Mathlib.Omega.{arith}
 use lib.Dec.{lit<}
 use lib.ListN.{length, getD, set, length-set}
@@ -15,11 +14,11 @@ use borrow.Author.Tests.{eq-eqb, ne-eqb}
 use Rattle.definition.specs.declared.Span.{Span}
 use Rattle.definition.specs.declared.Statement.{Statement}
 use Rattle.definition.specs.declared.Entry.{Entry}
-use Rattle.definition.specs.Fold.{Entries, end, entry, Place, find}
+use Rattle.definition.specs.Fold.{Entries, end, entry, find}
 use Rattle.definition.specs.Search.{entries#}
 use Rattle.definition.proofs.Lists.{order}
-use Rattle.definition.proofs.LayoutLaws.{find-none, find-hit, find-miss}
-use Rattle.rows.specs.Table.{cell, spanAt, statementAt, statementsFrom}
+use Rattle.definition.proofs.LayoutLaws.{find-hit, find-miss}
+use Rattle.rows.specs.Table.{cell, statementAt, statementsFrom}
 use Rattle.rows.proofs.TableLaws.{statement-same}
 use Rattle.layout.specs.Places.{kindCode, placeCells, putPlace, putPlaces, placeAt, leftOut, seenFrom, isTarget}
 

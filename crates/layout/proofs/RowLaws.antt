@@ -6,9 +6,9 @@ use mathlib.Core.Path.{_≡_, refl, sym, ap, _∙_}
 use mathlib.Core.List.{List, [], _∷_}
 use native.Mathlib.Nat.{add-zero, sub-zero, zero-sub, suc-sub-suc}
 use native.Mathlib.Omega.{arith}
-use lib.ListN.{length, take, drop}
+use lib.ListN.{take, drop}
 use Rattle.definition.specs.declared.Statement.{Statement}
-use Rattle.definition.specs.Tree.{Forest, leaf, item, forest, higher}
+use Rattle.definition.specs.Tree.{leaf, item, forest, higher}
 use Rattle.definition.proofs.TreeLaws.{forest-none, forest-cons, higher-length}
 use Rattle.rows.specs.Table.{statementAt, statementsFrom}
 use Rattle.rows.proofs.TableLaws.{length-statements}

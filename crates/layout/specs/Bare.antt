@@ -2,16 +2,15 @@
 -- (`foldedAll`). `BareLaws`, of the proofs, says that the two together are the definition's `lay` and `layout`. The rows of the table hold the
 -- bare entries.
 -- Assumes nothing.
-use Prim.Native.Nat.{ℕ, zero, suc, max}
+use Prim.Native.Nat.{ℕ, suc, max}
 use mathlib.Core.Bool.{Bool, true, false}
 use mathlib.Core.List.{List, [], _∷_}
 use mathlib.Core.Option.{Option, none, some}
 use lib.Dec.{ltb}
-use Rattle.definition.specs.declared.Span.{Span}
 use Rattle.definition.specs.declared.Statement.{Statement}
 use Rattle.definition.specs.declared.Entry.{Entry}
 use Rattle.definition.specs.declared.Pictured.{Pictured}
-use Rattle.definition.specs.Basic.{if_then_else_, given, Answer, refuse, give, _>>=_, refused, refuseIf}
+use Rattle.definition.specs.Basic.{if_then_else_, given, Answer, give, _>>=_, refuseIf}
 use Rattle.definition.specs.Tree.{Forest, leaf, item}
 use Rattle.definition.specs.Fold.{Entries, end, entry, entryEnd, Place, placeOf, find, redefiners, withRedefiners}
 use Rattle.definition.specs.Layout.{shallow, content, start, entryOf, tooLarge, advance, Laid}

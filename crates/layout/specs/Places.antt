@@ -1,7 +1,7 @@
 -- What the layout adds to the rows of the table: columns 13 to 17 of row k hold the offset, the width and the kind of its entry, the previous
 -- sibling (0 for none, else its row and 1) and the number of rows below it.
 -- Assumes nothing.
-use Prim.Native.Nat.{ℕ, zero, suc, _+_, _*_, _-_, _/_, _%_, _≤_, _<_}
+use Prim.Native.Nat.{ℕ, zero, suc, _+_, _*_, _-_, _/_, _%_, _<_}
 use mathlib.Core.Path.{_≡_}
 use mathlib.Core.Bool.{Bool, true, false, _&&_}
 use mathlib.Core.List.{List, [], _∷_}
@@ -26,6 +26,7 @@ use Rattle.layout.specs.Bare.{bare, ItemLaid, placed, bareItem}
 
 -- ---------------------------------------------------------------- a number for a kind
 
+-- the kind's own number, and above it what it holds
 abbrev pub kindCode : FieldKind → ℕ
 kindCode FieldKind.Text = 1
 kindCode (FieldKind.Int signed sign) = 2 + 8 * (flag signed + 2 * signByte sign)
@@ -34,6 +35,7 @@ kindCode (FieldKind.Decimal precision scale repr sign) = 4 + 8 * (precision + 25
 kindCode (FieldKind.Edited precision scale signed) = 5 + 8 * (precision + 256 * (scale + 256 * flag signed))
 kindCode FieldKind.Group = 6
 
+-- a sign from the listing's number
 abbrev pub signOfByte : ℕ → SignKind
 signOfByte n =
     if eqb n 1 then SignKind.Embedded
@@ -41,10 +43,11 @@ signOfByte n =
     else if eqb n 3 then SignKind.TrailingSeparate
     else SignKind.Unsigned
 
+-- a storage from the listing's number
 abbrev pub storageOfByte : ℕ → NumRepr
 storageOfByte n = if eqb n 1 then NumRepr.Comp3 else if eqb n 2 then NumRepr.Zoned else NumRepr.Display
 
--- and back
+-- a kind from its number
 abbrev pub kindOfCode : ℕ → FieldKind
 kindOfCode n =
     let k = n % 8 in
@@ -67,6 +70,7 @@ Bytes FieldKind.Group = Unit {0}
 
 -- ---------------------------------------------------------------- places
 
+-- columns 13 to 17
 abbrev pub placeCells : Entry → ℕ → ℕ → List ℕ
 placeCells e last below = e .offset ∷ e .width ∷ kindCode (e .kind) ∷ last ∷ below ∷ []
 
@@ -131,6 +135,10 @@ isTarget text target bases w k = if leftOut bases w k then false else sameName t
 
 -- ---------------------------------------------------------------- the entries in the table
 
+-- the statements of the rows a to before b, as a forest
+abbrev pub rowsForest : List ℕ → ℕ → ℕ → Forest
+rowsForest w a b = forest (statementsFrom w a (b - a))
+
 -- the entries in the rows from k on, in the shape of the forest of their statements
 unfoldable pub entriesIn : List ℕ → ℕ → Forest → Entries
 entriesIn w k leaf = end
@@ -148,13 +156,14 @@ pub data Outcome : Type 0 where
   stopped : Refusal → Outcome
   ready : ℕ → ℕ → List ℕ → Outcome
 
+-- what a list's answer leads to, in the rows from k on, after the sibling `last`
 abbrev pub after : List ℕ → ℕ → ℕ → Answer Laid → Outcome
 after w k last (refuse r) = stopped r
 after w k last (give l) = ready (l .width) (lastOf k last (l .entries)) (putPlaces w k last (l .entries))
 
 -- the rest of a list, rows i to before `to`, laid after the sibling `last`
 abbrev pub layRest : List ℕ → List ℕ → ℕ → ℕ → ℕ → ℕ → ℕ → ℕ → Outcome
-layRest text w i to depth last cursor reach = after w i last (bare text depth (seenAt w last) cursor reach (forest (statementsFrom w i (to - i))))
+layRest text w i to depth last cursor reach = after w i last (bare text depth (seenAt w last) cursor reach (rowsForest w i to))
 
 -- a whole list
 abbrev pub layTable : List ℕ → List ℕ → ℕ → ℕ → ℕ → Outcome
@@ -175,7 +184,7 @@ afterItem w i last cursor (give x) = placing (advance cursor (x .own)) (entryEnd
 -- row i, whose children are the rows up to j, laid after the sibling `last`
 abbrev pub layItem : List ℕ → List ℕ → ℕ → ℕ → ℕ → ℕ → ℕ → ItemOutcome
 layItem text w i j depth last cursor =
-    afterItem w i last cursor (bareItem text depth (seenAt w last) cursor (statementAt w i) (forest (statementsFrom w (suc i) (j - suc i))))
+    afterItem w i last cursor (bareItem text depth (seenAt w last) cursor (statementAt w i) (rowsForest w (suc i) j))
 
 -- the item of row i alone
 abbrev pub afterOwn : List ℕ → ℕ → ℕ → ℕ → ℕ → Answer Entry → ItemOutcome

@@ -7,12 +7,12 @@ ghost use Rattle.definition.specs.Fold.{sameName, find, times};
 ghost use Rattle.definition.specs.Layout.{content, start, entryOf};
 ghost use Rattle.definition.specs.Calls.{pictureOf, checkOf};
 ghost use Rattle.definition.specs.Statement.{usageOf, signOf};
-ghost use Rattle.definition.specs.Tree.{Forest.leaf, forest};
+ghost use Rattle.definition.specs.Tree.{Forest.leaf};
 ghost use Rattle.definition.specs.Listing.{flag, signByte, storageByte};
 ghost use Rattle.definition.specs.Picture.{isBinary};
 ghost use Rattle.rows.specs.Table.{spanAt};
-ghost use Rattle.layout.specs.Places.{kindCode, signOfByte, storageOfByte, kindOfCode, putPlace, seenFrom, seenAt, leftOut, isTarget, basesAt, entryIn, entriesIn, Linked, placeRow, layItem, layTable};
-ghost use Rattle.layout.specs.Steps.{ChildrenEnd, found, startOf, endOf, endingOf, itemOf, listOf, Room, checkEntry, rowsForest};
+ghost use Rattle.layout.specs.Places.{kindCode, signOfByte, storageOfByte, kindOfCode, putPlace, seenFrom, seenAt, leftOut, isTarget, basesAt, entryIn, entriesIn, Linked, placeRow, layItem, layTable, rowsForest};
+ghost use Rattle.layout.specs.Steps.{ChildrenEnd, found, startOf, endOf, endingOf, itemOf, listOf, Room, checkEntry};
 ghost use Rattle.layout.specs.Bare.{foldCheck};
 ghost use mathlib.Core.List.{[]};
 use definition::Check;
@@ -593,6 +593,20 @@ pub fn fold_check(text: &[u8], work: &[u32], from: usize, to: usize) -> Check
         }
     }
     Check::Passed
+}
+
+// The entry in row k, as it is laid.
+pub fn entry_at(work: &[u32], k: usize) -> Entry
+    requires { ⌜ 20 * k + 20 ≤ length (now work) ⌝ }
+    ensures { λ r. ⌜ r ≡ entryIn (now (work .entry)) k ⌝ }
+{
+    let s = rows::statement_at(work, k);
+    let kind = kind_of_code(work[20 * k + 15]);
+    let c = Pictured {
+        kind,
+        width: wide(work[20 * k + 14]),
+    };
+    entry_of(s, c, wide(work[20 * k + 13]))
 }
 
 // The larger of two numbers.

@@ -22,9 +22,9 @@ use Rattle.rows.specs.Table.{cell, statementAt}
 use Rattle.layout.specs.declared.ItemAnswer.{ItemAnswer}
 use Rattle.layout.specs.declared.LaidList.{LaidList}
 use Rattle.layout.specs.Bare.{foldCheck}
-use Rattle.layout.specs.Places.{entriesIn, Linked, Outcome, stopped, ready, layRest, layTable, ItemOutcome, halted, layItem, placeRow}
-use Rattle.layout.specs.Steps.{ChildrenEnd, itemOf, listOf, Room, rowsForest}
-use Rattle.layout.proofs.LayLaws.{list-stop, list-step, list-none, item-within, leaf-stop, leaf-place, leaf-narrow, Inner, inner-is, too-deep, inner-stop, fold-stop, group-place}
+use Rattle.layout.specs.Places.{entriesIn, Linked, Outcome, stopped, ready, layRest, layTable, ItemOutcome, halted, layItem, placeRow, rowsForest}
+use Rattle.layout.specs.Steps.{ChildrenEnd, itemOf, listOf, Room}
+use Rattle.layout.proofs.LayLaws.{list-stop, list-step, list-none, item-within, leaf-stop, leaf-place, leaf-narrow, LaidRows, laid-rows, too-deep, inner-stop, fold-stop, group-place}
 use borrow.Fn.Kinds.{In}
 use borrow.Fn.PlainCycle.{Measures, is, falls, and}
 use Rattle.layout.proofs.lay_item.Reads as lay-item
@@ -108,14 +108,14 @@ module _ (t w : List ℕ) (i j left last cursor : ℕ) where
         Room w j →
         listOf a w₁ ≡ layTable t w (i + 1) j (64 - (left - 1)) →
         a ≡ LaidList.Done width l →
-        Inner t w (suc i) j (suc (64 - left)) width w₁
+        LaidRows t w (suc i) j (suc (64 - left)) width w₁
     inner-list {w₁ = w₁} r p q =
-        inner-is t w (suc i) j (suc (64 - left)) (omega arith) (r .fits) (called p ∙ ap (λ (x : LaidList). listOf x w₁) q)
+        laid-rows t w (suc i) j (suc (64 - left)) (omega arith) (r .fits) (called p ∙ ap (λ (x : LaidList). listOf x w₁) q)
 
     inner-halts : {a : LaidList} {r : Refusal} (w₁ : List ℕ) → listOf a w₁ ≡ layTable t w (i + 1) j (64 - (left - 1)) → a ≡ LaidList.Refused r → halted r ≡ layItem t w i j (64 - left) last cursor
     inner-halts w₁ p q = inner-stop t w i j (64 - left) last cursor (omega arith) (omega arith) (called p ∙ ap (λ (x : LaidList). listOf x w₁) q)
 
-    module _ {width : ℕ} {w₁ : List ℕ} (n : Inner t w (suc i) j (suc (64 - left)) width w₁) where
+    module _ {width : ℕ} {w₁ : List ℕ} (n : LaidRows t w (suc i) j (suc (64 - left)) width w₁) where
       linked : Linked w₁ (i + 1) 0 (rowsForest w₁ (i + 1) j)
       linked = subst (λ (x : ℕ). Linked w₁ x 0 (rowsForest w₁ x j)) (sym (add-one i)) (n .held .linked)
 
@@ -186,7 +186,7 @@ lay-item-inner :
     (t : ℕ) (c : lay-item-lts.After-width (lay-item-callees t) (lay-item-at t) lay-item.Post) →
     let ll = c .before .before .before .before in
     let a = ll .before .before .before .before .before .before .args in
-    Inner (a .text .now) (a .work .now) (suc (a .i)) (a .j) (suc (64 - a .depth-left)) (c .width .given .0 .0) (ll .lay-list .last .1 .0)
+    LaidRows (a .text .now) (a .work .now) (suc (a .i)) (a .j) (suc (64 - a .depth-left)) (c .width .given .0 .0) (ll .lay-list .last .1 .0)
 lay-item-inner t c =
     let ll = c .before .before .before .before in
     let s = ll .before .before .before .before .before .before in

@@ -1,6 +1,5 @@
 -- `layout::advanced` meets its contract.
 -- Assumes nothing.
-use borrow.Author.Needs.{needs}
 use native.Mathlib.Omega.{arith}
 use borrow.Author.Tests.{lt-ltb, le-ltb}
 use Rattle.layout.proofs.advanced.Statement.{statement}

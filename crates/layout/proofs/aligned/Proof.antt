@@ -2,7 +2,7 @@
 -- Assumes nothing.
 use borrow.Author.Needs.{needs}
 use Prim.Native.Nat.{ℕ, _+_, _-_, _%_, _<_}
-use mathlib.Core.Path.{_≡_, refl, sym, _∙_}
+use mathlib.Core.Path.{_≡_, refl}
 use native.Mathlib.Nat.{mod-lt, add-zero, zero-mod, zero-sub}
 use native.Mathlib.Omega.{arith}
 use Rattle.definition.specs.Basic.{fewest}

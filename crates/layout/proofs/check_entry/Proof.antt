@@ -3,16 +3,14 @@
 use borrow.Author.Needs.{needs}
 use Prim.Native.Nat.{ℕ, _≤_, _<_}
 use mathlib.Core.Path.{_≡_, refl, sym, ap, ap₂, _∙_}
-use mathlib.Core.Bool.{Bool, true, false}
+use mathlib.Core.Bool.{Bool, true}
 use mathlib.Core.List.{List}
-use mathlib.Core.Option.{Option, none, some}
-use native.Mathlib.Omega.{arith}
+use mathlib.Core.Option.{some}
 use borrow.Author.Tests.{lt-ltb, le-ltb}
 use Rattle.definition.specs.declared.Statement.{Statement}
-use Rattle.definition.specs.declared.Span.{Span}
-use Rattle.definition.specs.Basic.{given, Answer, give, refused, if_then_else_}
+use Rattle.definition.specs.Basic.{given, give, refused, if_then_else_}
 use Rattle.definition.specs.Fold.{find}
-use Rattle.rows.specs.Table.{cell, spanAt, statementAt}
+use Rattle.rows.specs.Table.{cell, statementAt}
 use Rattle.layout.specs.declared.Target.{Target}
 use Rattle.layout.specs.Places.{seenFrom, basesAt, entryIn}
 use Rattle.layout.specs.Steps.{found, checkBase, checkEntry}

@@ -1,8 +1,8 @@
 -- `layout::fold_check` meets its contract: the check of the whole list is the check of the rest, after the bases so far.
 -- Assumes nothing.
 use borrow.Author.Needs.{needs}
-use Prim.Native.Nat.{ℕ, suc, _+_, _-_, _*_, _≤_, _<_}
-use mathlib.Core.Path.{_≡_, refl, sym, ap, subst, _∙_}
+use Prim.Native.Nat.{ℕ, _+_, _-_, _*_, _≤_, _<_}
+use mathlib.Core.Path.{_≡_, refl, sym, ap, _∙_}
 use mathlib.Core.List.{List, []}
 use native.Mathlib.Numerals.{add-one}
 use native.Mathlib.Omega.{arith}
@@ -12,8 +12,8 @@ use Rattle.definition.specs.declared.Refusal.{Refusal}
 use Rattle.definition.specs.Basic.{refuse, give}
 use Rattle.definition.specs.Calls.{checkOf}
 use Rattle.layout.specs.Bare.{foldCheck}
-use Rattle.layout.specs.Places.{basesAt, entryIn, entriesIn}
-use Rattle.layout.specs.Steps.{ChildrenEnd, checkEntry, rowsForest}
+use Rattle.layout.specs.Places.{basesAt, entryIn, entriesIn, rowsForest}
+use Rattle.layout.specs.Steps.{ChildrenEnd, checkEntry}
 use Rattle.layout.proofs.FoldLaws.{Checking, checking-starts, checking-on, checking-refused}
 use Rattle.layout.proofs.RowLaws.{forest-empty, children-end}
 use Rattle.layout.proofs.fold_check.Statement.{statement}

@@ -1,16 +1,15 @@
 -- `layout::place` meets its contract.
 -- Assumes nothing.
 use borrow.Author.Needs.{needs}
-use Prim.Native.Nat.{ℕ, _+_, _*_, _≤_, _<_}
+use Prim.Native.Nat.{ℕ, _≤_, _<_}
 use mathlib.Core.Path.{_≡_, refl, sym, ap, _∙_}
 use mathlib.Core.List.{List}
 use native.Mathlib.Omega.{arith}
-use lib.ListN.{length}
 use Rattle.definition.specs.declared.Refusal.{Refusal}
 use Rattle.definition.specs.declared.Statement.{Statement}
 use Rattle.definition.specs.declared.Entry.{Entry}
 use Rattle.definition.specs.declared.Pictured.{Pictured}
-use Rattle.definition.specs.Basic.{if_then_else_, given, Answer, refuse, give}
+use Rattle.definition.specs.Basic.{if_then_else_, given, Answer, give}
 use Rattle.definition.specs.Layout.{start, entryOf, tooLarge}
 use Rattle.rows.specs.Table.{statementAt}
 use Rattle.layout.specs.declared.Start.{Start}

@@ -1,6 +1,5 @@
 -- `layout::sign_of_byte` meets its contract, test by test.
 -- Assumes nothing.
-use borrow.Author.Needs.{needs}
 use Prim.Native.Nat.{ℕ}
 use mathlib.Core.Path.{_≡_, refl}
 use borrow.Author.Tests.{ne-eqb}

@@ -1,0 +1,51 @@
+-- `layout::entry_at` meets its contract: a statement and its place make the entry.
+-- Assumes nothing.
+use borrow.Author.Needs.{needs}
+use Prim.Native.Nat.{ℕ}
+use mathlib.Core.Path.{_≡_, _∙_}
+use mathlib.Core.List.{List}
+use Rattle.definition.specs.declared.Statement.{Statement}
+use Rattle.definition.specs.declared.FieldKind.{FieldKind}
+use Rattle.definition.specs.declared.Entry.{Entry}
+use Rattle.definition.specs.Picture.{pictured}
+use Rattle.definition.specs.Layout.{entryOf}
+use Rattle.rows.specs.Table.{cell, statementAt}
+use Rattle.layout.specs.Places.{kindOfCode, entryIn}
+use Rattle.layout.proofs.entry_at.Statement.{statement}
+use Rattle.layout.proofs.entry_at.Tie as tie
+
+in-row :
+    (w : List ℕ) (k : ℕ) {s : Statement} {kind : FieldKind} {width offset : ℕ} {e : Entry} →
+    s ≡ statementAt w k →
+    kind ≡ kindOfCode (cell w k 15) →
+    width ≡ cell w k 14 →
+    offset ≡ cell w k 13 →
+    e ≡ entryOf s (pictured kind width) offset →
+    e ≡ entryIn w k
+in-row w k ps pk pw po e = e ∙ (λ i. entryOf (ps i) (pictured (pk i) (pw i)) (po i))
+
+returns : tie.Need-returns
+returns c = search in-row
+
+pub entry-at-spec : {M : Type 1} → statement M
+entry-at-spec =
+    tie.close
+    (tie.spec
+    (λ c κs. search needs)
+    (λ c. search needs)
+    (λ c. search needs)
+    (λ c. search needs)
+    (λ c. search needs)
+    (λ c κs. search needs)
+    (λ c. search needs)
+    (λ c. search needs)
+    (λ c. search needs)
+    (λ c. search needs)
+    (λ c κs. search needs)
+    (λ c. search needs)
+    (λ c. search needs)
+    (λ c. search needs)
+    (λ c. search needs)
+    (λ c κs. search needs)
+    (λ c κs. search needs)
+    returns)

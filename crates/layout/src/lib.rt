@@ -63,7 +63,7 @@ pub fn same_names(text: &[u8], a: Span, b: Span) -> bool
     true
 }
 
-// 1 for true, 0 for false.
+// 1 for true, 0 for false; no more than a small number for the sums that it stands in.
 fn flag_of(b: bool) -> u32
     ensures { λ r. ⌜ (r ≡ flag b) × (r ≤ 1) ⌝ }
 {
@@ -237,23 +237,13 @@ fn wide(n: u32) -> usize
     n as usize
 }
 
-// The span that a number holds.
-fn span_in(n: u32) -> Span
-    ensures { λ r. ⌜ r ≡ spanAt n ⌝ }
-{
-    Span {
-        start: (n / 65536) as usize,
-        len: (n % 65536) as usize,
-    }
-}
-
 // Whether the search passes over row k: one for bases passes over a redefiner.
 fn passed_over(work: &[u32], k: usize, bases: bool) -> bool
     requires { ⌜ 20 * k + 20 ≤ length (now work) ⌝ }
     ensures { λ r. ⌜ r ≡ leftOut bases (now (work .entry)) k ⌝ }
 {
     if bases {
-        let redefines = span_in(work[20 * k + 6]);
+        let redefines = rows::span_at(work[20 * k + 6]);
         return 0 < redefines.len;
     }
     false
@@ -267,7 +257,7 @@ fn is_target(text: &[u8], work: &[u32], target: Span, k: usize, bases: bool) -> 
     if passed_over(work, k, bases) {
         return false;
     }
-    let name = span_in(work[20 * k + 3]);
+    let name = rows::span_at(work[20 * k + 3]);
     same_names(text, target, name)
 }
 

@@ -6,7 +6,7 @@ use mathlib.Core.List.{List, [], _∷_, _++_}
 use native.Mathlib.Nat.{add-zero, zero-add}
 use native.Mathlib.Omega.{arith}
 use lib.ListN.{length, drop, set, length-append}
-use lib.Seq.{sets, sets-eq, length-sets, set-out}
+use lib.Seq.{sets, sets-eq, length-sets}
 use Rattle.definition.specs.declared.Entry.{Entry}
 use Rattle.definition.specs.Listing.{spanBytes, occursBytes, details, entryBytes}
 use Rattle.listing.specs.Puts.{Put, placeBytes}
@@ -21,10 +21,6 @@ sets-append (b ∷ v) w out k =
 -- nothing is put
 pub put-none : (out : List ℕ) (at : ℕ) → Put out at [] at out
 put-none out at = record { next = omega arith; same = refl }
-
--- a byte past its end
-pub put-past : (out : List ℕ) (at b : ℕ) → length out ≤ at → Put out at (b ∷ []) (at + 1) out
-put-past out at b h = record { next = refl; same = rw (set-out out at b h) }
 
 infixl 5 _and_
 module _ {out : List ℕ} {at : ℕ} {xs : List ℕ} {r : ℕ} {after : List ℕ} (p : Put out at xs r after) where

@@ -4,6 +4,7 @@
 ghost use Prim.Native.Nat.{_%_};
 ghost use mathlib.Core.Path.{_≡_};
 ghost use mathlib.Core.List.{[], _∷_, _++_};
+ghost use lib.ListN.{set};
 ghost use Rattle.definition.specs.Basic.{le4};
 ghost use Rattle.definition.specs.Fold.{union};
 ghost use Rattle.definition.specs.Listing.{flag, signByte, storageByte, spanBytes, occursBytes, kindByte, details, entryBytes};
@@ -17,15 +18,21 @@ use definition::Span;
 
 // ---------------------------------------------------------------- bytes and numbers
 
+// A byte at a place, if the output has that place.
+fn store(out: &mut [u8], at: usize, b: u8)
+    ensures { λ _. ⌜ now (out .exit) ≡ set (now (out .entry)) at b ⌝ }
+{
+    if at < out.len() {
+        out[at] = b;
+    }
+}
+
 // One byte.
 pub fn put_byte(out: &mut [u8], at: usize, b: u8) -> usize
     requires { ⌜ Countable at (b ∷ []) ⌝ }
     ensures { λ r. ⌜ Put (now (out .entry)) at (b ∷ []) r (now (out .exit)) ⌝ }
 {
-    if at < out.len() {
-        out[at] = b;
-        return at + 1;
-    }
+    store(out, at, b);
     at + 1
 }
 
@@ -66,6 +73,14 @@ fn put_marked(out: &mut [u8], at: usize, mark: u8, x: usize) -> usize
     put4(out, next, x)
 }
 
+// OCCURS n, also where n is 0.
+fn put_times(out: &mut [u8], at: usize, n: u64) -> usize
+    requires { ⌜ Countable at (1 ∷ le4 n) ⌝ }
+    ensures { λ r. ⌜ Put (now (out .entry)) at (1 ∷ le4 n) r (now (out .exit)) ⌝ }
+{
+    put_marked(out, at, 1, n as usize)
+}
+
 // How often an item stands: the mark of OCCURS and the count.
 fn put_occurs(out: &mut [u8], at: usize, o: Occurs) -> usize
     requires { ⌜ Countable at (occursBytes o) ⌝ }
@@ -76,7 +91,7 @@ fn put_occurs(out: &mut [u8], at: usize, o: Occurs) -> usize
             return put_marked(out, at, 0, 0);
         }
         Occurs::Times(n) => {
-            return put_marked(out, at, 1, n as usize);
+            return put_times(out, at, n);
         }
     }
 }

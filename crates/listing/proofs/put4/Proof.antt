@@ -22,11 +22,11 @@ same-length c = search needs
 
 returns : tie.Need-returns
 returns c =
-    let c4 = c .before .before in
-    let c3 = c4 .before .before .before .before in
-    let c2 = c3 .before .before .before .before in
-    let c1 = c2 .before .before .before .before in
-    c1 .put-low .ensures and c2 .put-low2 .ensures and c3 .put-low3 .ensures and c4 .put-low4 .ensures
+    let fourth = c .before .before in
+    let third = fourth .before .before .before .before in
+    let second = third .before .before .before .before in
+    let first = second .before .before .before .before in
+    first .put-low .ensures and second .put-low2 .ensures and third .put-low3 .ensures and fourth .put-low4 .ensures
 
 pub put4-spec : {M : Type 1} → statement M
 put4-spec =

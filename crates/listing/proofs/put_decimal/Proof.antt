@@ -21,7 +21,10 @@ same-length : tie.Need-same-length
 same-length c = search needs
 
 returns : tie.Need-returns
-returns c = rw (← c .before .before .before .before .storage-of .ensures, ← c .before .before .before .sign-of .ensures) (c .before .before .before .before .before .before .before .before .put-pair .ensures and c .before .before .put-pair2 .ensures)
+returns c =
+    let second = c .before .before in
+    let first = second .before .before .before .before .before .before in
+    rw (← second .before .before .storage-of .ensures, ← second .before .sign-of .ensures) (first .put-pair .ensures and second .put-pair2 .ensures)
 
 pub put-decimal-spec : {M : Type 1} → statement M
 put-decimal-spec =

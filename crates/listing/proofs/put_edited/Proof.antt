@@ -21,7 +21,11 @@ same-length : tie.Need-same-length
 same-length c = search needs
 
 returns : tie.Need-returns
-returns c = rw (← c .before .before .before .before .before .before .before .flag-of .ensures) (c .before .before .before .before .before .before .before .before .before .before .before .put-pair .ensures and c .before .before .before .before .before .before .put-byte .ensures and c .before .before .put-span .ensures)
+returns c =
+    let third = c .before .before in
+    let second = third .before .before .before .before in
+    let first = second .before .before .before .before .before in
+    rw (← second .before .flag-of .ensures) (first .put-pair .ensures and second .put-byte .ensures and third .put-span .ensures)
 
 pub put-edited-spec : {M : Type 1} → statement M
 put-edited-spec =

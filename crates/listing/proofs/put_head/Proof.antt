@@ -18,7 +18,10 @@ same-length : tie.Need-same-length
 same-length c = search needs
 
 returns : tie.Need-returns
-returns c = rw (← c .before .before .before .flag-of .ensures) (c .before .before .before .before .before .before .before .put-marked .ensures and c .before .before .put-marked2 .ensures)
+returns c =
+    let second = c .before .before in
+    let first = second .before .before .before .before .before in
+    rw (← second .before .flag-of .ensures) (first .put-marked .ensures and second .put-marked2 .ensures)
 
 pub put-head-spec : {M : Type 1} → statement M
 put-head-spec =

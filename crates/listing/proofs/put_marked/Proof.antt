@@ -15,7 +15,10 @@ same-length : tie.Need-same-length
 same-length c = search needs
 
 returns : tie.Need-returns
-returns c = let c2 = c .before .before in c2 .before .before .before .before .put-byte .ensures and c2 .put4 .ensures
+returns c =
+    let second = c .before .before in
+    let first = second .before .before .before .before in
+    first .put-byte .ensures and second .put4 .ensures
 
 pub put-marked-spec : {M : Type 1} → statement M
 put-marked-spec = tie.close (tie.spec put-byte-requires put4-requires same-length returns)

@@ -19,14 +19,14 @@ returns c = rw (c .before .before .before .before .enum-told .given .1) (c .befo
 enum-known-o : tie.Need-enum-known-o
 enum-known-o c = search needs
 
-put-marked-requires-2 : tie.Need-put-marked-requires-2
-put-marked-requires-2 c κs = rw (c .before .before .o .given .1) at (c .before .before .before .before .before .pre)
+put-times-requires : tie.Need-put-times-requires
+put-times-requires c κs = rw (c .before .before .o .given .1) at (c .before .before .before .before .before .pre)
 
 same-length-2 : tie.Need-same-length-2
 same-length-2 c = search needs
 
 returns-2 : tie.Need-returns-2
-returns-2 c = rw (c .before .before .before .before .before .o .given .1) (c .before .before .put-marked2 .ensures)
+returns-2 c = rw (c .before .before .before .before .before .o .given .1) (c .before .before .put-times .ensures)
 
 pub put-occurs-spec : {M : Type 1} → statement M
 put-occurs-spec =
@@ -37,6 +37,6 @@ put-occurs-spec =
     same-length
     returns
     enum-known-o
-    put-marked-requires-2
+    put-times-requires
     same-length-2
     returns-2)

@@ -15,7 +15,10 @@ same-length : tie.Need-same-length
 same-length c = search needs
 
 returns : tie.Need-returns
-returns c = c .before .before .before .before .before .before .put-byte .ensures and c .before .before .put-byte2 .ensures
+returns c =
+    let second = c .before .before in
+    let first = second .before .before .before .before in
+    first .put-byte .ensures and second .put-byte2 .ensures
 
 pub put-pair-spec : {M : Type 1} → statement M
 put-pair-spec = tie.close (tie.spec put-byte-requires put-byte-requires-2 same-length returns)

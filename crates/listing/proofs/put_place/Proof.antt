@@ -24,7 +24,12 @@ same-length : tie.Need-same-length
 same-length c = search needs
 
 returns : tie.Need-returns
-returns c = rw (← c .before .before .before .before .before .before .before .before .before .before .before .before .before .before .before .kind-of .ensures) (c .before .before .before .before .before .before .before .before .before .before .before .before .before .before .put-byte .ensures and c .before .before .before .before .before .before .before .before .before .before .put-span .ensures and c .before .before .before .before .before .before .put4 .ensures and c .before .before .put42 .ensures)
+returns c =
+    let fourth = c .before .before in
+    let third = fourth .before .before .before .before in
+    let second = third .before .before .before .before in
+    let first = second .before .before .before .before in
+    rw (← first .before .kind-of .ensures) (first .put-byte .ensures and second .put-span .ensures and third .put4 .ensures and fourth .put42 .ensures)
 
 pub put-place-spec : {M : Type 1} → statement M
 put-place-spec =

@@ -15,7 +15,10 @@ same-length : tie.Need-same-length
 same-length c = search needs
 
 returns : tie.Need-returns
-returns c = let c2 = c .before .before in c2 .before .before .before .before .put4 .ensures and c2 .put42 .ensures
+returns c =
+    let second = c .before .before in
+    let first = second .before .before .before .before in
+    first .put4 .ensures and second .put42 .ensures
 
 pub put-span-spec : {M : Type 1} → statement M
 put-span-spec = tie.close (tie.spec put4-requires put4-requires-2 same-length returns)

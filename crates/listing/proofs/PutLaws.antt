@@ -1,6 +1,6 @@
--- Laws of bytes that were put: some after others, what stands in the output then, and how long it is.
+-- Laws of bytes that were put: some after others, what stands in the output then, and how long it is; the parts of an entry and of the listing.
 -- Assumes nothing.
-use Prim.Native.Nat.{ℕ, suc, _+_, _≤_, _<_}
+use Prim.Native.Nat.{ℕ, suc, _+_, _≤_}
 use mathlib.Core.Path.{_≡_, refl, ap, _∙_}
 use mathlib.Core.List.{List, [], _∷_, _++_}
 use native.Mathlib.Nat.{add-zero, zero-add}
@@ -8,8 +8,12 @@ use native.Mathlib.Omega.{arith}
 use lib.ListN.{length, drop, set, length-append}
 use lib.Seq.{sets, sets-eq, length-sets}
 use Rattle.definition.specs.declared.Entry.{Entry}
-use Rattle.definition.specs.Listing.{spanBytes, occursBytes, details, entryBytes}
-use Rattle.listing.specs.Puts.{Put, placeBytes}
+use Rattle.definition.specs.declared.FieldKind.{FieldKind}
+use Rattle.definition.specs.Fold.{Entries}
+use Rattle.definition.specs.Record.{recordLength, variable}
+use Rattle.definition.specs.Listing.{members#, spanBytes, occursBytes, details, entryBytes, entriesBytes, listing}
+use Rattle.definition.proofs.ListingLaws.{details#, entry-length}
+use Rattle.listing.specs.Puts.{Countable, Put, headBytes, placeBytes}
 
 -- two lists stored one after the other
 sets-append : (v w out : List ℕ) (k : ℕ) → sets out k (v ++ w) ≡ sets (sets out k v) (k + length v) w
@@ -50,6 +54,17 @@ put-first {out} {bs} p h =
     let e : 0 + length bs ≡ length bs = zero-add (length bs) in
     p .same ∙ sets-eq bs out 0 (omega arith) ∙ rw e
 
+-- ---------------------------------------------------------------- the listing's parts
+
+-- the most that a kind adds
+details-most : (k : FieldKind) → details# k ≤ 11
+details-most FieldKind.Text = omega arith
+details-most (FieldKind.Int signed sign) = omega arith
+details-most (FieldKind.Binary signed) = omega arith
+details-most (FieldKind.Decimal precision scale repr sign) = omega arith
+details-most (FieldKind.Edited precision scale signed) = omega arith
+details-most FieldKind.Group = omega arith
+
 module _ (e : Entry) (n : ℕ) where
   -- the parts of an entry, in the order in which they are put
   pub entry-parts : entryBytes e n ≡ placeBytes e ++ occursBytes (e .occurs) ++ spanBytes (e .depending) ++ spanBytes (e .redefines) ++ details (e .kind) (e .picture) n
@@ -59,3 +74,12 @@ module _ (e : Entry) (n : ℕ) where
   -- how many bytes the parts have
   pub entry-sizes : length (entryBytes e n) ≡ 33 + length (occursBytes (e .occurs)) + length (details (e .kind) (e .picture) n)
   entry-sizes = rw entry-parts (simp length-append (omega arith))
+
+  -- an entry can be counted from any place that four bytes hold
+  pub entry-countable : (at : ℕ) → at ≤ 4294967295 → Countable at (entryBytes e n)
+  entry-countable at h = omega (arith, entry-length e n, details-most (e .kind))
+
+-- the listing is the record's head, then the entries
+pub listing-parts : (es : Entries) → listing es ≡ headBytes (recordLength es) (variable es) (members# es) ++ entriesBytes es
+unfolding listing
+listing-parts es = refl

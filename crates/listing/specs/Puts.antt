@@ -3,12 +3,13 @@
 -- Assumes nothing.
 use Prim.Native.Nat.{ℕ, _+_, _<_}
 use mathlib.Core.Path.{_≡_}
+use mathlib.Core.Bool.{Bool}
 use mathlib.Core.List.{List, _∷_, _++_}
 use lib.ListN.{length}
 use lib.Seq.{sets}
 use Rattle.definition.specs.declared.Entry.{Entry}
 use Rattle.definition.specs.Basic.{le4}
-use Rattle.definition.specs.Listing.{spanBytes, kindByte}
+use Rattle.definition.specs.Listing.{flag, spanBytes, kindByte}
 
 -- the place after the bytes is a `usize`
 abbrev pub Countable : ℕ → List ℕ → Type 0
@@ -18,6 +19,10 @@ Countable at bs = at + length bs < 18446744073709551616
 pub record Put (out : List ℕ) (at : ℕ) (bs : List ℕ) (r : ℕ) (after : List ℕ) : Type 0 where
   pub next : r ≡ at + length bs
   pub same : after ≡ sets out at bs
+
+-- the record's head: kind 0, the record's length, whether that varies, how many entries stand at the top
+abbrev pub headBytes : ℕ → Bool → ℕ → List ℕ
+headBytes length variable top = 0 ∷ le4 length ++ (flag variable ∷ le4 top)
 
 -- how an entry begins: its kind, name, offset and width
 abbrev pub placeBytes : Entry → List ℕ

@@ -3,12 +3,12 @@
 // the place after its bytes. Leans on `definition`.
 ghost use Prim.Native.Nat.{_%_};
 ghost use mathlib.Core.Path.{_≡_};
-ghost use mathlib.Core.List.{[], _∷_, _++_};
+ghost use mathlib.Core.List.{[], _∷_};
 ghost use lib.ListN.{set};
 ghost use Rattle.definition.specs.Basic.{le4};
 ghost use Rattle.definition.specs.Fold.{union};
 ghost use Rattle.definition.specs.Listing.{flag, signByte, storageByte, spanBytes, occursBytes, kindByte, details, entryBytes};
-ghost use Rattle.listing.specs.Puts.{Countable, Put, placeBytes};
+ghost use Rattle.listing.specs.Puts.{Countable, Put, headBytes, placeBytes};
 use definition::Entry;
 use definition::FieldKind;
 use definition::NumRepr;
@@ -254,8 +254,8 @@ fn put_details(out: &mut [u8], at: usize, kind: FieldKind, picture: Span, n: usi
 
 // The record's head: kind 0, its length, whether that varies, how many entries stand at the top.
 pub fn put_head(out: &mut [u8], at: usize, length: usize, variable: bool, top: usize) -> usize
-    requires { ⌜ Countable at (0 ∷ le4 length ++ (flag variable ∷ le4 top)) ⌝ }
-    ensures { λ r. ⌜ Put (now (out .entry)) at (0 ∷ le4 length ++ (flag variable ∷ le4 top)) r (now (out .exit)) ⌝ }
+    requires { ⌜ Countable at (headBytes length variable top) ⌝ }
+    ensures { λ r. ⌜ Put (now (out .entry)) at (headBytes length variable top) r (now (out .exit)) ⌝ }
 {
     let next = put_marked(out, at, 0, length);
     put_marked(out, next, flag_of(variable), top)

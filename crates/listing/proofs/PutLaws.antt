@@ -1,0 +1,85 @@
+-- Laws of bytes that were put: some after others, what stands in the output then, and how long it is; the parts of an entry and of the listing.
+-- Assumes nothing.
+use Prim.Native.Nat.{ℕ, suc, _+_, _≤_}
+use mathlib.Core.Path.{_≡_, refl, ap, _∙_}
+use mathlib.Core.List.{List, [], _∷_, _++_}
+use native.Mathlib.Nat.{add-zero, zero-add}
+use native.Mathlib.Omega.{arith}
+use lib.ListN.{length, drop, set, length-append}
+use lib.Seq.{sets, sets-eq, length-sets}
+use Rattle.definition.specs.declared.Entry.{Entry}
+use Rattle.definition.specs.declared.FieldKind.{FieldKind}
+use Rattle.definition.specs.Fold.{Entries}
+use Rattle.definition.specs.Record.{recordLength, variable}
+use Rattle.definition.specs.Listing.{members#, spanBytes, occursBytes, details, entryBytes, entriesBytes, listing}
+use Rattle.definition.proofs.ListingLaws.{details#, entry-length}
+use Rattle.listing.specs.Puts.{Countable, Put, headBytes, placeBytes}
+
+-- two lists stored one after the other
+sets-append : (v w out : List ℕ) (k : ℕ) → sets out k (v ++ w) ≡ sets (sets out k v) (k + length v) w
+sets-append [] w out k = rw (add-zero k)
+sets-append (b ∷ v) w out k =
+    let e : suc k + length v ≡ k + suc (length v) = omega arith in
+    sets-append v w (set out k b) (suc k) ∙ ap (λ (n : ℕ). sets (sets (set out k b) (suc k) v) n w) e
+
+-- nothing is put
+pub put-none : (out : List ℕ) (at : ℕ) → Put out at [] at out
+put-none out at = record { next = omega arith; same = refl }
+
+infixl 5 _and_
+module _ {out : List ℕ} {at : ℕ} {xs : List ℕ} {r : ℕ} {after : List ℕ} (p : Put out at xs r after) where
+  -- bytes, then others
+  pub _and_ : {ys : List ℕ} {r′ : ℕ} {after′ : List ℕ} → Put after r ys r′ after′ → Put out at (xs ++ ys) r′ after′
+  _and_ {ys} q =
+      record {
+        next = rw (length-append xs ys) (omega (arith, p .next, q .next));
+        same = rw (sets-append xs ys out at, ← p .same, ← p .next) (q .same);
+      }
+
+  -- the output is as long as before
+  pub put-length : length after ≡ length out
+  put-length = rw (p .same) (length-sets out at xs)
+
+-- into an output of no bytes nothing is written
+pub put-empty : {at : ℕ} {bs : List ℕ} {r : ℕ} {after : List ℕ} → Put [] at bs r after → after ≡ []
+put-empty {at} {bs} p = p .same ∙ none bs at
+  where
+    none : (vs : List ℕ) (k : ℕ) → _≡_ {A = List ℕ} (sets [] k vs) []
+    none [] k = refl
+    none (v ∷ vs) k = none vs (suc k)
+
+-- where they fit, the output begins with the bytes, and the rest is as before
+pub put-first : {out bs : List ℕ} {r : ℕ} {after : List ℕ} → Put out 0 bs r after → length bs ≤ length out → after ≡ bs ++ drop (length bs) out
+put-first {out} {bs} p h =
+    let e : 0 + length bs ≡ length bs = zero-add (length bs) in
+    p .same ∙ sets-eq bs out 0 (omega arith) ∙ rw e
+
+-- ---------------------------------------------------------------- the listing's parts
+
+-- the most that a kind adds
+details-most : (k : FieldKind) → details# k ≤ 11
+details-most FieldKind.Text = omega arith
+details-most (FieldKind.Int signed sign) = omega arith
+details-most (FieldKind.Binary signed) = omega arith
+details-most (FieldKind.Decimal precision scale repr sign) = omega arith
+details-most (FieldKind.Edited precision scale signed) = omega arith
+details-most FieldKind.Group = omega arith
+
+module _ (e : Entry) (n : ℕ) where
+  -- the parts of an entry, in the order in which they are put
+  pub entry-parts : entryBytes e n ≡ placeBytes e ++ occursBytes (e .occurs) ++ spanBytes (e .depending) ++ spanBytes (e .redefines) ++ details (e .kind) (e .picture) n
+  unfolding entryBytes
+  entry-parts = refl
+
+  -- how many bytes the parts have
+  pub entry-sizes : length (entryBytes e n) ≡ 33 + length (occursBytes (e .occurs)) + length (details (e .kind) (e .picture) n)
+  entry-sizes = rw entry-parts (simp length-append (omega arith))
+
+  -- an entry can be counted from any place that four bytes hold
+  pub entry-countable : (at : ℕ) → at ≤ 4294967295 → Countable at (entryBytes e n)
+  entry-countable at h = omega (arith, entry-length e n, details-most (e .kind))
+
+-- the listing is the record's head, then the entries
+pub listing-parts : (es : Entries) → listing es ≡ headBytes (recordLength es) (variable es) (members# es) ++ entriesBytes es
+unfolding listing
+listing-parts es = refl

@@ -1,0 +1,310 @@
+// The bytes of the layout listing, put into a lent output from a place on: numbers, the record's head, one entry. A byte
+// past the output's end is counted and not written, so that on an empty output the same functions only count. Each answers
+// the place after its bytes. Leans on `definition`.
+ghost use Prim.Native.Nat.{_%_};
+ghost use mathlib.Core.Path.{_≡_};
+ghost use mathlib.Core.List.{[], _∷_};
+ghost use lib.ListN.{set};
+ghost use Rattle.definition.specs.Basic.{le4};
+ghost use Rattle.definition.specs.Fold.{union};
+ghost use Rattle.definition.specs.Listing.{flag, signByte, storageByte, spanBytes, occursBytes, kindByte, details, entryBytes};
+ghost use Rattle.listing.specs.Puts.{Countable, Put, headBytes, placeBytes};
+use definition::Entry;
+use definition::FieldKind;
+use definition::NumRepr;
+use definition::Occurs;
+use definition::SignKind;
+use definition::Span;
+
+// ---------------------------------------------------------------- bytes and numbers
+
+// A byte at a place, if the output has that place.
+fn store(out: &mut [u8], at: usize, b: u8)
+    ensures { λ _. ⌜ now (out .exit) ≡ set (now (out .entry)) at b ⌝ }
+{
+    if at < out.len() {
+        out[at] = b;
+    }
+}
+
+// One byte.
+pub fn put_byte(out: &mut [u8], at: usize, b: u8) -> usize
+    requires { ⌜ Countable at (b ∷ []) ⌝ }
+    ensures { λ r. ⌜ Put (now (out .entry)) at (b ∷ []) r (now (out .exit)) ⌝ }
+{
+    store(out, at, b);
+    at + 1
+}
+
+// The lowest byte of a number.
+fn put_low(out: &mut [u8], at: usize, x: usize) -> usize
+    requires { ⌜ Countable at (x % 256 ∷ []) ⌝ }
+    ensures { λ r. ⌜ Put (now (out .entry)) at (x % 256 ∷ []) r (now (out .exit)) ⌝ }
+{
+    put_byte(out, at, (x % 256) as u8)
+}
+
+// A number in four bytes, the lowest first.
+pub fn put4(out: &mut [u8], at: usize, x: usize) -> usize
+    requires { ⌜ Countable at (le4 x) ⌝ }
+    ensures { λ r. ⌜ Put (now (out .entry)) at (le4 x) r (now (out .exit)) ⌝ }
+{
+    let second = put_low(out, at, x);
+    let third = put_low(out, second, x / 256);
+    let fourth = put_low(out, third, x / 65536);
+    put_low(out, fourth, x / 16777216)
+}
+
+// A place in the text: its start, its length.
+fn put_span(out: &mut [u8], at: usize, w: Span) -> usize
+    requires { ⌜ Countable at (spanBytes w) ⌝ }
+    ensures { λ r. ⌜ Put (now (out .entry)) at (spanBytes w) r (now (out .exit)) ⌝ }
+{
+    let next = put4(out, at, w.start);
+    put4(out, next, w.len)
+}
+
+// A byte, then a number.
+fn put_marked(out: &mut [u8], at: usize, mark: u8, x: usize) -> usize
+    requires { ⌜ Countable at (mark ∷ le4 x) ⌝ }
+    ensures { λ r. ⌜ Put (now (out .entry)) at (mark ∷ le4 x) r (now (out .exit)) ⌝ }
+{
+    let next = put_byte(out, at, mark);
+    put4(out, next, x)
+}
+
+// OCCURS n, also where n is 0.
+fn put_times(out: &mut [u8], at: usize, n: u64) -> usize
+    requires { ⌜ Countable at (1 ∷ le4 n) ⌝ }
+    ensures { λ r. ⌜ Put (now (out .entry)) at (1 ∷ le4 n) r (now (out .exit)) ⌝ }
+{
+    put_marked(out, at, 1, n as usize)
+}
+
+// How often an item stands: the mark of OCCURS and the count.
+fn put_occurs(out: &mut [u8], at: usize, o: Occurs) -> usize
+    requires { ⌜ Countable at (occursBytes o) ⌝ }
+    ensures { λ r. ⌜ Put (now (out .entry)) at (occursBytes o) r (now (out .exit)) ⌝ }
+{
+    match o {
+        Occurs::Once => {
+            return put_marked(out, at, 0, 0);
+        }
+        Occurs::Times(n) => {
+            return put_times(out, at, n);
+        }
+    }
+}
+
+// ---------------------------------------------------------------- codes of a byte
+
+// 1 for true, 0 for false.
+fn flag_of(b: bool) -> u8
+    ensures { λ r. ⌜ r ≡ flag b ⌝ }
+{
+    if b {
+        return 1;
+    }
+    0
+}
+
+// The byte of a sign.
+fn sign_of(s: SignKind) -> u8
+    ensures { λ r. ⌜ r ≡ signByte s ⌝ }
+{
+    match s {
+        SignKind::Unsigned => 0,
+        SignKind::Embedded => 1,
+        SignKind::LeadingSeparate => 2,
+        SignKind::TrailingSeparate => 3,
+    }
+}
+
+// The byte of a decimal's storage.
+fn storage_of(r: NumRepr) -> u8
+    ensures { λ b. ⌜ b ≡ storageByte r ⌝ }
+{
+    match r {
+        NumRepr::Display => 0,
+        NumRepr::Comp3 => 1,
+        NumRepr::Zoned => 2,
+    }
+}
+
+// The byte of a kind, which every entry begins with.
+fn kind_of(k: FieldKind) -> u8
+    ensures { λ r. ⌜ r ≡ kindByte k ⌝ }
+{
+    match k {
+        FieldKind::Text => 1,
+        FieldKind::Int { signed, sign } => 2,
+        FieldKind::Binary { signed } => 3,
+        FieldKind::Decimal {
+            precision,
+            scale,
+            repr,
+            sign,
+        } => 4,
+        FieldKind::Edited {
+            precision,
+            scale,
+            signed,
+        } => 5,
+        FieldKind::Group => 6,
+    }
+}
+
+// ---------------------------------------------------------------- what the kind adds
+
+// Two bytes.
+fn put_pair(out: &mut [u8], at: usize, a: u8, b: u8) -> usize
+    requires { ⌜ Countable at (a ∷ b ∷ []) ⌝ }
+    ensures { λ r. ⌜ Put (now (out .entry)) at (a ∷ b ∷ []) r (now (out .exit)) ⌝ }
+{
+    let next = put_byte(out, at, a);
+    put_byte(out, next, b)
+}
+
+// An integer: whether it is signed, and its sign.
+fn put_int(out: &mut [u8], at: usize, signed: bool, sign: SignKind) -> usize
+    requires { ⌜ Countable at (flag signed ∷ signByte sign ∷ []) ⌝ }
+    ensures { λ r. ⌜ Put (now (out .entry)) at (flag signed ∷ signByte sign ∷ []) r (now (out .exit)) ⌝ }
+{
+    put_pair(out, at, flag_of(signed), sign_of(sign))
+}
+
+// A binary number: whether it is signed.
+fn put_binary(out: &mut [u8], at: usize, signed: bool) -> usize
+    requires { ⌜ Countable at (flag signed ∷ []) ⌝ }
+    ensures { λ r. ⌜ Put (now (out .entry)) at (flag signed ∷ []) r (now (out .exit)) ⌝ }
+{
+    put_byte(out, at, flag_of(signed))
+}
+
+// A decimal: its digits, those after the point, its storage, its sign.
+fn put_decimal(
+    out: &mut [u8],
+    at: usize,
+    precision: u8,
+    scale: u8,
+    repr: NumRepr,
+    sign: SignKind,
+) -> usize
+    requires { ⌜ Countable at (precision ∷ scale ∷ storageByte repr ∷ signByte sign ∷ []) ⌝ }
+    ensures { λ r. ⌜ Put (now (out .entry)) at (precision ∷ scale ∷ storageByte repr ∷ signByte sign ∷ []) r (now (out .exit)) ⌝ }
+{
+    let next = put_pair(out, at, precision, scale);
+    put_pair(out, next, storage_of(repr), sign_of(sign))
+}
+
+// An edited number: its digits, those after the point, whether it is signed, its picture's place.
+fn put_edited(
+    out: &mut [u8],
+    at: usize,
+    precision: u8,
+    scale: u8,
+    signed: bool,
+    picture: Span,
+) -> usize
+    requires { ⌜ Countable at (precision ∷ scale ∷ flag signed ∷ spanBytes picture) ⌝ }
+    ensures { λ r. ⌜ Put (now (out .entry)) at (precision ∷ scale ∷ flag signed ∷ spanBytes picture) r (now (out .exit)) ⌝ }
+{
+    let third = put_pair(out, at, precision, scale);
+    let place = put_byte(out, third, flag_of(signed));
+    put_span(out, place, picture)
+}
+
+// What the kind adds to an entry with n members.
+fn put_details(out: &mut [u8], at: usize, kind: FieldKind, picture: Span, n: usize) -> usize
+    requires { ⌜ Countable at (details kind picture n) ⌝ }
+    ensures { λ r. ⌜ Put (now (out .entry)) at (details kind picture n) r (now (out .exit)) ⌝ }
+{
+    match kind {
+        FieldKind::Text => {
+            return at;
+        }
+        FieldKind::Int { signed, sign } => {
+            return put_int(out, at, signed, sign);
+        }
+        FieldKind::Binary { signed } => {
+            return put_binary(out, at, signed);
+        }
+        FieldKind::Decimal {
+            precision,
+            scale,
+            repr,
+            sign,
+        } => {
+            return put_decimal(out, at, precision, scale, repr, sign);
+        }
+        FieldKind::Edited {
+            precision,
+            scale,
+            signed,
+        } => {
+            return put_edited(out, at, precision, scale, signed, picture);
+        }
+        FieldKind::Group => {
+            return put4(out, at, n);
+        }
+    }
+}
+
+// ---------------------------------------------------------------- the head and an entry
+
+// The record's head: kind 0, its length, whether that varies, how many entries stand at the top.
+pub fn put_head(out: &mut [u8], at: usize, length: usize, variable: bool, top: usize) -> usize
+    requires { ⌜ Countable at (headBytes length variable top) ⌝ }
+    ensures { λ r. ⌜ Put (now (out .entry)) at (headBytes length variable top) r (now (out .exit)) ⌝ }
+{
+    let next = put_marked(out, at, 0, length);
+    put_marked(out, next, flag_of(variable), top)
+}
+
+// An entry's kind, name, offset and width.
+fn put_place(out: &mut [u8], at: usize, e: Entry) -> usize
+    requires { ⌜ Countable at (placeBytes e) ⌝ }
+    ensures { λ r. ⌜ Put (now (out .entry)) at (placeBytes e) r (now (out .exit)) ⌝ }
+{
+    let kind = e.kind;
+    let name = e.name;
+    let second = put_byte(out, at, kind_of(kind));
+    let offset = put_span(out, second, name);
+    let width = put4(out, offset, e.offset);
+    put4(out, width, e.width)
+}
+
+// An entry with n members.
+pub fn put_entry(out: &mut [u8], at: usize, e: Entry, n: usize) -> usize
+    requires { ⌜ Countable at (entryBytes e n) ⌝ }
+    ensures { λ r. ⌜ Put (now (out .entry)) at (entryBytes e n) r (now (out .exit)) ⌝ }
+{
+    let kind = e.kind;
+    let picture = e.picture;
+    let occurs = e.occurs;
+    let depending = e.depending;
+    let redefines = e.redefines;
+    let third = put_place(out, at, e);
+    let fourth = put_occurs(out, third, occurs);
+    let fifth = put_span(out, fourth, depending);
+    let last = put_span(out, fifth, redefines);
+    put_details(out, last, kind, picture, n)
+}
+
+// The group that stands for a base and its redefiners, as wide as the widest of them.
+pub fn union_of(e: Entry, width: usize) -> Entry
+    ensures { λ r. ⌜ r ≡ union e width ⌝ }
+{
+    let name = e.name;
+    Entry {
+        at: e.at,
+        name: name,
+        offset: e.offset,
+        width: width,
+        kind: FieldKind::Group,
+        picture: Span { start: 0, len: 0 },
+        occurs: Occurs::Once,
+        depending: Span { start: 0, len: 0 },
+        redefines: Span { start: 0, len: 0 },
+    }
+}

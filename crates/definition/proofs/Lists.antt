@@ -6,11 +6,11 @@ use mathlib.Core.Bool.{Bool, true, false}
 use mathlib.Core.List.{List, [], _∷_, _++_}
 use mathlib.Core.Logic.{_⊎_, inl, inr}
 use native.Mathlib.Numerals.{add-one}
-use native.Mathlib.Nat.{zero-add}
+use native.Mathlib.Nat.{zero-add, add-zero}
 use native.Mathlib.Omega.{arith}
 use lib.Dec.{ltb}
-use lib.ListN.{length, getD, take, drop, length-drop}
-use lib.Seq.{drop-cons, take-suc, take-nil, take-all}
+use lib.ListN.{length, getD, take, drop, set, length-drop}
+use lib.Seq.{drop-cons, take-suc, take-nil, take-all, sets}
 use borrow.Author.Tests.{ltb-true, ltb-false}
 
 decide : (b : Bool) (n m : ℕ) → ltb n m ≡ b → (n < m) ⊎ (m ≤ n)
@@ -47,3 +47,10 @@ take-drop n (suc m) [] = simp take-nil
 take-drop n (suc m) (x ∷ l) =
     let e : suc (m + n) ≡ suc m + n = omega arith in
     take-drop n m l ∙ ap (λ (k : ℕ). drop (suc m) (take k (x ∷ l))) e
+
+-- two lists stored one after the other
+pub sets-append : (v w out : List ℕ) (k : ℕ) → sets out k (v ++ w) ≡ sets (sets out k v) (k + length v) w
+sets-append [] w out k = rw (add-zero k)
+sets-append (b ∷ v) w out k =
+    let e : suc k + length v ≡ k + suc (length v) = omega arith in
+    sets-append v w (set out k b) (suc k) ∙ ap (λ (n : ℕ). sets (sets (set out k b) (suc k) v) n w) e

@@ -12,15 +12,9 @@ use Rattle.definition.specs.declared.FieldKind.{FieldKind}
 use Rattle.definition.specs.Fold.{Entries}
 use Rattle.definition.specs.Record.{recordLength, variable}
 use Rattle.definition.specs.Listing.{members#, spanBytes, occursBytes, details, entryBytes, entriesBytes, listing}
+use Rattle.definition.proofs.Lists.{sets-append}
 use Rattle.definition.proofs.ListingLaws.{details#, entry-length}
 use Rattle.listing.specs.Puts.{Countable, Put, headBytes, placeBytes}
-
--- two lists stored one after the other
-sets-append : (v w out : List ℕ) (k : ℕ) → sets out k (v ++ w) ≡ sets (sets out k v) (k + length v) w
-sets-append [] w out k = rw (add-zero k)
-sets-append (b ∷ v) w out k =
-    let e : suc k + length v ≡ k + suc (length v) = omega arith in
-    sets-append v w (set out k b) (suc k) ∙ ap (λ (n : ℕ). sets (sets (set out k b) (suc k) v) n w) e
 
 -- nothing is put
 pub put-none : (out : List ℕ) (at : ℕ) → Put out at [] at out

@@ -9,15 +9,9 @@ use lib.ListN.{length, set, length-append}
 use lib.Seq.{sets}
 use Rattle.definition.specs.Basic.{Answer, refuse, give, _>>=_}
 use Rattle.definition.specs.Picture.{mask}
+use Rattle.definition.proofs.Lists.{sets-append}
 use Rattle.definition.proofs.PictureLaws.{onto, mask-append}
 use Rattle.picture.specs.Masks.{Room, put}
-
--- two lists stored one after the other
-sets-append : (v w out : List ℕ) (k : ℕ) → sets out k (v ++ w) ≡ sets (sets out k v) (k + length v) w
-sets-append [] w out k = rw (add-zero k)
-sets-append (b ∷ v) w out k =
-    let e : suc k + length v ≡ k + suc (length v) = omega arith in
-    sets-append v w (set out k b) (suc k) ∙ ap (λ (n : ℕ). sets (sets (set out k b) (suc k) v) n w) e
 
 mask-sum : (p l : List ℕ) → length (mask (p ++ l)) ≡ length (mask p) + length (mask l)
 mask-sum p l = ap length (mask-append p l) ∙ length-append (mask p) (mask l)

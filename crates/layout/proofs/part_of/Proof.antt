@@ -8,7 +8,7 @@ use native.Mathlib.Nat.{add-sub-cancel-left}
 use native.Mathlib.Omega.{arith}
 use lib.ListN.{length, take, drop, drop-of-length-le, length-drop}
 use lib.Seq.{take-all, take-nil}
-use Rattle.definition.proofs.PictureLaws.{rest-part}
+use Rattle.definition.proofs.Lists.{rest-part}
 use Rattle.layout.proofs.part_of.Statement.{statement}
 use Rattle.layout.proofs.part_of.Tie as tie
 

@@ -28,12 +28,12 @@ use Rattle.rows.proofs.ReadingLaws.{Stored}
 use Rattle.definition.specs.Calls.{checkOf}
 use Rattle.definition.specs.Record.{recordLength, endsFit}
 use Rattle.layout.specs.Bare.{foldCheck, foldedAll, bare, bareRecord}
-use Rattle.layout.specs.Places.{putPlace, putPlaces, seenFrom, entryIn, entriesIn, stopped, after, layTable}
+use Rattle.layout.specs.Places.{putPlace, putPlaces, seenFrom, entryIn, entriesIn, stopped, after, layTable, rowsForest}
 use Rattle.layout.specs.declared.LaidList.{LaidList}
-use Rattle.layout.specs.Steps.{ChildrenEnd, listOf, rowsForest}
+use Rattle.layout.specs.Steps.{ChildrenEnd, listOf}
 use Rattle.layout.proofs.EntriesLaws.{size-stretch}
 use Rattle.layout.proofs.ListLaws.{Of, of-size, bare-split, item-is, bare-is}
-use Rattle.layout.proofs.LayLaws.{Inner, inner-is}
+use Rattle.layout.proofs.LayLaws.{LaidRows, laid-rows}
 use Rattle.layout.proofs.RowLaws.{children-end, forest-split, forest-empty}
 use Rattle.layout.proofs.PlaceLaws.{length-place, length-places, before-places, statements-places, first-last}
 use Rattle.record.specs.Shown.{listIn, Chained, Tree}
@@ -114,7 +114,7 @@ places-chained (item s kids later) (entry e members more) w k last o fits =
 
 -- ---------------------------------------------------------------- a list that was laid
 
-module _ (text w : List ℕ) (a b depth : ℕ) {width : ℕ} {w₁ : List ℕ} (h : a ≤ b) (fits : 20 * b ≤ length w) (n : Inner text w a b depth width w₁) where
+module _ (text w : List ℕ) (a b depth : ℕ) {width : ℕ} {w₁ : List ℕ} (h : a ≤ b) (fits : 20 * b ≤ length w) (n : LaidRows text w a b depth width w₁) where
   pub laid-tree : Tree w₁ a b
   laid-tree =
       let f = rowsForest w a b in
@@ -193,8 +193,8 @@ after-stopped w k last (give x) h = absurd (let z : _≡_ {A = ℕ} 0 1 = cc in 
 module _ (text w : List ℕ) (a b : ℕ) where
   module _ {x : LaidList} (w₁ : List ℕ) (p : listOf x w₁ ≡ layTable text w a b 0) where
     -- the list is laid
-    pub list-laid : a ≤ b → 20 * b ≤ length w → {width last : ℕ} → x ≡ LaidList.Done width last → Inner text w a b 0 width w₁
-    list-laid h fits e = inner-is text w a b 0 h fits (sym p ∙ ap (λ (y : LaidList). listOf y w₁) e)
+    pub list-laid : a ≤ b → 20 * b ≤ length w → {width last : ℕ} → x ≡ LaidList.Done width last → LaidRows text w a b 0 width w₁
+    list-laid h fits e = laid-rows text w a b 0 h fits (sym p ∙ ap (λ (y : LaidList). listOf y w₁) e)
 
     -- or refused
     pub list-refused : {r : Refusal} → x ≡ LaidList.Refused r → bareRecord text (rowsForest w a b) ≡ refuse r
@@ -203,7 +203,7 @@ module _ (text w : List ℕ) (a b : ℕ) where
         ap (λ (y : Answer Laid). y >>= λ l. foldCheck text [] (l .entries) >>= λ _. endsFit (foldedAll text (l .entries)) >>= λ _. give (l .entries))
         (after-stopped w a 0 (bare text 0 [] 0 0 (rowsForest w a b)) (sym p ∙ ap (λ (y : LaidList). listOf y w₁) e))
 
-  module _ {width : ℕ} {w₁ : List ℕ} (n : Inner text w a b 0 width w₁) where
+  module _ {width : ℕ} {w₁ : List ℕ} (n : LaidRows text w a b 0 width w₁) where
     -- the checks of the list, as the rows hold it
     record-split :
         bareRecord text (rowsForest w a b)

@@ -13,8 +13,8 @@ use Rattle.definition.specs.Fold.{Entries, end, entry, append, Place, placeOf, 
 use Rattle.definition.specs.Owner.{size}
 use Rattle.rows.specs.Table.{cell, spanAt}
 use Rattle.layout.specs.Bare.{foldedList, foldedBelow, foldedAll}
-use Rattle.layout.specs.Places.{seenFrom, basesAt, placeAt, entryIn, entriesIn, Linked}
-use Rattle.layout.specs.Steps.{ChildrenEnd, rowsForest}
+use Rattle.layout.specs.Places.{seenFrom, basesAt, placeAt, entryIn, entriesIn, Linked, rowsForest}
+use Rattle.layout.specs.Steps.{ChildrenEnd}
 use Rattle.layout.proofs.FoldLaws.{next-row}
 use Rattle.layout.proofs.PlaceLaws.{seen-low, seen-out, seen-in}
 use Rattle.layout.proofs.RowLaws.{forest-split, forest-empty}

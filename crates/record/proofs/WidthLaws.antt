@@ -12,8 +12,8 @@ use Rattle.definition.specs.Listing.{members#}
 use Rattle.definition.specs.Record.{recordLength}
 use Rattle.rows.specs.Table.{cell, spanAt}
 use Rattle.layout.specs.Bare.{foldedBelow, foldedAll}
-use Rattle.layout.specs.Places.{basesAt, placeAt, entryIn}
-use Rattle.layout.specs.Steps.{ChildrenEnd, rowsForest}
+use Rattle.layout.specs.Places.{basesAt, placeAt, entryIn, rowsForest}
+use Rattle.layout.specs.Steps.{ChildrenEnd}
 use Rattle.record.specs.declared.Standing.{Standing}
 use Rattle.record.specs.Shown.{standing, shownAs, listIn, redefinersIn, shownAt, unionWidth, Siblings, Chained, Sized, Tree, Branch, SizedRow, Measured}
 use Rattle.record.proofs.FoldedLaws.{width-alone, width-union, end-alone, end-union, union-inner, union-outer, redefiners-below, count-below, widest-below}

@@ -13,8 +13,7 @@ use Rattle.definition.specs.Fold.{Entries, end, entry, total, sameName, sameSpe
 use Rattle.definition.specs.Owner.{size}
 use Rattle.rows.specs.Table.{cell}
 use Rattle.layout.specs.Bare.{hasBase, foldedList, foldedBelow, foldedAll}
-use Rattle.layout.specs.Places.{basesAt, placeAt, entryIn, entriesIn, Linked}
-use Rattle.layout.specs.Steps.{rowsForest}
+use Rattle.layout.specs.Places.{basesAt, placeAt, entryIn, entriesIn, Linked, rowsForest}
 use Rattle.record.specs.declared.Standing.{Standing}
 use Rattle.record.specs.declared.Relation.{Relation}
 

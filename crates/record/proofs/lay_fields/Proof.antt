@@ -1,7 +1,7 @@
 -- `record::lay_fields` meets its contract: the list that was laid, then its two checks.
 -- Assumes nothing.
 use borrow.Author.Needs.{needs}
-use Rattle.layout.proofs.LayLaws.{Inner}
+use Rattle.layout.proofs.LayLaws.{LaidRows}
 use Rattle.record.specs.Shown.{Tree}
 use Rattle.record.proofs.LaidLaws.{laid-tree, list-laid, list-refused, fold-refused, end-refused, laid-listed}
 use Rattle.record.proofs.lay_fields.Statement.{statement}
@@ -12,7 +12,7 @@ inner :
     (x : tie.After-width) →
     let ll = x .before .before .before .before in
     let a = ll .before .before .before .before .args in
-    Inner (a .text .now) (a .work .now) (a .from) (a .to) 0 (x .width .given .0 .0) (ll .lay-list .last .1 .0)
+    LaidRows (a .text .now) (a .work .now) (a .from) (a .to) 0 (x .width .given .0 .0) (ll .lay-list .last .1 .0)
 inner x =
     let ll = x .before .before .before .before in
     let s = ll .before .before .before .before in

@@ -1,0 +1,152 @@
+-- A folded list, row by row along the rows that hold it: what a row comes to, and then the rest; the redefiners of a row.
+-- Assumes nothing.
+use Prim.Native.Nat.{ℕ, zero, suc, _+_, _*_, _-_, _≤_, _<_}
+use mathlib.Core.Path.{_≡_, refl, sym, ap, subst, _∙_}
+use mathlib.Core.Bool.{Bool, true, false}
+use mathlib.Core.List.{List, [], _∷_}
+use native.Mathlib.Numerals.{add-one}
+use native.Mathlib.Omega.{arith}
+use Rattle.definition.specs.declared.Span.{Span}
+use Rattle.definition.specs.declared.Entry.{Entry}
+use Rattle.definition.specs.Basic.{if_then_else_, given}
+use Rattle.definition.specs.Tree.{Forest, leaf, item}
+use Rattle.definition.specs.Fold.{Entries, end, entry, append, Place, placeOf, redefiners}
+use Rattle.definition.specs.Owner.{size}
+use Rattle.rows.specs.Table.{cell, spanAt}
+use Rattle.layout.specs.Bare.{foldedList, foldedBelow, foldedAll}
+use Rattle.layout.specs.Places.{seenFrom, basesAt, placeAt, entryIn, entriesIn, Linked}
+use Rattle.layout.specs.Steps.{ChildrenEnd, rowsForest}
+use Rattle.layout.proofs.FoldLaws.{next-row}
+use Rattle.layout.proofs.PlaceLaws.{seen-low, seen-out, seen-in}
+use Rattle.layout.proofs.RowLaws.{forest-split, forest-empty}
+use Rattle.record.specs.declared.Relation.{Relation}
+use Rattle.record.specs.Shown.{standing, basesAfter, shownAs, relation, listIn, redefinersIn, foldedRest, shownAt, Siblings, Chained, Sized}
+use Rattle.record.proofs.FoldedLaws.{append-end, append-append, byRelation, list-step, redefiners-step}
+
+-- ---------------------------------------------------------------- one row
+
+-- the bases after row i
+bases-after : (w : List ℕ) (i last : ℕ) → cell w i 16 ≡ last → last ≤ i → basesAt w (suc i) ≡ basesAfter (entryIn w i) (basesAt w last)
+bases-after w i last h l = go (given (entryIn w i .redefines)) refl
+  where
+    before : seenFrom true w i (cell w i 16) ≡ basesAt w last
+    before = ap (seenFrom true w i) h ∙ seen-low true w i last l
+
+    go : (b : Bool) → given (entryIn w i .redefines) ≡ b → basesAt w (suc i) ≡ basesAfter (entryIn w i) (basesAt w last)
+    go true g = seen-out true w i g ∙ before ∙ ap (λ (b : Bool). if b then basesAt w last else placeOf (entryIn w i) ∷ basesAt w last) (sym g)
+    go false g =
+        seen-in true w i g
+        ∙ ap (λ (ps : List Place). placeOf (entryIn w i) ∷ ps) before
+        ∙ ap (λ (b : Bool). if b then basesAt w last else placeOf (entryIn w i) ∷ basesAt w last) (sym g)
+
+-- no rows
+pub list-none : (w : List ℕ) (a b : ℕ) → b ≤ a → listIn w a b ≡ end
+unfolding entriesIn
+list-none w a b h = ap (entriesIn w a) (forest-empty w a b h)
+
+module _ (w : List ℕ) (i to j : ℕ) (h : ChildrenEnd w i to j) where
+  -- row i, its children up to j, and the rest
+  pub list-split : listIn w i to ≡ entry (entryIn w i) (listIn w (suc i) j) (listIn w j to)
+  unfolding entriesIn
+  list-split =
+      ap (entriesIn w i) (forest-split w i to j h)
+      ∙ ap (λ (n : ℕ). entry (entryIn w i) (listIn w (suc i) j) (entriesIn w n (rowsForest w j to))) (next-row w i to j h)
+
+  -- each names the sibling before it
+  pub linked-step : (last : ℕ) → Linked w i last (rowsForest w i to) → (cell w i 16 ≡ last) × Linked w j (suc i) (rowsForest w j to)
+  linked-step last l =
+      let both = subst (Linked w i last) (forest-split w i to j h) l in
+      (both .0, subst (λ (n : ℕ). Linked w n (suc i) (rowsForest w j to)) (next-row w i to j h) (both .1))
+
+  -- and those below
+  pub chained-step :
+      (last : ℕ) →
+      Chained w i last (rowsForest w i to) →
+      (cell w i 16 ≡ last) × Chained w (suc i) 0 (rowsForest w (suc i) j) × Chained w j (suc i) (rowsForest w j to)
+  chained-step last l =
+      let all = subst (Chained w i last) (forest-split w i to j h) l in
+      (all .0, all .1, subst (λ (n : ℕ). Chained w n (suc i) (rowsForest w j to)) (next-row w i to j h) (all .2))
+
+pub chained-linked : (w : List ℕ) (f : Forest) (k last : ℕ) → Chained w k last f → Linked w k last f
+chained-linked w leaf k last h = tt
+chained-linked w (item s kids later) k last h = (h .0, chained-linked w later (suc k + size kids) (suc k) (h .2))
+
+-- ---------------------------------------------------------------- redefiners
+
+module _ (t w : List ℕ) (i k to : ℕ) where
+  -- the redefiners of row i from row k on, by what row k is to it
+  pub redefined-step :
+      {n : ℕ} →
+      ChildrenEnd w k to n →
+      redefinersIn t w i k to
+      ≡ byRelation (relation t (spanAt (cell w i 3)) (entryIn w k)) (placeAt w i) (entryIn w k) (listIn w (suc k) n) (redefinersIn t w i n to)
+  redefined-step {n} h = ap (redefiners t (placeAt w i)) (list-split w k to n h) ∙ redefiners-step t (placeAt w i) (entryIn w k) (listIn w (suc k) n) (listIn w n to)
+
+  -- the same, where the code found out what it is
+  pub redefined-by :
+      {n : ℕ} →
+      ChildrenEnd w k to n →
+      {name : Span} {r x : Relation} →
+      name ≡ spanAt (cell w i 3) →
+      r ≡ relation t name (entryIn w k) →
+      r ≡ x →
+      redefinersIn t w i k to ≡ byRelation x (placeAt w i) (entryIn w k) (listIn w (suc k) n) (redefinersIn t w i n to)
+  redefined-by {n} h {name} {r} {x} q p e =
+      let is : relation t (spanAt (cell w i 3)) (entryIn w k) ≡ x = ap (λ (s : Span). relation t s (entryIn w k)) (sym q) ∙ sym p ∙ e in
+      redefined-step h ∙ ap (λ (y : Relation). byRelation y (placeAt w i) (entryIn w k) (listIn w (suc k) n) (redefinersIn t w i n to)) is
+
+  pub redefined-none : to ≤ k → redefinersIn t w i k to ≡ end
+  unfolding redefiners
+  redefined-none h = ap (redefiners t (placeAt w i)) (list-none w k to h)
+
+-- ---------------------------------------------------------------- the folded list
+
+-- what row i comes to, and then the rest
+rest-step :
+    (t w : List ℕ) (i to last j : ℕ) →
+    ChildrenEnd w i to j →
+    cell w i 16 ≡ last →
+    last ≤ i →
+    foldedRest t w i to last ≡ append (shownAt t w i j to last) (foldedRest t w j to (suc i))
+unfolding foldedBelow
+rest-step t w i to last j h e l =
+    ap (λ (es : Entries). foldedList t (basesAt w last) (foldedBelow t es)) (list-split w i to j h)
+    ∙ list-step t (basesAt w last) (entryIn w i) (foldedAll t (listIn w (suc i) j)) (foldedBelow t (listIn w j to))
+    ∙ ap (λ (ps : List Place). append (shownAt t w i j to last) (foldedList t ps (foldedBelow t (listIn w j to)))) (sym (bases-after w i last e l))
+
+-- the list is gone through up to row i, after the sibling `last`: what is done and what is left
+pub record Walking (t w : List ℕ) (from to i last : ℕ) (done : Entries) : Type 0 where
+  pub low : from ≤ i
+  pub back : last ≤ i
+  pub linked : Linked w i last (rowsForest w i to)
+  pub same : foldedAll t (listIn w from to) ≡ append done (foldedRest t w i to last)
+
+pub walking-starts : (t w : List ℕ) (from to : ℕ) → Linked w from 0 (rowsForest w from to) → Walking t w from to from 0 end
+unfolding seenFrom append
+walking-starts t w from to h = record { low = omega arith; back = omega arith; linked = h; same = refl }
+
+module _ {t w : List ℕ} {from to i last : ℕ} {done : Entries} (inv : Walking t w from to i last done) where
+  -- nothing is left
+  pub walking-ends : to ≤ i → foldedAll t (listIn w from to) ≡ done
+  unfolding foldedBelow foldedList
+  walking-ends h =
+      inv .same
+      ∙ ap (λ (es : Entries). append done (foldedList t (basesAt w last) (foldedBelow t es))) (list-none w i to h)
+      ∙ append-end done
+
+  module _ {j : ℕ} (h : ChildrenEnd w i to j) where
+    -- row i is next
+    pub walking-here : foldedAll t (listIn w from to) ≡ append done (append (shownAt t w i j to last) (foldedRest t w j to (suc i)))
+    walking-here =
+        inv .same ∙ ap (append done) (rest-step t w i to last j h (linked-step w i to j h last (inv .linked) .0) (inv .back))
+
+    -- row i is done
+    pub walking-on : Walking t w from to j (i + 1) (append done (shownAt t w i j to last))
+    walking-on =
+        let rest = walking-here ∙ sym (append-append done (shownAt t w i j to last) (foldedRest t w j to (suc i))) in
+        record {
+          low = omega (arith, h .low, inv .low);
+          back = omega (arith, h .low);
+          linked = subst (λ (n : ℕ). Linked w j n (rowsForest w j to)) (sym (add-one i)) (linked-step w i to j h last (inv .linked) .1);
+          same = subst (λ (n : ℕ). foldedAll t (listIn w from to) ≡ append (append done (shownAt t w i j to last)) (foldedRest t w j to n)) (sym (add-one i)) rest;
+        }

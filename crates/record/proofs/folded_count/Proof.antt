@@ -1,0 +1,78 @@
+-- `record::folded_count` meets its contract: what is counted is what is done.
+-- Assumes nothing.
+use borrow.Author.Needs.{needs}
+use Prim.Native.Nat.{ℕ, suc, _+_, _-_, _*_, _≤_, _<_}
+use mathlib.Core.Path.{_≡_, refl, sym, ap, _∙_}
+use mathlib.Core.List.{List}
+use native.Mathlib.Omega.{arith}
+use lib.ListN.{length}
+use Rattle.definition.specs.Fold.{Entries, end, append}
+use Rattle.definition.specs.Listing.{members#}
+use Rattle.layout.specs.Bare.{foldedBelow, foldedAll}
+use Rattle.layout.specs.Places.{basesAt, entryIn}
+use Rattle.layout.specs.Steps.{ChildrenEnd}
+use Rattle.record.specs.Shown.{standing, shown#, listIn, shownAt, Siblings, Few}
+use Rattle.record.proofs.FoldedLaws.{count-append, shown-count}
+use Rattle.record.proofs.ShownLaws.{Walking, walking-starts, walking-ends, walking-on}
+use Rattle.record.proofs.folded_count.Statement.{statement}
+use Rattle.record.proofs.folded_count.Tie as tie
+
+-- what the loop keeps
+record Left (t w : List ℕ) (from to n i last : ℕ) : Type 0 where
+  fits : 20 * to ≤ length w
+  few : n ≤ i
+  back : last ≤ i
+  done : Entries
+  walk : Walking t w from to i last done
+  is : n ≡ members# done
+
+start : {t w : List ℕ} {from to : ℕ} → Siblings w from to → Left t w from to 0 from 0
+start {t} {w} {from} {to} h =
+    record { fits = h .fits; few = omega arith; back = omega arith; done = end; walk = walking-starts t w from to (h .linked); is = refl }
+
+module _ {t w : List ℕ} {from to n i last : ℕ} (inv : Left t w from to n i last) where
+  next : {r j : ℕ} → Few (shown# (standing t (basesAt w last) (entryIn w i))) r → ChildrenEnd w i to j → Left t w from to (n + r) j (i + 1)
+  next {r} {j} f h =
+      let two = count-append (inv .done) (shownAt t w i j to last) in
+      let one = shown-count t (entryIn w i) (foldedAll t (listIn w (suc i) j)) (standing t (basesAt w last) (entryIn w i)) (foldedBelow t (listIn w j to)) in
+      record {
+        fits = inv .fits;
+        few = omega (arith, inv .few, f .few, h .low);
+        back = omega (arith, h .low);
+        done = append (inv .done) (shownAt t w i j to last);
+        walk = walking-on (inv .walk) h;
+        is = omega (arith, inv .is, f .is, two, one);
+      }
+
+  done : to ≤ i → n ≡ members# (foldedAll t (listIn w from to))
+  done h = inv .is ∙ sym (ap members# (walking-ends (inv .walk) h))
+
+abbrev Inv-loop : tie.InvT-loop
+Inv-loop text work from to n₀ i₀ last₀ n i last = Left text work from to n i last
+
+abbrev μ-loop : tie.MeasureT-loop
+μ-loop text work from to n₀ i₀ last₀ n i last = to - i
+
+loop-holds : tie.Need-loop-holds Inv-loop μ-loop
+loop-holds c = search start
+
+loop-again : tie.Need-loop-again Inv-loop μ-loop
+loop-again c = search next
+
+returns : tie.Need-returns Inv-loop μ-loop
+returns c = search done
+
+pub folded-count-spec : {M : Type 1} → statement M
+folded-count-spec =
+    tie.close
+    (tie.spec
+    Inv-loop
+    μ-loop
+    loop-holds
+    (λ c κs. search needs)
+    (λ c. search needs)
+    (λ c. search needs)
+    (λ c κs. search needs)
+    (λ c. search needs)
+    loop-again
+    returns)

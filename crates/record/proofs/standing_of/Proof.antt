@@ -1,0 +1,62 @@
+-- `record::standing_of` meets its contract, case by case.
+-- Assumes nothing.
+use borrow.Author.Needs.{needs}
+use Prim.Native.Nat.{ℕ, _≤_, _<_}
+use mathlib.Core.Path.{_≡_, refl, sym, ap, _∙_}
+use mathlib.Core.Bool.{Bool, true, false}
+use mathlib.Core.List.{List}
+use borrow.Author.Tests.{lt-ltb, le-ltb}
+use Rattle.definition.specs.declared.Span.{Span}
+use Rattle.definition.specs.Basic.{if_then_else_, given}
+use Rattle.definition.specs.Fold.{find}
+use Rattle.rows.specs.Table.{spanAt, cell}
+use Rattle.layout.specs.Bare.{hasBase}
+use Rattle.layout.specs.Places.{basesAt, entryIn}
+use Rattle.record.specs.declared.Standing.{Standing}
+use Rattle.record.specs.Shown.{standing}
+use Rattle.record.proofs.standing_of.Statement.{statement}
+use Rattle.record.proofs.standing_of.Tie as tie
+
+-- what the two tests say
+abbrev told : Bool → Bool → Standing
+told g a = if g then (if a then Standing.Under else Standing.Alone) else Standing.Base
+
+module _ (t w : List ℕ) (i last : ℕ) {s : Span} (p : s ≡ spanAt (cell w i 6)) where
+  whole : told (given s) (hasBase (find t s (basesAt w last))) ≡ standing t (basesAt w last) (entryIn w i)
+  whole = ap (λ (x : Span). told (given x) (hasBase (find t x (basesAt w last)))) p
+
+  module _ (h : 0 < s .len) {r : Bool} (e : r ≡ hasBase (find t s (basesAt w last))) where
+    named : told true r ≡ standing t (basesAt w last) (entryIn w i)
+    named = sym (ap (λ (g : Bool). told g r) (lt-ltb 0 (s .len) h)) ∙ ap (told (given s)) e ∙ whole
+
+    under : r ≡ true → Standing.Under ≡ standing t (basesAt w last) (entryIn w i)
+    under y = sym (ap (told true) y) ∙ named
+
+    alone : r ≡ false → Standing.Alone ≡ standing t (basesAt w last) (entryIn w i)
+    alone y = sym (ap (told true) y) ∙ named
+
+  base : s .len ≤ 0 → Standing.Base ≡ standing t (basesAt w last) (entryIn w i)
+  base h = sym (ap (λ (g : Bool). told g (hasBase (find t s (basesAt w last)))) (le-ltb 0 (s .len) h)) ∙ whole
+
+returns : tie.Need-returns
+returns c = search under
+
+returns-2 : tie.Need-returns-2
+returns-2 c = search alone
+
+returns-3 : tie.Need-returns-3
+returns-3 c = search base
+
+pub standing-of-spec : {M : Type 1} → statement M
+standing-of-spec =
+    tie.close
+    (tie.spec
+    (λ c. search needs)
+    (λ c. search needs)
+    (λ c. search needs)
+    (λ c. search needs)
+    (λ c κs. search needs)
+    (λ c κs. search needs)
+    returns
+    returns-2
+    returns-3)

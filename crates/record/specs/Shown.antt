@@ -1,0 +1,108 @@
+-- The folded list of a stretch of rows, entry by entry: how the entry of a row stands in it, and what it comes to.
+-- Assumes nothing.
+use Prim.Native.Nat.{ℕ, suc, _+_, _*_, _≤_, _<_}
+use mathlib.Core.Path.{_≡_}
+use mathlib.Core.Bool.{Bool, true, false}
+use mathlib.Core.List.{List, [], _∷_}
+use lib.ListN.{length}
+use Rattle.definition.specs.declared.Span.{Span}
+use Rattle.definition.specs.declared.Entry.{Entry}
+use Rattle.definition.specs.Basic.{if_then_else_, given}
+use Rattle.definition.specs.Tree.{Forest, leaf, item}
+use Rattle.definition.specs.Fold.{Entries, end, entry, total, sameName, sameSpelling, Place, placeOf, find, redefiners, withRedefiners}
+use Rattle.definition.specs.Owner.{size}
+use Rattle.rows.specs.Table.{cell}
+use Rattle.layout.specs.Bare.{hasBase, foldedList, foldedBelow, foldedAll}
+use Rattle.layout.specs.Places.{basesAt, placeAt, entryIn, entriesIn, Linked}
+use Rattle.layout.specs.Steps.{rowsForest}
+use Rattle.record.specs.declared.Standing.{Standing}
+use Rattle.record.specs.declared.Relation.{Relation}
+
+-- ---------------------------------------------------------------- one entry
+
+-- how an entry stands in the folded list: under its base, a redefiner without a base, or a base
+abbrev pub standing : List ℕ → List Place → Entry → Standing
+standing text bases e =
+    if given (e .redefines) then (if hasBase (find text (e .redefines) bases) then Standing.Under else Standing.Alone)
+    else Standing.Base
+
+-- the bases after it
+abbrev pub basesAfter : Entry → List Place → List Place
+basesAfter e bases = if given (e .redefines) then bases else placeOf e ∷ bases
+
+-- what it comes to: nothing, itself, or itself with its redefiners
+abbrev pub shownAs : List ℕ → Standing → Entry → Entries → Entries → Entries
+shownAs text Standing.Under e members later = end
+shownAs text Standing.Alone e members later = entry e members end
+shownAs text Standing.Base e members later = withRedefiners text e members (redefiners text (placeOf e) later) end
+
+-- how many entries it comes to
+abbrev pub shown# : Standing → ℕ
+shown# Standing.Under = 0
+shown# Standing.Alone = 1
+shown# Standing.Base = 1
+
+-- whether it comes to an entry spelled like the name
+abbrev pub shownNamed : List ℕ → Span → Standing → Entry → Bool
+shownNamed text name Standing.Under e = false
+shownNamed text name Standing.Alone e = sameSpelling text name (e .name)
+shownNamed text name Standing.Base e = sameSpelling text name (e .name)
+
+-- what a later entry is to a base of that name: one of its redefiners, the next base of that name, or neither
+abbrev pub relation : List ℕ → Span → Entry → Relation
+relation text name e =
+    if given (e .redefines) then (if sameName text name (e .redefines) then Relation.Redefiner else Relation.Other)
+    else if sameName text name (e .name) then Relation.Next
+    else Relation.Other
+
+-- ---------------------------------------------------------------- rows
+
+-- the bare entries of the rows from `from` up to `to`
+abbrev pub listIn : List ℕ → ℕ → ℕ → Entries
+listIn w from to = entriesIn w from (rowsForest w from to)
+
+-- the redefiners of row i among the rows from j up to `to`
+abbrev pub redefinersIn : List ℕ → List ℕ → ℕ → ℕ → ℕ → Entries
+redefinersIn text w i j to = redefiners text (placeAt w i) (listIn w j to)
+
+-- the rest of a folded list, from row i on, after the sibling `last`
+abbrev pub foldedRest : List ℕ → List ℕ → ℕ → ℕ → ℕ → Entries
+foldedRest text w i to last = foldedList text (basesAt w last) (foldedBelow text (listIn w i to))
+
+-- what row i comes to in it, where its children end at j
+abbrev pub shownAt : List ℕ → List ℕ → ℕ → ℕ → ℕ → ℕ → Entries
+shownAt text w i j to last =
+    shownAs text (standing text (basesAt w last) (entryIn w i)) (entryIn w i) (foldedAll text (listIn w (suc i) j)) (foldedBelow text (listIn w j to))
+
+-- ---------------------------------------------------------------- what the table is to be
+
+-- the rows of a list are there, and each names the sibling before it
+pub record Siblings (w : List ℕ) (from to : ℕ) : Type 0 where
+  pub fits : 20 * to ≤ length w
+  pub linked : Linked w from 0 (rowsForest w from to)
+
+-- each row of a list, and of the lists below it, names the sibling before it
+abbrev pub Chained : List ℕ → ℕ → ℕ → Forest → Type 0
+Chained w k last leaf = Unit {0}
+Chained w k last (item s kids later) = (cell w k 16 ≡ last) × Chained w (suc k) 0 kids × Chained w (suc k + size kids) (suc k) later
+
+-- no row from `from` up to `to` has more than 2,147,483,647 bytes in all its occurrences
+pub record Sized (w : List ℕ) (from to : ℕ) : Type 0 where
+  pub totals : (k : ℕ) → from ≤ k → k < to → total (entryIn w k) ≤ 2147483647
+
+-- row k is there, and is not too large
+pub record SizedRow (w : List ℕ) (k : ℕ) : Type 0 where
+  pub fits : 20 * k + 20 ≤ length w
+  pub small : total (entryIn w k) ≤ 2147483647
+
+-- ---------------------------------------------------------------- answers
+
+-- r is the number n, and not too large
+pub record Measured (n r : ℕ) : Type 0 where
+  pub is : r ≡ n
+  pub small : r ≤ 2147483647
+
+-- r is the number n, and at most 1
+pub record Few (n r : ℕ) : Type 0 where
+  pub is : r ≡ n
+  pub few : r ≤ 1

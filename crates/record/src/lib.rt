@@ -1,0 +1,257 @@
+// What the folded lists of a laid table are, counted and measured with no row moved.
+ghost use mathlib.Core.Path.{_≡_};
+ghost use Prim.Native.Nat.{_+_, _*_, _-_, _≤_, _<_, max};
+ghost use lib.ListN.{length};
+ghost use Rattle.definition.specs.Fold.{find, total, times, sameSpelling};
+ghost use Rattle.layout.specs.Bare.{hasBase, foldedAll};
+ghost use Rattle.layout.specs.Places.{basesAt, entryIn, isTarget};
+ghost use Rattle.definition.specs.Fold.{widest, hasMember};
+ghost use Rattle.definition.specs.Listing.{members#};
+ghost use Rattle.definition.specs.Record.{recordLength, endsFit};
+ghost use Rattle.record.specs.Shown.{standing, relation, listIn, redefinersIn, shown#, shownNamed, Siblings, Sized, SizedRow, Measured, Few};
+ghost use mathlib.Core.Bool.{true};
+use definition::Occurs;
+use definition::Span;
+
+// How an entry stands in the folded list.
+pub enum Standing {
+    Under,
+    Alone,
+    Base,
+}
+
+// What a later entry is to a base.
+pub enum Relation {
+    Redefiner,
+    Next,
+    Other,
+}
+
+// A number of 32 bits as a place.
+fn wide(n: u32) -> usize
+    ensures { λ r. ⌜ (r ≡ n) × (r < 4294967296) ⌝ }
+{
+    n as usize
+}
+
+// The larger of two numbers.
+fn most(a: usize, b: usize) -> usize
+    ensures { λ r. ⌜ r ≡ max a b ⌝ }
+{
+    if a < b {
+        return b;
+    }
+    a
+}
+
+// Whether row k is a base of that name.
+fn is_base(text: &[u8], work: &[u32], target: Span, k: usize) -> bool
+    requires { ⌜ 20 * k + 20 ≤ length (now work) ⌝ }
+    ensures { λ r. ⌜ r ≡ isTarget (now (text .entry)) target true (now (work .entry)) k ⌝ }
+{
+    let redefines = rows::span_at(work[20 * k + 6]);
+    if 0 < redefines.len {
+        return false;
+    }
+    let name = rows::span_at(work[20 * k + 3]);
+    layout::same_names(text, target, name)
+}
+
+// Whether some base from `last` back has that name.
+fn has_base(text: &[u8], work: &[u32], target: Span, last: usize) -> bool
+    requires { ⌜ 20 * last ≤ length (now work) ⌝ }
+    ensures { λ r. ⌜ r ≡ hasBase (find (now (text .entry)) target (basesAt (now (work .entry)) last)) ⌝ }
+{
+    let mut k = last;
+    while 0 < k {
+        let row = k - 1;
+        if is_base(text, work, target, row) {
+            return true;
+        }
+        let before = wide(work[20 * row + 16]);
+        if row < before {
+            return false;
+        }
+        k = before;
+    }
+    false
+}
+
+// How the entry of row i stands in the folded list, where the siblings before it go back from `last`.
+pub fn standing_of(text: &[u8], work: &[u32], i: usize, last: usize) -> Standing
+    requires { ⌜ (20 * i + 20 ≤ length (now work)) × (last ≤ i) ⌝ }
+    ensures { λ r. ⌜ r ≡ standing (now (text .entry)) (basesAt (now (work .entry)) last) (entryIn (now (work .entry)) i) ⌝ }
+{
+    let redefines = rows::span_at(work[20 * i + 6]);
+    if 0 < redefines.len {
+        if has_base(text, work, redefines, last) {
+            return Standing::Under;
+        }
+        return Standing::Alone;
+    }
+    Standing::Base
+}
+
+// What the entry of row k is to a base of that name.
+pub fn relation_to(text: &[u8], work: &[u32], name: Span, k: usize) -> Relation
+    requires { ⌜ 20 * k + 20 ≤ length (now work) ⌝ }
+    ensures { λ r. ⌜ r ≡ relation (now (text .entry)) name (entryIn (now (work .entry)) k) ⌝ }
+{
+    let redefines = rows::span_at(work[20 * k + 6]);
+    if 0 < redefines.len {
+        if layout::same_names(text, name, redefines) {
+            return Relation::Redefiner;
+        }
+        return Relation::Other;
+    }
+    let own = rows::span_at(work[20 * k + 3]);
+    if layout::same_names(text, name, own) {
+        return Relation::Next;
+    }
+    Relation::Other
+}
+
+// How often an item stands.
+fn times_of(o: Occurs) -> u64
+    ensures { λ r. ⌜ r ≡ times o ⌝ }
+{
+    match o {
+        Occurs::Once => 1,
+        Occurs::Times(n) => n,
+    }
+}
+
+// The bytes of all occurrences of row k.
+pub fn row_total(work: &[u32], k: usize) -> usize
+    requires { ⌜ SizedRow (now work) k ⌝ }
+    ensures { λ r. ⌜ Measured (total (entryIn (now (work .entry)) k)) r ⌝ }
+{
+    let s = rows::statement_at(work, k);
+    let clauses = s.clauses;
+    let occurs = clauses.occurs;
+    wide(work[20 * k + 14]) * times_of(occurs) as usize
+}
+
+// How many redefiners row i has among the rows from j up to `to`.
+pub fn redefiner_count(text: &[u8], work: &[u32], i: usize, j: usize, to: usize) -> usize
+    requires { ⌜ (i < j) × (j ≤ to) × (20 * to ≤ length (now work)) ⌝ }
+    ensures { λ r. ⌜ r ≡ members# (redefinersIn (now (text .entry)) (now (work .entry)) i j to) ⌝ }
+{
+    let name = rows::span_at(work[20 * i + 3]);
+    let mut n = 0;
+    let mut k = j;
+    while k < to {
+        match relation_to(text, work, name, k) {
+            Relation::Redefiner => {
+                n += 1;
+                k = layout::end_of(work, k, to);
+            }
+            Relation::Next => {
+                return n;
+            }
+            Relation::Other => {
+                k = layout::end_of(work, k, to);
+            }
+        }
+    }
+    n
+}
+
+// The most bytes that a redefiner of row i has in all its occurrences, among the rows from j up to `to`.
+pub fn redefiner_width(text: &[u8], work: &[u32], i: usize, j: usize, to: usize) -> usize
+    requires { ⌜ (i < j) × (j ≤ to) × (20 * to ≤ length (now work)) × Sized (now work) j to ⌝ }
+    ensures { λ r. ⌜ Measured (widest (redefinersIn (now (text .entry)) (now (work .entry)) i j to)) r ⌝ }
+{
+    let name = rows::span_at(work[20 * i + 3]);
+    let mut width = 0;
+    let mut k = j;
+    while k < to {
+        match relation_to(text, work, name, k) {
+            Relation::Redefiner => {
+                width = most(width, row_total(work, k));
+                k = layout::end_of(work, k, to);
+            }
+            Relation::Next => {
+                return width;
+            }
+            Relation::Other => {
+                k = layout::end_of(work, k, to);
+            }
+        }
+    }
+    width
+}
+
+// Whether row i stands in the folded list: 1, or 0 for one that stands under its base.
+fn shown_count(text: &[u8], work: &[u32], i: usize, last: usize) -> usize
+    requires { ⌜ (20 * i + 20 ≤ length (now work)) × (last ≤ i) ⌝ }
+    ensures { λ r. ⌜ Few (shown# (standing (now (text .entry)) (basesAt (now (work .entry)) last) (entryIn (now (work .entry)) i))) r ⌝ }
+{
+    match standing_of(text, work, i, last) {
+        Standing::Under => 0,
+        Standing::Alone => 1,
+        Standing::Base => 1,
+    }
+}
+
+// How many entries the folded list of the rows from `from` up to `to` has.
+pub fn folded_count(text: &[u8], work: &[u32], from: usize, to: usize) -> usize
+    requires { ⌜ Siblings (now work) from to ⌝ }
+    ensures { λ r. ⌜ r ≡ members# (foldedAll (now (text .entry)) (listIn (now (work .entry)) from to)) ⌝ }
+{
+    let mut n = 0;
+    let mut i = from;
+    let mut last = 0;
+    while i < to {
+        n += shown_count(text, work, i, last);
+        last = i + 1;
+        i = layout::end_of(work, i, to);
+    }
+    n
+}
+
+// Whether two names are spelled the same; an absent one means FILLER.
+fn same_spellings(text: &[u8], a: Span, b: Span) -> bool
+    ensures { λ r. ⌜ r ≡ sameSpelling (now (text .entry)) a b ⌝ }
+{
+    if 0 < a.len {
+        if 0 < b.len {
+            return text::same_spelling(layout::part_of(text, a), layout::part_of(text, b));
+        }
+        return text::same_spelling(layout::part_of(text, a), b"FILLER");
+    }
+    if 0 < b.len {
+        return text::same_spelling(b"FILLER", layout::part_of(text, b));
+    }
+    true
+}
+
+// Whether row i stands in the folded list under that name.
+fn shown_named(text: &[u8], work: &[u32], i: usize, last: usize, name: Span) -> bool
+    requires { ⌜ (20 * i + 20 ≤ length (now work)) × (last ≤ i) ⌝ }
+    ensures { λ r. ⌜ r ≡ shownNamed (now (text .entry)) name (standing (now (text .entry)) (basesAt (now (work .entry)) last) (entryIn (now (work .entry)) i)) (entryIn (now (work .entry)) i) ⌝ }
+{
+    let own = rows::span_at(work[20 * i + 3]);
+    match standing_of(text, work, i, last) {
+        Standing::Under => false,
+        Standing::Alone => same_spellings(text, name, own),
+        Standing::Base => same_spellings(text, name, own),
+    }
+}
+
+// Whether the folded list of the rows from `from` up to `to` has an entry spelled like that name.
+pub fn has_member(text: &[u8], work: &[u32], from: usize, to: usize, name: Span) -> bool
+    requires { ⌜ Siblings (now work) from to ⌝ }
+    ensures { λ r. ⌜ r ≡ hasMember (now (text .entry)) name (foldedAll (now (text .entry)) (listIn (now (work .entry)) from to)) ⌝ }
+{
+    let mut i = from;
+    let mut last = 0;
+    while i < to {
+        if shown_named(text, work, i, last, name) {
+            return true;
+        }
+        last = i + 1;
+        i = layout::end_of(work, i, to);
+    }
+    false
+}

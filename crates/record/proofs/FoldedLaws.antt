@@ -10,11 +10,11 @@ use native.Mathlib.Omega.{arith}
 use lib.Dec.{ltb}
 use Rattle.definition.specs.declared.Span.{Span}
 use Rattle.definition.specs.declared.Entry.{Entry}
-use Rattle.definition.specs.Basic.{if_then_else_, given, Answer, refuse, give, _>>=_, refuseIf}
-use Rattle.definition.specs.Fold.{Entries, end, entry, append, total, entryEnd, largest, sameName, sameSpelling, Place, placeOf, find, hasMember, rebased, redefiners, widest, withRedefiners}
+use Rattle.definition.specs.Basic.{if_then_else_, given, Answer, refuse, give, _>>=_, refused, refuseIf}
+use Rattle.definition.specs.Fold.{Entries, end, entry, append, total, entryEnd, largest, sameName, sameSpelling, Place, placeOf, find, hasMember, rebased, redefiners, widest, union, unionMembers, withRedefiners}
 use Rattle.definition.specs.Record.{recordLength, endsFit}
 use Rattle.definition.specs.Listing.{members#}
-use Rattle.definition.proofs.LayoutLaws.{redefiners-hit, redefiners-miss, redefiners-ends, redefiners-next}
+use Rattle.definition.proofs.LayoutLaws.{redefiners-hit, redefiners-miss, redefiners-ends, redefiners-next, fits-entry, fits-refused, fits-none}
 use Rattle.layout.specs.Bare.{hasBase, foldedList, foldedBelow, foldedAll}
 use Rattle.layout.proofs.BareLaws.{list-base, list-alone, list-under, bind-bind}
 use Rattle.record.specs.declared.Standing.{Standing}
@@ -126,6 +126,62 @@ module _ (text : List ℕ) where
     unfolding hasMember
     own-name name end = or-false (sameSpelling text name (e .name))
     own-name name (entry r ms rs) = or-false (sameSpelling text name (e .name))
+
+    -- alone it is as wide and as long as by itself, in a union it is as wide as the widest member
+    pub width-alone : (rs : Entries) → members# rs ≡ 0 → widest (withRedefiners text e members rs end) ≡ total e
+    unfolding widest
+    width-alone end h = omega arith
+    width-alone (entry r ms rs) h = absurd (omega arith)
+
+    pub width-union : (rs : Entries) → 0 < members# rs → widest (withRedefiners text e members rs end) ≡ widest (unionMembers text e members rs)
+    unfolding widest
+    width-union end h = absurd (omega arith)
+    width-union (entry r ms rs) h = omega arith
+
+    pub end-alone : (rs : Entries) → members# rs ≡ 0 → recordLength (withRedefiners text e members rs end) ≡ entryEnd e
+    unfolding recordLength
+    end-alone end h = omega arith
+    end-alone (entry r ms rs) h = absurd (omega arith)
+
+    pub end-union : (rs : Entries) → 0 < members# rs → recordLength (withRedefiners text e members rs end) ≡ e .offset + widest (unionMembers text e members rs)
+    unfolding recordLength
+    end-union end h = absurd (omega arith)
+    end-union (entry r ms rs) h = omega arith
+
+    -- the members are the base's own, or the base, and then the redefiners
+    pub union-inner : (rs : Entries) → hasMember text (e .name) members ≡ true → widest (unionMembers text e members rs) ≡ max (widest members) (widest rs)
+    union-inner rs h = ap (λ (b : Bool). widest (if b then append members rs else entry (rebased (e .offset) e) members rs)) h ∙ widest-append members rs
+
+    pub union-outer : (rs : Entries) → hasMember text (e .name) members ≡ false → widest (unionMembers text e members rs) ≡ max (total e) (widest rs)
+    unfolding widest
+    union-outer rs h = ap (λ (b : Bool). widest (if b then append members rs else entry (rebased (e .offset) e) members rs)) h
+
+    -- it fits or not, by where it ends; the refusal is at the base
+    base-fits : (rs : Entries) → recordLength (withRedefiners text e members rs end) ≤ largest → endsFit (withRedefiners text e members rs end) ≡ give tt
+    unfolding recordLength
+    base-fits end h = fits-entry e members end (omega arith) ∙ fits-none
+    base-fits (entry r ms rs) h =
+        let us = unionMembers text e members (entry r ms rs) in
+        fits-entry (union e (widest us)) us end (omega arith) ∙ fits-none
+
+    base-over : (rs : Entries) → largest < recordLength (withRedefiners text e members rs end) → endsFit (withRedefiners text e members rs end) ≡ refused 29 (e .at)
+    unfolding recordLength
+    base-over end h = fits-refused e members end (omega arith)
+    base-over (entry r ms rs) h =
+        let us = unionMembers text e members (entry r ms rs) in
+        fits-refused (union e (widest us)) us end (omega arith)
+
+    pub shown-fits : (s : Standing) (later : Entries) → recordLength (shownAs text s e members later) ≤ 2147483647 → endsFit (shownAs text s e members later) ≡ give tt
+    unfolding recordLength
+    shown-fits Standing.Under later h = fits-none
+    shown-fits Standing.Alone later h = fits-entry e members end (omega arith) ∙ fits-none
+    shown-fits Standing.Base later h = base-fits (redefiners text (placeOf e) later) h
+
+    pub shown-over : (s : Standing) (later : Entries) → 2147483647 < recordLength (shownAs text s e members later) → endsFit (shownAs text s e members later) ≡ refused 29 (e .at)
+    unfolding recordLength
+    shown-over Standing.Under later h = absurd (omega arith)
+    shown-over Standing.Alone later h = fits-refused e members end (omega arith)
+    shown-over Standing.Base later h = base-over (redefiners text (placeOf e) later) h
 
     pub shown-count : (s : Standing) (later : Entries) → members# (shownAs text s e members later) ≡ shown# s
     shown-count Standing.Under later = refl

@@ -1,2 +1,3 @@
 pub mod FoldedLaws
 pub mod ShownLaws
+pub mod WidthLaws

@@ -9,7 +9,7 @@ use Rattle.definition.specs.declared.Span.{Span}
 use Rattle.definition.specs.declared.Entry.{Entry}
 use Rattle.definition.specs.Basic.{if_then_else_, given}
 use Rattle.definition.specs.Tree.{Forest, leaf, item}
-use Rattle.definition.specs.Fold.{Entries, end, entry, total, sameName, sameSpelling, Place, placeOf, find, redefiners, withRedefiners}
+use Rattle.definition.specs.Fold.{Entries, end, entry, total, sameName, sameSpelling, Place, placeOf, find, redefiners, widest, unionMembers, withRedefiners}
 use Rattle.definition.specs.Owner.{size}
 use Rattle.rows.specs.Table.{cell}
 use Rattle.layout.specs.Bare.{hasBase, foldedList, foldedBelow, foldedAll}
@@ -74,6 +74,11 @@ abbrev pub shownAt : List ℕ → List ℕ → ℕ → ℕ → ℕ → ℕ → E
 shownAt text w i j to last =
     shownAs text (standing text (basesAt w last) (entryIn w i)) (entryIn w i) (foldedAll text (listIn w (suc i) j)) (foldedBelow text (listIn w j to))
 
+-- how wide row i is with its redefiners
+abbrev pub unionWidth : List ℕ → List ℕ → ℕ → ℕ → ℕ → ℕ
+unionWidth text w i j to =
+    widest (unionMembers text (entryIn w i) (foldedAll text (listIn w (suc i) j)) (redefiners text (placeAt w i) (foldedBelow text (listIn w j to))))
+
 -- ---------------------------------------------------------------- what the table is to be
 
 -- the rows of a list are there, and each names the sibling before it
@@ -89,6 +94,20 @@ Chained w k last (item s kids later) = (cell w k 16 ≡ last) × Chained w (suc 
 -- no row from `from` up to `to` has more than 2,147,483,647 bytes in all its occurrences
 pub record Sized (w : List ℕ) (from to : ℕ) : Type 0 where
   pub totals : (k : ℕ) → from ≤ k → k < to → total (entryIn w k) ≤ 2147483647
+
+-- the rows of a list and of those below it are there, linked, and none too large
+pub record Tree (w : List ℕ) (from to : ℕ) : Type 0 where
+  pub fits : 20 * to ≤ length w
+  pub chained : Chained w from 0 (rowsForest w from to)
+  pub sized : Sized w from to
+
+-- row i with its children up to j and its later siblings up to `to`
+pub record Branch (w : List ℕ) (i j to : ℕ) : Type 0 where
+  pub low : i < j
+  pub high : j ≤ to
+  pub fits : 20 * to ≤ length w
+  pub chained : Chained w (suc i) 0 (rowsForest w (suc i) j)
+  pub sized : Sized w i to
 
 -- row k is there, and is not too large
 pub record SizedRow (w : List ℕ) (k : ℕ) : Type 0 where

@@ -2,15 +2,18 @@
 ghost use mathlib.Core.Path.{_≡_};
 ghost use Prim.Native.Nat.{_+_, _*_, _-_, _≤_, _<_, max};
 ghost use lib.ListN.{length};
-ghost use Rattle.definition.specs.Fold.{find, total, times, sameSpelling};
+ghost use Rattle.definition.specs.Fold.{find, total, entryEnd, times, sameSpelling};
+ghost use Rattle.definition.specs.Calls.{checkOf};
 ghost use Rattle.layout.specs.Bare.{hasBase, foldedAll};
 ghost use Rattle.layout.specs.Places.{basesAt, entryIn, isTarget};
 ghost use Rattle.definition.specs.Fold.{widest, hasMember};
 ghost use Rattle.definition.specs.Listing.{members#};
 ghost use Rattle.definition.specs.Record.{recordLength, endsFit};
-ghost use Rattle.record.specs.Shown.{standing, relation, listIn, redefinersIn, shown#, shownNamed, Siblings, Sized, SizedRow, Measured, Few};
+ghost use Rattle.record.specs.Shown.{standing, relation, listIn, redefinersIn, shownAt, shown#, shownNamed, unionWidth, Siblings, Tree, Branch, Sized, SizedRow, Measured, Few};
 ghost use mathlib.Core.Bool.{true};
+use definition::Check;
 use definition::Occurs;
+use definition::Refusal;
 use definition::Span;
 
 // How an entry stands in the folded list.
@@ -254,4 +257,130 @@ pub fn has_member(text: &[u8], work: &[u32], from: usize, to: usize, name: Span)
         i = layout::end_of(work, i, to);
     }
     false
+}
+
+// How wide the union of row i with its redefiners is: as wide as its widest member. Its children end at j, and its siblings at `to`.
+pub fn union_width(text: &[u8], work: &[u32], i: usize, j: usize, to: usize) -> usize
+    requires { ⌜ Branch (now work) i j to ⌝ }
+    ensures { λ r. ⌜ Measured (unionWidth (now (text .entry)) (now (work .entry)) i j to) r ⌝ }
+{
+    let rest = redefiner_width(text, work, i, j, to);
+    let name = rows::span_at(work[20 * i + 3]);
+    let first = i + 1;
+    if has_member(text, work, first, j, name) {
+        return most(folded_width(text, work, first, j), rest);
+    }
+    most(row_total(work, i), rest)
+}
+
+// How wide row i is in the folded list: 0 where it stands under its base.
+fn shown_width(text: &[u8], work: &[u32], i: usize, j: usize, to: usize, last: usize) -> usize
+    requires { ⌜ Branch (now work) i j to × (last ≤ i) ⌝ }
+    ensures { λ r. ⌜ Measured (widest (shownAt (now (text .entry)) (now (work .entry)) i j to last)) r ⌝ }
+{
+    match standing_of(text, work, i, last) {
+        Standing::Under => {
+            return 0;
+        }
+        Standing::Alone => {
+            return row_total(work, i);
+        }
+        Standing::Base => {
+            if 0 < redefiner_count(text, work, i, j, to) {
+                return union_width(text, work, i, j, to);
+            }
+            return row_total(work, i);
+        }
+    }
+}
+
+// How wide the widest entry of the folded list of the rows from `from` up to `to` is.
+pub fn folded_width(text: &[u8], work: &[u32], from: usize, to: usize) -> usize
+    requires { ⌜ Tree (now work) from to ⌝ }
+    ensures { λ r. ⌜ Measured (widest (foldedAll (now (text .entry)) (listIn (now (work .entry)) from to))) r ⌝ }
+{
+    let mut width = 0;
+    let mut i = from;
+    let mut last = 0;
+    while i < to {
+        let j = layout::end_of(work, i, to);
+        width = most(width, shown_width(text, work, i, j, to, last));
+        last = i + 1;
+        i = j;
+    }
+    width
+}
+
+// Where row i ends by itself: its offset and what it reserves.
+fn row_end(work: &[u32], i: usize) -> usize
+    requires { ⌜ SizedRow (now work) i ⌝ }
+    ensures { λ r. ⌜ r ≡ entryEnd (entryIn (now (work .entry)) i) ⌝ }
+{
+    let offset = wide(work[20 * i + 13]);
+    let depending = rows::span_at(work[20 * i + 5]);
+    if 0 < depending.len {
+        return offset;
+    }
+    offset + row_total(work, i)
+}
+
+// Where row i ends in the folded list: 0 where it stands under its base.
+fn shown_end(text: &[u8], work: &[u32], i: usize, j: usize, to: usize, last: usize) -> usize
+    requires { ⌜ Branch (now work) i j to × (last ≤ i) ⌝ }
+    ensures { λ r. ⌜ r ≡ recordLength (shownAt (now (text .entry)) (now (work .entry)) i j to last) ⌝ }
+{
+    match standing_of(text, work, i, last) {
+        Standing::Under => {
+            return 0;
+        }
+        Standing::Alone => {
+            return row_end(work, i);
+        }
+        Standing::Base => {
+            if 0 < redefiner_count(text, work, i, j, to) {
+                return wide(work[20 * i + 13]) + union_width(text, work, i, j, to);
+            }
+            return row_end(work, i);
+        }
+    }
+}
+
+// How long the folded list of the rows from `from` up to `to` is: its largest end.
+pub fn record_length(text: &[u8], work: &[u32], from: usize, to: usize) -> usize
+    requires { ⌜ Tree (now work) from to ⌝ }
+    ensures { λ r. ⌜ r ≡ recordLength (foldedAll (now (text .entry)) (listIn (now (work .entry)) from to)) ⌝ }
+{
+    let mut length = 0;
+    let mut i = from;
+    let mut last = 0;
+    while i < to {
+        let j = layout::end_of(work, i, to);
+        length = most(length, shown_end(text, work, i, j, to, last));
+        last = i + 1;
+        i = j;
+    }
+    length
+}
+
+// Refusal 29 for the folded list of the rows from `from` up to `to`: its first end above 2,147,483,647.
+pub fn ends_fit(text: &[u8], work: &[u32], from: usize, to: usize) -> Check
+    requires { ⌜ Tree (now work) from to ⌝ }
+    ensures { λ r. ⌜ checkOf r ≡ endsFit (foldedAll (now (text .entry)) (listIn (now (work .entry)) from to)) ⌝ }
+{
+    let mut i = from;
+    let mut last = 0;
+    while i < to {
+        let j = layout::end_of(work, i, to);
+        let end = shown_end(text, work, i, j, to, last);
+        if 2147483647 < end {
+            return Check::Refused(Refusal {
+                number: 29,
+                position: wide(work[20 * i + 2]),
+                needed: 0,
+            });
+        }
+        last = i + 1;
+        i = j;
+    }
+    Check::Passed
 }

@@ -1,0 +1,47 @@
+-- `record::shown_end` meets its contract, case by case.
+-- Assumes nothing.
+use borrow.Author.Needs.{needs}
+use Rattle.record.proofs.WidthLaws.{branch-row, end-under, end-single, end-base, end-joined}
+use Rattle.record.proofs.shown_end.Statement.{statement}
+use Rattle.record.proofs.shown_end.Tie as tie
+
+returns : tie.Need-returns
+returns c = search end-under
+
+row-end-requires : tie.Need-row-end-requires
+row-end-requires c κs = search branch-row
+
+returns-2 : tie.Need-returns-2
+returns-2 c = search end-single
+
+returns-3 : tie.Need-returns-3
+returns-3 c = search end-joined
+
+row-end-requires-2 : tie.Need-row-end-requires-2
+row-end-requires-2 c κs = search branch-row
+
+returns-4 : tie.Need-returns-4
+returns-4 c = search end-base
+
+pub shown-end-spec : {M : Type 1} → statement M
+shown-end-spec =
+    tie.close
+    (tie.spec
+    (λ c κs. search needs)
+    (λ c. search needs)
+    returns
+    (λ c. search needs)
+    row-end-requires
+    returns-2
+    (λ c. search needs)
+    (λ c κs. search needs)
+    (λ c. search needs)
+    (λ c. search needs)
+    (λ c. search needs)
+    (λ c. search needs)
+    (λ c κs. search needs)
+    (λ c κs. search needs)
+    (λ c. search needs)
+    returns-3
+    row-end-requires-2
+    returns-4)

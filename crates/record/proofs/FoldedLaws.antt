@@ -1,21 +1,21 @@
 -- Folded lists, entry by entry: a list is what its first entry comes to and then the rest; what is counted or measured of two lists together;
 -- the redefiners of a base.
 -- Assumes nothing.
-use Prim.Native.Nat.{ℕ, zero, suc, _+_, max, _≤_, _<_}
-use mathlib.Core.Path.{_≡_, refl, sym, ap, ap₂, _∙_}
-use mathlib.Core.Bool.{Bool, true, false, _||_}
-use mathlib.Core.List.{List, [], _∷_}
+use Prim.Native.Nat.{ℕ, suc, _+_, max, _≤_, _<_}
+use mathlib.Core.Path.{_≡_, refl, sym, ap, _∙_}
+use mathlib.Core.Bool.{Bool, true, false}
+use mathlib.Core.List.{List, _∷_}
 use mathlib.Core.Option.{Option, none, some}
 use native.Mathlib.Omega.{arith}
 use lib.Dec.{ltb}
 use Rattle.definition.specs.declared.Span.{Span}
 use Rattle.definition.specs.declared.Entry.{Entry}
-use Rattle.definition.specs.Basic.{if_then_else_, given, Answer, refuse, give, _>>=_, refused, refuseIf}
+use Rattle.definition.specs.Basic.{if_then_else_, given, Answer, give, _>>=_, refused, refuseIf}
 use Rattle.definition.specs.Fold.{Entries, end, entry, append, total, entryEnd, largest, sameName, sameSpelling, Place, placeOf, find, hasMember, rebased, redefiners, widest, union, unionMembers, withRedefiners}
 use Rattle.definition.specs.Record.{recordLength, endsFit}
 use Rattle.definition.specs.Listing.{members#}
 use Rattle.definition.proofs.LayoutLaws.{redefiners-hit, redefiners-miss, redefiners-ends, redefiners-next, fits-entry, fits-refused, fits-none}
-use Rattle.layout.specs.Bare.{hasBase, foldedList, foldedBelow, foldedAll}
+use Rattle.layout.specs.Bare.{foldedList, foldedBelow, foldedAll}
 use Rattle.layout.proofs.BareLaws.{list-base, list-alone, list-under, bind-bind}
 use Rattle.record.specs.declared.Standing.{Standing}
 use Rattle.record.specs.declared.Relation.{Relation}

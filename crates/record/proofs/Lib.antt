@@ -1,3 +1,4 @@
 pub mod FoldedLaws
 pub mod ShownLaws
 pub mod WidthLaws
+pub mod LaidLaws

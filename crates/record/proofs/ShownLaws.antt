@@ -1,26 +1,25 @@
 -- A folded list, row by row along the rows that hold it: what a row comes to, and then the rest; the redefiners of a row.
 -- Assumes nothing.
-use Prim.Native.Nat.{ℕ, zero, suc, _+_, _*_, _-_, _≤_, _<_}
+use Prim.Native.Nat.{ℕ, suc, _+_, _≤_}
 use mathlib.Core.Path.{_≡_, refl, sym, ap, subst, _∙_}
 use mathlib.Core.Bool.{Bool, true, false}
-use mathlib.Core.List.{List, [], _∷_}
+use mathlib.Core.List.{List, _∷_}
 use native.Mathlib.Numerals.{add-one}
 use native.Mathlib.Omega.{arith}
 use Rattle.definition.specs.declared.Span.{Span}
-use Rattle.definition.specs.declared.Entry.{Entry}
 use Rattle.definition.specs.Basic.{if_then_else_, given}
 use Rattle.definition.specs.Tree.{Forest, leaf, item}
 use Rattle.definition.specs.Fold.{Entries, end, entry, append, Place, placeOf, redefiners}
 use Rattle.definition.specs.Owner.{size}
 use Rattle.rows.specs.Table.{cell, spanAt}
 use Rattle.layout.specs.Bare.{foldedList, foldedBelow, foldedAll}
-use Rattle.layout.specs.Places.{seenFrom, basesAt, placeAt, entryIn, entriesIn, Linked}
-use Rattle.layout.specs.Steps.{ChildrenEnd, rowsForest}
+use Rattle.layout.specs.Places.{seenFrom, basesAt, placeAt, entryIn, entriesIn, Linked, rowsForest}
+use Rattle.layout.specs.Steps.{ChildrenEnd}
 use Rattle.layout.proofs.FoldLaws.{next-row}
 use Rattle.layout.proofs.PlaceLaws.{seen-low, seen-out, seen-in}
 use Rattle.layout.proofs.RowLaws.{forest-split, forest-empty}
 use Rattle.record.specs.declared.Relation.{Relation}
-use Rattle.record.specs.Shown.{standing, basesAfter, shownAs, relation, listIn, redefinersIn, foldedRest, shownAt, Siblings, Chained, Sized}
+use Rattle.record.specs.Shown.{basesAfter, relation, listIn, redefinersIn, foldedRest, shownAt, Chained}
 use Rattle.record.proofs.FoldedLaws.{append-end, append-append, byRelation, list-step, redefiners-step}
 
 -- ---------------------------------------------------------------- one row

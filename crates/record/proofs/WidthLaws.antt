@@ -1,25 +1,23 @@
 -- How wide the rows are in the folded list, and where they end: a row alone, a base with its redefiners; and the parts of a table of rows.
 -- Assumes nothing.
-use Prim.Native.Nat.{ℕ, zero, suc, _+_, _*_, _-_, max, _≤_, _<_}
-use mathlib.Core.Path.{_≡_, refl, sym, ap, subst, _∙_}
+use Prim.Native.Nat.{ℕ, suc, _+_, max, _≤_, _<_}
+use mathlib.Core.Path.{_≡_, sym, ap, subst, _∙_}
 use mathlib.Core.Bool.{Bool, true, false}
-use mathlib.Core.List.{List, []}
+use mathlib.Core.List.{List}
 use native.Mathlib.Numerals.{add-one}
 use native.Mathlib.Omega.{arith}
-use lib.ListN.{length}
 use Rattle.definition.specs.declared.Span.{Span}
-use Rattle.definition.specs.declared.Entry.{Entry}
-use Rattle.definition.specs.Fold.{Entries, end, entry, append, total, entryEnd, hasMember, redefiners, widest, unionMembers}
+use Rattle.definition.specs.Fold.{Entries, end, append, total, entryEnd, hasMember, redefiners, widest}
 use Rattle.definition.specs.Listing.{members#}
 use Rattle.definition.specs.Record.{recordLength}
 use Rattle.rows.specs.Table.{cell, spanAt}
 use Rattle.layout.specs.Bare.{foldedBelow, foldedAll}
-use Rattle.layout.specs.Places.{basesAt, placeAt, entryIn, Linked}
-use Rattle.layout.specs.Steps.{ChildrenEnd, rowsForest}
+use Rattle.layout.specs.Places.{basesAt, placeAt, entryIn, rowsForest}
+use Rattle.layout.specs.Steps.{ChildrenEnd}
 use Rattle.record.specs.declared.Standing.{Standing}
 use Rattle.record.specs.Shown.{standing, shownAs, listIn, redefinersIn, shownAt, unionWidth, Siblings, Chained, Sized, Tree, Branch, SizedRow, Measured}
-use Rattle.record.proofs.FoldedLaws.{width-alone, width-union, end-alone, end-union, union-inner, union-outer, redefiners-below, count-below, widest-below, widest-append, length-append}
-use Rattle.record.proofs.ShownLaws.{chained-step, chained-linked, Walking, walking-starts, walking-ends, walking-on}
+use Rattle.record.proofs.FoldedLaws.{width-alone, width-union, end-alone, end-union, union-inner, union-outer, redefiners-below, count-below, widest-below}
+use Rattle.record.proofs.ShownLaws.{chained-step, chained-linked, Walking, walking-starts, walking-on}
 
 -- ---------------------------------------------------------------- parts of a table
 

@@ -2,8 +2,8 @@
 -- Assumes nothing.
 use Prim.Native.Nat.{ℕ, suc, _+_, _*_, _≤_, _<_}
 use mathlib.Core.Path.{_≡_}
-use mathlib.Core.Bool.{Bool, true, false}
-use mathlib.Core.List.{List, [], _∷_}
+use mathlib.Core.Bool.{Bool, false}
+use mathlib.Core.List.{List, _∷_}
 use lib.ListN.{length}
 use Rattle.definition.specs.declared.Span.{Span}
 use Rattle.definition.specs.declared.Entry.{Entry}
@@ -13,8 +13,7 @@ use Rattle.definition.specs.Fold.{Entries, end, entry, total, sameName, sameSpe
 use Rattle.definition.specs.Owner.{size}
 use Rattle.rows.specs.Table.{cell}
 use Rattle.layout.specs.Bare.{hasBase, foldedList, foldedBelow, foldedAll}
-use Rattle.layout.specs.Places.{basesAt, placeAt, entryIn, entriesIn, Linked}
-use Rattle.layout.specs.Steps.{rowsForest}
+use Rattle.layout.specs.Places.{basesAt, placeAt, entryIn, entriesIn, Linked, rowsForest}
 use Rattle.record.specs.declared.Standing.{Standing}
 use Rattle.record.specs.declared.Relation.{Relation}
 

@@ -1,20 +1,23 @@
-// What the folded lists of a laid table are, counted and measured with no row moved.
+// A record laid out in work memory, and what its folded lists are, counted and measured from the table with no row moved.
 ghost use mathlib.Core.Path.{_≡_};
-ghost use Prim.Native.Nat.{_+_, _*_, _-_, _≤_, _<_, max};
+ghost use mathlib.Core.Bool.{true};
+ghost use Prim.Native.Nat.{_+_, _*_, _≤_, _<_, max};
 ghost use lib.ListN.{length};
-ghost use Rattle.definition.specs.Fold.{find, total, entryEnd, times, sameSpelling};
-ghost use Rattle.definition.specs.Calls.{checkOf};
-ghost use Rattle.layout.specs.Bare.{hasBase, foldedAll};
-ghost use Rattle.layout.specs.Places.{basesAt, entryIn, isTarget};
-ghost use Rattle.definition.specs.Fold.{widest, hasMember};
+ghost use Rattle.definition.specs.Fold.{times, total, entryEnd, sameSpelling, find, hasMember, widest};
 ghost use Rattle.definition.specs.Listing.{members#};
 ghost use Rattle.definition.specs.Record.{recordLength, endsFit};
+ghost use Rattle.definition.specs.Calls.{checkOf};
+ghost use Rattle.layout.specs.Bare.{hasBase, foldedAll, bareRecord};
+ghost use Rattle.layout.specs.Places.{entryIn, basesAt, isTarget, rowsForest};
+ghost use Rattle.layout.specs.Steps.{Room};
 ghost use Rattle.record.specs.Shown.{standing, relation, listIn, redefinersIn, shownAt, shown#, shownNamed, unionWidth, Siblings, Tree, Branch, Sized, SizedRow, Measured, Few};
-ghost use mathlib.Core.Bool.{true};
+ghost use Rattle.record.specs.Laying.{FieldsFrom, RecordIs, recordOf};
 use definition::Check;
 use definition::Occurs;
 use definition::Refusal;
 use definition::Span;
+use layout::LaidList;
+use rows::RowsRead;
 
 // How an entry stands in the folded list.
 pub enum Standing {
@@ -383,4 +386,73 @@ pub fn ends_fit(text: &[u8], work: &[u32], from: usize, to: usize) -> Check
         i = j;
     }
     Check::Passed
+}
+
+// The rows that hold a record and its length, or why it is refused.
+pub enum RecordLaid {
+    Record {
+        from: usize,
+        to: usize,
+        length: usize,
+    },
+    Refused(Refusal),
+}
+
+// The first row of the fields of a record that has n rows: an only root with children is dropped.
+pub fn first_field(work: &[u32], n: usize) -> usize
+    requires { ⌜ 20 * n ≤ length (now work) ⌝ }
+    ensures { λ r. ⌜ FieldsFrom (now (work .entry)) n r ⌝ }
+{
+    if n < 2 {
+        return 0;
+    }
+    if layout::end_of(work, 0, n) < n {
+        return 0;
+    }
+    1
+}
+
+// Lays out the fields in the rows from `from` up to `to`: their places, then 30, then 29 for an end in the folded list.
+pub fn lay_fields(text: &[u8], work: &mut [u32], from: usize, to: usize) -> RecordLaid
+    requires { ⌜ (from ≤ to) × Room (now work) to ⌝ }
+    ensures { λ r. ⌜ RecordIs (now (text .entry)) (bareRecord (now (text .entry)) (rowsForest (now (work .entry)) from to)) r (now (work .exit)) ⌝ }
+{
+    match layout::lay_list(text, work, from, to, 64) {
+        LaidList::Done { width, last } => match layout::fold_check(text, work, from, to) {
+            Check::Passed => match ends_fit(text, work, from, to) {
+                Check::Passed => {
+                    return RecordLaid::Record {
+                        from,
+                        to,
+                        length: record_length(text, work, from, to),
+                    };
+                }
+                Check::Refused(r) => {
+                    return RecordLaid::Refused(r);
+                }
+            },
+            Check::Refused(r) => {
+                return RecordLaid::Refused(r);
+            }
+        },
+        LaidList::Refused(r) => {
+            return RecordLaid::Refused(r);
+        }
+    }
+}
+
+// Reads a text into rows of work memory and lays its record out there.
+pub fn lay_record(text: &[u8], work: &mut [u32]) -> RecordLaid
+    requires { ⌜ (length (now text) ≤ 65535) × (16384 ≤ length (now work)) ⌝ }
+    ensures { λ r. ⌜ RecordIs (now (text .entry)) (recordOf (now (text .entry))) r (now (work .exit)) ⌝ }
+{
+    match rows::read_rows(text, work) {
+        RowsRead::Rows(n) => {
+            let from = first_field(work, n);
+            return lay_fields(text, work, from, n);
+        }
+        RowsRead::Refused(r) => {
+            return RecordLaid::Refused(r);
+        }
+    }
 }

@@ -2,14 +2,14 @@
 -- The loop's invariant: the width is that of what is done.
 -- Assumes nothing.
 use borrow.Author.Needs.{needs}
-use Prim.Native.Nat.{ℕ, suc, _+_, _*_, _-_, max, _≤_, _<_}
+use Prim.Native.Nat.{ℕ, _+_, _*_, _-_, max, _≤_, _<_}
 use mathlib.Core.Path.{_≡_, refl, sym, ap, _∙_}
 use mathlib.Core.List.{List}
 use native.Mathlib.Omega.{arith}
 use Rattle.definition.specs.Fold.{Entries, end, append, widest}
 use Rattle.layout.specs.Bare.{foldedAll}
 use Rattle.layout.specs.Steps.{ChildrenEnd}
-use Rattle.record.specs.Shown.{listIn, shownAt, Tree, Branch, Measured}
+use Rattle.record.specs.Shown.{listIn, shownAt, Tree, Measured}
 use Rattle.record.proofs.FoldedLaws.{widest-append}
 use Rattle.record.proofs.ShownLaws.{walking-ends}
 use Rattle.record.proofs.WidthLaws.{branch-tree, branch-siblings, branch-later, branch-row, union-folds, union-stands, width-under, width-single, width-base, width-joined, Along, along-starts, along-branch, along-on}

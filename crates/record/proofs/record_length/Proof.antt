@@ -1,7 +1,7 @@
 -- `record::record_length` meets its contract: the length is that of what is done.
 -- Assumes nothing.
 use borrow.Author.Needs.{needs}
-use Prim.Native.Nat.{ℕ, suc, _+_, _-_, _*_, max, _≤_, _<_}
+use Prim.Native.Nat.{ℕ, _+_, _-_, max, _≤_}
 use mathlib.Core.Path.{_≡_, refl, sym, ap, _∙_}
 use mathlib.Core.List.{List}
 use native.Mathlib.Omega.{arith}

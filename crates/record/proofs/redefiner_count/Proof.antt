@@ -2,12 +2,12 @@
 -- Assumes nothing.
 use borrow.Author.Needs.{needs}
 use Prim.Native.Nat.{ℕ, suc, _+_, _-_, _*_, _≤_, _<_}
-use mathlib.Core.Path.{_≡_, refl, sym, ap, _∙_}
+use mathlib.Core.Path.{_≡_, sym, ap, _∙_}
 use mathlib.Core.List.{List}
 use native.Mathlib.Omega.{arith}
 use lib.ListN.{length}
 use Rattle.definition.specs.declared.Span.{Span}
-use Rattle.definition.specs.Fold.{Entries, end, entry}
+use Rattle.definition.specs.Fold.{Entries}
 use Rattle.definition.specs.Listing.{members#}
 use Rattle.rows.specs.Table.{cell, spanAt}
 use Rattle.layout.specs.Places.{entryIn}

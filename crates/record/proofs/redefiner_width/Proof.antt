@@ -1,13 +1,13 @@
 -- `record::redefiner_width` meets its contract: the widest redefiner so far and those from row k on are all.
 -- Assumes nothing.
 use borrow.Author.Needs.{needs}
-use Prim.Native.Nat.{ℕ, suc, _+_, _-_, _*_, _≤_, _<_, max}
-use mathlib.Core.Path.{_≡_, refl, sym, ap, _∙_}
+use Prim.Native.Nat.{ℕ, _-_, _*_, _≤_, _<_, max}
+use mathlib.Core.Path.{_≡_, sym, ap, _∙_}
 use mathlib.Core.List.{List}
 use native.Mathlib.Omega.{arith}
 use lib.ListN.{length}
 use Rattle.definition.specs.declared.Span.{Span}
-use Rattle.definition.specs.Fold.{Entries, end, entry, total, widest}
+use Rattle.definition.specs.Fold.{Entries, total, widest}
 use Rattle.rows.specs.Table.{cell, spanAt}
 use Rattle.layout.specs.Places.{entryIn}
 use Rattle.layout.specs.Steps.{ChildrenEnd}

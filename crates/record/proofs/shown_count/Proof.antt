@@ -1,7 +1,7 @@
 -- `record::shown_count` meets its contract, case by case.
 -- Assumes nothing.
 use borrow.Author.Needs.{needs}
-use mathlib.Core.Path.{_≡_, refl, sym, ap, _∙_}
+use mathlib.Core.Path.{_≡_, sym, ap, _∙_}
 use native.Mathlib.Omega.{arith}
 use Rattle.record.specs.declared.Standing.{Standing}
 use Rattle.record.specs.Shown.{shown#, Few}

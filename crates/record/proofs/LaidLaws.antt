@@ -1,0 +1,271 @@
+-- A table that was laid: every row names the sibling before it and none is too large, so that its lists can be folded.
+-- Assumes nothing.
+use Prim.Native.Nat.{ℕ, suc, _+_, _*_, _-_, max, _≤_, _<_}
+use mathlib.Core.Path.{_≡_, refl, sym, ap, subst, _∙_}
+use mathlib.Core.Bool.{false, _||_}
+use mathlib.Core.List.{List, [], _∷_}
+use mathlib.Core.Logic.{⊎-elim}
+use native.Mathlib.Omega.{arith}
+use lib.Dec.{lit<, ltb}
+use lib.ListN.{length}
+use borrow.Author.Tests.{ltb-false}
+use Rattle.definition.specs.declared.Check.{Check}
+use Rattle.definition.specs.declared.Refusal.{Refusal}
+use Rattle.definition.specs.declared.Entry.{Entry}
+use Rattle.definition.specs.Basic.{Answer, refuse, give, _>>=_}
+use Rattle.definition.specs.declared.Statement.{Statement}
+use Rattle.definition.specs.Tree.{Forest, leaf, item, forest, fields}
+use Rattle.definition.specs.Fold.{Entries, end, entry, times, total, entryEnd, largest, Place, placeOf}
+use Rattle.definition.specs.Layout.{entryOf, tooLarge, advance, Laid}
+use Rattle.definition.specs.Owner.{size}
+use Rattle.definition.specs.Search.{entries#}
+use Rattle.definition.proofs.Answers.{or-false, through, given-same}
+use Rattle.definition.proofs.Lists.{order}
+use Rattle.definition.specs.Statement.{statements}
+use Rattle.definition.specs.Words.{statementWords}
+use Rattle.rows.specs.Table.{cell, statementAt, statementsFrom}
+use Rattle.rows.proofs.ReadingLaws.{Stored}
+use Rattle.definition.specs.Calls.{checkOf}
+use Rattle.definition.specs.Record.{recordLength, endsFit}
+use Rattle.layout.specs.Bare.{foldCheck, foldedAll, bare, bareRecord}
+use Rattle.layout.specs.Places.{putPlace, putPlaces, seenFrom, entryIn, entriesIn, stopped, after, layTable, rowsForest}
+use Rattle.layout.specs.declared.LaidList.{LaidList}
+use Rattle.layout.specs.Steps.{ChildrenEnd, listOf}
+use Rattle.layout.proofs.EntriesLaws.{size-stretch}
+use Rattle.layout.proofs.ListLaws.{Of, of-size, bare-split, item-is, bare-is}
+use Rattle.layout.proofs.LayLaws.{LaidRows, laid-rows}
+use Rattle.layout.proofs.RowLaws.{children-end, forest-split, forest-empty}
+use Rattle.layout.proofs.PlaceLaws.{length-place, length-places, before-places, statements-places, first-last}
+use Rattle.record.specs.Shown.{listIn, Chained, Tree}
+use Rattle.record.specs.declared.RecordLaid.{RecordLaid}
+use Rattle.record.specs.Laying.{FieldsFrom, Listed, RecordIs, recordOf}
+
+-- ---------------------------------------------------------------- no entry is too large
+
+-- every entry of a list and of those below it has at most 2,147,483,647 bytes
+abbrev SizedAll : Entries → Type 0
+SizedAll end = Unit {0}
+SizedAll (entry e members later) = (total e ≤ 2147483647) × SizedAll members × SizedAll later
+
+total-within : (e : Entry) → tooLarge e ≡ false → total e ≤ 2147483647
+total-within e h =
+    let a = or-false (ltb largest (times (e .occurs)) || ltb largest (e .offset) || ltb largest (total e)) (ltb largest (entryEnd e)) h in
+    let b = or-false (ltb largest (times (e .occurs)) || ltb largest (e .offset)) (ltb largest (total e)) (a .0) in
+    ltb-false largest (total e) (b .1)
+
+bare-sized :
+    (text : List ℕ) (f : Forest) (depth : ℕ) (seen : List Place) (cursor reach : ℕ) {l : Laid} →
+    bare text depth seen cursor reach f ≡ give l →
+    SizedAll (l .entries)
+unfolding bare
+bare-sized text leaf depth seen cursor reach e = subst (λ (l : Laid). SizedAll (l .entries)) (given-same e) tt
+bare-sized text (item s kids later) depth seen cursor reach e =
+    through _ _ (sym (bare-split text depth seen cursor reach s kids later) ∙ e) λ x e₁ h₁.
+    through _ _ h₁ λ more e₂ h₂.
+    let i = item-is text depth seen cursor s kids e₁ in
+    let members = bare-sized text kids (suc depth) [] 0 0 (i .inner-laid) in
+    let rest = bare-sized text later depth (placeOf (x .own) ∷ seen) (advance cursor (x .own)) (max reach (entryEnd (x .own))) e₂ in
+    let own : total (x .own) ≤ 2147483647 = subst (λ (y : Entry). total y ≤ 2147483647) (i .own) (total-within (entryOf s (i .contents) (i .offset)) (i .fits)) in
+    subst (λ (l : Laid). SizedAll (l .entries)) (given-same h₂) (own, subst SizedAll (i .members) members, rest)
+
+-- and no row that holds one
+rows-sized : (w : List ℕ) (f : Forest) (k : ℕ) → SizedAll (entriesIn w k f) → (m : ℕ) → k ≤ m → m < k + size f → total (entryIn w m) ≤ 2147483647
+unfolding entriesIn
+rows-sized w leaf k h m l u = absurd (omega arith)
+rows-sized w (item s kids later) k h m l u =
+    let inner = rows-sized w kids (suc k) (h .1) m in
+    let rest = rows-sized w later (suc k + size kids) (h .2) m in
+    ⊎-elim
+    (λ (p : k < m). ⊎-elim (λ (q : m < suc k + size kids). inner (omega arith) q) (λ (q : suc k + size kids ≤ m). rest q (omega arith)) (order m (suc k + size kids)))
+    (λ (p : m ≤ k). subst (λ (n : ℕ). total (entryIn w n) ≤ 2147483647) (let e : k ≡ m = omega arith in e) (h .0))
+    (order k m)
+
+-- ---------------------------------------------------------------- every row is linked
+
+chained-same : (w w′ : List ℕ) (f : Forest) (k last : ℕ) → ((j : ℕ) → j < k + size f → cell w j 16 ≡ cell w′ j 16) → Chained w k last f → Chained w′ k last f
+chained-same w w′ leaf k last h c = tt
+chained-same w w′ (item s kids later) k last h c =
+    (sym (h k (omega arith)) ∙ c .0, chained-same w w′ kids (suc k) 0 (λ j l. h j (omega arith)) (c .1), chained-same w w′ later (suc k + size kids) (suc k) (λ j l. h j (omega arith)) (c .2))
+
+places-chained :
+    (f : Forest) (es : Entries) (w : List ℕ) (k last : ℕ) →
+    Of f es →
+    20 * (k + size f) ≤ length w →
+    Chained (putPlaces w k last es) k last f
+unfolding putPlaces
+places-chained leaf end w k last o fits = tt
+places-chained leaf (entry e members more) w k last o fits = absurd o
+places-chained (item s kids later) end w k last o fits = absurd o
+places-chained (item s kids later) (entry e members more) w k last o fits =
+    let m : entries# members ≡ size kids = of-size kids members (o .1) in
+    let w₁ = putPlace w k last (entries# members) e in
+    let w₂ = putPlaces w₁ (suc k) 0 members in
+    let n = suc k + entries# members in
+    let at : n ≡ suc k + size kids = omega (arith, m) in
+    let w₃ = putPlaces w₂ n (suc k) more in
+    let l₁ : length w₁ ≡ length w = length-place w k last (entries# members) e in
+    let l₂ : length w₂ ≡ length w = length-places members w₁ (suc k) 0 ∙ l₁ in
+    let inner = places-chained kids members w₁ (suc k) 0 (o .1) (omega (arith, l₁)) in
+    let rest = places-chained later more w₂ (suc k + size kids) (suc k) (o .2) (omega (arith, l₂)) in (
+      first-last e members more w k last (omega arith),
+      chained-same w₂ w₃ kids (suc k) 0 (λ j l. sym (before-places more w₂ n (suc k) j 16 (omega arith) (lit< tt))) inner,
+      subst (λ (x : ℕ). Chained (putPlaces w₂ x (suc k) more) (suc k + size kids) (suc k) later) (sym at) rest,
+    )
+
+-- ---------------------------------------------------------------- a list that was laid
+
+module _ (text w : List ℕ) (a b depth : ℕ) {width : ℕ} {w₁ : List ℕ} (h : a ≤ b) (fits : 20 * b ≤ length w) (n : LaidRows text w a b depth width w₁) where
+  pub laid-tree : Tree w₁ a b
+  laid-tree =
+      let f = rowsForest w a b in
+      let es = n .laid .entries in
+      let w′ = putPlaces w a 0 es in
+      let is = bare-is text f depth [] 0 0 (omega arith) (n .is) in
+      let many = size-stretch w a b in
+      let same : f ≡ rowsForest w′ a b = ap forest (sym (statements-places es w a 0 a (b - a))) in
+      let chained : Chained w′ a 0 (rowsForest w′ a b) = subst (Chained w′ a 0) same (places-chained f es w a 0 (is .of) (omega (arith, many))) in
+      let sized : SizedAll (entriesIn w₁ a (rowsForest w₁ a b)) = subst SizedAll (sym (n .held .entries)) (bare-sized text f depth [] 0 0 (n .is)) in
+      let many₁ = size-stretch w₁ a b in
+      record {
+        fits = subst (λ (x : List ℕ). 20 * b ≤ length x) (n .put) (omega (arith, length-places es w a 0));
+        chained = subst (λ (x : List ℕ). Chained x a 0 (rowsForest x a b)) (n .put) chained;
+        sized = record { totals = λ k l u. rows-sized w₁ (rowsForest w₁ a b) a sized k l (omega (arith, many₁)) };
+      }
+
+-- ---------------------------------------------------------------- the fields of a record
+
+-- an only root with children is dropped
+only-root : (w : List ℕ) (n : ℕ) → 1 < n → ChildrenEnd w 0 n n → fields (rowsForest w 0 n) ≡ rowsForest w 1 n
+unfolding fields
+only-root w n h c =
+    let k = children-end w 1 n h in
+    let kids = forest-split w 1 n _ k in
+    ap fields (forest-split w 0 n n c)
+    ∙ ap (λ (f : Forest). fields (item (statementAt w 0) (rowsForest w 1 n) f)) (forest-empty w n n (omega arith))
+    ∙ ap (λ (f : Forest). fields (item (statementAt w 0) f leaf)) kids
+    ∙ sym kids
+
+pub root-dropped : (w : List ℕ) (n : ℕ) {j : ℕ} → 2 ≤ n → ChildrenEnd w 0 n j → n ≤ j → FieldsFrom w n 1
+root-dropped w n {j} h c l =
+    record { low = omega arith; is = only-root w n (omega arith) (subst (ChildrenEnd w 0 n) (let e : j ≡ n = omega (arith, c .high) in e) c) }
+
+-- of several roots none is
+pub roots-kept : (w : List ℕ) (n : ℕ) {j : ℕ} → ChildrenEnd w 0 n j → j < n → FieldsFrom w n 0
+unfolding fields
+roots-kept w n {j} c l =
+    let whole = forest-split w 0 n j c in
+    let k = children-end w j n l in
+    let later = forest-split w j n _ k in
+    let both = whole ∙ ap (item (statementAt w 0) (rowsForest w 1 j)) later in
+    record { low = omega arith; is = ap fields both ∙ kept (rowsForest w 1 j) ∙ sym both }
+  where
+    kept : {s t : Statement} (kids : Forest) {more rest : Forest} → fields (item s kids (item t more rest)) ≡ item s kids (item t more rest)
+    kept leaf = refl
+    kept (item u a b) = refl
+
+-- nor is a root without children
+one-row : (w : List ℕ) (n : ℕ) {j : ℕ} → n < 2 → ChildrenEnd w 0 n j → fields (rowsForest w 0 n) ≡ rowsForest w 0 n
+unfolding fields
+one-row w n {j} h c =
+    let later = ap (item (statementAt w 0) (rowsForest w 1 j)) (forest-empty w j n (omega (arith, c .low))) in
+    let kids = ap (λ (f : Forest). item (statementAt w 0) f leaf) (forest-empty w 1 j (omega (arith, c .high))) in
+    let both = forest-split w 0 n j c ∙ later ∙ kids in
+    ap fields both ∙ sym both
+
+pub few-rows : (w : List ℕ) (n : ℕ) → n < 2 → FieldsFrom w n 0
+unfolding fields
+few-rows w n h =
+    record {
+      low = omega arith;
+      is =
+          ⊎-elim
+          (λ (p : 0 < n). one-row w n h (children-end w 0 n p))
+          (λ (p : n ≤ 0). ap fields (forest-empty w 0 n p) ∙ sym (forest-empty w 0 n p))
+          (order 0 n);
+    }
+
+-- ---------------------------------------------------------------- the record
+
+after-stopped : (w : List ℕ) (k last : ℕ) (a : Answer Laid) {r : Refusal} → after w k last a ≡ stopped r → a ≡ refuse r
+after-stopped w k last (refuse q) h = cc
+after-stopped w k last (give x) h = absurd (let z : _≡_ {A = ℕ} 0 1 = cc in omega arith)
+
+module _ (text w : List ℕ) (a b : ℕ) where
+  module _ {x : LaidList} (w₁ : List ℕ) (p : listOf x w₁ ≡ layTable text w a b 0) where
+    -- the list is laid
+    pub list-laid : a ≤ b → 20 * b ≤ length w → {width last : ℕ} → x ≡ LaidList.Done width last → LaidRows text w a b 0 width w₁
+    list-laid h fits e = laid-rows text w a b 0 h fits (sym p ∙ ap (λ (y : LaidList). listOf y w₁) e)
+
+    -- or refused
+    pub list-refused : {r : Refusal} → x ≡ LaidList.Refused r → bareRecord text (rowsForest w a b) ≡ refuse r
+    unfolding bareRecord seenFrom _>>=_
+    list-refused e =
+        ap (λ (y : Answer Laid). y >>= λ l. foldCheck text [] (l .entries) >>= λ _. endsFit (foldedAll text (l .entries)) >>= λ _. give (l .entries))
+        (after-stopped w a 0 (bare text 0 [] 0 0 (rowsForest w a b)) (sym p ∙ ap (λ (y : LaidList). listOf y w₁) e))
+
+  module _ {width : ℕ} {w₁ : List ℕ} (n : LaidRows text w a b 0 width w₁) where
+    -- the checks of the list, as the rows hold it
+    record-split :
+        bareRecord text (rowsForest w a b)
+        ≡ (foldCheck text [] (listIn w₁ a b) >>= λ _. endsFit (foldedAll text (listIn w₁ a b)) >>= λ _. give (listIn w₁ a b))
+    unfolding bareRecord _>>=_
+    record-split =
+        ap (λ (x : Answer Laid). x >>= λ l. foldCheck text [] (l .entries) >>= λ _. endsFit (foldedAll text (l .entries)) >>= λ _. give (l .entries)) (n .is)
+        ∙ ap (λ (es : Entries). foldCheck text [] es >>= λ _. endsFit (foldedAll text es) >>= λ _. give es) (sym (n .held .entries))
+
+    module _ {c : Check} (p : checkOf c ≡ foldCheck text [] (listIn w₁ a b)) where
+      checked : (x : Check) → c ≡ x → bareRecord text (rowsForest w a b) ≡ (checkOf x >>= λ _. endsFit (foldedAll text (listIn w₁ a b)) >>= λ _. give (listIn w₁ a b))
+      checked x e =
+          record-split
+          ∙ ap (λ (y : Answer (Unit {0})). y >>= λ _. endsFit (foldedAll text (listIn w₁ a b)) >>= λ _. give (listIn w₁ a b)) (sym p ∙ ap checkOf e)
+
+      -- 30
+      pub fold-refused : {r : Refusal} → c ≡ Check.Refused r → bareRecord text (rowsForest w a b) ≡ refuse r
+      unfolding _>>=_
+      fold-refused {r} e = checked (Check.Refused r) e
+
+      module _ (e : c ≡ Check.Passed) {d : Check} (q : checkOf d ≡ endsFit (foldedAll text (listIn w₁ a b))) where
+        passed : (x : Check) → d ≡ x → bareRecord text (rowsForest w a b) ≡ (checkOf x >>= λ _. give (listIn w₁ a b))
+        unfolding _>>=_
+        passed x f = checked Check.Passed e ∙ ap (λ (y : Answer (Unit {0})). y >>= λ _. give (listIn w₁ a b)) (sym q ∙ ap checkOf f)
+
+        -- 29
+        pub end-refused : {r : Refusal} → d ≡ Check.Refused r → bareRecord text (rowsForest w a b) ≡ refuse r
+        unfolding _>>=_
+        end-refused {r} f = passed (Check.Refused r) f
+
+        -- the record is laid
+        pub laid-listed :
+            d ≡ Check.Passed →
+            Tree w₁ a b →
+            {m : ℕ} →
+            m ≡ recordLength (foldedAll text (listIn w₁ a b)) →
+            Listed text (bareRecord text (rowsForest w a b)) w₁ a b m
+        unfolding _>>=_
+        laid-listed f t l = record { is = passed Check.Passed f; tree = t; long = l }
+
+-- ---------------------------------------------------------------- the record of a text
+
+module _ (text : List ℕ) where
+  -- the text is refused
+  pub reading-refused : {r : Refusal} → statements text 0 (statementWords text) ≡ refuse r → recordOf text ≡ refuse r
+  unfolding recordOf _>>=_
+  reading-refused e = ap (λ (x : Answer (List Statement)). x >>= λ ss. bareRecord text (fields (forest ss))) e
+
+  -- its statements stand in n rows, whose fields are the rows from `from` on
+  rows-record : {w w′ : List ℕ} {n from : ℕ} → Stored text w w′ n → FieldsFrom w′ n from → bareRecord text (rowsForest w′ from n) ≡ recordOf text
+  unfolding recordOf _>>=_
+  rows-record {w′ = w′} {n = n} s f =
+      sym
+      (ap (λ (x : Answer (List Statement)). x >>= λ ss. bareRecord text (fields (forest ss))) (s .are)
+      ∙ ap (λ (ss : List Statement). bareRecord text (fields (forest ss))) (sym (s .back) ∙ ap (statementsFrom w′ 0) (let e : n ≡ n - 0 = omega arith in e))
+      ∙ ap (bareRecord text) (f .is))
+
+  pub fields-laid :
+      {w w′ : List ℕ} {n from : ℕ} →
+      Stored text w w′ n →
+      FieldsFrom w′ n from →
+      (w″ : List ℕ) (r : RecordLaid) →
+      RecordIs text (bareRecord text (rowsForest w′ from n)) r w″ →
+      RecordIs text (recordOf text) r w″
+  fields-laid s f w″ r h = subst (λ (a : Answer Entries). RecordIs text a r w″) (rows-record s f) h

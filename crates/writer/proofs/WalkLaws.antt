@@ -1,0 +1,219 @@
+-- What the functions that write need and learn, over plain variables: an entry before its members, the members of a union, the loop along the rows
+-- of a list and the loop along the redefiners of a row.
+-- Assumes nothing.
+use Prim.Native.Nat.{ℕ, zero, suc, _+_, _*_, _-_, _≤_, _<_}
+use mathlib.Core.Path.{_≡_, refl, sym, ap, subst, _∙_}
+use mathlib.Core.Bool.{Bool, true, false}
+use mathlib.Core.List.{List, [], _∷_, _++_, append-assoc, append-nil}
+use native.Mathlib.Numerals.{add-one}
+use native.Mathlib.Omega.{arith}
+use lib.ListN.{length, length-append}
+use Rattle.definition.specs.declared.Span.{Span}
+use Rattle.definition.specs.declared.Entry.{Entry}
+use Rattle.definition.specs.Fold.{Entries, end, append, rebased}
+use Rattle.definition.specs.Listing.{members#, entryBytes, entriesBytes}
+use Rattle.rows.specs.Table.{cell, spanAt}
+use Rattle.layout.specs.Bare.{foldedAll}
+use Rattle.layout.specs.Places.{entryIn, rowsForest}
+use Rattle.layout.specs.Steps.{ChildrenEnd}
+use Rattle.listing.specs.Puts.{Put}
+use Rattle.listing.proofs.PutLaws.{put-none, _and_}
+use Rattle.record.specs.declared.Relation.{Relation}
+use Rattle.record.specs.Shown.{relation, foldedRest, shownAt, Chained, Sized, Tree, Branch}
+use Rattle.record.proofs.ShownLaws.{chained-step, walking-here, walking-ends}
+use Rattle.record.proofs.WidthLaws.{branch-tree, Along, along-starts, along-branch, along-on}
+use Rattle.writer.specs.Written.{Fits, listBytes, itemBytes, shownBytes, unionIn, ownMember, unionBytes, redefinersBytes, Family}
+use Rattle.writer.proofs.WriteLaws.{bytes-append, members-few, put-as, fits-as, fits-first, fits-second, family-branch, members-folded, members-based, redefined-end, redefined-hit, redefined-miss, redefined-stop}
+
+-- ---------------------------------------------------------------- an entry, then its members
+
+module _ {e x : Entry} {m n : ℕ} (p : e ≡ x) (q : m ≡ n) {out : List ℕ} {at r : ℕ} {after : List ℕ} (h : Put out at (entryBytes e m) r after) where
+  head-put : Put out at (entryBytes x n) r after
+  head-put = put-as (sym (λ k. entryBytes (p k) (q k))) h
+
+  pub head-rest : (ys : List ℕ) → Fits at (entryBytes x n ++ ys) → Fits r ys
+  head-rest ys f = fits-second head-put ys f
+
+  pub head-then : {ys : List ℕ} {r′ : ℕ} {after′ : List ℕ} → Put after r ys r′ after′ → Put out at (entryBytes x n ++ ys) r′ after′
+  head-then k = head-put and k
+
+pub family-tree : {w : List ℕ} {i j to : ℕ} → Family w i j to → Tree w (i + 1) j
+family-tree f = branch-tree (family-branch f)
+
+-- ---------------------------------------------------------------- the members of a union
+
+module _ (t w : List ℕ) (i j to : ℕ) where
+  pub union-few : (at : ℕ) (xs : List ℕ) → Fits at (xs ++ entriesBytes (unionIn t w i j to)) → members# (unionIn t w i j to) < 4294967296
+  union-few at xs f = omega (arith, length-append xs (entriesBytes (unionIn t w i j to)), members-few (unionIn t w i j to))
+
+  module _ {o : Bool} (p : o ≡ ownMember t w i j) (at : ℕ) (f : Fits at (entriesBytes (unionIn t w i j to))) where
+    module _ (y : o ≡ true) where
+      pub folded-first : Fits at (listBytes t w (i + 1) j)
+      folded-first = fits-first at (listBytes t w (i + 1) j) (redefinersBytes t w i j to) (fits-as at (members-folded t w i j to p y) f)
+
+      module _ {out : List ℕ} {r : ℕ} {after : List ℕ} (h : Put out at (listBytes t w (i + 1) j) r after) where
+        pub folded-rest : Fits r (redefinersBytes t w i j to)
+        folded-rest = fits-second h (redefinersBytes t w i j to) (fits-as at (members-folded t w i j to p y) f)
+
+        pub folded-then : {r′ : ℕ} {after′ : List ℕ} → Put after r (redefinersBytes t w i j to) r′ after′ → Put out at (entriesBytes (unionIn t w i j to)) r′ after′
+        folded-then k = put-as (members-folded t w i j to p y) (h and k)
+
+    module _ (y : o ≡ false) {x : Entry} (q : x ≡ rebased (cell w i 13) (entryIn w i)) where
+      pub based-first : Fits at (itemBytes t w x i j)
+      based-first = fits-first at (itemBytes t w x i j) (redefinersBytes t w i j to) (fits-as at (members-based t w i j to p y q) f)
+
+      module _ {out : List ℕ} {r : ℕ} {after : List ℕ} (h : Put out at (itemBytes t w x i j) r after) where
+        pub based-rest : Fits r (redefinersBytes t w i j to)
+        based-rest = fits-second h (redefinersBytes t w i j to) (fits-as at (members-based t w i j to p y q) f)
+
+        pub based-then : {r′ : ℕ} {after′ : List ℕ} → Put after r (redefinersBytes t w i j to) r′ after′ → Put out at (entriesBytes (unionIn t w i j to)) r′ after′
+        based-then k = put-as (members-based t w i j to p y q) (h and k)
+
+-- ---------------------------------------------------------------- the list
+
+-- what the loop keeps: what is done was put
+pub record Writing (t w out₀ out : List ℕ) (from to at i last place : ℕ) : Type 0 where
+  pub done : Entries
+  pub along : Along t w from to i last done
+  pub small : Fits at (listBytes t w from to)
+  pub put : Put out₀ at (entriesBytes done) place out
+
+pub writing-starts : (t w out : List ℕ) (from to at : ℕ) → Tree w from to → Fits at (listBytes t w from to) → Writing t w out out from to at from 0 at
+unfolding entriesBytes
+writing-starts t w out from to at h f = record { done = end; along = along-starts t w from to h; small = f; put = put-none out at }
+
+module _ {t w out₀ out : List ℕ} {from to at i last place : ℕ} (inv : Writing t w out₀ out from to at i last place) where
+  pub writing-ends : to ≤ i → Put out₀ at (listBytes t w from to) place out
+  writing-ends h = put-as (ap entriesBytes (walking-ends (inv .along .walk) h)) (inv .put)
+
+  module _ {j : ℕ} (h : ChildrenEnd w i to j) where
+    pub writing-family : Family w i j to
+    writing-family =
+        let b = along-branch (inv .along) h in
+        record {
+          low = b .low;
+          high = b .high;
+          fits = b .fits;
+          chained = b .chained;
+          later = chained-step w i to j h last (inv .along .chained) .2;
+          sized = b .sized;
+        }
+
+    pub writing-fits : Fits place (shownBytes t w i j to last)
+    writing-fits =
+        let shown = shownAt t w i j to last in
+        let rest = foldedRest t w j to (suc i) in
+        omega (
+          arith,
+          inv .small,
+          inv .put .next,
+          ap (λ (es : Entries). length (entriesBytes es)) (walking-here (inv .along .walk) h),
+          ap length (bytes-append (inv .done) (append shown rest)),
+          length-append (entriesBytes (inv .done)) (entriesBytes (append shown rest)),
+          ap length (bytes-append shown rest),
+          length-append (entriesBytes shown) (entriesBytes rest),
+        )
+
+    pub writing-on : {r : ℕ} {after : List ℕ} → Put out place (shownBytes t w i j to last) r after → Writing t w out₀ after from to at j (i + 1) r
+    writing-on p =
+        record {
+          done = append (inv .done) (shownAt t w i j to last);
+          along = along-on (inv .along) h;
+          small = inv .small;
+          put = put-as (bytes-append (inv .done) (shownAt t w i j to last)) (inv .put and p);
+        }
+
+-- ---------------------------------------------------------------- the redefiners
+
+-- what the loop keeps: the bytes that are done were put, and those of the rows from k on are the rest
+pub record Redefining (t w out₀ out : List ℕ) (i j to at place k : ℕ) : Type 0 where
+  pub family : Family w i j to
+  pub small : Fits at (redefinersBytes t w i j to)
+  pub low : j ≤ k
+  pub high : k ≤ to
+  pub before : ℕ
+  pub chained : Chained w k before (rowsForest w k to)
+  pub done : List ℕ
+  pub put : Put out₀ at done place out
+  pub same : redefinersBytes t w i j to ≡ done ++ redefinersBytes t w i k to
+
+pub redefining-starts : (t w out : List ℕ) (i j to at : ℕ) → Family w i j to → Fits at (redefinersBytes t w i j to) → Redefining t w out out i j to at at j
+redefining-starts t w out i j to at h f =
+    record {
+      family = h;
+      small = f;
+      low = omega arith;
+      high = h .high;
+      before = suc i;
+      chained = h .later;
+      done = [];
+      put = put-none out at;
+      same = refl;
+    }
+
+module _ {t w out₀ out : List ℕ} {i j to at place k : ℕ} (inv : Redefining t w out₀ out i j to at place k) where
+  -- nothing is left
+  rest-none : redefinersBytes t w i k to ≡ [] → Put out₀ at (redefinersBytes t w i j to) place out
+  rest-none e = put-as (inv .same ∙ ap (λ (l : List ℕ). inv .done ++ l) e ∙ append-nil (inv .done)) (inv .put)
+
+  pub redefining-ends : to ≤ k → Put out₀ at (redefinersBytes t w i j to) place out
+  redefining-ends h = rest-none (redefined-end t w i k to h)
+
+  module _ {m : ℕ} (h : ChildrenEnd w k to m) where
+    pub redefining-tree : Tree w (k + 1) m
+    redefining-tree =
+        branch-tree {to = to} (record {
+          low = h .low;
+          high = h .high;
+          fits = inv .family .fits;
+          chained = chained-step w k to m h (inv .before) (inv .chained) .1;
+          sized = record { totals = λ n p q. inv .family .sized .totals n (omega (arith, inv .family .low, inv .low)) (omega arith) };
+        })
+
+    module _ {name : Span} {r : Relation} (q : name ≡ spanAt (cell w i 3)) (p : r ≡ relation t name (entryIn w k)) where
+      pub redefining-stops : r ≡ Relation.Next → Put out₀ at (redefinersBytes t w i j to) place out
+      redefining-stops e = rest-none (redefined-stop t w i k to h q p e)
+
+      pub redefining-passes : r ≡ Relation.Other → Redefining t w out₀ out i j to at place m
+      redefining-passes e =
+          record {
+            family = inv .family;
+            small = inv .small;
+            low = omega (arith, inv .low, h .low);
+            high = h .high;
+            before = suc k;
+            chained = chained-step w k to m h (inv .before) (inv .chained) .2;
+            done = inv .done;
+            put = inv .put;
+            same = inv .same ∙ ap (λ (l : List ℕ). inv .done ++ l) (redefined-miss t w i k to h q p e);
+          }
+
+      module _ (e : r ≡ Relation.Redefiner) {x : Entry} (z : x ≡ rebased (cell w i 13) (entryIn w k)) where
+        pub redefining-fits : Fits place (itemBytes t w x k m)
+        redefining-fits =
+            omega (
+              arith,
+              inv .small,
+              inv .put .next,
+              ap length (inv .same),
+              length-append (inv .done) (redefinersBytes t w i k to),
+              ap length (redefined-hit t w i k to h q p e z),
+              length-append (itemBytes t w x k m) (redefinersBytes t w i m to),
+            )
+
+        pub redefining-on : {a : ℕ} {after : List ℕ} → Put out place (itemBytes t w x k m) a after → Redefining t w out₀ after i j to at a m
+        redefining-on d =
+            record {
+              family = inv .family;
+              small = inv .small;
+              low = omega (arith, inv .low, h .low);
+              high = h .high;
+              before = suc k;
+              chained = chained-step w k to m h (inv .before) (inv .chained) .2;
+              done = inv .done ++ itemBytes t w x k m;
+              put = inv .put and d;
+              same =
+                  inv .same
+                  ∙ ap (λ (l : List ℕ). inv .done ++ l) (redefined-hit t w i k to h q p e z)
+                  ∙ sym (append-assoc (inv .done) (itemBytes t w x k m) (redefinersBytes t w i m to));
+            }

@@ -1,0 +1,239 @@
+// The entries of the listing, written from the rows of a laid table with no row moved: each list folded as it is walked. A byte
+// past the output's end is counted and not written, so that the same walk measures.
+ghost use mathlib.Core.Path.{_≡_};
+ghost use Prim.Native.Nat.{_+_, _*_, _-_, _≤_, _<_};
+ghost use lib.ListN.{length};
+ghost use Rattle.definition.specs.Fold.{rebased};
+ghost use Rattle.definition.specs.Listing.{members#, entriesBytes};
+ghost use Rattle.rows.specs.Table.{cell};
+ghost use Rattle.layout.specs.Places.{entryIn};
+ghost use Rattle.listing.specs.Puts.{Put};
+ghost use Rattle.record.specs.Shown.{Tree, Branch};
+ghost use Rattle.writer.specs.Written.{Fits, listBytes, itemBytes, shownBytes, ownMember, unionIn, unionEntry, unionBytes, redefinersBytes, Family};
+use definition::Entry;
+use definition::Span;
+use record::Relation;
+use record::Standing;
+
+// The difference, and 0 where it would be below.
+fn less(a: usize, b: usize) -> usize
+    ensures { λ r. ⌜ r ≡ a - b ⌝ }
+{
+    if a < b {
+        return 0;
+    }
+    a - b
+}
+
+// An entry as a member of the group that starts at the offset.
+fn rebased_to(e: Entry, start: usize) -> Entry
+    ensures { λ r. ⌜ r ≡ rebased start e ⌝ }
+{
+    let name = e.name;
+    let kind = e.kind;
+    let picture = e.picture;
+    let occurs = e.occurs;
+    let depending = e.depending;
+    let offset = less(e.offset, start);
+    Entry {
+        at: e.at,
+        name: name,
+        offset: offset,
+        width: e.width,
+        kind: kind,
+        picture: picture,
+        occurs: occurs,
+        depending: depending,
+        redefines: Span { start: 0, len: 0 },
+    }
+}
+
+// The entry of row k as a member of the group that starts where row i does.
+fn member_at(work: &[u32], k: usize, i: usize) -> Entry
+    requires { ⌜ (20 * k + 20 ≤ length (now work)) × (20 * i + 20 ≤ length (now work)) ⌝ }
+    ensures { λ r. ⌜ r ≡ rebased (cell (now (work .entry)) i 13) (entryIn (now (work .entry)) k) ⌝ }
+{
+    let base = layout::entry_at(work, i);
+    rebased_to(layout::entry_at(work, k), base.offset)
+}
+
+// ---------------------------------------------------------------- a base with its redefiners
+
+// Whether row i, whose children end at j, has a member of its own name.
+fn has_own(text: &[u8], work: &[u32], i: usize, j: usize, to: usize) -> bool
+    requires { ⌜ Branch (now work) i j to ⌝ }
+    ensures { λ r. ⌜ r ≡ ownMember (now (text .entry)) (now (work .entry)) i j ⌝ }
+{
+    let name = rows::span_at(work[20 * i + 3]);
+    record::has_member(text, work, i + 1, j, name)
+}
+
+// How many members the union of row i with its redefiners has.
+fn union_count(text: &[u8], work: &[u32], i: usize, j: usize, to: usize) -> usize
+    requires { ⌜ Branch (now work) i j to × (members# (unionIn (now text) (now work) i j to) < 4294967296) ⌝ }
+    ensures { λ r. ⌜ r ≡ members# (unionIn (now (text .entry)) (now (work .entry)) i j to) ⌝ }
+{
+    let n = record::redefiner_count(text, work, i, j, to);
+    if has_own(text, work, i, j, to) {
+        return record::folded_count(text, work, i + 1, j) + n;
+    }
+    n + 1
+}
+
+// The union's own entry.
+fn union_entry(text: &[u8], work: &[u32], i: usize, j: usize, to: usize) -> Entry
+    requires { ⌜ Branch (now work) i j to ⌝ }
+    ensures { λ r. ⌜ r ≡ unionEntry (now (text .entry)) (now (work .entry)) i j to ⌝ }
+{
+    let width = record::union_width(text, work, i, j, to);
+    listing::union_of(layout::entry_at(work, i), width)
+}
+
+// ---------------------------------------------------------------- the walk
+
+// Writes an entry with the members of row i, which end at j.
+fn write_item(
+    text: &[u8],
+    work: &[u32],
+    i: usize,
+    j: usize,
+    e: Entry,
+    out: &mut [u8],
+    at: usize,
+) -> usize
+    requires { ⌜ (i < j) × Tree (now work) (i + 1) j × Fits at (itemBytes (now text) (now work) e i j) ⌝ }
+    ensures { λ r. ⌜ Put (now (out .entry)) at (itemBytes (now (text .entry)) (now (work .entry)) e i j) r (now (out .exit)) ⌝ }
+{
+    let n = record::folded_count(text, work, i + 1, j);
+    let next = listing::put_entry(out, at, e, n);
+    write_list(text, work, i + 1, j, out, next)
+}
+
+// Writes the redefiners of row i among the rows from j up to `to`.
+fn write_redefiners(
+    text: &[u8],
+    work: &[u32],
+    i: usize,
+    j: usize,
+    to: usize,
+    out: &mut [u8],
+    at: usize,
+) -> usize
+    requires { ⌜ Family (now work) i j to × Fits at (redefinersBytes (now text) (now work) i j to) ⌝ }
+    ensures { λ r. ⌜ Put (now (out .entry)) at (redefinersBytes (now (text .entry)) (now (work .entry)) i j to) r (now (out .exit)) ⌝ }
+{
+    let name = rows::span_at(work[20 * i + 3]);
+    let mut place = at;
+    let mut k = j;
+    while k < to {
+        let m = layout::end_of(work, k, to);
+        match record::relation_to(text, work, name, k) {
+            Relation::Redefiner => {
+                place = write_item(text, work, k, m, member_at(work, k, i), out, place);
+                k = m;
+            }
+            Relation::Next => {
+                return place;
+            }
+            Relation::Other => {
+                k = m;
+            }
+        }
+    }
+    place
+}
+
+// Writes the members of the union of row i with its redefiners: those of row i, where one of them has its name, or row i
+// itself, and then the redefiners.
+fn write_members(
+    text: &[u8],
+    work: &[u32],
+    i: usize,
+    j: usize,
+    to: usize,
+    out: &mut [u8],
+    at: usize,
+) -> usize
+    requires { ⌜ Family (now work) i j to × Fits at (entriesBytes (unionIn (now text) (now work) i j to)) ⌝ }
+    ensures { λ r. ⌜ Put (now (out .entry)) at (entriesBytes (unionIn (now (text .entry)) (now (work .entry)) i j to)) r (now (out .exit)) ⌝ }
+{
+    if has_own(text, work, i, j, to) {
+        let next = write_list(text, work, i + 1, j, out, at);
+        return write_redefiners(text, work, i, j, to, out, next);
+    }
+    let next = write_item(text, work, i, j, member_at(work, i, i), out, at);
+    write_redefiners(text, work, i, j, to, out, next)
+}
+
+// Writes the group that stands for row i and its redefiners, and its members.
+fn write_union(
+    text: &[u8],
+    work: &[u32],
+    i: usize,
+    j: usize,
+    to: usize,
+    out: &mut [u8],
+    at: usize,
+) -> usize
+    requires { ⌜ Family (now work) i j to × Fits at (unionBytes (now text) (now work) i j to) ⌝ }
+    ensures { λ r. ⌜ Put (now (out .entry)) at (unionBytes (now (text .entry)) (now (work .entry)) i j to) r (now (out .exit)) ⌝ }
+{
+    let e = union_entry(text, work, i, j, to);
+    let n = union_count(text, work, i, j, to);
+    let next = listing::put_entry(out, at, e, n);
+    write_members(text, work, i, j, to, out, next)
+}
+
+// Writes what row i, whose children end at j, comes to in the folded list, after the sibling `last`.
+fn write_shown(
+    text: &[u8],
+    work: &[u32],
+    i: usize,
+    j: usize,
+    to: usize,
+    last: usize,
+    out: &mut [u8],
+    at: usize,
+) -> usize
+    requires { ⌜ Family (now work) i j to × (last ≤ i) × Fits at (shownBytes (now text) (now work) i j to last) ⌝ }
+    ensures { λ r. ⌜ Put (now (out .entry)) at (shownBytes (now (text .entry)) (now (work .entry)) i j to last) r (now (out .exit)) ⌝ }
+{
+    match record::standing_of(text, work, i, last) {
+        Standing::Under => {
+            return at;
+        }
+        Standing::Alone => {
+            return write_item(text, work, i, j, layout::entry_at(work, i), out, at);
+        }
+        Standing::Base => {
+            if 0 < record::redefiner_count(text, work, i, j, to) {
+                return write_union(text, work, i, j, to, out, at);
+            }
+            return write_item(text, work, i, j, layout::entry_at(work, i), out, at);
+        }
+    }
+}
+
+// Writes the folded list of the rows from `from` up to `to`, each entry with its members.
+pub fn write_list(
+    text: &[u8],
+    work: &[u32],
+    from: usize,
+    to: usize,
+    out: &mut [u8],
+    at: usize,
+) -> usize
+    requires { ⌜ Tree (now work) from to × Fits at (listBytes (now text) (now work) from to) ⌝ }
+    ensures { λ r. ⌜ Put (now (out .entry)) at (listBytes (now (text .entry)) (now (work .entry)) from to) r (now (out .exit)) ⌝ }
+{
+    let mut place = at;
+    let mut i = from;
+    let mut last = 0;
+    while i < to {
+        let j = layout::end_of(work, i, to);
+        place = write_shown(text, work, i, j, to, last, out, place);
+        last = i + 1;
+        i = j;
+    }
+    place
+}

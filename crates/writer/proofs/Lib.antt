@@ -1,2 +1,3 @@
 pub mod WriteLaws
 pub mod WalkLaws
+pub mod VaryLaws

@@ -40,6 +40,17 @@ module _ {e x : Entry} {m n : ℕ} (p : e ≡ x) (q : m ≡ n) {out : List ℕ} 
 pub family-tree : {w : List ℕ} {i j to : ℕ} → Family w i j to → Tree w (i + 1) j
 family-tree f = branch-tree (family-branch f)
 
+-- the children of a later row
+pub row-tree : {w : List ℕ} {i j to k m : ℕ} → Family w i j to → i ≤ k → ChildrenEnd w k to m → (last : ℕ) → Chained w k last (rowsForest w k to) → Tree w (k + 1) m
+row-tree {w} {to = to} {k = k} {m = m} f l h last c =
+    branch-tree {to = to} (record {
+      low = h .low;
+      high = h .high;
+      fits = f .fits;
+      chained = chained-step w k to m h last c .1;
+      sized = record { totals = λ n p q. f .sized .totals n (omega arith) (omega arith) };
+    })
+
 -- ---------------------------------------------------------------- the members of a union
 
 module _ (t w : List ℕ) (i j to : ℕ) where
@@ -161,14 +172,7 @@ module _ {t w out₀ out : List ℕ} {i j to at place k : ℕ} (inv : Redefining
 
   module _ {m : ℕ} (h : ChildrenEnd w k to m) where
     pub redefining-tree : Tree w (k + 1) m
-    redefining-tree =
-        branch-tree {to = to} (record {
-          low = h .low;
-          high = h .high;
-          fits = inv .family .fits;
-          chained = chained-step w k to m h (inv .before) (inv .chained) .1;
-          sized = record { totals = λ n p q. inv .family .sized .totals n (omega (arith, inv .family .low, inv .low)) (omega arith) };
-        })
+    redefining-tree = row-tree (inv .family) (omega (arith, inv .low, inv .family .low)) h (inv .before) (inv .chained)
 
     module _ {name : Span} {r : Relation} (q : name ≡ spanAt (cell w i 3)) (p : r ≡ relation t name (entryIn w k)) where
       pub redefining-stops : r ≡ Relation.Next → Put out₀ at (redefinersBytes t w i j to) place out

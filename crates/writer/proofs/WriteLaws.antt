@@ -90,24 +90,24 @@ module _ (t w : List ℕ) (i j : ℕ) where
       ∙ ap (λ (n : ℕ). (entryBytes e (members# (foldedAll t (listIn w n j))) ++ listBytes t w n j) ++ entriesBytes later) (sym (add-one i))
 
 module _ (t : List ℕ) (e : Entry) (ms : Entries) where
-  with-alone : (rs : Entries) → members# rs ≡ 0 → withRedefiners t e ms rs end ≡ entry e ms end
+  pub with-alone : (rs : Entries) → members# rs ≡ 0 → withRedefiners t e ms rs end ≡ entry e ms end
   with-alone end h = refl
   with-alone (entry r m rs) h = absurd (omega arith)
 
-  with-union : (rs : Entries) → 0 < members# rs → withRedefiners t e ms rs end ≡ entry (union e (widest (unionMembers t e ms rs))) (unionMembers t e ms rs) end
+  pub with-union : (rs : Entries) → 0 < members# rs → withRedefiners t e ms rs end ≡ entry (union e (widest (unionMembers t e ms rs))) (unionMembers t e ms rs) end
   with-union end h = absurd (omega arith)
   with-union (entry r m rs) h = refl
 
 module _ (t w : List ℕ) (i j to : ℕ) where
   -- the redefiners of row i with their members folded, and none of them
-  later-redefiners : redefiners t (placeAt w i) (foldedBelow t (listIn w j to)) ≡ foldedBelow t (redefinersIn t w i j to)
+  pub later-redefiners : redefiners t (placeAt w i) (foldedBelow t (listIn w j to)) ≡ foldedBelow t (redefinersIn t w i j to)
   later-redefiners = redefiners-below t (placeAt w i) (listIn w j to)
 
-  count-redefiners : members# (redefiners t (placeAt w i) (foldedBelow t (listIn w j to))) ≡ members# (redefinersIn t w i j to)
+  pub count-redefiners : members# (redefiners t (placeAt w i) (foldedBelow t (listIn w j to))) ≡ members# (redefinersIn t w i j to)
   count-redefiners = ap members# later-redefiners ∙ count-below t (redefinersIn t w i j to)
 
   module _ (last : ℕ) {s : Standing} (p : s ≡ standing t (basesAt w last) (entryIn w i)) where
-    shown-is : (x : Standing) → s ≡ x → shownAt t w i j to last ≡ shownAs t x (entryIn w i) (foldedAll t (listIn w (suc i) j)) (foldedBelow t (listIn w j to))
+    pub shown-is : (x : Standing) → s ≡ x → shownAt t w i j to last ≡ shownAs t x (entryIn w i) (foldedAll t (listIn w (suc i) j)) (foldedBelow t (listIn w j to))
     shown-is x e = ap (λ (y : Standing). shownAs t y (entryIn w i) (foldedAll t (listIn w (suc i) j)) (foldedBelow t (listIn w j to))) (sym p ∙ e)
 
     pub shown-under : s ≡ Standing.Under → shownBytes t w i j to last ≡ []
@@ -121,22 +121,32 @@ module _ (t w : List ℕ) (i j to : ℕ) where
         ∙ ap (λ (x : Entry). itemBytes t w x i j) (sym q)
 
     module _ (e : s ≡ Standing.Base) {n : ℕ} (c : n ≡ members# (redefinersIn t w i j to)) where
+      pub base-alone : n ≤ 0 → shownAt t w i j to last ≡ entry (entryIn w i) (foldedAll t (listIn w (suc i) j)) end
+      base-alone h =
+          shown-is Standing.Base e
+          ∙ with-alone t (entryIn w i) (foldedAll t (listIn w (suc i) j)) (redefiners t (placeAt w i) (foldedBelow t (listIn w j to))) (omega (arith, count-redefiners))
+
+      pub base-union : 0 < n → shownAt t w i j to last ≡ entry (unionEntry t w i j to) (unionIn t w i j to) end
+      base-union h =
+          shown-is Standing.Base e
+          ∙ with-union t (entryIn w i) (foldedAll t (listIn w (suc i) j)) (redefiners t (placeAt w i) (foldedBelow t (listIn w j to))) (omega (arith, count-redefiners))
+
       pub shown-base : n ≤ 0 → {o : Entry} → o ≡ entryIn w i → shownBytes t w i j to last ≡ itemBytes t w o i j
       shown-base h q =
-          ap entriesBytes (shown-is Standing.Base e ∙ with-alone t (entryIn w i) (foldedAll t (listIn w (suc i) j)) (redefiners t (placeAt w i) (foldedBelow t (listIn w j to))) (omega (arith, count-redefiners)))
+          ap entriesBytes (base-alone h)
           ∙ entry-item t w i j (entryIn w i)
           ∙ ap (λ (x : Entry). itemBytes t w x i j) (sym q)
 
       pub shown-union : 0 < n → shownBytes t w i j to last ≡ unionBytes t w i j to
       unfolding entriesBytes
       shown-union h =
-          ap entriesBytes (shown-is Standing.Base e ∙ with-union t (entryIn w i) (foldedAll t (listIn w (suc i) j)) (redefiners t (placeAt w i) (foldedBelow t (listIn w j to))) (omega (arith, count-redefiners)))
+          ap entriesBytes (base-union h)
           ∙ ap (λ (l : List ℕ). entryBytes (unionEntry t w i j to) (members# (unionIn t w i j to)) ++ l) (append-nil (entriesBytes (unionIn t w i j to)))
 
   -- ---------------------------------------------------------------- the members of a union
 
   module _ {o : Bool} (p : o ≡ ownMember t w i j) where
-    union-is :
+    pub union-is :
         (b : Bool) →
         o ≡ b →
         unionIn t w i j to

@@ -1,11 +1,13 @@
 -- The bytes of the listing's entries, row by row: what a row with its members comes to, and what a union comes to.
 -- Assumes nothing.
 use Prim.Native.Nat.{ℕ, suc, _+_, _*_, _≤_, _<_}
-use mathlib.Core.Bool.{Bool}
+use mathlib.Core.Bool.{Bool, true}
 use mathlib.Core.List.{List, _++_}
 use lib.ListN.{length}
 use Rattle.definition.specs.declared.Entry.{Entry}
+use Rattle.definition.specs.Basic.{if_then_else_, given}
 use Rattle.definition.specs.Fold.{Entries, redefiners, widest, hasMember, unionMembers, union}
+use Rattle.definition.specs.Record.{variable}
 use Rattle.definition.specs.Listing.{members#, entryBytes, entriesBytes}
 use Rattle.rows.specs.Table.{cell, spanAt}
 use Rattle.layout.specs.Bare.{foldedBelow, foldedAll}
@@ -57,3 +59,13 @@ pub record Family (w : List ℕ) (i j to : ℕ) : Type 0 where
   pub chained : Chained w (suc i) 0 (rowsForest w (suc i) j)
   pub later : Chained w j (suc i) (rowsForest w j to)
   pub sized : Sized w i to
+
+-- ---------------------------------------------------------------- whether some entry has a DEPENDING ON
+
+-- some entry of the folded list, at any depth
+abbrev pub listVaries : List ℕ → List ℕ → ℕ → ℕ → Bool
+listVaries text w from to = variable (foldedAll text (listIn w from to))
+
+-- row i or one below it, where its members end at j
+abbrev pub itemVaries : List ℕ → List ℕ → ℕ → ℕ → Bool
+itemVaries text w i j = if given (entryIn w i .depending) then true else listVaries text w (i + 1) j

@@ -3,13 +3,16 @@
 ghost use mathlib.Core.Path.{_≡_};
 ghost use Prim.Native.Nat.{_+_, _*_, _-_, _≤_, _<_};
 ghost use lib.ListN.{length};
+ghost use Rattle.definition.specs.Basic.{given};
 ghost use Rattle.definition.specs.Fold.{rebased};
+ghost use Rattle.definition.specs.Record.{variable};
 ghost use Rattle.definition.specs.Listing.{members#, entriesBytes};
 ghost use Rattle.rows.specs.Table.{cell};
+ghost use Rattle.layout.specs.Bare.{foldedBelow};
 ghost use Rattle.layout.specs.Places.{entryIn};
 ghost use Rattle.listing.specs.Puts.{Put};
-ghost use Rattle.record.specs.Shown.{Tree, Branch};
-ghost use Rattle.writer.specs.Written.{Fits, listBytes, itemBytes, shownBytes, ownMember, unionIn, unionEntry, unionBytes, redefinersBytes, Family};
+ghost use Rattle.record.specs.Shown.{redefinersIn, shownAt, Tree, Branch};
+ghost use Rattle.writer.specs.Written.{Fits, listBytes, itemBytes, shownBytes, ownMember, unionIn, unionEntry, unionBytes, redefinersBytes, Family, listVaries, itemVaries};
 use definition::Entry;
 use definition::Span;
 use record::Relation;
@@ -236,4 +239,113 @@ pub fn write_list(
         i = j;
     }
     place
+}
+
+// ---------------------------------------------------------------- whether the record varies
+
+// Whether row i has a DEPENDING ON.
+fn depends(work: &[u32], i: usize) -> bool
+    requires { ⌜ 20 * i + 20 ≤ length (now work) ⌝ }
+    ensures { λ r. ⌜ r ≡ given (entryIn (now (work .entry)) i .depending) ⌝ }
+{
+    let e = layout::entry_at(work, i);
+    let name = e.depending;
+    if 0 < name.len {
+        return true;
+    }
+    false
+}
+
+// Whether row i, or some entry below it, has a DEPENDING ON; its members end at j.
+fn item_varies(text: &[u8], work: &[u32], i: usize, j: usize) -> bool
+    requires { ⌜ (i < j) × Tree (now work) (i + 1) j ⌝ }
+    ensures { λ r. ⌜ r ≡ itemVaries (now (text .entry)) (now (work .entry)) i j ⌝ }
+{
+    if depends(work, i) {
+        return true;
+    }
+    list_varies(text, work, i + 1, j)
+}
+
+// Whether some redefiner of row i among the rows from j up to `to` has a DEPENDING ON, or some entry below one.
+fn redefiners_vary(text: &[u8], work: &[u32], i: usize, j: usize, to: usize) -> bool
+    requires { ⌜ Family (now work) i j to ⌝ }
+    ensures { λ r. ⌜ r ≡ variable (foldedBelow (now (text .entry)) (redefinersIn (now (text .entry)) (now (work .entry)) i j to)) ⌝ }
+{
+    let name = rows::span_at(work[20 * i + 3]);
+    let mut k = j;
+    while k < to {
+        let m = layout::end_of(work, k, to);
+        match record::relation_to(text, work, name, k) {
+            Relation::Redefiner => {
+                if item_varies(text, work, k, m) {
+                    return true;
+                }
+                k = m;
+            }
+            Relation::Next => {
+                return false;
+            }
+            Relation::Other => {
+                k = m;
+            }
+        }
+    }
+    false
+}
+
+// Whether some member of the union of row i with its redefiners has a DEPENDING ON, or some entry below one.
+fn members_vary(text: &[u8], work: &[u32], i: usize, j: usize, to: usize) -> bool
+    requires { ⌜ Family (now work) i j to ⌝ }
+    ensures { λ r. ⌜ r ≡ variable (unionIn (now (text .entry)) (now (work .entry)) i j to) ⌝ }
+{
+    if has_own(text, work, i, j, to) {
+        if list_varies(text, work, i + 1, j) {
+            return true;
+        }
+        return redefiners_vary(text, work, i, j, to);
+    }
+    if item_varies(text, work, i, j) {
+        return true;
+    }
+    redefiners_vary(text, work, i, j, to)
+}
+
+// Whether what row i comes to in the folded list has a DEPENDING ON, at any depth.
+fn shown_varies(text: &[u8], work: &[u32], i: usize, j: usize, to: usize, last: usize) -> bool
+    requires { ⌜ Family (now work) i j to × (last ≤ i) ⌝ }
+    ensures { λ r. ⌜ r ≡ variable (shownAt (now (text .entry)) (now (work .entry)) i j to last) ⌝ }
+{
+    match record::standing_of(text, work, i, last) {
+        Standing::Under => {
+            return false;
+        }
+        Standing::Alone => {
+            return item_varies(text, work, i, j);
+        }
+        Standing::Base => {
+            if 0 < record::redefiner_count(text, work, i, j, to) {
+                return members_vary(text, work, i, j, to);
+            }
+            return item_varies(text, work, i, j);
+        }
+    }
+}
+
+// Whether some entry of the folded list of the rows from `from` up to `to` has a DEPENDING ON, at any depth.
+pub fn list_varies(text: &[u8], work: &[u32], from: usize, to: usize) -> bool
+    requires { ⌜ Tree (now work) from to ⌝ }
+    ensures { λ r. ⌜ r ≡ listVaries (now (text .entry)) (now (work .entry)) from to ⌝ }
+{
+    let mut i = from;
+    let mut last = 0;
+    while i < to {
+        let j = layout::end_of(work, i, to);
+        if shown_varies(text, work, i, j, to, last) {
+            return true;
+        }
+        last = i + 1;
+        i = j;
+    }
+    false
 }

@@ -389,7 +389,7 @@ write-union-write-members-requires : (t : ℕ) → write-union-lts.Need-write-me
 write-union-write-members-requires t c κs =
     let s = c .before .before .before .before .before .before .before .before .before .before in
     let a = s .args in
-    (omega (arith, s .pre .0), (s .pre .1 .0, head-rest (c .before .before .before .before .before .before .union-entry .ensures) (c .before .before .before .before .before .union-count .ensures) (c .before .before .before .put-entry .ensures) (entriesBytes (unionIn (a .text .now) (a .work .now) (a .i) (a .j) (a .to))) (s .pre .1 .1)))
+    (omega (arith, s .pre .0), (s .pre .1 .0, head-rest {x = unionEntry (a .text .now) (a .work .now) (a .i) (a .j) (a .to)} {n = members# (unionIn (a .text .now) (a .work .now) (a .i) (a .j) (a .to))} (c .before .before .before .before .before .before .union-entry .ensures) (c .before .before .before .before .before .union-count .ensures) (c .before .before .before .put-entry .ensures) (entriesBytes (unionIn (a .text .now) (a .work .now) (a .i) (a .j) (a .to))) (s .pre .1 .1)))
 
 write-union-returns : (t : ℕ) → write-union-lts.Need-returns (write-union-callees t) (write-union-at t) write-union.Post
 write-union-returns t c =

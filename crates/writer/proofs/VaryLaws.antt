@@ -1,0 +1,214 @@
+-- Whether some entry of a folded list has a DEPENDING ON, row by row.
+-- Assumes nothing.
+use Prim.Native.Nat.{ℕ, zero, suc, _+_, _*_, _-_, _≤_, _<_}
+use mathlib.Core.Path.{_≡_, refl, sym, ap, _∙_}
+use mathlib.Core.Bool.{Bool, true, false, _||_}
+use mathlib.Core.List.{List}
+use native.Mathlib.Numerals.{add-one}
+use native.Mathlib.Omega.{arith}
+use Rattle.definition.specs.declared.Span.{Span}
+use Rattle.definition.specs.declared.Entry.{Entry}
+use Rattle.definition.specs.Basic.{if_then_else_, given}
+use Rattle.definition.specs.Fold.{Entries, end, entry, append, rebased}
+use Rattle.definition.specs.Listing.{members#}
+use Rattle.definition.specs.Record.{variable}
+use Rattle.rows.specs.Table.{cell, spanAt}
+use Rattle.layout.specs.Bare.{foldedBelow, foldedAll}
+use Rattle.layout.specs.Places.{basesAt, placeAt, entryIn, rowsForest}
+use Rattle.layout.specs.Steps.{ChildrenEnd}
+use Rattle.record.specs.declared.Standing.{Standing}
+use Rattle.record.specs.declared.Relation.{Relation}
+use Rattle.record.specs.Shown.{standing, relation, listIn, redefinersIn, foldedRest, shownAt, Chained, Tree}
+use Rattle.record.proofs.ShownLaws.{chained-step, redefined-by, redefined-none, walking-here, walking-ends}
+use Rattle.record.proofs.WidthLaws.{Along, along-starts, along-branch, along-on}
+use Rattle.writer.specs.Written.{unionIn, ownMember, Family, listVaries, itemVaries}
+use Rattle.writer.proofs.WriteLaws.{shown-is, base-alone, base-union, union-is}
+use Rattle.writer.proofs.WalkLaws.{row-tree}
+
+-- ---------------------------------------------------------------- one or the other
+
+or-either : (a b c : Bool) → ((a || b) || c) ≡ (if (if a then true else b) then true else c)
+or-either true b c = refl
+or-either false true c = refl
+or-either false false c = refl
+
+either-either : (a b c : Bool) → (if a then true else (if b then true else c)) ≡ (if (if a then true else b) then true else c)
+either-either true b c = refl
+either-either false b c = refl
+
+either-false : (a : Bool) → (if a then true else false) ≡ a
+either-false true = refl
+either-false false = refl
+
+module _ {x : Bool} (a b : Bool) (h : x ≡ (if a then true else b)) {o : Bool} (p : o ≡ a) where
+  pub first-yes : o ≡ true → true ≡ x
+  first-yes e = sym (h ∙ ap (λ (y : Bool). if y then true else b) (sym p ∙ e))
+
+  pub first-not : o ≡ false → {r : Bool} → r ≡ b → r ≡ x
+  first-not e q = q ∙ sym (h ∙ ap (λ (y : Bool). if y then true else b) (sym p ∙ e))
+
+variable-append : (a b : Entries) → variable (append a b) ≡ (if variable a then true else variable b)
+unfolding append variable
+variable-append end b = refl
+variable-append (entry e ms later) b =
+    let d = given (e .depending) || variable ms in
+    ap (λ (y : Bool). d || y) (variable-append later b) ∙ go d (variable later) (variable b)
+  where
+    go : (a b c : Bool) → (a || (if b then true else c)) ≡ (if a || b then true else c)
+    go true b c = refl
+    go false b c = refl
+
+-- ---------------------------------------------------------------- a row
+
+module _ (t w : List ℕ) (i j : ℕ) where
+  -- an entry with the DEPENDING ON and the members of row i, before others
+  item-then :
+      (e : Entry) (later : Entries) →
+      given (e .depending) ≡ given (entryIn w i .depending) →
+      variable (entry e (foldedAll t (listIn w (suc i) j)) later) ≡ (if itemVaries t w i j then true else variable later)
+  unfolding variable
+  item-then e later h =
+      or-either (given (e .depending)) (variable (foldedAll t (listIn w (suc i) j))) (variable later)
+      ∙ ap (λ (y : Bool). if (if y then true else variable (foldedAll t (listIn w (suc i) j))) then true else variable later) h
+      ∙ ap (λ (n : ℕ). if (if given (entryIn w i .depending) then true else listVaries t w n j) then true else variable later) (sym (add-one i))
+
+  item-single : variable (entry (entryIn w i) (foldedAll t (listIn w (suc i) j)) end) ≡ itemVaries t w i j
+  unfolding variable
+  item-single = item-then (entryIn w i) end refl ∙ either-false (itemVaries t w i j)
+
+module _ (t w : List ℕ) (i j to : ℕ) where
+  module _ (last : ℕ) {s : Standing} (p : s ≡ standing t (basesAt w last) (entryIn w i)) where
+    pub under-varies : s ≡ Standing.Under → false ≡ variable (shownAt t w i j to last)
+    unfolding variable
+    under-varies e = sym (ap variable (shown-is t w i j to last p Standing.Under e))
+
+    pub alone-varies : s ≡ Standing.Alone → {r : Bool} → r ≡ itemVaries t w i j → r ≡ variable (shownAt t w i j to last)
+    alone-varies e q = q ∙ sym (ap variable (shown-is t w i j to last p Standing.Alone e) ∙ item-single t w i j)
+
+    module _ (e : s ≡ Standing.Base) {n : ℕ} (c : n ≡ members# (redefinersIn t w i j to)) where
+      pub base-varies : n ≤ 0 → {r : Bool} → r ≡ itemVaries t w i j → r ≡ variable (shownAt t w i j to last)
+      base-varies h q = q ∙ sym (ap variable (base-alone t w i j to last p e c h) ∙ item-single t w i j)
+
+      pub union-varies : 0 < n → {r : Bool} → r ≡ variable (unionIn t w i j to) → r ≡ variable (shownAt t w i j to last)
+      unfolding variable
+      union-varies h {r} q =
+          let us = variable (unionIn t w i j to) in
+          q ∙ sym (ap variable (base-union t w i j to last p e c h) ∙ or-either false us false ∙ either-false us)
+
+  module _ {o : Bool} (p : o ≡ ownMember t w i j) where
+    pub folded-varies : o ≡ true → variable (unionIn t w i j to) ≡ (if listVaries t w (i + 1) j then true else variable (foldedBelow t (redefinersIn t w i j to)))
+    folded-varies e =
+        ap variable (union-is t w i j to p true e)
+        ∙ variable-append (foldedAll t (listIn w (suc i) j)) (foldedBelow t (redefinersIn t w i j to))
+        ∙ ap (λ (n : ℕ). if listVaries t w n j then true else variable (foldedBelow t (redefinersIn t w i j to))) (sym (add-one i))
+
+    pub based-varies : o ≡ false → variable (unionIn t w i j to) ≡ (if itemVaries t w i j then true else variable (foldedBelow t (redefinersIn t w i j to)))
+    based-varies e =
+        ap variable (union-is t w i j to p false e)
+        ∙ item-then t w i j (rebased (cell w i 13) (entryIn w i)) (foldedBelow t (redefinersIn t w i j to)) refl
+
+-- ---------------------------------------------------------------- the list
+
+-- what the loop keeps: nothing that is done varies
+pub record Looking (t w : List ℕ) (from to i last : ℕ) : Type 0 where
+  pub done : Entries
+  pub along : Along t w from to i last done
+  pub none : variable done ≡ false
+
+pub looking-starts : (t w : List ℕ) (from to : ℕ) → Tree w from to → Looking t w from to from 0
+unfolding variable
+looking-starts t w from to h = record { done = end; along = along-starts t w from to h; none = refl }
+
+module _ {t w : List ℕ} {from to i last : ℕ} (inv : Looking t w from to i last) where
+  pub looking-ends : to ≤ i → false ≡ listVaries t w from to
+  looking-ends h = sym (ap variable (walking-ends (inv .along .walk) h) ∙ inv .none)
+
+  module _ {j : ℕ} (h : ChildrenEnd w i to j) where
+    pub looking-family : Family w i j to
+    looking-family =
+        let b = along-branch (inv .along) h in
+        record {
+          low = b .low;
+          high = b .high;
+          fits = b .fits;
+          chained = b .chained;
+          later = chained-step w i to j h last (inv .along .chained) .2;
+          sized = b .sized;
+        }
+
+    module _ {o : Bool} (p : o ≡ variable (shownAt t w i j to last)) where
+      pub looking-finds : o ≡ true → true ≡ listVaries t w from to
+      looking-finds e =
+          let shown = shownAt t w i j to last in
+          let rest = foldedRest t w j to (suc i) in
+          sym (ap variable (walking-here (inv .along .walk) h)
+          ∙ variable-append (inv .done) (append shown rest)
+          ∙ ap (λ (y : Bool). if y then true else variable (append shown rest)) (inv .none)
+          ∙ variable-append shown rest
+          ∙ ap (λ (y : Bool). if y then true else variable rest) (sym p ∙ e))
+
+      pub looking-on : o ≡ false → Looking t w from to j (i + 1)
+      looking-on e =
+          let shown = shownAt t w i j to last in
+          record {
+            done = append (inv .done) shown;
+            along = along-on (inv .along) h;
+            none = variable-append (inv .done) shown ∙ ap (λ (y : Bool). if y then true else variable shown) (inv .none) ∙ sym p ∙ e;
+          }
+
+-- ---------------------------------------------------------------- the redefiners
+
+-- what the loop keeps: the redefiners from row k on decide
+pub record Seeking (t w : List ℕ) (i j to k : ℕ) : Type 0 where
+  pub family : Family w i j to
+  pub low : j ≤ k
+  pub high : k ≤ to
+  pub before : ℕ
+  pub chained : Chained w k before (rowsForest w k to)
+  pub same : variable (foldedBelow t (redefinersIn t w i j to)) ≡ variable (foldedBelow t (redefinersIn t w i k to))
+
+pub seeking-starts : (t w : List ℕ) (i j to : ℕ) → Family w i j to → Seeking t w i j to j
+seeking-starts t w i j to h =
+    record { family = h; low = omega arith; high = h .high; before = suc i; chained = h .later; same = refl }
+
+module _ {t w : List ℕ} {i j to k : ℕ} (inv : Seeking t w i j to k) where
+  pub seeking-ends : to ≤ k → false ≡ variable (foldedBelow t (redefinersIn t w i j to))
+  unfolding foldedBelow variable
+  seeking-ends h = sym (inv .same ∙ ap (λ (es : Entries). variable (foldedBelow t es)) (redefined-none t w i k to h))
+
+  module _ {m : ℕ} (h : ChildrenEnd w k to m) where
+    pub seeking-tree : Tree w (k + 1) m
+    seeking-tree = row-tree (inv .family) (omega (arith, inv .low, inv .family .low)) h (inv .before) (inv .chained)
+
+    module _ {name : Span} {r : Relation} (q : name ≡ spanAt (cell w i 3)) (p : r ≡ relation t name (entryIn w k)) where
+      pub seeking-stops : r ≡ Relation.Next → false ≡ variable (foldedBelow t (redefinersIn t w i j to))
+      unfolding foldedBelow variable
+      seeking-stops e = sym (inv .same ∙ ap (λ (es : Entries). variable (foldedBelow t es)) (redefined-by t w i k to h q p e))
+
+      -- the rest decides
+      seeking-next : variable (foldedBelow t (redefinersIn t w i k to)) ≡ variable (foldedBelow t (redefinersIn t w i m to)) → Seeking t w i j to m
+      seeking-next e =
+          record {
+            family = inv .family;
+            low = omega (arith, inv .low, h .low);
+            high = h .high;
+            before = suc k;
+            chained = chained-step w k to m h (inv .before) (inv .chained) .2;
+            same = inv .same ∙ e;
+          }
+
+      pub seeking-passes : r ≡ Relation.Other → Seeking t w i j to m
+      seeking-passes e = seeking-next (ap (λ (es : Entries). variable (foldedBelow t es)) (redefined-by t w i k to h q p e))
+
+      module _ (e : r ≡ Relation.Redefiner) {o : Bool} (z : o ≡ itemVaries t w k m) where
+        here : variable (foldedBelow t (redefinersIn t w i k to)) ≡ (if itemVaries t w k m then true else variable (foldedBelow t (redefinersIn t w i m to)))
+        unfolding foldedBelow
+        here =
+            ap (λ (es : Entries). variable (foldedBelow t es)) (redefined-by t w i k to h q p e)
+            ∙ item-then t w k m (rebased (cell w i 13) (entryIn w k)) (foldedBelow t (redefinersIn t w i m to)) refl
+
+        pub seeking-finds : o ≡ true → true ≡ variable (foldedBelow t (redefinersIn t w i j to))
+        seeking-finds y = first-yes (itemVaries t w k m) (variable (foldedBelow t (redefinersIn t w i m to))) (inv .same ∙ here) z y
+
+        pub seeking-on : o ≡ false → Seeking t w i j to m
+        seeking-on y = seeking-next (sym (first-not (itemVaries t w k m) (variable (foldedBelow t (redefinersIn t w i m to))) here z y refl))

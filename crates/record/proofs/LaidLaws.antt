@@ -238,11 +238,12 @@ module _ (text w : List ℕ) (a b : ℕ) where
         pub laid-listed :
             d ≡ Check.Passed →
             Tree w₁ a b →
+            b ≤ 800 →
             {m : ℕ} →
             m ≡ recordLength (foldedAll text (listIn w₁ a b)) →
             Listed text (bareRecord text (rowsForest w a b)) w₁ a b m
         unfolding _>>=_
-        laid-listed f t l = record { is = passed Check.Passed f; tree = t; long = l }
+        laid-listed f t few l = record { is = passed Check.Passed f; tree = t; few = few; long = l }
 
 -- ---------------------------------------------------------------- the record of a text
 

@@ -23,6 +23,7 @@ pub record FieldsFrom (w : List ℕ) (n r : ℕ) : Type 0 where
 pub record Listed (text : List ℕ) (laid : Answer Entries) (w : List ℕ) (from to length : ℕ) : Type 0 where
   pub is : laid ≡ give (listIn w from to)
   pub tree : Tree w from to
+  pub few : to ≤ 800
   pub long : length ≡ recordLength (foldedAll text (listIn w from to))
 
 -- what an answer says of the record that was to be laid, with the table as the call leaves it

@@ -414,7 +414,7 @@ pub fn first_field(work: &[u32], n: usize) -> usize
 
 // Lays out the fields in the rows from `from` up to `to`: their places, then 30, then 29 for an end in the folded list.
 pub fn lay_fields(text: &[u8], work: &mut [u32], from: usize, to: usize) -> RecordLaid
-    requires { ⌜ (from ≤ to) × Room (now work) to ⌝ }
+    requires { ⌜ (from ≤ to) × Room (now work) to × (to ≤ 800) ⌝ }
     ensures { λ r. ⌜ RecordIs (now (text .entry)) (bareRecord (now (text .entry)) (rowsForest (now (work .entry)) from to)) r (now (work .exit)) ⌝ }
 {
     match layout::lay_list(text, work, from, to, 64) {

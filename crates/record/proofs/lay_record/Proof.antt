@@ -26,7 +26,7 @@ first-field-requires : tie.Need-first-field-requires
 first-field-requires c κs = let r = rows-read (c .before .before) in let p = c .before .before .before .before .before .before .before .before .before .before .pre in omega (arith, r .few, r .long, p .1)
 
 lay-fields-requires : tie.Need-lay-fields-requires
-lay-fields-requires c κs = let r = rows-read (c .before .before .before .before) in let p = c .before .before .before .before .before .before .before .before .before .before .before .before .pre in (c .before .first-field .ensures .low, record { fits = omega (arith, r .few, r .long, p .1); small = omega (arith, r .few) })
+lay-fields-requires c κs = let r = rows-read (c .before .before .before .before) in let p = c .before .before .before .before .before .before .before .before .before .before .before .before .pre in (c .before .first-field .ensures .low, record { fits = omega (arith, r .few, r .long, p .1); small = omega (arith, r .few) }, r .few)
 
 returns : tie.Need-returns
 returns c = fields-laid (c .before .before .before .before .before .before .before .before .before .before .before .before .before .before .before .args .text .now) (rows-read (c .before .before .before .before .before .before .before)) (c .before .before .before .before .first-field .ensures) (c .before .before .lay-fields .last .1 .0) (c .before .before .lay-fields .result) (c .before .before .lay-fields .ensures)

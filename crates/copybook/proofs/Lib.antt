@@ -1,0 +1,2 @@
+pub mod ListedLaws
+pub mod CallLaws

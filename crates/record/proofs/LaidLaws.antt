@@ -96,10 +96,10 @@ column-same c value w w′ (item s kids later) k last h x =
 module _
     (c : ℕ) (value : ℕ → Forest → ℕ) (small : c < 20)
     (first :
-        (e : Entry) (members more : Entries) (w : List ℕ) (k last : ℕ) (kids : Forest) →
-        entries# members ≡ size kids →
-        20 * k + 20 ≤ length w →
-        cell (putPlaces w k last (entry e members more)) k c ≡ value last kids)
+    (e : Entry) (members more : Entries) (w : List ℕ) (k last : ℕ) (kids : Forest) →
+    entries# members ≡ size kids →
+    20 * k + 20 ≤ length w →
+    cell (putPlaces w k last (entry e members more)) k c ≡ value last kids)
   where
     places-column :
         (f : Forest) (es : Entries) (w : List ℕ) (k last : ℕ) →

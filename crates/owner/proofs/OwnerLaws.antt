@@ -34,6 +34,7 @@ use Rattle.layout.specs.Places.{entryIn, entriesIn, rowsForest}
 use Rattle.layout.proofs.BareLaws.{fold-is, layout-is}
 use Rattle.layout.proofs.EntriesLaws.{size-stretch, Rows, rows-forest}
 use Rattle.layout.proofs.RowLaws.{stretch-cons, stretch-none}
+use Rattle.record.proofs.LaidLaws.{entries-size}
 use Rattle.record.specs.Laying.{fieldsOf, laidOf, Listed, recordOf}
 use Rattle.record.specs.Shown.{listIn, Counted, Tree, SizedRow, Measured}
 use Rattle.owner.specs.Walked.{overlays, rowAt, tableRows, Walkable, recordOwner}
@@ -117,12 +118,6 @@ table-none : (w : List ℕ) (to k : ℕ) → to ≤ k → tableRows w k (to - k)
 unfolding tableRows
 table-none w to k h = ap (tableRows w k) (let e : to - k ≡ 0 = omega arith in e)
 
--- a list has an entry for each row
-pub entries-size : (w : List ℕ) (f : Forest) (k : ℕ) → entries# (entriesIn w k f) ≡ size f
-unfolding entriesIn
-entries-size w leaf k = refl
-entries-size w (item s kids later) k = omega (arith, entries-size w kids (suc k), entries-size w later (suc k + size kids))
-
 -- the rows of the listing are those of the table, where each counts the rows below it
 rows-table : (w : List ℕ) (f : Forest) (k last : ℕ) → Counted w k last f → rows (entriesIn w k f) ≡ tableRows w k (size f)
 unfolding rows entriesIn tableRows
@@ -203,77 +198,84 @@ module _ {w : List ℕ} {from to position k first q : ℕ} (a : At w from to pos
   unfolding walk
   found-none h = sym (a .same ∙ ap (λ (l : List Row). walk 0 (k - from) first l q) (table-none w to k h))
 
-  module _
-      (h : k < to) {offset width below all : ℕ} (o : offset ≡ cell w k 13) (p : width ≡ cell w k 14) (b : below ≡ cell w k 17)
-      (t : Measured (total (entryIn w k)) all) (g : offset ≤ q)
-    where
-      -- a byte in an occurrence of the row
-      module _ (l : q - offset < all) where
-        inside-row : q < cell w k 13 + total (entryIn w k)
-        inside-row = omega (arith, o, t .is)
+-- what the code has read of row k, where the byte does not stand before it
+pub record RowRead (w : List ℕ) (from to position k first q offset width below all : ℕ) : Type 0 where
+  pub at : At w from to position k first q
+  pub here : k < to
+  pub offset-is : offset ≡ cell w k 13
+  pub width-is : width ≡ cell w k 14
+  pub below-is : below ≡ cell w k 17
+  pub all-is : Measured (total (entryIn w k)) all
+  pub reached : offset ≤ q
 
-        -- the walk's start and place are the code's
-        known-start : first + cell w k 13 + (q - cell w k 13) / cell w k 14 * cell w k 14 ≡ first + offset + (q - offset) / width * width
-        known-start = ap₂ (λ (x y : ℕ). first + x + (q - x) / y * y) (sym o) (sym p)
+module _ {w : List ℕ} {from to position k first q offset width below all : ℕ} (r : RowRead w from to position k first q offset width below all) where
+  -- a byte in an occurrence of the row
+  module _ (l : q - offset < all) where
+    inside-row : q < cell w k 13 + total (entryIn w k)
+    inside-row = omega (arith, r .offset-is, r .all-is .is)
 
-        known-place : (q - cell w k 13) % cell w k 14 ≡ (q - offset) % width
-        known-place = ap₂ (λ (x y : ℕ). (q - x) % y) (sym o) (sym p)
+    -- the walk's start and place are the code's
+    known-start : first + cell w k 13 + (q - cell w k 13) / cell w k 14 * cell w k 14 ≡ first + offset + (q - offset) / width * width
+    known-start = ap₂ (λ (x y : ℕ). first + x + (q - x) / y * y) (sym (r .offset-is)) (sym (r .width-is))
 
-        pub found-piece :
-            below ≡ 0 →
-            Owner.Piece (k - from) (first + offset + (q - offset) / width * width) ((q - offset) % width) ≡ walk 0 0 0 (rows (listIn w from to)) position
-        found-piece z =
-            sym
-            (at-row h
-            ∙ walk-piece (k - from) first (rowAt w k) (tableRows w (suc k) (to - suc k)) q (omega (arith, o)) inside-row (sym b ∙ z)
-            ∙ ap₂ (Owner.Piece (k - from)) known-start known-place)
+    known-place : (q - cell w k 13) % cell w k 14 ≡ (q - offset) % width
+    known-place = ap₂ (λ (x y : ℕ). (q - x) % y) (sym (r .offset-is)) (sym (r .width-is))
 
-        pub go-in :
-            (below ≡ 0 → ⊥) →
-            At w from to position (k + 1) (first + offset + (q - offset) / width * width) ((q - offset) % width)
-        go-in z =
-            let rest = tableRows w (suc k) (to - suc k) in
-            let e : suc (k - from) ≡ suc k - from = omega (arith, a .low) in
-            record {
-              held = a .held;
-              fits = a .fits;
-              low = omega (arith, a .low);
-              same =
-                  rw (add-one k)
-                  (at-row h
-                  ∙ walk-in (k - from) first (rowAt w k) rest q (omega (arith, o)) inside-row (omega arith)
-                  ∙ ap₂ (λ (x y : ℕ). walk 0 (suc (k - from)) x rest y) known-start known-place
-                  ∙ ap (λ (n : ℕ). walk 0 n (first + offset + (q - offset) / width * width) rest ((q - offset) % width)) e);
-              whole = omega (arith, a .whole, div-add-mod' (q - offset) width);
-            }
+    pub found-piece :
+        below ≡ 0 →
+        Owner.Piece (k - from) (first + offset + (q - offset) / width * width) ((q - offset) % width) ≡ walk 0 0 0 (rows (listIn w from to)) position
+    found-piece z =
+        sym
+        (at-row (r .at) (r .here)
+        ∙ walk-piece (k - from) first (rowAt w k) (tableRows w (suc k) (to - suc k)) q (omega (arith, r .offset-is, r .reached)) inside-row (sym (r .below-is) ∙ z)
+        ∙ ap₂ (Owner.Piece (k - from)) known-start known-place)
 
-        -- what the code's sums and quotients need
-        pub width-positive : 0 < width
-        width-positive = positive width (times (entryIn w k .occurs)) (q - offset) (omega (arith, t .is, ap (λ (x : ℕ). x * times (entryIn w k .occurs)) p))
+    pub go-in :
+        (below ≡ 0 → ⊥) →
+        At w from to position (k + 1) (first + offset + (q - offset) / width * width) ((q - offset) % width)
+    go-in z =
+        let rest = tableRows w (suc k) (to - suc k) in
+        let e : suc (k - from) ≡ suc k - from = omega (arith, r .at .low) in
+        record {
+          held = r .at .held;
+          fits = r .at .fits;
+          low = omega (arith, r .at .low);
+          same =
+              rw (add-one k)
+              (at-row (r .at) (r .here)
+              ∙ walk-in (k - from) first (rowAt w k) rest q (omega (arith, r .offset-is, r .reached)) inside-row (omega arith)
+              ∙ ap₂ (λ (x y : ℕ). walk 0 (suc (k - from)) x rest y) known-start known-place
+              ∙ ap (λ (n : ℕ). walk 0 n (first + offset + (q - offset) / width * width) rest ((q - offset) % width)) e);
+          whole = omega (arith, r .at .whole, div-add-mod' (q - offset) width);
+        }
 
-        pub start-fits : first + offset + (q - offset) / width * width ≤ position
-        start-fits = omega (arith, a .whole, div-mul-le-self (q - offset) width)
+    -- what the code's sums and quotients need
+    pub width-positive : 0 < width
+    width-positive = positive width (times (entryIn w k .occurs)) (q - offset) (omega (arith, r .all-is .is, ap (λ (x : ℕ). x * times (entryIn w k .occurs)) (r .width-is)))
 
-      -- a byte behind the row
-      pub go-on : all ≤ q - offset → At w from to position (k + 1 + below) first q
-      go-on l =
-          let s = row-nested h in
-          let left = to - (suc k + below) in
-          let e : to - suc k ≡ below + left = omega (arith, b) in
-          let n : suc (k - from) + below ≡ suc k + below - from = omega (arith, a .low) in
-          record {
-            held = a .held;
-            fits = a .fits;
-            low = omega (arith, a .low);
-            same =
-                rw (add-one k)
-                (at-row h
-                ∙ walk-later (k - from) first (rowAt w k) (tableRows w (suc k) (to - suc k)) q (omega (arith, o)) (omega (arith, o, t .is))
-                ∙ ap₂ (λ (x m : ℕ). walk x (suc (k - from)) first (tableRows w (suc k) m) q) (sym b) e
-                ∙ walk-past w below (suc k) left (suc (k - from)) first q
-                ∙ ap (λ (x : ℕ). walk 0 x first (tableRows w (suc k + below) left) q) n);
-            whole = a .whole;
-          }
+    pub start-fits : first + offset + (q - offset) / width * width ≤ position
+    start-fits = omega (arith, r .at .whole, div-mul-le-self (q - offset) width)
+
+  -- a byte behind the row
+  pub go-on : all ≤ q - offset → At w from to position (k + 1 + below) first q
+  go-on l =
+      let s = row-nested (r .at) (r .here) in
+      let left = to - (suc k + below) in
+      let e : to - suc k ≡ below + left = omega (arith, r .below-is) in
+      let n : suc (k - from) + below ≡ suc k + below - from = omega (arith, r .at .low) in
+      record {
+        held = r .at .held;
+        fits = r .at .fits;
+        low = omega (arith, r .at .low);
+        same =
+            rw (add-one k)
+            (at-row (r .at) (r .here)
+            ∙ walk-later (k - from) first (rowAt w k) (tableRows w (suc k) (to - suc k)) q (omega (arith, r .offset-is, r .reached)) (omega (arith, r .offset-is, r .all-is .is))
+            ∙ ap₂ (λ (x m : ℕ). walk x (suc (k - from)) first (tableRows w (suc k) m) q) (sym (r .below-is)) e
+            ∙ walk-past w below (suc k) left (suc (k - from)) first q
+            ∙ ap (λ (x : ℕ). walk 0 x first (tableRows w (suc k + below) left) q) n);
+        whole = r .at .whole;
+      }
 
 -- ---------------------------------------------------------------- without REDEFINES every list is folded as it stands
 

@@ -40,6 +40,12 @@ use Rattle.record.specs.Shown.{listIn, Column, Chained, Counted, Tree}
 use Rattle.record.specs.declared.RecordLaid.{RecordLaid}
 use Rattle.record.specs.Laying.{FieldsFrom, fieldsOf, laidOf, Listed, RecordIs, recordOf}
 
+-- a list has an entry for each row
+pub entries-size : (w : List ℕ) (f : Forest) (k : ℕ) → entries# (entriesIn w k f) ≡ size f
+unfolding entriesIn
+entries-size w leaf k = refl
+entries-size w (item s kids later) k = omega (arith, entries-size w kids (suc k), entries-size w later (suc k + size kids))
+
 -- ---------------------------------------------------------------- no entry is too large
 
 -- every entry of a list and of those below it has at most 2,147,483,647 bytes

@@ -3,7 +3,7 @@
 use borrow.Author.Needs.{needs}
 use Prim.Native.Nat.{_-_}
 use native.Mathlib.Omega.{arith}
-use Rattle.owner.proofs.OwnerLaws.{At, walk-starts, row-sized, row-nested, found-slack, found-none, found-piece, go-in, go-on, width-positive, start-fits}
+use Rattle.owner.proofs.OwnerLaws.{At, walk-starts, row-sized, row-nested, found-slack, found-none, RowRead, found-piece, go-in, go-on, width-positive, start-fits}
 use Rattle.owner.proofs.walk_rows.Statement.{statement}
 use Rattle.owner.proofs.walk_rows.Tie as tie
 
@@ -12,6 +12,34 @@ Inv-loop work from to position k₀ first₀ q₀ k first q = At work from to po
 
 abbrev μ-loop : tie.MeasureT-loop
 μ-loop work from to position k₀ first₀ q₀ k first q = to - k
+
+-- what is read of a row
+row :
+    (x : tie.After-row-total Inv-loop μ-loop) →
+    let a = x .before .before .before .before .before .before .before .before .before .before .before .args in
+    let l = x .before .before .before .before .before .before .before .before .before .loop in
+    RowRead
+    (a .work .now)
+    (a .from)
+    (a .to)
+    (a .position)
+    (l .k)
+    (l .first)
+    (l .q)
+    (x .before .before .before .before .before .before .wide .result)
+    (x .before .before .before .wide2 .result)
+    (x .before .wide3 .result)
+    (x .row-total .result)
+row x =
+    record {
+      at = x .before .before .before .before .before .before .before .before .before .loop .inv;
+      here = x .before .before .before .before .before .before .before .before .loop-test .taken;
+      offset-is = x .before .before .before .before .before .before .wide .ensures .0;
+      width-is = x .before .before .before .wide2 .ensures .0;
+      below-is = x .before .wide3 .ensures .0;
+      all-is = x .row-total .ensures;
+      reached = x .before .before .before .before .before .if1 .left;
+    }
 
 loop-holds : tie.Need-loop-holds Inv-loop μ-loop
 loop-holds c = search walk-starts
@@ -26,28 +54,28 @@ add-start : tie.Need-add-start Inv-loop μ-loop
 add-start c = search needs
 
 div-start : tie.Need-div-start Inv-loop μ-loop
-div-start c = search width-positive
+div-start c = width-positive (row (c .before)) (c .if2 .taken)
 
 mul-start : tie.Need-mul-start Inv-loop μ-loop
-mul-start c = ?
+mul-start c = omega (arith, start-fits (row (c .before)) (c .if2 .taken))
 
 add-start-2 : tie.Need-add-start-2 Inv-loop μ-loop
-add-start-2 c = ?
+add-start-2 c = omega (arith, start-fits (row (c .before)) (c .if2 .taken))
 
 rem-place : tie.Need-rem-place Inv-loop μ-loop
-rem-place c = search width-positive
+rem-place c = width-positive (row (c .before)) (c .if2 .taken)
 
 returns-2 : tie.Need-returns-2 Inv-loop μ-loop
-returns-2 c = search found-piece
+returns-2 c = found-piece (row (c .before .before)) (c .before .if2 .taken) (c .if3 .taken)
 
 loop-again : tie.Need-loop-again Inv-loop μ-loop
-loop-again c = search go-in
+loop-again c = go-in (row (c .before .before)) (c .before .if2 .taken) (c .if3 .left)
 
 add-k-3 : tie.Need-add-k-3 Inv-loop μ-loop
-add-k-3 c = ?
+add-k-3 c = let r = row (c .before) in omega (arith, r .below-is, row-nested (r .at) (r .here))
 
 loop-again-2 : tie.Need-loop-again-2 Inv-loop μ-loop
-loop-again-2 c = search go-on
+loop-again-2 c = go-on (row (c .before)) (c .if2 .left)
 
 returns-3 : tie.Need-returns-3 Inv-loop μ-loop
 returns-3 c = search found-none

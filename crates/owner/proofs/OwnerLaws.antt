@@ -16,7 +16,7 @@ use Rattle.definition.specs.declared.OwnerAnswer.{OwnerAnswer}
 use Rattle.definition.specs.declared.Refusal.{Refusal}
 use Rattle.definition.specs.declared.Statement.{Statement}
 use Rattle.definition.specs.Basic.{given, Answer, refuse, give, _>>=_}
-use Rattle.definition.specs.Calls.{entryChecks, recordFields, ownerIn, byteOwner, ownerAnswerOf}
+use Rattle.definition.specs.Calls.{recordFields, ownerIn, byteOwner, ownerAnswerOf}
 use Rattle.definition.specs.Fold.{Entries, end, entry, times, total}
 use Rattle.definition.specs.Owner.{size, overlaid, pieces, ownerOf}
 use Rattle.definition.specs.Record.{recordLength, layout}
@@ -35,9 +35,9 @@ use Rattle.layout.proofs.BareLaws.{fold-is, layout-is}
 use Rattle.layout.proofs.EntriesLaws.{size-stretch, Rows, rows-forest}
 use Rattle.layout.proofs.RowLaws.{stretch-cons, stretch-none}
 use Rattle.record.proofs.LaidLaws.{entries-size}
-use Rattle.record.specs.Laying.{fieldsOf, laidOf, Listed, recordOf}
+use Rattle.record.specs.Laying.{laidOf, Listed}
 use Rattle.record.specs.Shown.{listIn, Counted, Tree, SizedRow, Measured}
-use Rattle.owner.specs.Walked.{overlays, rowAt, tableRows, Walkable, recordOwner}
+use Rattle.owner.specs.Walked.{overlays, rowAt, tableRows, Walkable}
 
 -- ---------------------------------------------------------------- a REDEFINES or a DEPENDING ON
 
@@ -314,29 +314,24 @@ module _ (text : List ℕ) where
 pub listed-walkable : {text : List ℕ} {read : Answer Forest} {w : List ℕ} {from to length : ℕ} → Listed text read w from to length → Walkable w from to
 listed-walkable l = record { tree = l .tree; counted = l .counted }
 
-module _ {text w : List ℕ} {from to length : ℕ} (l : Listed text (fieldsOf text) w from to length) where
+module _ {text w : List ℕ} {from to length : ℕ} (l : Listed text (give (rowsForest w from to)) w from to length) where
   -- the record's layout
   laid-out : layout text (rowsForest w from to) ≡ give (foldedAll text (listIn w from to))
   unfolding _>>=_
   laid-out =
       layout-is text (rowsForest w from to)
-      ∙ ap (λ (a : Answer Entries). a >>= λ es. give (foldedAll text es)) (sym (ap (laidOf text) (l .fields)) ∙ l .is)
-
-  -- the fields are those of the rows
-  of-rows : (q : ℕ) → recordOwner text q ≡ ownerIn text (rowsForest w from to) q
-  unfolding recordOwner _>>=_
-  of-rows q = ap (λ (a : Answer Forest). a >>= λ f. ownerIn text f q) (l .fields)
+      ∙ ap (λ (a : Answer Entries). a >>= λ es. give (foldedAll text es)) (l .is)
 
   module _ {b : Bool} (p : b ≡ overlaid (rowsForest w from to)) (q : ℕ) where
     -- 40
-    pub answers-40 : b ≡ true → ownerAnswerOf (OwnerAnswer.Refused (record { number = 40; position = 0; needed = 0 })) ≡ recordOwner text q
-    answers-40 e = sym (of-rows q ∙ refuses-40 text (rowsForest w from to) (foldedAll text (listIn w from to)) laid-out (sym p ∙ e) q)
+    pub answers-40 : b ≡ true → ownerAnswerOf (OwnerAnswer.Refused (record { number = 40; position = 0; needed = 0 })) ≡ ownerIn text (rowsForest w from to) q
+    answers-40 e = sym (refuses-40 text (rowsForest w from to) (foldedAll text (listIn w from to)) laid-out (sym p ∙ e) q)
 
     module _ (e : b ≡ false) where
       -- 41
-      pub answers-41 : length ≤ q → ownerAnswerOf (OwnerAnswer.Refused (record { number = 41; position = 0; needed = 0 })) ≡ recordOwner text q
+      pub answers-41 : length ≤ q → ownerAnswerOf (OwnerAnswer.Refused (record { number = 41; position = 0; needed = 0 })) ≡ ownerIn text (rowsForest w from to) q
       answers-41 h =
-          sym (of-rows q ∙ refuses-41 text (rowsForest w from to) (foldedAll text (listIn w from to)) laid-out (sym p ∙ e) q (omega (arith, l .long)))
+          sym (refuses-41 text (rowsForest w from to) (foldedAll text (listIn w from to)) laid-out (sym p ∙ e) q (omega (arith, l .long)))
 
       module _ (h : q < length) {o : Owner} (f : o ≡ walk 0 0 0 (rows (listIn w from to)) q) where
         below-length : q < recordLength (foldedAll text (listIn w from to))
@@ -346,17 +341,17 @@ module _ {text w : List ℕ} {from to length : ℕ} (l : Listed text (fieldsOf t
         of-listing : o ≡ walk 0 0 0 (rows (foldedAll text (listIn w from to))) q
         of-listing = f ∙ ap (λ (es : Entries). walk 0 0 0 (rows es) q) (sym (folded-plain text w from to (sym p ∙ e)))
 
-        found : give o ≡ recordOwner text q
+        found : give o ≡ ownerIn text (rowsForest w from to) q
         found =
             ap give of-listing
-            ∙ sym (of-rows q ∙ computed text (rowsForest w from to) (foldedAll text (listIn w from to)) laid-out (sym p ∙ e) q below-length)
+            ∙ sym (computed text (rowsForest w from to) (foldedAll text (listIn w from to)) laid-out (sym p ∙ e) q below-length)
 
         -- a piece
-        pub answers-piece : {k first place : ℕ} → o ≡ Owner.Piece k first place → ownerAnswerOf (OwnerAnswer.Piece k first place) ≡ recordOwner text q
+        pub answers-piece : {k first place : ℕ} → o ≡ Owner.Piece k first place → ownerAnswerOf (OwnerAnswer.Piece k first place) ≡ ownerIn text (rowsForest w from to) q
         answers-piece z = ap give (sym z) ∙ found
 
         -- slack
-        pub answers-slack : {k : ℕ} → o ≡ Owner.Slack k → ownerAnswerOf (OwnerAnswer.Slack k) ≡ recordOwner text q
+        pub answers-slack : {k : ℕ} → o ≡ Owner.Slack k → ownerAnswerOf (OwnerAnswer.Slack k) ≡ ownerIn text (rowsForest w from to) q
         answers-slack z = ap give (sym z) ∙ found
 
         -- every byte below the length has an owner
@@ -370,12 +365,7 @@ module _ {text w : List ℕ} {from to length : ℕ} (l : Listed text (fieldsOf t
 
 -- ---------------------------------------------------------------- the call
 
--- after the entry's checks the byte owner is the owner in the text's record
-pub owner-call : (text : List ℕ) (n q : ℕ) → entryChecks text n ≡ give tt → byteOwner text n q ≡ recordOwner text q
-unfolding byteOwner recordFields recordOwner fieldsOf _>>=_
-owner-call text n q h = rw h
-
--- and a record that is not laid is refused
+-- a record that is not laid is refused
 not-laid : (text : List ℕ) (q : ℕ) (f : Forest) {r : Refusal} → bareRecord text f ≡ refuse r → ownerIn text f q ≡ refuse r
 unfolding ownerIn _>>=_
 not-laid text q f {r} h =
@@ -387,6 +377,16 @@ unfolding _>>=_
 by-fields text q (refuse x) h = ap refuse (cc)
 by-fields text q (give f) h = not-laid text q f h
 
-pub owner-refused : (text : List ℕ) (q : ℕ) {r : Refusal} → recordOf text ≡ refuse r → recordOwner text q ≡ refuse r
-unfolding recordOwner
-owner-refused text q h = by-fields text q (fieldsOf text) h
+pub owner-refused : (text : List ℕ) (n q : ℕ) {r : Refusal} → laidOf text (recordFields text n) ≡ refuse r → byteOwner text n q ≡ refuse r
+unfolding byteOwner
+owner-refused text n q h = by-fields text q (recordFields text n) h
+
+module _ {text w : List ℕ} (n : ℕ) {from to length : ℕ} (l : Listed text (recordFields text n) w from to length) where
+  -- a record that is laid has the owners of its rows
+  pub owner-laid : (q : ℕ) → byteOwner text n q ≡ ownerIn text (rowsForest w from to) q
+  unfolding byteOwner _>>=_
+  owner-laid q = ap (λ (a : Answer Forest). a >>= λ f. ownerIn text f q) (l .fields)
+
+  -- and its rows are the fields that were read
+  pub rows-listed : Listed text (give (rowsForest w from to)) w from to length
+  rows-listed = subst (λ (a : Answer Forest). Listed text a w from to length) (l .fields) l

@@ -1,16 +1,13 @@
--- What the byte owner finds in the table: the clauses that it does not take, the rows as its walk reads them, and the owner in a text's record.
+-- What the byte owner finds in the table: the clauses that it does not take, and the rows as its walk reads them.
 -- Assumes nothing.
 use Prim.Native.Nat.{ℕ, zero, suc}
 use mathlib.Core.Bool.{Bool, _||_}
 use mathlib.Core.List.{List, [], _∷_}
-use Rattle.definition.specs.declared.Owner.{Owner}
 use Rattle.definition.specs.declared.Statement.{Statement}
-use Rattle.definition.specs.Basic.{given, Answer, _>>=_}
-use Rattle.definition.specs.Calls.{ownerIn}
+use Rattle.definition.specs.Basic.{given}
 use Rattle.definition.specs.Search.{Row, rowOf}
 use Rattle.rows.specs.Table.{cell}
 use Rattle.layout.specs.Places.{entryIn, rowsForest}
-use Rattle.record.specs.Laying.{fieldsOf}
 use Rattle.record.specs.Shown.{Counted, Tree}
 
 -- a statement has a REDEFINES or a DEPENDING ON
@@ -30,9 +27,3 @@ tableRows w k (suc n) = rowAt w k ∷ tableRows w (suc k) n
 pub record Walkable (w : List ℕ) (from to : ℕ) : Type 0 where
   pub tree : Tree w from to
   pub counted : Counted w from 0 (rowsForest w from to)
-
--- the owner of a position in the record of a text
-unfoldable pub recordOwner : List ℕ → ℕ → Answer Owner
-recordOwner text position = do
-  f ← fieldsOf text
-  ownerIn text f position

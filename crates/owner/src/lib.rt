@@ -2,24 +2,18 @@
 ghost use mathlib.Core.Path.{_≡_};
 ghost use Prim.Native.Nat.{_+_, _*_, _≤_, _<_};
 ghost use lib.ListN.{length};
-ghost use Rattle.definition.specs.Calls.{ownerAnswerOf};
+ghost use Rattle.definition.specs.Basic.{give};
+ghost use Rattle.definition.specs.Calls.{ownerAnswerOf, ownerIn};
 ghost use Rattle.definition.specs.Owner.{overlaid};
 ghost use Rattle.definition.specs.Search.{rows, walk};
 ghost use Rattle.rows.specs.Table.{statementAt};
 ghost use Rattle.layout.specs.Places.{rowsForest};
-ghost use Rattle.record.specs.Laying.{Listed, fieldsOf};
+ghost use Rattle.record.specs.Laying.{Listed};
 ghost use Rattle.record.specs.Shown.{listIn};
-ghost use Rattle.owner.specs.Walked.{overlays, Walkable, recordOwner};
+ghost use Rattle.owner.specs.Walked.{overlays, Walkable};
 use definition::Owner;
 use definition::OwnerAnswer;
 use definition::Refusal;
-
-// A number of 32 bits as a place.
-fn wide(n: u32) -> usize
-    ensures { λ r. ⌜ (r ≡ n) × (r < 4294967296) ⌝ }
-{
-    n as usize
-}
 
 // Whether row k has a REDEFINES or a DEPENDING ON.
 fn is_overlay(work: &[u32], k: usize) -> bool
@@ -62,12 +56,12 @@ pub fn walk_rows(work: &[u32], from: usize, to: usize, position: usize) -> Owner
     let mut first = 0;
     let mut q = position;
     while k < to {
-        let offset = wide(work[20 * k + 13]);
+        let offset = layout::wide(work[20 * k + 13]);
         if q < offset {
             return Owner::Slack { entry: k - from };
         }
-        let width = wide(work[20 * k + 14]);
-        let below = wide(work[20 * k + 17]);
+        let width = layout::wide(work[20 * k + 14]);
+        let below = layout::wide(work[20 * k + 17]);
         let total = record::row_total(work, k);
         let r = q - offset;
         if r < total {
@@ -100,8 +94,8 @@ pub fn owner_of(
     length: usize,
     position: usize,
 ) -> OwnerAnswer
-    requires { ⌜ Listed (now text) (fieldsOf (now text)) (now work) from to length ⌝ }
-    ensures { λ r. ⌜ ownerAnswerOf r ≡ recordOwner (now (text .entry)) position ⌝ }
+    requires { ⌜ Listed (now text) (give (rowsForest (now work) from to)) (now work) from to length ⌝ }
+    ensures { λ r. ⌜ ownerAnswerOf r ≡ ownerIn (now (text .entry)) (rowsForest (now (work .entry)) from to) position ⌝ }
 {
     if is_overlaid(work, from, to) {
         return OwnerAnswer::Refused(Refusal {

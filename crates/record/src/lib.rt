@@ -7,7 +7,7 @@ ghost use Rattle.definition.specs.Basic.{give};
 ghost use Rattle.definition.specs.Fold.{times, total, entryEnd, sameSpelling, find, hasMember, widest};
 ghost use Rattle.definition.specs.Listing.{members#};
 ghost use Rattle.definition.specs.Record.{recordLength, endsFit};
-ghost use Rattle.definition.specs.Calls.{checkOf};
+ghost use Rattle.definition.specs.Calls.{checkOf, recordFields};
 ghost use Rattle.layout.specs.Bare.{hasBase, foldedAll};
 ghost use Rattle.layout.specs.Places.{entryIn, basesAt, isTarget, rowsForest};
 ghost use Rattle.layout.specs.Steps.{Room};
@@ -405,6 +405,21 @@ pub fn lay_record(text: &[u8], work: &mut [u32]) -> RecordLaid
             return lay_fields(text, work, from, n);
         }
         RowsRead::Refused(r) => {
+            return RecordLaid::Refused(r);
+        }
+    }
+}
+
+// Checks what a caller lends, reads the text into rows of work memory and lays its record out there, or says why not: 1, 2, 3, then
+// the statements' 10 to 14, then 20 to 30. Every entry that speaks of a copybook's record starts so.
+pub fn read_record(text: &[u8], work: &mut [u32]) -> RecordLaid
+    ensures { λ r. ⌜ RecordIs (now (text .entry)) (recordFields (now (text .entry)) (length (now (work .entry)))) r (now (work .exit)) ⌝ }
+{
+    match rows::entry_checks(text, work.len()) {
+        Check::Passed => {
+            return lay_record(text, work);
+        }
+        Check::Refused(r) => {
             return RecordLaid::Refused(r);
         }
     }

@@ -9,7 +9,7 @@ use native.Mathlib.Nat.{zero-add}
 use lib.ListN.{length, drop}
 use borrow.Author.Tests.{lt-ltb, le-ltb}
 use Rattle.definition.specs.declared.Writing.{Writing}
-use Rattle.definition.specs.Calls.{After, fitting, afterWriting, writingOf}
+use Rattle.definition.specs.Calls.{fitting, left, afterWriting, writingOf}
 use Rattle.definition.specs.Fold.{Entries}
 use Rattle.definition.specs.Listing.{members#, entriesBytes, listing}
 use Rattle.definition.specs.Owner.{size}
@@ -23,7 +23,6 @@ use Rattle.listing.specs.Puts.{Put, headBytes}
 use Rattle.listing.proofs.PutLaws.{_and_, put-first, listing-parts}
 use Rattle.record.specs.Shown.{listIn}
 use Rattle.writer.specs.Written.{Fits, listBytes}
-use Rattle.writer.specs.Listed.{left}
 
 -- a list has an entry for each row
 entries-size : (w : List ℕ) (f : Forest) (k : ℕ) → entries# (entriesIn w k f) ≡ size f

@@ -58,6 +58,7 @@ module _ (text out work w₁ : List ℕ) {w₂ : List ℕ} (zero : w₂ ≡ clea
       (e, zero, kept)
       (λ i. record { answer = h i .answer; output = h i .output; work = replicate (length work) 0 })
 
+module _ (text work w₁ : List ℕ) {w₂ : List ℕ} (zero : w₂ ≡ cleared w₁) (kept : length w₁ ≡ length work) where
   -- an owner, or a refusal
   pub owner-call : (q : ℕ) (x : OwnerAnswer) → ownerAnswerOf x ≡ byteOwner text (length work) q → left (ownerAnswerOf x) [] w₂ ≡ ownerCall text q work
   owner-call q x h = rw (h, zero, kept)

@@ -10,15 +10,14 @@ use native.Mathlib.Numerals.{add-one}
 use native.Mathlib.Nat.{zero-add, add-zero, suc-add, div-add-mod', div-mul-le-self}
 use native.Mathlib.Omega.{arith}
 use lib.ListN.{length}
-use Rattle.definition.specs.declared.Entry.{Entry}
 use Rattle.definition.specs.declared.Owner.{Owner}
 use Rattle.definition.specs.declared.OwnerAnswer.{OwnerAnswer}
 use Rattle.definition.specs.declared.Refusal.{Refusal}
 use Rattle.definition.specs.declared.Statement.{Statement}
 use Rattle.definition.specs.Basic.{given, Answer, refuse, give, _>>=_}
 use Rattle.definition.specs.Calls.{entryChecks, recordFields, ownerIn, byteOwner, ownerAnswerOf}
-use Rattle.definition.specs.Fold.{Entries, end, entry, times, total}
-use Rattle.definition.specs.Owner.{size, overlaid, pieces, ownerOf}
+use Rattle.definition.specs.Fold.{Entries, entry, times, total, Place}
+use Rattle.definition.specs.Owner.{size, overlaid, pieces}
 use Rattle.definition.specs.Record.{recordLength, layout}
 use Rattle.definition.specs.Search.{entries#, Row, rowOf, rows, walk}
 use Rattle.definition.specs.Tree.{Forest, leaf, item, above, notAbove, forest}
@@ -36,7 +35,7 @@ use Rattle.layout.proofs.EntriesLaws.{size-stretch, Rows, rows-forest}
 use Rattle.layout.proofs.RowLaws.{stretch-cons, stretch-none}
 use Rattle.record.proofs.LaidLaws.{entries-size}
 use Rattle.record.specs.Laying.{fieldsOf, laidOf, Listed, recordOf}
-use Rattle.record.specs.Shown.{listIn, Counted, Tree, SizedRow, Measured}
+use Rattle.record.specs.Shown.{listIn, Counted, SizedRow, Measured}
 use Rattle.owner.specs.Walked.{overlays, rowAt, tableRows, Walkable, recordOwner}
 
 -- ---------------------------------------------------------------- a REDEFINES or a DEPENDING ON
@@ -46,6 +45,7 @@ unfoldable pub anyOverlays : List Statement → Bool
 anyOverlays [] = false
 anyOverlays (s ∷ ss) = overlays s || anyOverlays ss
 
+-- three tests in a row
 or-assoc : (a b c : Bool) → (a || b || c) ≡ (a || (b || c))
 or-assoc true b c = refl
 or-assoc false b c = refl
@@ -74,22 +74,27 @@ overlaid-forest (s ∷ ss) =
 pub record Searched (w : List ℕ) (from to k : ℕ) : Type 0 where
   pub same : overlaid (rowsForest w from to) ≡ anyOverlays (statementsFrom w k (to - k))
 
+-- at the first row
 pub search-starts : (w : List ℕ) (from to : ℕ) → Searched w from to from
 search-starts w from to = record { same = overlaid-forest (statementsFrom w from (to - from)) }
 
 module _ {w : List ℕ} {from to k : ℕ} (inv : Searched w from to k) where
   module _ (h : k < to) {b : Bool} (p : b ≡ overlays (statementAt w k)) where
+    -- row k and those after it
     here : overlaid (rowsForest w from to) ≡ (b || anyOverlays (statementsFrom w (suc k) (to - suc k)))
     unfolding anyOverlays
     here = inv .same ∙ ap anyOverlays (stretch-cons w k to h) ∙ ap (λ (x : Bool). x || anyOverlays (statementsFrom w (suc k) (to - suc k))) (sym p)
 
+    -- it has one
     pub search-hits : b ≡ true → true ≡ overlaid (rowsForest w from to)
     search-hits e = sym (here ∙ ap (λ (x : Bool). x || anyOverlays (statementsFrom w (suc k) (to - suc k))) e)
 
+    -- it has none
     pub search-goes-on : b ≡ false → Searched w from to (k + 1)
     search-goes-on e =
         record { same = rw (add-one k) (here ∙ ap (λ (x : Bool). x || anyOverlays (statementsFrom w (suc k) (to - suc k))) e) }
 
+  -- no row is left
   pub search-ends : to ≤ k → false ≡ overlaid (rowsForest w from to)
   unfolding anyOverlays
   search-ends h = sym (inv .same ∙ ap anyOverlays (stretch-none w k to h))
@@ -104,6 +109,7 @@ table-append w (suc m) n k =
     let e : suc k + m ≡ k + suc m = omega arith in
     rw suc-add (ap (λ (l : List Row). rowAt w k ∷ l) (table-append w m n (suc k) ∙ ap (λ (j : ℕ). tableRows w (suc k) m ++ tableRows w j n) e))
 
+-- how many they are
 table-length : (w : List ℕ) (m k : ℕ) → length (tableRows w k m) ≡ m
 unfolding tableRows
 table-length w zero k = refl
@@ -163,6 +169,7 @@ pub record At (w : List ℕ) (from to position k first q : ℕ) : Type 0 where
   pub same : walk 0 0 0 (rows (listIn w from to)) position ≡ walk 0 (k - from) first (tableRows w k (to - k)) q
   pub whole : first + q ≡ position
 
+-- at the first row
 pub walk-starts : {w : List ℕ} {from to position : ℕ} → Walkable w from to → At w from to position from 0 position
 walk-starts {w} {from} {to} {position} h =
     let all = rows-table w (rowsForest w from to) from 0 (h .counted) ∙ ap (tableRows w from) (size-stretch w from to) in
@@ -186,6 +193,7 @@ module _ {w : List ℕ} {from to position k first q : ℕ} (a : At w from to pos
       let many = size-stretch w from to in
       omega (arith, many, rows-nested w (rowsForest w from to) from 0 (a .held .counted) k (a .low) (omega (arith, many)))
 
+  -- the walk at row k
   at-row : k < to → walk 0 0 0 (rows (listIn w from to)) position ≡ walk 0 (k - from) first (rowAt w k ∷ tableRows w (suc k) (to - suc k)) q
   at-row h = a .same ∙ ap (λ (l : List Row). walk 0 (k - from) first l q) (table-next w to k h)
 
@@ -211,6 +219,7 @@ pub record RowRead (w : List ℕ) (from to position k first q offset width below
 module _ {w : List ℕ} {from to position k first q offset width below all : ℕ} (r : RowRead w from to position k first q offset width below all) where
   -- a byte in an occurrence of the row
   module _ (l : q - offset < all) where
+    -- it stands before the end of the last one
     inside-row : q < cell w k 13 + total (entryIn w k)
     inside-row = omega (arith, r .offset-is, r .all-is .is)
 
@@ -221,6 +230,7 @@ module _ {w : List ℕ} {from to position k first q offset width below all : ℕ
     known-place : (q - cell w k 13) % cell w k 14 ≡ (q - offset) % width
     known-place = ap₂ (λ (x y : ℕ). (q - x) % y) (sym (r .offset-is)) (sym (r .width-is))
 
+    -- of an elementary item: a piece
     pub found-piece :
         below ≡ 0 →
         Owner.Piece (k - from) (first + offset + (q - offset) / width * width) ((q - offset) % width) ≡ walk 0 0 0 (rows (listIn w from to)) position
@@ -230,6 +240,7 @@ module _ {w : List ℕ} {from to position k first q offset width below all : ℕ
         ∙ walk-piece (k - from) first (rowAt w k) (tableRows w (suc k) (to - suc k)) q (omega (arith, r .offset-is, r .reached)) inside-row (sym (r .below-is) ∙ z)
         ∙ ap₂ (Owner.Piece (k - from)) known-start known-place)
 
+    -- of a group: on with its first member, in the occurrence
     pub go-in :
         (below ≡ 0 → ⊥) →
         At w from to position (k + 1) (first + offset + (q - offset) / width * width) ((q - offset) % width)
@@ -249,10 +260,11 @@ module _ {w : List ℕ} {from to position k first q offset width below all : ℕ
           whole = omega (arith, r .at .whole, div-add-mod' (q - offset) width);
         }
 
-    -- what the code's sums and quotients need
+    -- the code divides by no zero
     pub width-positive : 0 < width
     width-positive = positive width (times (entryIn w k .occurs)) (q - offset) (omega (arith, r .all-is .is, ap (λ (x : ℕ). x * times (entryIn w k .occurs)) (r .width-is)))
 
+    -- and its sums are at most the position
     pub start-fits : first + offset + (q - offset) / width * width ≤ position
     start-fits = omega (arith, r .at .whole, div-mul-le-self (q - offset) width)
 
@@ -281,7 +293,7 @@ module _ {w : List ℕ} {from to position k first q offset width below all : ℕ
 
 module _ (text : List ℕ) where
   -- one list
-  list-plain : (bases : List _) (es : Entries) → Unfolded es → foldedList text bases es ≡ es
+  list-plain : (bases : List Place) (es : Entries) → Unfolded es → foldedList text bases es ≡ es
   list-plain bases es u = through _ _ (sym (fold-is text bases es) ∙ fold-plain text bases es u) λ _ _ e. given-same e
 
   -- no entry of a list in the table redefines, where no statement does
@@ -339,6 +351,7 @@ module _ {text w : List ℕ} {from to length : ℕ} (l : Listed text (fieldsOf t
           sym (of-rows q ∙ refuses-41 text (rowsForest w from to) (foldedAll text (listIn w from to)) laid-out (sym p ∙ e) q (omega (arith, l .long)))
 
       module _ (h : q < length) {o : Owner} (f : o ≡ walk 0 0 0 (rows (listIn w from to)) q) where
+        -- the position is below the listing's record length
         below-length : q < recordLength (foldedAll text (listIn w from to))
         below-length = omega (arith, l .long)
 
@@ -346,6 +359,7 @@ module _ {text w : List ℕ} {from to length : ℕ} (l : Listed text (fieldsOf t
         of-listing : o ≡ walk 0 0 0 (rows (foldedAll text (listIn w from to))) q
         of-listing = f ∙ ap (λ (es : Entries). walk 0 0 0 (rows es) q) (sym (folded-plain text w from to (sym p ∙ e)))
 
+        -- what the walk found is the definition's owner
         found : give o ≡ recordOwner text q
         found =
             ap give of-listing
@@ -370,6 +384,11 @@ module _ {text w : List ℕ} {from to length : ℕ} (l : Listed text (fieldsOf t
 
 -- ---------------------------------------------------------------- the call
 
+-- a refusal of the entry's checks is the byte owner's
+pub owner-checked : (text : List ℕ) (n q : ℕ) {r : Refusal} → entryChecks text n ≡ refuse r → byteOwner text n q ≡ refuse r
+unfolding byteOwner recordFields _>>=_
+owner-checked text n q h = rw h
+
 -- after the entry's checks the byte owner is the owner in the text's record
 pub owner-call : (text : List ℕ) (n q : ℕ) → entryChecks text n ≡ give tt → byteOwner text n q ≡ recordOwner text q
 unfolding byteOwner recordFields recordOwner fieldsOf _>>=_
@@ -382,11 +401,13 @@ not-laid text q f {r} h =
     let e : layout text f ≡ refuse r = layout-is text f ∙ ap (λ (a : Answer Entries). a >>= λ es. give (foldedAll text es)) h in
     rw e
 
+-- by what was read
 by-fields : (text : List ℕ) (q : ℕ) (a : Answer Forest) {r : Refusal} → laidOf text a ≡ refuse r → (a >>= λ f. ownerIn text f q) ≡ refuse r
 unfolding _>>=_
 by-fields text q (refuse x) h = ap refuse (cc)
 by-fields text q (give f) h = not-laid text q f h
 
+-- of a text
 pub owner-refused : (text : List ℕ) (q : ℕ) {r : Refusal} → recordOf text ≡ refuse r → recordOwner text q ≡ refuse r
 unfolding recordOwner
 owner-refused text q h = by-fields text q (fieldsOf text) h

@@ -1,5 +1,6 @@
-// The public entries: what a copybook's columns are. Each answers in full or with one refusal of document 01's table; a refusal
-// changes no byte of the output, and work memory is zero after every call.
+// The public entries: what a copybook's columns are, and which of them has a byte. Each answers in full or with one refusal of
+// document 01's table; a refusal changes no byte of the output, and work memory is zero after every call. `proofs/Demand3` says what
+// the answers of `layout_listing` and `byte_owner` have to do with each other.
 ghost use Prim.Native.Nat.{ℕ};
 ghost use mathlib.Core.Path.{_≡_};
 ghost use mathlib.Core.List.{[]};
@@ -44,9 +45,9 @@ pub fn byte_owner(text: &[u8], position: usize, work: &mut [u32]) -> OwnerAnswer
 {
     match record::read_record(text, work) {
         RecordLaid::Record { from, to, length } => {
-            let answer = owner::owner_of(text, work, from, to, length, position);
+            let found = owner::owner_of(text, work, from, to, length, position);
             rows::clear(work);
-            return answer;
+            return found;
         }
         RecordLaid::Refused(r) => {
             rows::clear(work);

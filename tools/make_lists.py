@@ -306,8 +306,10 @@ def texts(oracle):
 # ---------------------------------------------------------------- layouts
 
 LAYOUTS, LAYOUT_LISTS = 2700, 4
-# Groups in groups, each with a redefiner: a list of depth 64 has 65 groups and folds around it.
-FOLDED_CHAINS = [" ".join(f"{k} G. " for k in range(1, n)) + f"{n} A PIC X. " + " ".join(f"{k} H REDEFINES {'A' if k == n else 'G'} PIC X(2)." for k in range(n, 1, -1)) for n in (4, 66, 67)]
+# Groups in groups, each with a redefiner: around an item of a list of depth 64 stand 64 groups and 65 folds. Names that are all one make the groups
+# count as already folded.
+FOLDED_CHAINS = [" ".join(f"{k} {g(k)}." for k in range(1, n)) + f" {n} A PIC X. " + " ".join(f"{k} H REDEFINES {'A' if k == n else g(k)} PIC X(2)." for k in range(n, 1, -1))
+                 for n in (4, 66, 67) for g in ("G{}".format, "G".format)]
 MANY = ["1 A PIC X.\n" * 800, "1 A PIC X.\n" * 801, "1 A PIC Z9. " + "1 B REDEFINES A PIC $9. " * 799, "1 R. " + "2 G. 3 G PIC X. " * 399 + "2 Z PIC 9(9) COMP SYNC."]
 MANY.append(MANY[3] + " 2 Y PIC X.")
 

@@ -63,7 +63,10 @@ fn print_entry(text: &[u8], listing: &[u8], at: usize, depth: usize)
 
 // ---------------------------------------------------------------- depths
 
-// How many entries are still to come in each open list, the top list first: a listing has at most 130 lists in one another.
+// `left` says how many entries are still to come in each open list, the top list first. A listing has at most 130 lists in one another: 65 of
+// statements, and a fold in each.
+
+// The depth of the next entry: that of the innermost list, up to this depth, in which one is still to come.
 fn still_open(left: &[u64; 256], depth: usize) -> usize
     requires { ⌜ depth < 256 ⌝ }
     ensures { λ r. ⌜ r ≤ depth ⌝ }
@@ -151,7 +154,7 @@ fn print_listing(text: &[u8], listing: &[u8]) {
     print_entries(text, listing, 10, top);
 }
 
-// Prints the layout of a copybook, or why it has none.
+// Prints the layout of a copybook, or why it has none. A listing is never longer than the output; the test spares the proof of it here.
 fn print_layout(text: &[u8]) {
     let mut work = [0u32; 16384];
     let mut out = [0u8; MOST];

@@ -353,6 +353,9 @@ fn main() {
     let t = replay_file(b"layouts3.txt", t);
     let t = replay_file(b"layouts4.txt", t);
     replay::print_tally(b"parse", t);
-    replay::print_tally(b"document", replay_file(b"document.txt", replay::no_cases()));
+    replay::print_tally(
+        b"document",
+        replay_file(b"document.txt", replay::no_cases()),
+    );
     replay::print_tally(b"limits", replay_limits(replay::no_cases()));
 }

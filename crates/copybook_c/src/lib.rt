@@ -1,0 +1,304 @@
+// The public entries for C: `include/copybook.h` declares them. A slice is a pointer and a length. Each call returns 0 or the number of its
+// refusal, and writes the other numbers of its answer to a lent slice (`specs/Numbers`). Leans on `copybook`, `picture` and `definition`.
+ghost use mathlib.Core.Path.{_≡_};
+ghost use mathlib.Core.Bool.{_||_};
+ghost use mathlib.Core.List.{[], _∷_};
+ghost use lib.Dec.{ltb};
+ghost use Rattle.definition.specs.Basic.{if_then_else_};
+ghost use Rattle.definition.specs.Listing.{flag, signByte, storageByte, kindByte};
+ghost use Rattle.definition.specs.Calls.{layoutCall, pictureAnswer, maskCall, pictureOf, writingOf};
+ghost use Rattle.copybook_c.specs.Numbers.{usageOf, signOf, noUsage, noSign};
+ghost use Rattle.copybook_c.specs.Numbers.{returned, writingNumbers, kindNumbers, pictureNumbers, answered};
+use definition::FieldKind;
+use definition::NumRepr;
+use definition::PicAnswer;
+use definition::Pictured;
+use definition::SignClause;
+use definition::SignKind;
+use definition::Usage;
+use definition::Writing;
+
+// ---------------------------------------------------------------- what comes in
+
+// A usage by its number.
+fn usage_of(n: u8) -> Usage
+    ensures { λ r. ⌜ r ≡ usageOf n ⌝ }
+{
+    if n == 0 {
+        return Usage::Display;
+    }
+    if n == 1 {
+        return Usage::Comp3;
+    }
+    Usage::Comp
+}
+
+// A sign by its number.
+fn sign_of(n: u8) -> SignClause
+    ensures { λ r. ⌜ r ≡ signOf n ⌝ }
+{
+    if n == 0 {
+        return SignClause::Absent;
+    }
+    if n == 1 {
+        return SignClause::Given(SignKind::Unsigned);
+    }
+    if n == 2 {
+        return SignClause::Given(SignKind::Embedded);
+    }
+    if n == 3 {
+        return SignClause::Given(SignKind::LeadingSeparate);
+    }
+    SignClause::Given(SignKind::TrailingSeparate)
+}
+
+// ---------------------------------------------------------------- what goes out
+
+// Writes two numbers, where there is room for them.
+fn put_two(answer: &mut [u64], a: u64, b: u64)
+    ensures { λ _. ⌜ now (answer .exit) ≡ answered (a ∷ b ∷ []) (now (answer .entry)) ⌝ }
+{
+    if answer.len() < 2 {
+        return;
+    }
+    answer[0] = a;
+    answer[1] = b;
+}
+
+// The numbers that a kind has: signed, sign, precision, scale and storage.
+pub struct DetailNumbers {
+    pub signed: u64,
+    pub sign: u64,
+    pub precision: u64,
+    pub scale: u64,
+    pub storage: u64,
+}
+
+// Writes seven numbers, where there is room for them.
+fn put_seven(answer: &mut [u64], a: u64, b: u64, d: DetailNumbers)
+    ensures { λ _. ⌜ now (answer .exit) ≡ answered (a ∷ b ∷ d .signed ∷ d .sign ∷ d .precision ∷ d .scale ∷ d .storage ∷ []) (now (answer .entry)) ⌝ }
+{
+    if answer.len() < 7 {
+        return;
+    }
+    answer[0] = a;
+    answer[1] = b;
+    answer[2] = d.signed;
+    answer[3] = d.sign;
+    answer[4] = d.precision;
+    answer[5] = d.scale;
+    answer[6] = d.storage;
+}
+
+// Hands on the answer of a call that writes bytes.
+fn hand_on(w: Writing, answer: &mut [u64]) -> u32
+    ensures { λ r. ⌜ r ≡ returned (writingOf w) ⌝ }
+    ensures { λ _. ⌜ now (answer .exit) ≡ answered (writingNumbers (writingOf w)) (now (answer .entry)) ⌝ }
+{
+    match w {
+        Writing::Written(n) => {
+            put_two(answer, n as u64, 0);
+            return 0;
+        }
+        Writing::Refused(r) => {
+            put_two(answer, r.position as u64, r.needed as u64);
+            return r.number;
+        }
+    }
+}
+
+// The number of a bool.
+fn flag_number(b: bool) -> u64
+    ensures { λ r. ⌜ r ≡ flag b ⌝ }
+{
+    if b {
+        return 1;
+    }
+    0
+}
+
+// The number of a sign.
+fn sign_number(sign: SignKind) -> u64
+    ensures { λ r. ⌜ r ≡ signByte sign ⌝ }
+{
+    match sign {
+        SignKind::Unsigned => 0,
+        SignKind::Embedded => 1,
+        SignKind::LeadingSeparate => 2,
+        SignKind::TrailingSeparate => 3,
+    }
+}
+
+// The number of a storage.
+fn storage_number(repr: NumRepr) -> u64
+    ensures { λ r. ⌜ r ≡ storageByte repr ⌝ }
+{
+    match repr {
+        NumRepr::Display => 0,
+        NumRepr::Comp3 => 1,
+        NumRepr::Zoned => 2,
+    }
+}
+
+// The number of a kind.
+fn kind_number(kind: FieldKind) -> u64
+    ensures { λ r. ⌜ r ≡ kindByte kind ⌝ }
+{
+    match kind {
+        FieldKind::Text => 1,
+        FieldKind::Int { signed, sign } => 2,
+        FieldKind::Binary { signed } => 3,
+        FieldKind::Decimal {
+            precision,
+            scale,
+            repr,
+            sign,
+        } => 4,
+        FieldKind::Edited {
+            precision,
+            scale,
+            signed,
+        } => 5,
+        FieldKind::Group => 6,
+    }
+}
+
+// Five numbers.
+fn details(signed: u64, sign: u64, precision: u64, scale: u64, storage: u64) -> DetailNumbers
+    ensures { λ r. ⌜ (r .signed ∷ r .sign ∷ r .precision ∷ r .scale ∷ r .storage ∷ []) ≡ (signed ∷ sign ∷ precision ∷ scale ∷ storage ∷ []) ⌝ }
+{
+    DetailNumbers {
+        signed,
+        sign,
+        precision,
+        scale,
+        storage,
+    }
+}
+
+// A byte as a number of 64 bits.
+fn wide(b: u8) -> u64
+    ensures { λ r. ⌜ r ≡ b ⌝ }
+{
+    b as u64
+}
+
+// The numbers that a kind has.
+fn details_of(kind: FieldKind) -> DetailNumbers
+    ensures { λ r. ⌜ (r .signed ∷ r .sign ∷ r .precision ∷ r .scale ∷ r .storage ∷ []) ≡ kindNumbers kind ⌝ }
+{
+    match kind {
+        FieldKind::Text => {
+            return details(0, 0, 0, 0, 0);
+        }
+        FieldKind::Int { signed, sign } => {
+            return details(flag_number(signed), sign_number(sign), 0, 0, 0);
+        }
+        FieldKind::Binary { signed } => {
+            return details(flag_number(signed), 0, 0, 0, 0);
+        }
+        FieldKind::Decimal {
+            precision,
+            scale,
+            repr,
+            sign,
+        } => {
+            return details(
+                0,
+                sign_number(sign),
+                wide(precision),
+                wide(scale),
+                storage_number(repr),
+            );
+        }
+        FieldKind::Edited {
+            precision,
+            scale,
+            signed,
+        } => {
+            return details(flag_number(signed), 0, wide(precision), wide(scale), 0);
+        }
+        FieldKind::Group => {
+            return details(0, 0, 0, 0, 0);
+        }
+    }
+}
+
+// Hands on the answer to a picture.
+fn hand_on_picture(p: PicAnswer, answer: &mut [u64]) -> u32
+    ensures { λ r. ⌜ r ≡ returned (pictureOf p) ⌝ }
+    ensures { λ _. ⌜ now (answer .exit) ≡ answered (pictureNumbers (pictureOf p)) (now (answer .entry)) ⌝ }
+{
+    match p {
+        PicAnswer::Accepted(p) => {
+            let kind = p.kind;
+            put_seven(answer, kind_number(kind), p.width as u64, details_of(kind));
+            return 0;
+        }
+        PicAnswer::Refused(r) => {
+            put_seven(
+                answer,
+                r.position as u64,
+                r.needed as u64,
+                details(0, 0, 0, 0, 0),
+            );
+            return r.number;
+        }
+    }
+}
+
+// ---------------------------------------------------------------- the calls
+
+// The layout listing of a copybook, as `copybook::layout_listing` says. To `answer`, 2 numbers: the bytes written, and 0; or position and
+// needed length.
+// The contract rules out a call that returns 0 for a refusal, and one that writes to an `answer` of one number.
+#[no_mangle]
+pub extern "C" fn copybook_layout(
+    text: &[u8],
+    work: &mut [u32],
+    out: &mut [u8],
+    answer: &mut [u64],
+) -> u32
+    ensures { λ r. ⌜ r ≡ returned (layoutCall (now (text .entry)) (now (out .entry)) (now (work .entry)) .answer) ⌝ }
+    ensures { λ _. ⌜ now (answer .exit) ≡ answered (writingNumbers (layoutCall (now (text .entry)) (now (out .entry)) (now (work .entry)) .answer)) (now (answer .entry)) ⌝ }
+    ensures { λ _. ⌜ now (out .exit) ≡ layoutCall (now (text .entry)) (now (out .entry)) (now (work .entry)) .output ⌝ }
+    ensures { λ _. ⌜ now (work .exit) ≡ layoutCall (now (text .entry)) (now (out .entry)) (now (work .entry)) .work ⌝ }
+{
+    let w = copybook::layout_listing(text, work, out);
+    hand_on(w, answer)
+}
+
+// Kind, its details and width of a picture with a usage and a sign, as `picture::parse_pic` says. To `answer`, 7 numbers: kind, width, signed,
+// sign, precision, scale, storage, each 0 where the kind has none; or position, needed length and zeros. 255, and nothing touched, for a usage
+// above 2 or a sign above 4.
+// The contract rules out a call that takes sign 4 for leading separate, and one that takes usage 3 for COMP.
+#[no_mangle]
+pub extern "C" fn copybook_picture(pic: &[u8], usage: u8, sign: u8, answer: &mut [u64]) -> u32
+    ensures { λ r. ⌜ r ≡ (if noUsage usage || noSign sign then 255 else returned (pictureAnswer (usageOf usage) (signOf sign) (now (pic .entry)))) ⌝ }
+    ensures { λ _. ⌜ now (answer .exit) ≡ (if noUsage usage || noSign sign then now (answer .entry) else answered (pictureNumbers (pictureAnswer (usageOf usage) (signOf sign) (now (pic .entry)))) (now (answer .entry))) ⌝ }
+{
+    if 2 < usage {
+        return 255;
+    }
+    if 4 < sign {
+        return 255;
+    }
+    let p = picture::parse_pic(pic, usage_of(usage), sign_of(sign));
+    hand_on_picture(p, answer)
+}
+
+// The mask of a picture that is edited under the usage, as `picture::mask` says. To `answer`, 2 numbers, as `copybook_layout`. 255, and nothing
+// touched, for a usage above 2.
+// The contract rules out a call that says 0 bytes of a mask that it wrote, and one that writes to the output and refuses.
+#[no_mangle]
+pub extern "C" fn copybook_mask(pic: &[u8], usage: u8, out: &mut [u8], answer: &mut [u64]) -> u32
+    ensures { λ r. ⌜ r ≡ (if noUsage usage then 255 else returned (maskCall (usageOf usage) (now (pic .entry)) (now (out .entry)) .answer)) ⌝ }
+    ensures { λ _. ⌜ now (answer .exit) ≡ (if noUsage usage then now (answer .entry) else answered (writingNumbers (maskCall (usageOf usage) (now (pic .entry)) (now (out .entry)) .answer)) (now (answer .entry))) ⌝ }
+    ensures { λ _. ⌜ now (out .exit) ≡ (if noUsage usage then now (out .entry) else maskCall (usageOf usage) (now (pic .entry)) (now (out .entry)) .output) ⌝ }
+{
+    if 2 < usage {
+        return 255;
+    }
+    let w = picture::mask(pic, usage_of(usage), out);
+    hand_on(w, answer)
+}

@@ -24,7 +24,7 @@ use Rattle.definition.proofs.Answers.{through, not-refused}
 use Rattle.layout.specs.Bare.{foldedAll, bareRecord}
 use Rattle.layout.proofs.BareLaws.{layout-is}
 use Rattle.record.specs.Laying.{recordOf}
-use Rattle.copybook.specs.Listed.{left}
+use Rattle.writer.specs.Listed.{left}
 
 -- ---------------------------------------------------------------- the entry's checks
 

@@ -1,2 +1,1 @@
-pub mod ListedLaws
 pub mod CallLaws

@@ -1,69 +1,17 @@
 // The public entries: what a copybook's columns are. Each answers in full or with one refusal of document 01's table; a refusal
 // changes no byte of the output, and work memory is zero after every call.
+ghost use Prim.Native.Nat.{ℕ};
 ghost use mathlib.Core.Path.{_≡_};
 ghost use mathlib.Core.List.{[]};
-ghost use Prim.Native.Nat.{_+_, _*_, _≤_, _<_};
-ghost use lib.ListN.{length};
-ghost use Rattle.definition.specs.Calls.{afterWriting, fitting, layoutCall, writingOf};
-ghost use Rattle.definition.specs.Record.{recordLength};
-ghost use Rattle.listing.specs.Puts.{Put};
-ghost use Rattle.record.specs.Shown.{Tree};
-ghost use Rattle.copybook.specs.Listed.{entriesOf, listingOf, left};
+ghost use Rattle.definition.specs.Calls.{layoutCall, maskCall, pictureAnswer, recordCheck, checkOf, pictureOf, writingOf};
+ghost use Rattle.writer.specs.Listed.{left};
 use definition::Check;
+use definition::PicAnswer;
 use definition::Refusal;
+use definition::SignClause;
+use definition::Usage;
 use definition::Writing;
 use record::RecordLaid;
-
-// Puts the listing of the record in the rows from `from` up to `to` into the output, where it fits, and answers its length.
-fn put_listing(
-    text: &[u8],
-    work: &[u32],
-    from: usize,
-    to: usize,
-    long: usize,
-    out: &mut [u8],
-) -> usize
-    requires { ⌜ Tree (now work) from to × (to ≤ 800) × (long ≡ recordLength (entriesOf (now text) (now work) from to)) ⌝ }
-    ensures { λ r. ⌜ Put (now (out .entry)) 0 (listingOf (now (text .entry)) (now (work .entry)) from to) r (now (out .exit)) ⌝ }
-{
-    let variable = writer::list_varies(text, work, from, to);
-    let top = record::folded_count(text, work, from, to);
-    let at = listing::put_head(out, 0, long, variable, top);
-    writer::write_list(text, work, from, to, out, at)
-}
-
-// How long that listing is.
-fn measure(text: &[u8], work: &[u32], from: usize, to: usize, long: usize) -> usize
-    requires { ⌜ Tree (now work) from to × (to ≤ 800) × (long ≡ recordLength (entriesOf (now text) (now work) from to)) ⌝ }
-    ensures { λ r. ⌜ r ≡ length (listingOf (now (text .entry)) (now (work .entry)) from to) ⌝ }
-{
-    let mut spare = [0u8; 1];
-    put_listing(text, work, from, to, long, &mut spare)
-}
-
-// Writes that listing if the output has room for it; 31, with its length, if not.
-fn write_listing(
-    text: &[u8],
-    work: &[u32],
-    from: usize,
-    to: usize,
-    long: usize,
-    out: &mut [u8],
-) -> Writing
-    requires { ⌜ Tree (now work) from to × (to ≤ 800) × (long ≡ recordLength (entriesOf (now text) (now work) from to)) ⌝ }
-    ensures { λ r. ⌜ left (writingOf r) (now (out .exit)) [] ≡ afterWriting (fitting (length (now (out .entry))) (listingOf (now (text .entry)) (now (work .entry)) from to)) (now (out .entry)) [] ⌝ }
-{
-    let needed = measure(text, work, from, to, long);
-    if out.len() < needed {
-        return Writing::Refused(Refusal {
-            number: 31,
-            position: 0,
-            needed,
-        });
-    }
-    put_listing(text, work, from, to, long, out);
-    Writing::Written(needed)
-}
 
 // The layout listing of a copybook: how many bytes were written. Refusals, in this order: 1 text over 65,535 bytes; 2 a byte over
 // 127, at the first one; 3 work memory under 16,384 numbers; each statement's 10 to 14; each sibling list's, item's and fold's 20
@@ -76,7 +24,7 @@ pub fn layout_listing(text: &[u8], work: &mut [u32], out: &mut [u8]) -> Writing
     match rows::entry_checks(text, work.len()) {
         Check::Passed => match record::lay_record(text, work) {
             RecordLaid::Record { from, to, length } => {
-                let answer = write_listing(text, work, from, to, length, out);
+                let answer = writer::write_listing(text, work, from, to, length, out);
                 rows::clear(work);
                 return answer;
             }
@@ -90,4 +38,40 @@ pub fn layout_listing(text: &[u8], work: &mut [u32], out: &mut [u8]) -> Writing
             return Writing::Refused(r);
         }
     }
+}
+
+// Kind, its details and width of one picture with a usage and a sign; the refusals are those of `picture::parse_pic`, which it is.
+// The contract rules out a program that counts `$$$9` as four digits, and one that answers `S9(4)` SIGN TRAILING SEPARATE with width 4.
+pub fn parse_pic(pic: &[u8], usage: Usage, sign: SignClause) -> PicAnswer
+    ensures { λ r. ⌜ pictureOf r ≡ pictureAnswer usage sign (now (pic .entry)) ⌝ }
+{
+    picture::parse_pic(pic, usage, sign)
+}
+
+// Writes the mask of a picture that is edited under the usage, and answers its length, 0 of any other picture; `picture::mask`.
+// A refusal changes no byte of the output, and bytes past the mask keep their values.
+// The contract rules out a program that writes before it knows that the mask has room, and one that writes S, V or P.
+pub fn mask(pic: &[u8], usage: Usage, out: &mut [u8]) -> Writing
+    ensures { λ r. ⌜ left (writingOf r) (now (out .exit)) [] ≡ maskCall usage (now (pic .entry)) (now (out .entry)) ⌝ }
+{
+    picture::mask(pic, usage, out)
+}
+
+// Whether a record of `len` bytes is long enough for a layout of `record_len` bytes: 42, at 0, where it is shorter and the record
+// is not variable.
+// The contract rules out a program that refuses a record one byte longer, and one that checks a variable record too.
+pub fn check_record_len(record_len: usize, variable: bool, len: usize) -> Check
+    ensures { λ r. ⌜ checkOf r ≡ recordCheck record_len variable len ⌝ }
+{
+    if variable {
+        return Check::Passed;
+    }
+    if len < record_len {
+        return Check::Refused(Refusal {
+            number: 42,
+            position: 0,
+            needed: 0,
+        });
+    }
+    Check::Passed
 }

@@ -12,7 +12,7 @@ use Rattle.definition.specs.Basic.{if_then_else_, given, Answer, refuse, give, 
 use Rattle.definition.specs.Fold.{Entries, entry, Place, placeOf, find}
 use Rattle.definition.specs.Owner.{size}
 use Rattle.rows.specs.Table.{cell}
-use Rattle.layout.specs.Bare.{foldCheck}
+use Rattle.layout.specs.Bare.{basesAfter, foldCheck}
 use Rattle.layout.specs.Places.{seenFrom, basesAt, entryIn, entriesIn, Linked, rowsForest}
 use Rattle.layout.specs.Steps.{ChildrenEnd, checkEntry}
 use Rattle.layout.proofs.BareLaws.{check-base, check-alone, check-under}
@@ -21,10 +21,6 @@ use Rattle.layout.proofs.PlaceLaws.{seen-low, seen-out, seen-in}
 use Rattle.layout.proofs.RowLaws.{forest-split}
 
 -- ---------------------------------------------------------------- one entry
-
--- the bases after an entry
-abbrev basesAfter : Entry → List Place → List Place
-basesAfter e bases = if given (e .redefines) then bases else placeOf e ∷ bases
 
 module _ (text : List ℕ) (bases : List Place) (e : Entry) (members later : Entries) where
   by-base :
@@ -55,7 +51,7 @@ module _ (text : List ℕ) (bases : List Place) (e : Entry) (members later : Ent
 -- ---------------------------------------------------------------- one row
 
 -- the bases after row i
-bases-after : (w : List ℕ) (i last : ℕ) → cell w i 16 ≡ last → last ≤ i → basesAt w (suc i) ≡ basesAfter (entryIn w i) (basesAt w last)
+pub bases-after : (w : List ℕ) (i last : ℕ) → cell w i 16 ≡ last → last ≤ i → basesAt w (suc i) ≡ basesAfter (entryIn w i) (basesAt w last)
 bases-after w i last h l = go (given (entryIn w i .redefines)) refl
   where
     before : seenFrom true w i (cell w i 16) ≡ basesAt w last
@@ -72,13 +68,15 @@ module _ (w : List ℕ) (i to j : ℕ) (h : ChildrenEnd w i to j) where
   pub next-row : suc i + size (rowsForest w (suc i) j) ≡ j
   next-row = omega (arith, size-stretch w (suc i) j, h .low)
 
-  entries-step : entriesIn w i (rowsForest w i to) ≡ entry (entryIn w i) (entriesIn w (suc i) (rowsForest w (suc i) j)) (entriesIn w j (rowsForest w j to))
+  -- row i, its children up to j, and the rest
+  pub entries-step : entriesIn w i (rowsForest w i to) ≡ entry (entryIn w i) (entriesIn w (suc i) (rowsForest w (suc i) j)) (entriesIn w j (rowsForest w j to))
   unfolding entriesIn
   entries-step =
       ap (entriesIn w i) (forest-split w i to j h)
       ∙ ap (λ (n : ℕ). entry (entryIn w i) (entriesIn w (suc i) (rowsForest w (suc i) j)) (entriesIn w n (rowsForest w j to))) next-row
 
-  linked-step : (last : ℕ) → Linked w i last (rowsForest w i to) → (cell w i 16 ≡ last) × Linked w j (suc i) (rowsForest w j to)
+  -- each names the sibling before it
+  pub linked-step : (last : ℕ) → Linked w i last (rowsForest w i to) → (cell w i 16 ≡ last) × Linked w j (suc i) (rowsForest w j to)
   linked-step last l =
       let both = subst (Linked w i last) (forest-split w i to j h) l in
       (both .0, subst (λ (n : ℕ). Linked w n (suc i) (rowsForest w j to)) next-row (both .1))

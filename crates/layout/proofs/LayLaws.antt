@@ -46,7 +46,7 @@ readied : (w : List ℕ) (k last : ℕ) (a : Answer Laid) {width l : ℕ} {w′ 
 readied w k last (refuse r) h = absurd (let z : _≡_ {A = ℕ} 0 1 = cc in omega arith)
 readied w k last (give x) h = record { laid = x; is = refl; wide = cc; put = cc }
 
-stopped-was : (w : List ℕ) (k last : ℕ) (a : Answer Laid) {r : Refusal} → after w k last a ≡ stopped r → a ≡ refuse r
+pub stopped-was : (w : List ℕ) (k last : ℕ) (a : Answer Laid) {r : Refusal} → after w k last a ≡ stopped r → a ≡ refuse r
 stopped-was w k last (refuse q) h = cc
 stopped-was w k last (give x) h = absurd (let z : _≡_ {A = ℕ} 0 1 = cc in omega arith)
 

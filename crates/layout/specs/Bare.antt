@@ -31,6 +31,10 @@ foldCheck text bases (entry e members later) =
     ])
     else foldCheck text (placeOf e ∷ bases) later
 
+-- the bases after an entry
+abbrev pub basesAfter : Entry → List Place → List Place
+basesAfter e bases = if given (e .redefines) then bases else placeOf e ∷ bases
+
 -- a redefiner stands with its base where some base has that name
 abbrev pub hasBase : Option ℕ → Bool
 hasBase none = false

@@ -231,7 +231,7 @@ pub enum Target {
 }
 
 // A number of 32 bits as a place.
-fn wide(n: u32) -> usize
+pub fn wide(n: u32) -> usize
     ensures { λ r. ⌜ (r ≡ n) × (r < 4294967296) ⌝ }
 {
     n as usize
@@ -262,7 +262,7 @@ fn is_target(text: &[u8], work: &[u32], target: Span, k: usize, bases: bool) -> 
 }
 
 // The offset of the latest sibling of that name from `last` back, or of the latest base of that name.
-fn find_target(text: &[u8], work: &[u32], target: Span, last: usize, bases: bool) -> Target
+pub fn find_target(text: &[u8], work: &[u32], target: Span, last: usize, bases: bool) -> Target
     requires { ⌜ 20 * last ≤ length (now work) ⌝ }
     ensures { λ r. ⌜ found r ≡ find (now (text .entry)) target (seenFrom bases (now (work .entry)) last last) ⌝ }
 {
@@ -383,7 +383,7 @@ fn entry_of(s: Statement, c: Pictured, offset: usize) -> Entry
 }
 
 // How often an item stands.
-fn times_of(o: Occurs) -> u64
+pub fn times_of(o: Occurs) -> u64
     ensures { λ r. ⌜ r ≡ times o ⌝ }
 {
     match o {
@@ -600,7 +600,7 @@ pub fn entry_at(work: &[u32], k: usize) -> Entry
 }
 
 // The larger of two numbers.
-fn most(a: usize, b: usize) -> usize
+pub fn most(a: usize, b: usize) -> usize
     ensures { λ r. ⌜ r ≡ max a b ⌝ }
 {
     if a < b {

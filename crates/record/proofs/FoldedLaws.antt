@@ -15,11 +15,11 @@ use Rattle.definition.specs.Fold.{Entries, end, entry, append, total, entryEnd,
 use Rattle.definition.specs.Record.{recordLength, endsFit}
 use Rattle.definition.specs.Listing.{members#}
 use Rattle.definition.proofs.LayoutLaws.{redefiners-hit, redefiners-miss, redefiners-ends, redefiners-next, fits-entry, fits-refused, fits-none}
-use Rattle.layout.specs.Bare.{foldedList, foldedBelow, foldedAll}
+use Rattle.layout.specs.Bare.{basesAfter, foldedList, foldedBelow, foldedAll}
 use Rattle.layout.proofs.BareLaws.{list-base, list-alone, list-under, bind-bind}
 use Rattle.record.specs.declared.Standing.{Standing}
 use Rattle.record.specs.declared.Relation.{Relation}
-use Rattle.record.specs.Shown.{standing, basesAfter, shownAs, shown#, shownNamed, relation}
+use Rattle.record.specs.Shown.{standing, shownAs, shown#, shownNamed, relation}
 
 -- ---------------------------------------------------------------- two lists together
 

@@ -33,7 +33,7 @@ use Rattle.layout.specs.declared.LaidList.{LaidList}
 use Rattle.layout.specs.Steps.{ChildrenEnd, listOf}
 use Rattle.layout.proofs.EntriesLaws.{size-stretch}
 use Rattle.layout.proofs.ListLaws.{Of, of-size, bare-split, item-is, bare-is}
-use Rattle.layout.proofs.LayLaws.{LaidRows, laid-rows}
+use Rattle.layout.proofs.LayLaws.{LaidRows, laid-rows, stopped-was}
 use Rattle.layout.proofs.RowLaws.{children-end, forest-split, forest-empty}
 use Rattle.layout.proofs.PlaceLaws.{length-place, length-places, before-places, statements-places, first-last}
 use Rattle.record.specs.Shown.{listIn, Chained, Tree}
@@ -186,10 +186,6 @@ few-rows w n h =
 
 -- ---------------------------------------------------------------- the record
 
-after-stopped : (w : List ℕ) (k last : ℕ) (a : Answer Laid) {r : Refusal} → after w k last a ≡ stopped r → a ≡ refuse r
-after-stopped w k last (refuse q) h = cc
-after-stopped w k last (give x) h = absurd (let z : _≡_ {A = ℕ} 0 1 = cc in omega arith)
-
 module _ (text w : List ℕ) (a b : ℕ) where
   module _ {x : LaidList} (w₁ : List ℕ) (p : listOf x w₁ ≡ layTable text w a b 0) where
     -- the list is laid
@@ -201,7 +197,7 @@ module _ (text w : List ℕ) (a b : ℕ) where
     unfolding bareRecord seenFrom _>>=_
     list-refused e =
         ap (λ (y : Answer Laid). y >>= λ l. foldCheck text [] (l .entries) >>= λ _. endsFit (foldedAll text (l .entries)) >>= λ _. give (l .entries))
-        (after-stopped w a 0 (bare text 0 [] 0 0 (rowsForest w a b)) (sym p ∙ ap (λ (y : LaidList). listOf y w₁) e))
+        (stopped-was w a 0 (bare text 0 [] 0 0 (rowsForest w a b)) (sym p ∙ ap (λ (y : LaidList). listOf y w₁) e))
 
   module _ {width : ℕ} {w₁ : List ℕ} (n : LaidRows text w a b 0 width w₁) where
     -- the checks of the list, as the rows hold it

@@ -15,28 +15,14 @@ use Rattle.rows.specs.Table.{cell, spanAt}
 use Rattle.layout.specs.Bare.{foldedList, foldedBelow, foldedAll}
 use Rattle.layout.specs.Places.{seenFrom, basesAt, placeAt, entryIn, entriesIn, Linked, rowsForest}
 use Rattle.layout.specs.Steps.{ChildrenEnd}
-use Rattle.layout.proofs.FoldLaws.{next-row}
+use Rattle.layout.proofs.FoldLaws.{next-row, bases-after, entries-step, linked-step}
 use Rattle.layout.proofs.PlaceLaws.{seen-low, seen-out, seen-in}
 use Rattle.layout.proofs.RowLaws.{forest-split, forest-empty}
 use Rattle.record.specs.declared.Relation.{Relation}
-use Rattle.record.specs.Shown.{basesAfter, relation, listIn, redefinersIn, foldedRest, shownAt, Chained}
+use Rattle.record.specs.Shown.{relation, listIn, redefinersIn, foldedRest, shownAt, Chained}
 use Rattle.record.proofs.FoldedLaws.{append-end, append-append, byRelation, list-step, redefiners-step}
 
 -- ---------------------------------------------------------------- one row
-
--- the bases after row i
-bases-after : (w : List ℕ) (i last : ℕ) → cell w i 16 ≡ last → last ≤ i → basesAt w (suc i) ≡ basesAfter (entryIn w i) (basesAt w last)
-bases-after w i last h l = go (given (entryIn w i .redefines)) refl
-  where
-    before : seenFrom true w i (cell w i 16) ≡ basesAt w last
-    before = ap (seenFrom true w i) h ∙ seen-low true w i last l
-
-    go : (b : Bool) → given (entryIn w i .redefines) ≡ b → basesAt w (suc i) ≡ basesAfter (entryIn w i) (basesAt w last)
-    go true g = seen-out true w i g ∙ before ∙ ap (λ (b : Bool). if b then basesAt w last else placeOf (entryIn w i) ∷ basesAt w last) (sym g)
-    go false g =
-        seen-in true w i g
-        ∙ ap (λ (ps : List Place). placeOf (entryIn w i) ∷ ps) before
-        ∙ ap (λ (b : Bool). if b then basesAt w last else placeOf (entryIn w i) ∷ basesAt w last) (sym g)
 
 -- no rows
 pub list-none : (w : List ℕ) (a b : ℕ) → b ≤ a → listIn w a b ≡ end
@@ -46,18 +32,9 @@ list-none w a b h = ap (entriesIn w a) (forest-empty w a b h)
 module _ (w : List ℕ) (i to j : ℕ) (h : ChildrenEnd w i to j) where
   -- row i, its children up to j, and the rest
   pub list-split : listIn w i to ≡ entry (entryIn w i) (listIn w (suc i) j) (listIn w j to)
-  unfolding entriesIn
-  list-split =
-      ap (entriesIn w i) (forest-split w i to j h)
-      ∙ ap (λ (n : ℕ). entry (entryIn w i) (listIn w (suc i) j) (entriesIn w n (rowsForest w j to))) (next-row w i to j h)
+  list-split = entries-step w i to j h
 
-  -- each names the sibling before it
-  pub linked-step : (last : ℕ) → Linked w i last (rowsForest w i to) → (cell w i 16 ≡ last) × Linked w j (suc i) (rowsForest w j to)
-  linked-step last l =
-      let both = subst (Linked w i last) (forest-split w i to j h) l in
-      (both .0, subst (λ (n : ℕ). Linked w n (suc i) (rowsForest w j to)) (next-row w i to j h) (both .1))
-
-  -- and those below
+  -- each row of the list, and of those below, names the sibling before it
   pub chained-step :
       (last : ℕ) →
       Chained w i last (rowsForest w i to) →

@@ -25,10 +25,6 @@ standing text bases e =
     if given (e .redefines) then (if hasBase (find text (e .redefines) bases) then Standing.Under else Standing.Alone)
     else Standing.Base
 
--- the bases after it
-abbrev pub basesAfter : Entry → List Place → List Place
-basesAfter e bases = if given (e .redefines) then bases else placeOf e ∷ bases
-
 -- what it comes to: nothing, itself, or itself with its redefiners
 abbrev pub shownAs : List ℕ → Standing → Entry → Entries → Entries → Entries
 shownAs text Standing.Under e members later = end

@@ -17,6 +17,7 @@ use definition::Occurs;
 use definition::Refusal;
 use definition::Span;
 use layout::LaidList;
+use layout::Target;
 use rows::RowsRead;
 
 // How an entry stands in the folded list.
@@ -33,54 +34,15 @@ pub enum Relation {
     Other,
 }
 
-// A number of 32 bits as a place.
-fn wide(n: u32) -> usize
-    ensures { λ r. ⌜ (r ≡ n) × (r < 4294967296) ⌝ }
-{
-    n as usize
-}
-
-// The larger of two numbers.
-fn most(a: usize, b: usize) -> usize
-    ensures { λ r. ⌜ r ≡ max a b ⌝ }
-{
-    if a < b {
-        return b;
-    }
-    a
-}
-
-// Whether row k is a base of that name.
-fn is_base(text: &[u8], work: &[u32], target: Span, k: usize) -> bool
-    requires { ⌜ 20 * k + 20 ≤ length (now work) ⌝ }
-    ensures { λ r. ⌜ r ≡ isTarget (now (text .entry)) target true (now (work .entry)) k ⌝ }
-{
-    let redefines = rows::span_at(work[20 * k + 6]);
-    if 0 < redefines.len {
-        return false;
-    }
-    let name = rows::span_at(work[20 * k + 3]);
-    layout::same_names(text, target, name)
-}
-
 // Whether some base from `last` back has that name.
 fn has_base(text: &[u8], work: &[u32], target: Span, last: usize) -> bool
     requires { ⌜ 20 * last ≤ length (now work) ⌝ }
     ensures { λ r. ⌜ r ≡ hasBase (find (now (text .entry)) target (basesAt (now (work .entry)) last)) ⌝ }
 {
-    let mut k = last;
-    while 0 < k {
-        let row = k - 1;
-        if is_base(text, work, target, row) {
-            return true;
-        }
-        let before = wide(work[20 * row + 16]);
-        if row < before {
-            return false;
-        }
-        k = before;
+    match layout::find_target(text, work, target, last, true) {
+        Target::At(offset) => true,
+        Target::Nothing => false,
     }
-    false
 }
 
 // How the entry of row i stands in the folded list, where the siblings before it go back from `last`.
@@ -117,16 +79,6 @@ pub fn relation_to(text: &[u8], work: &[u32], name: Span, k: usize) -> Relation
     Relation::Other
 }
 
-// How often an item stands.
-fn times_of(o: Occurs) -> u64
-    ensures { λ r. ⌜ r ≡ times o ⌝ }
-{
-    match o {
-        Occurs::Once => 1,
-        Occurs::Times(n) => n,
-    }
-}
-
 // The bytes of all occurrences of row k.
 pub fn row_total(work: &[u32], k: usize) -> usize
     requires { ⌜ SizedRow (now work) k ⌝ }
@@ -135,7 +87,7 @@ pub fn row_total(work: &[u32], k: usize) -> usize
     let s = rows::statement_at(work, k);
     let clauses = s.clauses;
     let occurs = clauses.occurs;
-    wide(work[20 * k + 14]) * times_of(occurs) as usize
+    layout::wide(work[20 * k + 14]) * layout::times_of(occurs) as usize
 }
 
 // How many redefiners row i has among the rows from j up to `to`.
@@ -174,7 +126,7 @@ pub fn redefiner_width(text: &[u8], work: &[u32], i: usize, j: usize, to: usize)
     while k < to {
         match relation_to(text, work, name, k) {
             Relation::Redefiner => {
-                width = most(width, row_total(work, k));
+                width = layout::most(width, row_total(work, k));
                 k = layout::end_of(work, k, to);
             }
             Relation::Next => {
@@ -271,9 +223,9 @@ pub fn union_width(text: &[u8], work: &[u32], i: usize, j: usize, to: usize) -> 
     let name = rows::span_at(work[20 * i + 3]);
     let first = i + 1;
     if has_member(text, work, first, j, name) {
-        return most(folded_width(text, work, first, j), rest);
+        return layout::most(folded_width(text, work, first, j), rest);
     }
-    most(row_total(work, i), rest)
+    layout::most(row_total(work, i), rest)
 }
 
 // How wide row i is in the folded list: 0 where it stands under its base.
@@ -307,7 +259,7 @@ pub fn folded_width(text: &[u8], work: &[u32], from: usize, to: usize) -> usize
     let mut last = 0;
     while i < to {
         let j = layout::end_of(work, i, to);
-        width = most(width, shown_width(text, work, i, j, to, last));
+        width = layout::most(width, shown_width(text, work, i, j, to, last));
         last = i + 1;
         i = j;
     }
@@ -319,7 +271,7 @@ fn row_end(work: &[u32], i: usize) -> usize
     requires { ⌜ SizedRow (now work) i ⌝ }
     ensures { λ r. ⌜ r ≡ entryEnd (entryIn (now (work .entry)) i) ⌝ }
 {
-    let offset = wide(work[20 * i + 13]);
+    let offset = layout::wide(work[20 * i + 13]);
     let depending = rows::span_at(work[20 * i + 5]);
     if 0 < depending.len {
         return offset;
@@ -341,7 +293,7 @@ fn shown_end(text: &[u8], work: &[u32], i: usize, j: usize, to: usize, last: usi
         }
         Standing::Base => {
             if 0 < redefiner_count(text, work, i, j, to) {
-                return wide(work[20 * i + 13]) + union_width(text, work, i, j, to);
+                return layout::wide(work[20 * i + 13]) + union_width(text, work, i, j, to);
             }
             return row_end(work, i);
         }
@@ -358,7 +310,7 @@ pub fn record_length(text: &[u8], work: &[u32], from: usize, to: usize) -> usize
     let mut last = 0;
     while i < to {
         let j = layout::end_of(work, i, to);
-        length = most(length, shown_end(text, work, i, j, to, last));
+        length = layout::most(length, shown_end(text, work, i, j, to, last));
         last = i + 1;
         i = j;
     }
@@ -378,7 +330,7 @@ pub fn ends_fit(text: &[u8], work: &[u32], from: usize, to: usize) -> Check
         if 2147483647 < end {
             return Check::Refused(Refusal {
                 number: 29,
-                position: wide(work[20 * i + 2]),
+                position: layout::wide(work[20 * i + 2]),
                 needed: 0,
             });
         }

@@ -1,3 +1,4 @@
 pub mod WriteLaws
 pub mod WalkLaws
 pub mod VaryLaws
+pub mod ListedLaws

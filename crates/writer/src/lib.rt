@@ -1,20 +1,25 @@
-// The entries of the listing, written from the rows of a laid table with no row moved: each list folded as it is walked. A byte
-// past the output's end is counted and not written, so that the same walk measures.
+// The listing of a record, written from the rows of a laid table with no row moved: each list folded as it is walked. A byte past
+// the output's end is counted and not written, so that the same walk measures; nothing is written unless all of it has room.
 ghost use mathlib.Core.Path.{_≡_};
+ghost use mathlib.Core.List.{[]};
 ghost use Prim.Native.Nat.{_+_, _*_, _-_, _≤_, _<_};
 ghost use lib.ListN.{length};
 ghost use Rattle.definition.specs.Basic.{given};
 ghost use Rattle.definition.specs.Fold.{rebased};
-ghost use Rattle.definition.specs.Record.{variable};
+ghost use Rattle.definition.specs.Record.{recordLength, variable};
 ghost use Rattle.definition.specs.Listing.{members#, entriesBytes};
+ghost use Rattle.definition.specs.Calls.{afterWriting, fitting, writingOf};
 ghost use Rattle.rows.specs.Table.{cell};
 ghost use Rattle.layout.specs.Bare.{foldedBelow};
 ghost use Rattle.layout.specs.Places.{entryIn};
 ghost use Rattle.listing.specs.Puts.{Put};
 ghost use Rattle.record.specs.Shown.{redefinersIn, shownAt, Tree, Branch};
 ghost use Rattle.writer.specs.Written.{Fits, listBytes, itemBytes, shownBytes, ownMember, unionIn, unionEntry, unionBytes, redefinersBytes, Family, listVaries, itemVaries};
+ghost use Rattle.writer.specs.Listed.{entriesOf, listingOf, left};
 use definition::Entry;
+use definition::Refusal;
 use definition::Span;
+use definition::Writing;
 use record::Relation;
 use record::Standing;
 
@@ -348,4 +353,55 @@ pub fn list_varies(text: &[u8], work: &[u32], from: usize, to: usize) -> bool
         i = j;
     }
     false
+}
+
+// Puts the listing of the record in the rows from `from` up to `to` into the output, where it fits, and answers its length.
+fn put_listing(
+    text: &[u8],
+    work: &[u32],
+    from: usize,
+    to: usize,
+    long: usize,
+    out: &mut [u8],
+) -> usize
+    requires { ⌜ Tree (now work) from to × (to ≤ 800) × (long ≡ recordLength (entriesOf (now text) (now work) from to)) ⌝ }
+    ensures { λ r. ⌜ Put (now (out .entry)) 0 (listingOf (now (text .entry)) (now (work .entry)) from to) r (now (out .exit)) ⌝ }
+{
+    let variable = list_varies(text, work, from, to);
+    let top = record::folded_count(text, work, from, to);
+    let at = listing::put_head(out, 0, long, variable, top);
+    write_list(text, work, from, to, out, at)
+}
+
+// How long that listing is.
+fn measure(text: &[u8], work: &[u32], from: usize, to: usize, long: usize) -> usize
+    requires { ⌜ Tree (now work) from to × (to ≤ 800) × (long ≡ recordLength (entriesOf (now text) (now work) from to)) ⌝ }
+    ensures { λ r. ⌜ r ≡ length (listingOf (now (text .entry)) (now (work .entry)) from to) ⌝ }
+{
+    let mut spare = [0u8; 1];
+    put_listing(text, work, from, to, long, &mut spare)
+}
+
+// Writes that listing if the output has room for it; 31, with its length, if not.
+pub fn write_listing(
+    text: &[u8],
+    work: &[u32],
+    from: usize,
+    to: usize,
+    long: usize,
+    out: &mut [u8],
+) -> Writing
+    requires { ⌜ Tree (now work) from to × (to ≤ 800) × (long ≡ recordLength (entriesOf (now text) (now work) from to)) ⌝ }
+    ensures { λ r. ⌜ left (writingOf r) (now (out .exit)) [] ≡ afterWriting (fitting (length (now (out .entry))) (listingOf (now (text .entry)) (now (work .entry)) from to)) (now (out .entry)) [] ⌝ }
+{
+    let needed = measure(text, work, from, to, long);
+    if out.len() < needed {
+        return Writing::Refused(Refusal {
+            number: 31,
+            position: 0,
+            needed,
+        });
+    }
+    put_listing(text, work, from, to, long, out);
+    Writing::Written(needed)
 }

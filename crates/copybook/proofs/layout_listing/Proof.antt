@@ -5,7 +5,7 @@ use mathlib.Core.Path.{refl, subst}
 use lib.ListN.{length}
 use Rattle.record.specs.declared.RecordLaid.{RecordLaid}
 use Rattle.record.specs.Laying.{Listed, RecordIs, recordOf}
-use Rattle.copybook.specs.Listed.{listingOf}
+use Rattle.writer.specs.Listed.{listingOf}
 use Rattle.copybook.proofs.CallLaws.{Passes, passes, checks-refuse, reader-refuses, record-listed, refused-call, listed-call}
 use Rattle.copybook.proofs.layout_listing.Statement.{statement}
 use Rattle.copybook.proofs.layout_listing.Tie as tie

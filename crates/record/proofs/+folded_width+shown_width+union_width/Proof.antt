@@ -26,7 +26,7 @@ use Rattle.record.proofs.union_width.Kinds as union-width-kinds
 use Rattle.record.proofs.+folded_width+shown_width+union_width.Lts-union_width as union-width-lts
 use Rattle.layout.proofs.end_of.Reads as end-of-reads
 use Rattle.record.proofs.has_member.Reads as has-member-reads
-use Rattle.record.proofs.most.Reads as most-reads
+use Rattle.layout.proofs.most.Reads as most-reads
 use Rattle.record.proofs.redefiner_count.Reads as redefiner-count-reads
 use Rattle.record.proofs.redefiner_width.Reads as redefiner-width-reads
 use Rattle.record.proofs.row_total.Reads as row-total-reads

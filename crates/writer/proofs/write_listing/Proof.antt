@@ -1,9 +1,9 @@
--- `copybook::write_listing` meets its contract: measured first, and written only where there is room.
+-- `writer::write_listing` meets its contract: measured first, and written only where there is room.
 -- Assumes nothing.
 use borrow.Author.Needs.{needs}
-use Rattle.copybook.proofs.ListedLaws.{no-room, room}
-use Rattle.copybook.proofs.write_listing.Statement.{statement}
-use Rattle.copybook.proofs.write_listing.Tie as tie
+use Rattle.writer.proofs.ListedLaws.{no-room, room}
+use Rattle.writer.proofs.write_listing.Statement.{statement}
+use Rattle.writer.proofs.write_listing.Tie as tie
 
 measure-requires : tie.Need-measure-requires
 measure-requires c κs = search needs

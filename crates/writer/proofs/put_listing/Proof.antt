@@ -1,11 +1,11 @@
--- `copybook::put_listing` meets its contract: the head, and then the entries.
+-- `writer::put_listing` meets its contract: the head, and then the entries.
 -- Assumes nothing.
 use borrow.Author.Needs.{needs}
 use native.Mathlib.Omega.{arith}
 use Rattle.writer.proofs.WriteLaws.{tree-siblings}
-use Rattle.copybook.proofs.ListedLaws.{list-fits, whole}
-use Rattle.copybook.proofs.put_listing.Statement.{statement}
-use Rattle.copybook.proofs.put_listing.Tie as tie
+use Rattle.writer.proofs.ListedLaws.{list-fits, whole}
+use Rattle.writer.proofs.put_listing.Statement.{statement}
+use Rattle.writer.proofs.put_listing.Tie as tie
 
 list-varies-requires : tie.Need-list-varies-requires
 list-varies-requires c κs = search needs

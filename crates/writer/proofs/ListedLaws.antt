@@ -22,8 +22,8 @@ use Rattle.layout.proofs.SizeLaws.{listing-few}
 use Rattle.listing.specs.Puts.{Put, headBytes}
 use Rattle.listing.proofs.PutLaws.{_and_, put-first, listing-parts}
 use Rattle.record.specs.Shown.{listIn}
 use Rattle.writer.specs.Written.{Fits, listBytes}
-use Rattle.copybook.specs.Listed.{left}
+use Rattle.writer.specs.Listed.{left}
 
 -- a list has an entry for each row
 entries-size : (w : List ℕ) (f : Forest) (k : ℕ) → entries# (entriesIn w k f) ≡ size f

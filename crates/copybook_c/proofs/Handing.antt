@@ -4,11 +4,12 @@ use Prim.Native.Nat.{ℕ}
 use mathlib.Core.Path.{_≡_, refl, ap, _∙_}
 use mathlib.Core.List.{List, [], _∷_}
 use Rattle.definition.specs.declared.Refusal.{Refusal}
+use Rattle.definition.specs.declared.Check.{Check}
 use Rattle.definition.specs.declared.Writing.{Writing}
 use Rattle.definition.specs.declared.Pictured.{Pictured}
 use Rattle.definition.specs.declared.PicAnswer.{PicAnswer}
 use Rattle.definition.specs.Basic.{Answer}
-use Rattle.definition.specs.Calls.{After, writingOf, pictureOf}
+use Rattle.definition.specs.Calls.{After, writingOf, pictureOf, checkOf}
 use Rattle.definition.specs.Listing.{kindByte}
 use Rattle.copybook_c.specs.Numbers.{returned, writingNumbers, kindNumbers, pictureNumbers, answered}
 
@@ -52,3 +53,11 @@ pub handed :
 handed after a out work r l l′ e p =
     let s = ap (λ (x : After ℕ). x .answer) e in
     (p .0 ∙ ap returned s, (p .1 ∙ ap (λ (x : Answer ℕ). answered (writingNumbers x) l) s, (ap (λ (x : After ℕ). x .output) e, ap (λ (x : After ℕ). x .work) e)))
+
+-- the record check
+module _ {a : Answer (Unit {0})} {k : Check} (e : checkOf k ≡ a) where
+  pub passed : k ≡ Check.Passed → 0 ≡ returned a
+  passed p = rw (← e, p)
+
+  pub short-record : {r : Refusal} → k ≡ Check.Refused r → r .number ≡ returned a
+  short-record p = rw (← e, p)

@@ -1,18 +1,18 @@
 // The public entries for C: `include/copybook.h` declares them. A slice is a pointer and a length. Each call returns 0 or the number of its
-// refusal, and writes the other numbers of its answer to a lent slice (`specs/Numbers`). Leans on `copybook`, `picture` and `definition`.
+// refusal, and writes the other numbers of its answer to a lent slice (`specs/Numbers`). Leans on `copybook` and `definition`.
 ghost use mathlib.Core.Path.{_≡_};
 ghost use mathlib.Core.Bool.{_||_};
 ghost use mathlib.Core.List.{[], _∷_};
 ghost use lib.Dec.{ltb};
 ghost use Rattle.definition.specs.Basic.{if_then_else_};
 ghost use Rattle.definition.specs.Listing.{flag, signByte, storageByte, kindByte};
-ghost use Rattle.definition.specs.Calls.{layoutCall, pictureAnswer, maskCall, pictureOf, writingOf};
-ghost use Rattle.copybook_c.specs.Numbers.{usageOf, signOf, noUsage, noSign};
+ghost use Rattle.definition.specs.Calls.{layoutCall, pictureAnswer, maskCall, recordCheck, pictureOf, writingOf, checkOf};
+ghost use Rattle.copybook_c.specs.Numbers.{usageOf, signOf, noUsage, noSign, marked};
 ghost use Rattle.copybook_c.specs.Numbers.{returned, writingNumbers, kindNumbers, pictureNumbers, answered};
+use definition::Check;
 use definition::FieldKind;
 use definition::NumRepr;
 use definition::PicAnswer;
-use definition::Pictured;
 use definition::SignClause;
 use definition::SignKind;
 use definition::Usage;
@@ -268,7 +268,7 @@ pub extern "C" fn copybook_layout(
     hand_on(w, answer)
 }
 
-// Kind, its details and width of a picture with a usage and a sign, as `picture::parse_pic` says. To `answer`, 7 numbers: kind, width, signed,
+// Kind, its details and width of a picture with a usage and a sign, as `copybook::parse_pic` says. To `answer`, 7 numbers: kind, width, signed,
 // sign, precision, scale, storage, each 0 where the kind has none; or position, needed length and zeros. 255, and nothing touched, for a usage
 // above 2 or a sign above 4.
 // The contract rules out a call that takes sign 4 for leading separate, and one that takes usage 3 for COMP.
@@ -283,11 +283,11 @@ pub extern "C" fn copybook_picture(pic: &[u8], usage: u8, sign: u8, answer: &mut
     if 4 < sign {
         return 255;
     }
-    let p = picture::parse_pic(pic, usage_of(usage), sign_of(sign));
+    let p = copybook::parse_pic(pic, usage_of(usage), sign_of(sign));
     hand_on_picture(p, answer)
 }
 
-// The mask of a picture that is edited under the usage, as `picture::mask` says. To `answer`, 2 numbers, as `copybook_layout`. 255, and nothing
+// The mask of a picture that is edited under the usage, as `copybook::mask` says. To `answer`, 2 numbers, as `copybook_layout`. 255, and nothing
 // touched, for a usage above 2.
 // The contract rules out a call that says 0 bytes of a mask that it wrote, and one that writes to the output and refuses.
 #[no_mangle]
@@ -299,6 +299,23 @@ pub extern "C" fn copybook_mask(pic: &[u8], usage: u8, out: &mut [u8], answer: &
     if 2 < usage {
         return 255;
     }
-    let w = picture::mask(pic, usage_of(usage), out);
+    let w = copybook::mask(pic, usage_of(usage), out);
     hand_on(w, answer)
+}
+
+// Whether a record of `len` bytes is long enough for a layout of `record_len` bytes, as `copybook::check_record_len` says: 0, or 42. `variable` is 0
+// for a fixed record, and any other number for a variable one.
+// The contract rules out a call that checks a variable record, and one that refuses a record of just the length.
+#[no_mangle]
+pub extern "C" fn copybook_check_record(record_len: u64, variable: u8, len: u64) -> u32
+    ensures { λ r. ⌜ r ≡ returned (recordCheck record_len (marked variable) len) ⌝ }
+{
+    match copybook::check_record_len(record_len as usize, variable != 0, len as usize) {
+        Check::Passed => {
+            return 0;
+        }
+        Check::Refused(r) => {
+            return r.number;
+        }
+    }
 }

@@ -190,13 +190,19 @@ fn long_end(reading: &Reading, shapes: &[Shape], layout: &Layout) -> Option<Refu
     Some(Refused(29, reading.statements[k].at))
 }
 
+/// Whether the Rust can be asked: it expands the pictures of elementary items alone, and none where a statement is refused. After 14 the later
+/// statements are not known here, so every word is taken for a picture.
+fn affordable_to_ask(text: &[u8], reading: &Reading) -> bool {
+    match reading.top {
+        Err(Refused(10..=13, _)) => true,
+        Err(Refused(1 | 2 | 14, _)) => text.split(|&b| reading::white(b)).all(affordable),
+        _ => reading.statements.iter().filter(|s| s.below.is_empty()).all(|s| affordable(s.picture.of(text))),
+    }
+}
+
 pub fn copybook(text: &[u8]) -> Result<Expected, String> {
     let reading = reading::read(text);
-    let original = if reading.statements.iter().all(|s| affordable(s.picture.of(text))) {
-        asked(text, copybook::parse)
-    } else {
-        Original::NotAsked
-    };
+    let original = if affordable_to_ask(text, &reading) { asked(text, copybook::parse) } else { Original::NotAsked };
     let added = |r: Refused| matches!(r.0, 1 | 2 | 14 | 24 | 27 | 29 | 30);
     match (&reading.top, original) {
         (Err(r), Original::Gave(Ok(_))) if added(*r) => Ok(Expected::Added(*r, "accepts")),

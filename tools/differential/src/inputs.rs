@@ -562,8 +562,9 @@ impl Maker {
             return text.bytes().chain(std::iter::repeat(b' ')).take(n).collect();
         }
         let n = if self.chance(70) { self.r.within(798, 803) } else { self.r.within(100, 1000) };
+        let levels: &[&str] = if self.chance(60) { &["05"] } else { &["05", "05", "05", "10", "07"] };
         for k in 0..n {
-            let level = self.one(&["05", "05", "05", "10", "07"]);
+            let level = self.r.one(levels);
             let target = if k > 0 && self.chance(8) { format!(" REDEFINES F{}", k - 1 - self.r.below(k.min(3))) } else { String::new() };
             let item = self.one(&["PIC X", "PIC X(3)", "PIC 9(4) COMP SYNC", "PIC ZZ9.9", "PIC S9(5)V9 COMP-3"]);
             text += &format!("{level} F{k}{target} {item}.\n");

@@ -52,15 +52,15 @@ pub mod jsonspec {
 type Found<T> = std::result::Result<T, String>;
 
 /// How often each kind of answer was seen.
-type Counts = BTreeMap<(&'static str, String), u64>;
+type Counts = BTreeMap<(&'static str, u32, String), u64>;
 
 const BOOKS: &str = "copybooks";
 const SHORT: &str = "copybook calls with too short an output";
 const LITTLE: &str = "copybook calls with too little work memory";
-const LEFT: &str = "copybooks left out, by added refusal";
+const LEFT: &str = "copybooks left out";
 const CHECKS: &str = "record checks";
 const PICTURES: &str = "picture answers";
-const PICTURES_LEFT: &str = "picture answers left out, by added refusal";
+const PICTURES_LEFT: &str = "picture answers left out";
 const MASKS: &str = "masks";
 const RANGE: &str = "usages and signs out of range";
 
@@ -103,8 +103,8 @@ fn same_bytes(got: &product::Returned, bytes: &[u8], want: &[u8]) -> Found<()> {
 }
 
 impl Run {
-    fn count(&mut self, what: &'static str, kind: String) {
-        *self.counts.entry((what, kind)).or_default() += 1;
+    fn count(&mut self, what: &'static str, number: u32, more: &str) {
+        *self.counts.entry((what, number, format!("{}{more}", said(number)))).or_default() += 1;
     }
 
     fn written(&mut self, r: &mut Random, picture: &[u8], usage: u8, mask: &[u8]) -> Found<()> {
@@ -113,11 +113,11 @@ impl Run {
             let room = r.below(mask.len());
             let (got, _) = product::mask(r, picture, usage, room, None)?;
             same_refusal(&got, Refused(31, 0), mask.len()).map_err(|e| format!("mask: {e}"))?;
-            self.count(MASKS, said(31));
+            self.count(MASKS, 31, "");
         }
         let (got, bytes) = product::mask(r, picture, usage, mask.len() + spare, Some(mask.len()))?;
         same_bytes(&got, &bytes, mask).map_err(|e| format!("mask: {e}"))?;
-        self.count(MASKS, if mask.is_empty() { "accepted, none".into() } else { "accepted".into() });
+        self.count(MASKS, 0, if mask.is_empty() { ", no mask" } else { "" });
         Ok(())
     }
 
@@ -130,20 +130,20 @@ impl Run {
             let room = r.below(200);
             let (got, _) = product::layout(r, text, less, room, None)?;
             same_refusal(&got, want, 0)?;
-            self.count(LITTLE, said(want.0));
+            self.count(LITTLE, want.0, "");
         }
         match expected {
             Expected::Refused(want) => {
                 let room = r.below(600);
                 let (got, _) = product::layout(r, text, work, room, None)?;
                 same_refusal(&got, want, 0)?;
-                self.count(BOOKS, said(want.0));
+                self.count(BOOKS, want.0, "");
             }
             Expected::Added(want, how) => {
                 let room = r.below(600);
                 let (got, _) = product::layout(r, text, work, room, None)?;
                 same_refusal(&got, want, 0)?;
-                self.count(LEFT, format!("{} (the Rust {how})", said(want.0)));
+                self.count(LEFT, want.0, &format!(" (the Rust {how})"));
             }
             Expected::Listing(want) => {
                 let long = want.bytes.len();
@@ -151,7 +151,7 @@ impl Run {
                     let room = if r.chance(1, 2) { long - 1 } else { r.below(long) };
                     let (got, _) = product::layout(r, text, work, room, None)?;
                     same_refusal(&got, Refused(31, 0), long)?;
-                    self.count(SHORT, said(31));
+                    self.count(SHORT, 31, "");
                 }
                 let spare = if r.chance(1, 2) { 0 } else { r.below(100) };
                 let (got, bytes) = product::layout(r, text, work, long + spare, Some(long))?;
@@ -160,7 +160,7 @@ impl Run {
                     self.written(r, span.of(text), 0, mask.as_bytes())?;
                 }
                 self.record_checks(r, want.record_len, want.variable)?;
-                self.count(BOOKS, said(0));
+                self.count(BOOKS, 0, "");
             }
         }
         Ok(())
@@ -174,7 +174,7 @@ impl Run {
             if got != want {
                 return Err(format!("record check of {record_len}, {variable}, {len}: {got} where {want} is due"));
             }
-            self.count(CHECKS, said(got));
+            self.count(CHECKS, got, "");
         }
         Ok(())
     }
@@ -190,18 +190,18 @@ impl Run {
                         if got.number != 0 || got.answer.as_ref().is_some_and(|a| a[..] != numbers) {
                             return Err(named(format!("number {}, answer {:?}, where {numbers:?} is due", got.number, got.answer)));
                         }
-                        self.count(PICTURES, said(0));
+                        self.count(PICTURES, 0, "");
                         if sign == 0 {
                             self.written(r, text, usage, &mask).map_err(named)?;
                         }
                         continue;
                     }
                     Pictured::Refused(want) => {
-                        self.count(PICTURES, said(want.0));
+                        self.count(PICTURES, want.0, "");
                         want
                     }
                     Pictured::Added(want) => {
-                        self.count(PICTURES_LEFT, said(want.0));
+                        self.count(PICTURES_LEFT, want.0, "");
                         want
                     }
                 };
@@ -210,7 +210,7 @@ impl Run {
                     let room = r.below(40);
                     let (got, _) = product::mask(r, text, usage, room, None)?;
                     same_refusal(&got, refused, 0).map_err(|e| format!("mask: {e}")).map_err(named)?;
-                    self.count(MASKS, said(refused.0));
+                    self.count(MASKS, refused.0, "");
                 }
             }
         }
@@ -219,18 +219,24 @@ impl Run {
 
     /// 255, and nothing touched.
     fn out_of_range(&mut self, r: &mut Random, text: &[u8]) -> Found<()> {
-        let (usage, sign) = if r.chance(1, 2) { (r.within(3, 255), r.below(256)) } else { (r.below(3), r.within(5, 255)) };
+        // the first number out of range half the time, beside numbers in range and not
+        let above = |r: &mut Random, first: usize| if r.chance(1, 2) { first } else { r.within(first, 255) };
+        let (usage, sign) = match r.below(3) {
+            0 => (above(r, 3), r.below(5)),
+            1 => (r.below(3), above(r, 5)),
+            _ => (above(r, 3), above(r, 5)),
+        };
         let got = product::picture(r, text, usage as u8, sign as u8)?;
         if got.number != 255 {
             return Err(format!("usage {usage}, sign {sign}: number {} where 255 is due", got.number));
         }
-        self.count(RANGE, said(255));
-        let usage = r.within(3, 255) as u8;
+        self.count(RANGE, 255, "");
+        let usage = above(r, 3) as u8;
         let (got, _) = product::mask(r, text, usage, 30, None)?;
         if got.number != 255 {
             return Err(format!("mask, usage {usage}: number {} where 255 is due", got.number));
         }
-        self.count(RANGE, said(255));
+        self.count(RANGE, 255, "");
         Ok(())
     }
 
@@ -335,9 +341,9 @@ fn main() {
     }
     println!("{} copybooks and {} pictures (seed {seed}; {} of the inputs written by tools/inputs.py)", made[0], made[1], written.len().min(count as usize));
     let mut last = "";
-    for ((what, kind), n) in &run.counts {
+    for ((what, _, kind), n) in &run.counts {
         if *what != last {
-            let all: u64 = run.counts.iter().filter(|((w, _), _)| w == what).map(|(_, n)| n).sum();
+            let all: u64 = run.counts.iter().filter(|((w, _, _), _)| w == what).map(|(_, n)| n).sum();
             println!("{what}: {all}");
             last = what;
         }

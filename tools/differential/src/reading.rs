@@ -86,7 +86,7 @@ pub fn text_checks(text: &[u8]) -> Answer<()> {
 
 // ---------------------------------------------------------------- words
 
-fn white(b: u8) -> bool {
+pub fn white(b: u8) -> bool {
     b == 32 || (9..=13).contains(&b)
 }
 

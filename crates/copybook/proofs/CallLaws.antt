@@ -1,80 +1,43 @@
--- Laws of the layout listing's call: what the entry's checks give, and the call's answer by what was read and laid.
+-- Laws of the calls about a copybook's record: the answer by what was read and laid, and what the call leaves.
 -- Assumes nothing.
-use Prim.Native.Nat.{ℕ, _≤_}
-use mathlib.Core.Path.{_≡_, refl, sym, _∙_, ap}
+use Prim.Native.Nat.{ℕ}
+use mathlib.Core.Path.{_≡_, refl, _∙_, ap}
 use mathlib.Core.List.{List, []}
-use mathlib.Core.Option.{none, some}
-use native.Mathlib.Omega.{arith}
-use lib.Dec.{ltb}
 use lib.ListN.{length, replicate}
-use borrow.Author.Tests.{ltb-false}
-use Rattle.definition.specs.declared.Check.{Check}
+use Rattle.definition.specs.declared.OwnerAnswer.{OwnerAnswer}
 use Rattle.definition.specs.declared.Refusal.{Refusal}
-use Rattle.definition.specs.declared.Statement.{Statement}
 use Rattle.definition.specs.declared.Writing.{Writing}
-use Rattle.definition.specs.Basic.{Answer, refuse, give, _>>=_, refuseIf}
-use Rattle.definition.specs.Calls.{After, textChecks, entryChecks, recordFields, entries, fitting, layoutListing, written, outputAfter, cleared, afterWriting, layoutCall, checkOf, writingOf}
+use Rattle.definition.specs.Basic.{Answer, refuse, give, _>>=_}
+use Rattle.definition.specs.Calls.{left, recordFields, entries, fitting, layoutListing, byteOwner, cleared, afterWriting, layoutCall, ownerCall, ownerAnswerOf, writingOf}
 use Rattle.definition.specs.Fold.{Entries}
 use Rattle.definition.specs.Listing.{listing}
 use Rattle.definition.specs.Record.{layout}
-use Rattle.definition.specs.Statement.{statements}
-use Rattle.definition.specs.Tree.{forest, fields}
-use Rattle.definition.specs.Words.{statementWords}
-use Rattle.definition.proofs.Answers.{through, not-refused}
-use Rattle.layout.specs.Bare.{foldedAll, bareRecord}
+use Rattle.definition.specs.Tree.{Forest}
+use Rattle.layout.specs.Bare.{foldedAll}
 use Rattle.layout.proofs.BareLaws.{layout-is}
-use Rattle.record.specs.Laying.{recordOf}
-use Rattle.writer.specs.Listed.{left}
+use Rattle.record.specs.Laying.{laidOf}
 
--- ---------------------------------------------------------------- the entry's checks
-
--- what a text and work memory that pass have
-pub record Passes (text : List ℕ) (n : ℕ) : Type 0 where
-  pub short : length text ≤ 65535
-  pub room : 16384 ≤ n
-  pub is : entryChecks text n ≡ give tt
-
-short-text : (text : List ℕ) → textChecks text ≡ give tt → length text ≤ 65535
-unfolding textChecks
-short-text text h = through _ _ h λ _ e _. ltb-false 65535 (length text) (not-refused (ltb 65535 (length text)) 1 0 e)
-
-entry-passes : (text : List ℕ) (n : ℕ) → entryChecks text n ≡ give tt → Passes text n
-unfolding entryChecks
-entry-passes text n h =
-    through _ _ h λ _ e q.
-    record { short = short-text text e; room = ltb-false n 16384 (not-refused (ltb n 16384) 3 0 q); is = h }
-
-pub passes : (text : List ℕ) (n : ℕ) {c : Check} → checkOf c ≡ entryChecks text n → c ≡ Check.Passed → Passes text n
-passes text n p e = entry-passes text n (sym p ∙ ap checkOf e)
-
--- ---------------------------------------------------------------- the call
+-- ---------------------------------------------------------------- the layout listing
 
 module _ (text : List ℕ) (n room : ℕ) where
-  -- refused by the entry's checks
-  pub checks-refuse : {c : Check} {r : Refusal} → checkOf c ≡ entryChecks text n → c ≡ Check.Refused r → layoutListing text n room ≡ refuse r
-  unfolding layoutListing entries recordFields _>>=_
-  checks-refuse {c} {r} p e = let q : entryChecks text n ≡ refuse r = sym p ∙ ap checkOf e in rw q
-
-  read-laid :
-      (a : Answer (List Statement)) →
-      ((a >>= λ ss. give (fields (forest ss))) >>= λ f. layout text f) ≡ ((a >>= λ ss. bareRecord text (fields (forest ss))) >>= λ es. give (foldedAll text es))
+  laid-then : (a : Answer Forest) → (a >>= λ f. layout text f) ≡ (laidOf text a >>= λ es. give (foldedAll text es))
   unfolding _>>=_
-  read-laid (refuse r) = refl
-  read-laid (give ss) = layout-is text (fields (forest ss))
+  laid-then (refuse r) = refl
+  laid-then (give f) = layout-is text f
 
-  listed : entryChecks text n ≡ give tt → layoutListing text n room ≡ ((recordOf text >>= λ es. give (foldedAll text es)) >>= λ es. fitting room (listing es))
-  unfolding layoutListing entries recordFields recordOf _>>=_
-  listed p = rw p (ap (λ (a : Answer Entries). a >>= λ es. fitting room (listing es)) (read-laid (statements text 0 (statementWords text))))
+  listed : layoutListing text n room ≡ ((laidOf text (recordFields text n) >>= λ es. give (foldedAll text es)) >>= λ es. fitting room (listing es))
+  unfolding layoutListing entries _>>=_
+  listed = ap (λ (a : Answer Entries). a >>= λ es. fitting room (listing es)) (laid-then (recordFields text n))
 
-  -- refused by the reader
-  pub reader-refuses : Passes text n → {r : Refusal} → recordOf text ≡ refuse r → layoutListing text n room ≡ refuse r
+  -- refused
+  pub reader-refuses : {r : Refusal} → laidOf text (recordFields text n) ≡ refuse r → layoutListing text n room ≡ refuse r
   unfolding _>>=_
-  reader-refuses p e = listed (p .is) ∙ rw e
+  reader-refuses e = listed ∙ rw e
 
   -- laid
-  pub record-listed : Passes text n → {es : Entries} → recordOf text ≡ give es → layoutListing text n room ≡ fitting room (listing (foldedAll text es))
+  pub record-listed : {es : Entries} → laidOf text (recordFields text n) ≡ give es → layoutListing text n room ≡ fitting room (listing (foldedAll text es))
   unfolding _>>=_
-  record-listed p e = listed (p .is) ∙ rw e
+  record-listed e = listed ∙ rw e
 
 -- ---------------------------------------------------------------- what it leaves
 
@@ -94,3 +57,8 @@ module _ (text out work w₁ : List ℕ) {w₂ : List ℕ} (zero : w₂ ≡ clea
       rw
       (e, zero, kept)
       (λ i. record { answer = h i .answer; output = h i .output; work = replicate (length work) 0 })
+
+module _ (text work w₁ : List ℕ) {w₂ : List ℕ} (zero : w₂ ≡ cleared w₁) (kept : length w₁ ≡ length work) where
+  -- an owner, or a refusal
+  pub owner-call : (q : ℕ) (x : OwnerAnswer) → ownerAnswerOf x ≡ byteOwner text (length work) q → left (ownerAnswerOf x) [] w₂ ≡ ownerCall text q work
+  owner-call q x h = rw (h, zero, kept)

@@ -1,11 +1,12 @@
-// The public entries: what a copybook's columns are. Each answers in full or with one refusal of document 01's table; a refusal
-// changes no byte of the output, and work memory is zero after every call.
+// The public entries: what a copybook's columns are, and which of them has a byte. Each answers in full or with one refusal of
+// document 01's table; a refusal changes no byte of the output, and work memory is zero after every call. `proofs/Demand3` says what
+// the answers of `layout_listing` and `byte_owner` have to do with each other.
 ghost use Prim.Native.Nat.{ℕ};
 ghost use mathlib.Core.Path.{_≡_};
 ghost use mathlib.Core.List.{[]};
-ghost use Rattle.definition.specs.Calls.{layoutCall, maskCall, pictureAnswer, recordCheck, checkOf, pictureOf, writingOf};
-ghost use Rattle.writer.specs.Listed.{left};
+ghost use Rattle.definition.specs.Calls.{left, layoutCall, maskCall, pictureAnswer, ownerCall, recordCheck, checkOf, ownerAnswerOf, pictureOf, writingOf};
 use definition::Check;
+use definition::OwnerAnswer;
 use definition::PicAnswer;
 use definition::Refusal;
 use definition::SignClause;
@@ -21,21 +22,36 @@ use record::RecordLaid;
 pub fn layout_listing(text: &[u8], work: &mut [u32], out: &mut [u8]) -> Writing
     ensures { λ r. ⌜ left (writingOf r) (now (out .exit)) (now (work .exit)) ≡ layoutCall (now (text .entry)) (now (out .entry)) (now (work .entry)) ⌝ }
 {
-    match rows::entry_checks(text, work.len()) {
-        Check::Passed => match record::lay_record(text, work) {
-            RecordLaid::Record { from, to, length } => {
-                let answer = writer::write_listing(text, work, from, to, length, out);
-                rows::clear(work);
-                return answer;
-            }
-            RecordLaid::Refused(r) => {
-                rows::clear(work);
-                return Writing::Refused(r);
-            }
-        },
-        Check::Refused(r) => {
+    match record::read_record(text, work) {
+        RecordLaid::Record { from, to, length } => {
+            let answer = writer::write_listing(text, work, from, to, length, out);
+            rows::clear(work);
+            return answer;
+        }
+        RecordLaid::Refused(r) => {
             rows::clear(work);
             return Writing::Refused(r);
+        }
+    }
+}
+
+// The owner of the byte at a position of the record: an occurrence of an elementary item, with its entry's number in the listing,
+// its first byte in the record and the place inside it, or slack, with the number of the entry it stands before. Refusals: those of
+// the layout listing but 31, then 40 for a REDEFINES or DEPENDING ON, a dropped root's own aside, and 41 for a position that is not
+// below the record length. Work memory is zero after every call.
+// The contract rules out a program that answers with the next occurrence, and one that measures slack from the record's start.
+pub fn byte_owner(text: &[u8], position: usize, work: &mut [u32]) -> OwnerAnswer
+    ensures { λ r. ⌜ left (ownerAnswerOf r) [] (now (work .exit)) ≡ ownerCall (now (text .entry)) position (now (work .entry)) ⌝ }
+{
+    match record::read_record(text, work) {
+        RecordLaid::Record { from, to, length } => {
+            let found = owner::owner_of(text, work, from, to, length, position);
+            rows::clear(work);
+            return found;
+        }
+        RecordLaid::Refused(r) => {
+            rows::clear(work);
+            return OwnerAnswer::Refused(r);
         }
     }
 }

@@ -108,6 +108,9 @@ pub record After (A : Type 0) : Type 0 where
   pub output : List ℕ
   pub work : List ℕ
 
+abbrev pub left : {A : Type 0} → Answer A → List ℕ → List ℕ → After A
+left a out work = record { answer = a; output = out; work = work }
+
 -- how many bytes were written
 abbrev pub written : Answer (List ℕ) → Answer ℕ
 written (refuse r) = refuse r

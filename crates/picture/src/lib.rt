@@ -8,7 +8,7 @@ ghost use lib.ListN.{length, replicate};
 ghost use lib.Seq.{sets};
 ghost use Rattle.definition.specs.Picture.{trimStart, trim as trimmed, expand, symbol, isDisplay, resolveSign, isEmbedded, signBytes};
 ghost use Rattle.definition.specs.Picture.{compWidth, byteWidth, display as displayOf, numeric as numericOf, picture as pictureIn, mask as maskOf};
-ghost use Rattle.definition.specs.Calls.{After, pictureAnswer, pictureOf, afterWriting, maskCall, writingOf};
+ghost use Rattle.definition.specs.Calls.{left, pictureAnswer, pictureOf, afterWriting, maskCall, writingOf};
 ghost use Rattle.picture.specs.Repeats.{Closed, Repeated};
 ghost use Rattle.picture.specs.Shape.{runOf, unless, joined, Small, next, halves, nothing, Counts};
 ghost use Rattle.picture.specs.Kinds.{shapeOf, maskedBy, mixedBy, longBy, kindedBy, Fit, Judged, Reads};
@@ -816,7 +816,7 @@ fn mask_of(picture: &[u8], usage: Usage, out: &mut [u8]) -> Writing
 // and bytes past the mask keep their values.
 // The contract rules out a program that writes before it knows that the mask has room, and one that writes S, V or P.
 pub fn mask(picture: &[u8], usage: Usage, out: &mut [u8]) -> Writing
-    ensures { λ r. ⌜ _≡_ {A = After ℕ} (record { answer = writingOf r; output = now (out .exit); work = [] }) (maskCall usage (now (picture .entry)) (now (out .entry))) ⌝ }
+    ensures { λ r. ⌜ left (writingOf r) (now (out .exit)) [] ≡ maskCall usage (now (picture .entry)) (now (out .entry)) ⌝ }
 {
     match text::text_checks(picture) {
         Check::Passed => {

@@ -1,4 +1,4 @@
--- A table that was laid: every row names the sibling before it and none is too large, so that its lists can be folded.
+-- A table that was laid: every row names the sibling before it, counts the rows below it, and none is too large.
 -- Assumes nothing.
 use Prim.Native.Nat.{ℕ, suc, _+_, _*_, _-_, max, _≤_, _<_}
 use mathlib.Core.Path.{_≡_, refl, sym, ap, subst, _∙_}
@@ -35,10 +35,16 @@ use Rattle.layout.proofs.EntriesLaws.{size-stretch}
 use Rattle.layout.proofs.ListLaws.{Of, of-size, bare-split, item-is, bare-is}
 use Rattle.layout.proofs.LayLaws.{LaidRows, laid-rows, stopped-was}
 use Rattle.layout.proofs.RowLaws.{children-end, forest-split, forest-empty}
-use Rattle.layout.proofs.PlaceLaws.{length-place, length-places, before-places, statements-places, first-last}
-use Rattle.record.specs.Shown.{listIn, Chained, Tree}
+use Rattle.layout.proofs.PlaceLaws.{length-place, length-places, before-places, statements-places, first-last, first-below}
+use Rattle.record.specs.Shown.{listIn, Column, Chained, Counted, Tree}
 use Rattle.record.specs.declared.RecordLaid.{RecordLaid}
-use Rattle.record.specs.Laying.{FieldsFrom, Listed, RecordIs, recordOf}
+use Rattle.record.specs.Laying.{FieldsFrom, fieldsOf, laidOf, Listed, RecordIs, recordOf}
+
+-- a list has an entry for each row
+pub entries-size : (w : List ℕ) (f : Forest) (k : ℕ) → entries# (entriesIn w k f) ≡ size f
+unfolding entriesIn
+entries-size w leaf k = refl
+entries-size w (item s kids later) k = omega (arith, entries-size w kids (suc k), entries-size w later (suc k + size kids))
 
 -- ---------------------------------------------------------------- no entry is too large
 
@@ -80,55 +86,93 @@ rows-sized w (item s kids later) k h m l u =
     (λ (p : m ≤ k). subst (λ (n : ℕ). total (entryIn w n) ≤ 2147483647) (let e : k ≡ m = omega arith in e) (h .0))
     (order k m)
 
--- ---------------------------------------------------------------- every row is linked
+-- ---------------------------------------------------------------- the columns that say how rows stand together
 
-chained-same : (w w′ : List ℕ) (f : Forest) (k last : ℕ) → ((j : ℕ) → j < k + size f → cell w j 16 ≡ cell w′ j 16) → Chained w k last f → Chained w′ k last f
-chained-same w w′ leaf k last h c = tt
-chained-same w w′ (item s kids later) k last h c =
-    (sym (h k (omega arith)) ∙ c .0, chained-same w w′ kids (suc k) 0 (λ j l. h j (omega arith)) (c .1), chained-same w w′ later (suc k + size kids) (suc k) (λ j l. h j (omega arith)) (c .2))
+-- a column that is the same in two tables
+column-same :
+    (c : ℕ) (value : ℕ → Forest → ℕ) (w w′ : List ℕ) (f : Forest) (k last : ℕ) →
+    ((j : ℕ) → j < k + size f → cell w j c ≡ cell w′ j c) →
+    Column c value w k last f →
+    Column c value w′ k last f
+column-same c value w w′ leaf k last h x = tt
+column-same c value w w′ (item s kids later) k last h x =
+    (sym (h k (omega arith)) ∙ x .0, column-same c value w w′ kids (suc k) 0 (λ j l. h j (omega arith)) (x .1), column-same c value w w′ later (suc k + size kids) (suc k) (λ j l. h j (omega arith)) (x .2))
 
-places-chained :
-    (f : Forest) (es : Entries) (w : List ℕ) (k last : ℕ) →
-    Of f es →
-    20 * (k + size f) ≤ length w →
-    Chained (putPlaces w k last es) k last f
-unfolding putPlaces
-places-chained leaf end w k last o fits = tt
-places-chained leaf (entry e members more) w k last o fits = absurd o
-places-chained (item s kids later) end w k last o fits = absurd o
-places-chained (item s kids later) (entry e members more) w k last o fits =
-    let m : entries# members ≡ size kids = of-size kids members (o .1) in
-    let w₁ = putPlace w k last (entries# members) e in
-    let w₂ = putPlaces w₁ (suc k) 0 members in
-    let n = suc k + entries# members in
-    let at : n ≡ suc k + size kids = omega (arith, m) in
-    let w₃ = putPlaces w₂ n (suc k) more in
-    let l₁ : length w₁ ≡ length w = length-place w k last (entries# members) e in
-    let l₂ : length w₂ ≡ length w = length-places members w₁ (suc k) 0 ∙ l₁ in
-    let inner = places-chained kids members w₁ (suc k) 0 (o .1) (omega (arith, l₁)) in
-    let rest = places-chained later more w₂ (suc k + size kids) (suc k) (o .2) (omega (arith, l₂)) in (
-      first-last e members more w k last (omega arith),
-      chained-same w₂ w₃ kids (suc k) 0 (λ j l. sym (before-places more w₂ n (suc k) j 16 (omega arith) (lit< tt))) inner,
-      subst (λ (x : ℕ). Chained (putPlaces w₂ x (suc k) more) (suc k + size kids) (suc k) later) (sym at) rest,
-    )
+-- a column that the place of each entry fills
+module _
+    (c : ℕ) (value : ℕ → Forest → ℕ) (small : c < 20)
+    (first :
+    (e : Entry) (members more : Entries) (w : List ℕ) (k last : ℕ) (kids : Forest) →
+    entries# members ≡ size kids →
+    20 * k + 20 ≤ length w →
+    cell (putPlaces w k last (entry e members more)) k c ≡ value last kids)
+  where
+    places-column :
+        (f : Forest) (es : Entries) (w : List ℕ) (k last : ℕ) →
+        Of f es →
+        20 * (k + size f) ≤ length w →
+        Column c value (putPlaces w k last es) k last f
+    unfolding putPlaces
+    places-column leaf end w k last o fits = tt
+    places-column leaf (entry e members more) w k last o fits = absurd o
+    places-column (item s kids later) end w k last o fits = absurd o
+    places-column (item s kids later) (entry e members more) w k last o fits =
+        let m : entries# members ≡ size kids = of-size kids members (o .1) in
+        let w₁ = putPlace w k last (entries# members) e in
+        let w₂ = putPlaces w₁ (suc k) 0 members in
+        let n = suc k + entries# members in
+        let at : n ≡ suc k + size kids = omega (arith, m) in
+        let w₃ = putPlaces w₂ n (suc k) more in
+        let l₁ : length w₁ ≡ length w = length-place w k last (entries# members) e in
+        let l₂ : length w₂ ≡ length w = length-places members w₁ (suc k) 0 ∙ l₁ in
+        let inner = places-column kids members w₁ (suc k) 0 (o .1) (omega (arith, l₁)) in
+        let rest = places-column later more w₂ (suc k + size kids) (suc k) (o .2) (omega (arith, l₂)) in (
+          first e members more w k last kids m (omega arith),
+          column-same c value w₂ w₃ kids (suc k) 0 (λ j l. sym (before-places more w₂ n (suc k) j c (omega arith) small)) inner,
+          subst (λ (x : ℕ). Column c value (putPlaces w₂ x (suc k) more) (suc k + size kids) (suc k) later) (sym at) rest,
+        )
+
+-- every row names the sibling before it
+places-chained : (f : Forest) (es : Entries) (w : List ℕ) (k last : ℕ) → Of f es → 20 * (k + size f) ≤ length w → Chained (putPlaces w k last es) k last f
+places-chained = places-column 16 (λ before kids. before) (lit< tt) (λ e members more w k last kids m fits. first-last e members more w k last fits)
+
+-- and counts the rows below it
+places-counted : (f : Forest) (es : Entries) (w : List ℕ) (k last : ℕ) → Of f es → 20 * (k + size f) ≤ length w → Counted (putPlaces w k last es) k last f
+places-counted = places-column 17 (λ before kids. size kids) (lit< tt) (λ e members more w k last kids m fits. first-below e members more w k last fits ∙ m)
 
 -- ---------------------------------------------------------------- a list that was laid
 
 module _ (text w : List ℕ) (a b depth : ℕ) {width : ℕ} {w₁ : List ℕ} (h : a ≤ b) (fits : 20 * b ≤ length w) (n : LaidRows text w a b depth width w₁) where
+  -- the statements are as they were
+  same-places : rowsForest w a b ≡ rowsForest (putPlaces w a 0 (n .laid .entries)) a b
+  same-places = ap forest (sym (statements-places (n .laid .entries) w a 0 a (b - a)))
+
+  pub same-fields : rowsForest w a b ≡ rowsForest w₁ a b
+  same-fields = same-places ∙ ap (λ (x : List ℕ). rowsForest x a b) (n .put)
+
+  of-rows : Of (rowsForest w a b) (n .laid .entries)
+  of-rows = bare-is text (rowsForest w a b) depth [] 0 0 (omega arith) (n .is) .of
+
+  -- a column that the places fill is filled in the table
+  laid-column :
+      (c : ℕ) (value : ℕ → Forest → ℕ) →
+      Column c value (putPlaces w a 0 (n .laid .entries)) a 0 (rowsForest w a b) →
+      Column c value w₁ a 0 (rowsForest w₁ a b)
+  laid-column c value x =
+      subst (λ (y : List ℕ). Column c value y a 0 (rowsForest y a b)) (n .put) (subst (Column c value (putPlaces w a 0 (n .laid .entries)) a 0) same-places x)
+
+  pub laid-counted : Counted w₁ a 0 (rowsForest w₁ a b)
+  laid-counted = laid-column 17 (λ before kids. size kids) (places-counted (rowsForest w a b) (n .laid .entries) w a 0 of-rows (omega (arith, size-stretch w a b)))
+
   pub laid-tree : Tree w₁ a b
   laid-tree =
       let f = rowsForest w a b in
       let es = n .laid .entries in
-      let w′ = putPlaces w a 0 es in
-      let is = bare-is text f depth [] 0 0 (omega arith) (n .is) in
-      let many = size-stretch w a b in
-      let same : f ≡ rowsForest w′ a b = ap forest (sym (statements-places es w a 0 a (b - a))) in
-      let chained : Chained w′ a 0 (rowsForest w′ a b) = subst (Chained w′ a 0) same (places-chained f es w a 0 (is .of) (omega (arith, many))) in
       let sized : SizedAll (entriesIn w₁ a (rowsForest w₁ a b)) = subst SizedAll (sym (n .held .entries)) (bare-sized text f depth [] 0 0 (n .is)) in
       let many₁ = size-stretch w₁ a b in
       record {
         fits = subst (λ (x : List ℕ). 20 * b ≤ length x) (n .put) (omega (arith, length-places es w a 0));
-        chained = subst (λ (x : List ℕ). Chained x a 0 (rowsForest x a b)) (n .put) chained;
+        chained = laid-column 16 (λ before kids. before) (places-chained f es w a 0 of-rows (omega (arith, size-stretch w a b)));
         sized = record { totals = λ k l u. rows-sized w₁ (rowsForest w₁ a b) a sized k l (omega (arith, many₁)) };
       }
 
@@ -193,7 +237,7 @@ module _ (text w : List ℕ) (a b : ℕ) where
     list-laid h fits e = laid-rows text w a b 0 h fits (sym p ∙ ap (λ (y : LaidList). listOf y w₁) e)
 
     -- or refused
-    pub list-refused : {r : Refusal} → x ≡ LaidList.Refused r → bareRecord text (rowsForest w a b) ≡ refuse r
+    pub list-refused : {r : Refusal} → x ≡ LaidList.Refused r → laidOf text (give (rowsForest w a b)) ≡ refuse r
     unfolding bareRecord seenFrom _>>=_
     list-refused e =
         ap (λ (y : Answer Laid). y >>= λ l. foldCheck text [] (l .entries) >>= λ _. endsFit (foldedAll text (l .entries)) >>= λ _. give (l .entries))
@@ -202,7 +246,7 @@ module _ (text w : List ℕ) (a b : ℕ) where
   module _ {width : ℕ} {w₁ : List ℕ} (n : LaidRows text w a b 0 width w₁) where
     -- the checks of the list, as the rows hold it
     record-split :
-        bareRecord text (rowsForest w a b)
+        laidOf text (give (rowsForest w a b))
         ≡ (foldCheck text [] (listIn w₁ a b) >>= λ _. endsFit (foldedAll text (listIn w₁ a b)) >>= λ _. give (listIn w₁ a b))
     unfolding bareRecord _>>=_
     record-split =
@@ -210,59 +254,68 @@ module _ (text w : List ℕ) (a b : ℕ) where
         ∙ ap (λ (es : Entries). foldCheck text [] es >>= λ _. endsFit (foldedAll text es) >>= λ _. give es) (sym (n .held .entries))
 
     module _ {c : Check} (p : checkOf c ≡ foldCheck text [] (listIn w₁ a b)) where
-      checked : (x : Check) → c ≡ x → bareRecord text (rowsForest w a b) ≡ (checkOf x >>= λ _. endsFit (foldedAll text (listIn w₁ a b)) >>= λ _. give (listIn w₁ a b))
+      checked : (x : Check) → c ≡ x → laidOf text (give (rowsForest w a b)) ≡ (checkOf x >>= λ _. endsFit (foldedAll text (listIn w₁ a b)) >>= λ _. give (listIn w₁ a b))
       checked x e =
           record-split
           ∙ ap (λ (y : Answer (Unit {0})). y >>= λ _. endsFit (foldedAll text (listIn w₁ a b)) >>= λ _. give (listIn w₁ a b)) (sym p ∙ ap checkOf e)
 
       -- 30
-      pub fold-refused : {r : Refusal} → c ≡ Check.Refused r → bareRecord text (rowsForest w a b) ≡ refuse r
+      pub fold-refused : {r : Refusal} → c ≡ Check.Refused r → laidOf text (give (rowsForest w a b)) ≡ refuse r
       unfolding _>>=_
       fold-refused {r} e = checked (Check.Refused r) e
 
       module _ (e : c ≡ Check.Passed) {d : Check} (q : checkOf d ≡ endsFit (foldedAll text (listIn w₁ a b))) where
-        passed : (x : Check) → d ≡ x → bareRecord text (rowsForest w a b) ≡ (checkOf x >>= λ _. give (listIn w₁ a b))
+        passed : (x : Check) → d ≡ x → laidOf text (give (rowsForest w a b)) ≡ (checkOf x >>= λ _. give (listIn w₁ a b))
         unfolding _>>=_
         passed x f = checked Check.Passed e ∙ ap (λ (y : Answer (Unit {0})). y >>= λ _. give (listIn w₁ a b)) (sym q ∙ ap checkOf f)
 
         -- 29
-        pub end-refused : {r : Refusal} → d ≡ Check.Refused r → bareRecord text (rowsForest w a b) ≡ refuse r
+        pub end-refused : {r : Refusal} → d ≡ Check.Refused r → laidOf text (give (rowsForest w a b)) ≡ refuse r
         unfolding _>>=_
         end-refused {r} f = passed (Check.Refused r) f
 
         -- the record is laid
         pub laid-listed :
             d ≡ Check.Passed →
-            Tree w₁ a b →
+            a ≤ b →
+            20 * b ≤ length w →
             b ≤ 800 →
             {m : ℕ} →
             m ≡ recordLength (foldedAll text (listIn w₁ a b)) →
-            Listed text (bareRecord text (rowsForest w a b)) w₁ a b m
+            Listed text (give (rowsForest w a b)) w₁ a b m
         unfolding _>>=_
-        laid-listed f t few l = record { is = passed Check.Passed f; tree = t; few = few; long = l }
+        laid-listed f h fits few l =
+            record {
+              fields = ap give (same-fields text w a b 0 h fits n);
+              is = passed Check.Passed f;
+              tree = laid-tree text w a b 0 h fits n;
+              counted = laid-counted text w a b 0 h fits n;
+              few = few;
+              long = l;
+            }
 
 -- ---------------------------------------------------------------- the record of a text
 
 module _ (text : List ℕ) where
   -- the text is refused
   pub reading-refused : {r : Refusal} → statements text 0 (statementWords text) ≡ refuse r → recordOf text ≡ refuse r
-  unfolding recordOf _>>=_
-  reading-refused e = ap (λ (x : Answer (List Statement)). x >>= λ ss. bareRecord text (fields (forest ss))) e
+  unfolding fieldsOf _>>=_
+  reading-refused e = ap (λ (x : Answer (List Statement)). laidOf text (x >>= λ ss. give (fields (forest ss)))) e
 
   -- its statements stand in n rows, whose fields are the rows from `from` on
-  rows-record : {w w′ : List ℕ} {n from : ℕ} → Stored text w w′ n → FieldsFrom w′ n from → bareRecord text (rowsForest w′ from n) ≡ recordOf text
-  unfolding recordOf _>>=_
-  rows-record {w′ = w′} {n = n} s f =
+  rows-read : {w w′ : List ℕ} {n from : ℕ} → Stored text w w′ n → FieldsFrom w′ n from → give (rowsForest w′ from n) ≡ fieldsOf text
+  unfolding fieldsOf _>>=_
+  rows-read {w′ = w′} {n = n} s f =
       sym
-      (ap (λ (x : Answer (List Statement)). x >>= λ ss. bareRecord text (fields (forest ss))) (s .are)
-      ∙ ap (λ (ss : List Statement). bareRecord text (fields (forest ss))) (sym (s .back) ∙ ap (statementsFrom w′ 0) (let e : n ≡ n - 0 = omega arith in e))
-      ∙ ap (bareRecord text) (f .is))
+      (ap (λ (x : Answer (List Statement)). x >>= λ ss. give (fields (forest ss))) (s .are)
+      ∙ ap (λ (ss : List Statement). give (fields (forest ss))) (sym (s .back) ∙ ap (statementsFrom w′ 0) (let e : n ≡ n - 0 = omega arith in e))
+      ∙ ap give (f .is))
 
   pub fields-laid :
       {w w′ : List ℕ} {n from : ℕ} →
       Stored text w w′ n →
       FieldsFrom w′ n from →
       (w″ : List ℕ) (r : RecordLaid) →
-      RecordIs text (bareRecord text (rowsForest w′ from n)) r w″ →
-      RecordIs text (recordOf text) r w″
-  fields-laid s f w″ r h = subst (λ (a : Answer Entries). RecordIs text a r w″) (rows-record s f) h
+      RecordIs text (give (rowsForest w′ from n)) r w″ →
+      RecordIs text (fieldsOf text) r w″
+  fields-laid s f w″ r h = subst (λ (a : Answer Forest). RecordIs text a r w″) (rows-read s f) h

@@ -5,34 +5,44 @@ use mathlib.Core.Path.{_≡_}
 use mathlib.Core.List.{List}
 use Rattle.definition.specs.Basic.{Answer, refuse, give, _>>=_}
 use Rattle.definition.specs.Statement.{statements}
-use Rattle.definition.specs.Tree.{forest, fields}
+use Rattle.definition.specs.Tree.{Forest, forest, fields}
 use Rattle.definition.specs.Words.{statementWords}
 use Rattle.definition.specs.Fold.{Entries}
 use Rattle.definition.specs.Record.{recordLength}
 use Rattle.layout.specs.Bare.{bareRecord, foldedAll}
 use Rattle.layout.specs.Places.{rowsForest}
 use Rattle.record.specs.declared.RecordLaid.{RecordLaid}
-use Rattle.record.specs.Shown.{listIn, Tree}
+use Rattle.record.specs.Shown.{listIn, Counted, Tree}
 
 -- the fields of a record that has n rows are the rows from r on
 pub record FieldsFrom (w : List ℕ) (n r : ℕ) : Type 0 where
   pub low : r ≤ n
   pub is : fields (rowsForest w 0 n) ≡ rowsForest w r n
 
--- the rows from `from` up to `to` hold the record that was to be laid
-pub record Listed (text : List ℕ) (laid : Answer Entries) (w : List ℕ) (from to length : ℕ) : Type 0 where
-  pub is : laid ≡ give (listIn w from to)
+-- the fields of the record that a text's statements make
+unfoldable pub fieldsOf : List ℕ → Answer Forest
+fieldsOf text = do
+  ss ← statements text 0 (statementWords text)
+  give (fields (forest ss))
+
+-- these fields laid, with no list folded
+abbrev pub laidOf : List ℕ → Answer Forest → Answer Entries
+laidOf text read = read >>= λ f. bareRecord text f
+
+-- the rows from `from` up to `to` hold the fields that were read, and their places
+pub record Listed (text : List ℕ) (read : Answer Forest) (w : List ℕ) (from to length : ℕ) : Type 0 where
+  pub fields : read ≡ give (rowsForest w from to)
+  pub is : laidOf text read ≡ give (listIn w from to)
   pub tree : Tree w from to
+  pub counted : Counted w from 0 (rowsForest w from to)
   pub few : to ≤ 800
   pub long : length ≡ recordLength (foldedAll text (listIn w from to))
 
--- what an answer says of the record that was to be laid, with the table as the call leaves it
-abbrev pub RecordIs : List ℕ → Answer Entries → RecordLaid → List ℕ → Type 0
-RecordIs text laid (RecordLaid.Refused r) w = laid ≡ refuse r
-RecordIs text laid (RecordLaid.Record from to length) w = Listed text laid w from to length
+-- what an answer says of the fields that were read, with the table as the call leaves it
+abbrev pub RecordIs : List ℕ → Answer Forest → RecordLaid → List ℕ → Type 0
+RecordIs text read (RecordLaid.Refused r) w = laidOf text read ≡ refuse r
+RecordIs text read (RecordLaid.Record from to length) w = Listed text read w from to length
 
 -- the record of a text, with no list folded
-unfoldable pub recordOf : List ℕ → Answer Entries
-recordOf text = do
-  ss ← statements text 0 (statementWords text)
-  bareRecord text (fields (forest ss))
+abbrev pub recordOf : List ℕ → Answer Entries
+recordOf text = laidOf text (fieldsOf text)

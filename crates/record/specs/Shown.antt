@@ -81,10 +81,19 @@ pub record Siblings (w : List ℕ) (from to : ℕ) : Type 0 where
   pub fits : 20 * to ≤ length w
   pub linked : Linked w from 0 (rowsForest w from to)
 
--- each row of a list, and of the lists below it, names the sibling before it
+-- column c of each row of a list, and of the lists below it, holds what `value` says of the sibling before the row and of the forest below it
+abbrev pub Column : ℕ → (ℕ → Forest → ℕ) → List ℕ → ℕ → ℕ → Forest → Type 0
+Column c value w k last leaf = Unit {0}
+Column c value w k last (item s kids later) =
+    (cell w k c ≡ value last kids) × Column c value w (suc k) 0 kids × Column c value w (suc k + size kids) (suc k) later
+
+-- each row names the sibling before it
 abbrev pub Chained : List ℕ → ℕ → ℕ → Forest → Type 0
-Chained w k last leaf = Unit {0}
-Chained w k last (item s kids later) = (cell w k 16 ≡ last) × Chained w (suc k) 0 kids × Chained w (suc k + size kids) (suc k) later
+Chained w k last f = Column 16 (λ before kids. before) w k last f
+
+-- each row counts the rows below it
+abbrev pub Counted : List ℕ → ℕ → ℕ → Forest → Type 0
+Counted w k last f = Column 17 (λ before kids. size kids) w k last f
 
 -- no row from `from` up to `to` has more than 2,147,483,647 bytes in all its occurrences
 pub record Sized (w : List ℕ) (from to : ℕ) : Type 0 where

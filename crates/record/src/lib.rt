@@ -3,15 +3,16 @@ ghost use mathlib.Core.Path.{_≡_};
 ghost use mathlib.Core.Bool.{true};
 ghost use Prim.Native.Nat.{_+_, _*_, _≤_, _<_, max};
 ghost use lib.ListN.{length};
+ghost use Rattle.definition.specs.Basic.{give};
 ghost use Rattle.definition.specs.Fold.{times, total, entryEnd, sameSpelling, find, hasMember, widest};
 ghost use Rattle.definition.specs.Listing.{members#};
 ghost use Rattle.definition.specs.Record.{recordLength, endsFit};
-ghost use Rattle.definition.specs.Calls.{checkOf};
-ghost use Rattle.layout.specs.Bare.{hasBase, foldedAll, bareRecord};
+ghost use Rattle.definition.specs.Calls.{checkOf, recordFields};
+ghost use Rattle.layout.specs.Bare.{hasBase, foldedAll};
 ghost use Rattle.layout.specs.Places.{entryIn, basesAt, isTarget, rowsForest};
 ghost use Rattle.layout.specs.Steps.{Room};
 ghost use Rattle.record.specs.Shown.{standing, relation, listIn, redefinersIn, shownAt, shown#, shownNamed, unionWidth, Siblings, Tree, Branch, Sized, SizedRow, Measured, Few};
-ghost use Rattle.record.specs.Laying.{FieldsFrom, RecordIs, recordOf};
+ghost use Rattle.record.specs.Laying.{FieldsFrom, RecordIs, fieldsOf};
 use definition::Check;
 use definition::Occurs;
 use definition::Refusal;
@@ -367,7 +368,7 @@ pub fn first_field(work: &[u32], n: usize) -> usize
 // Lays out the fields in the rows from `from` up to `to`: their places, then 30, then 29 for an end in the folded list.
 pub fn lay_fields(text: &[u8], work: &mut [u32], from: usize, to: usize) -> RecordLaid
     requires { ⌜ (from ≤ to) × Room (now work) to × (to ≤ 800) ⌝ }
-    ensures { λ r. ⌜ RecordIs (now (text .entry)) (bareRecord (now (text .entry)) (rowsForest (now (work .entry)) from to)) r (now (work .exit)) ⌝ }
+    ensures { λ r. ⌜ RecordIs (now (text .entry)) (give (rowsForest (now (work .entry)) from to)) r (now (work .exit)) ⌝ }
 {
     match layout::lay_list(text, work, from, to, 64) {
         LaidList::Done { width, last } => match layout::fold_check(text, work, from, to) {
@@ -396,7 +397,7 @@ pub fn lay_fields(text: &[u8], work: &mut [u32], from: usize, to: usize) -> Reco
 // Reads a text into rows of work memory and lays its record out there.
 pub fn lay_record(text: &[u8], work: &mut [u32]) -> RecordLaid
     requires { ⌜ (length (now text) ≤ 65535) × (16384 ≤ length (now work)) ⌝ }
-    ensures { λ r. ⌜ RecordIs (now (text .entry)) (recordOf (now (text .entry))) r (now (work .exit)) ⌝ }
+    ensures { λ r. ⌜ RecordIs (now (text .entry)) (fieldsOf (now (text .entry))) r (now (work .exit)) ⌝ }
 {
     match rows::read_rows(text, work) {
         RowsRead::Rows(n) => {
@@ -404,6 +405,21 @@ pub fn lay_record(text: &[u8], work: &mut [u32]) -> RecordLaid
             return lay_fields(text, work, from, n);
         }
         RowsRead::Refused(r) => {
+            return RecordLaid::Refused(r);
+        }
+    }
+}
+
+// Checks what a caller lends, reads the text into rows of work memory and lays its record out there, or says why not: 1, 2, 3, then
+// the statements' 10 to 14, then 20 to 30. Every entry that speaks of a copybook's record starts so.
+pub fn read_record(text: &[u8], work: &mut [u32]) -> RecordLaid
+    ensures { λ r. ⌜ RecordIs (now (text .entry)) (recordFields (now (text .entry)) (length (now (work .entry)))) r (now (work .exit)) ⌝ }
+{
+    match rows::entry_checks(text, work.len()) {
+        Check::Passed => {
+            return lay_record(text, work);
+        }
+        Check::Refused(r) => {
             return RecordLaid::Refused(r);
         }
     }

@@ -9,29 +9,20 @@ use native.Mathlib.Nat.{zero-add}
 use lib.ListN.{length, drop}
 use borrow.Author.Tests.{lt-ltb, le-ltb}
 use Rattle.definition.specs.declared.Writing.{Writing}
-use Rattle.definition.specs.Calls.{After, fitting, afterWriting, writingOf}
+use Rattle.definition.specs.Calls.{fitting, left, afterWriting, writingOf}
 use Rattle.definition.specs.Fold.{Entries}
 use Rattle.definition.specs.Listing.{members#, entriesBytes, listing}
-use Rattle.definition.specs.Owner.{size}
 use Rattle.definition.specs.Record.{recordLength, variable}
-use Rattle.definition.specs.Search.{entries#}
-use Rattle.definition.specs.Tree.{Forest, leaf, item}
-use Rattle.layout.specs.Places.{entriesIn, rowsForest}
+use Rattle.layout.specs.Places.{rowsForest}
 use Rattle.layout.proofs.EntriesLaws.{size-stretch}
 use Rattle.layout.proofs.SizeLaws.{listing-few}
 use Rattle.listing.specs.Puts.{Put, headBytes}
 use Rattle.listing.proofs.PutLaws.{_and_, put-first, listing-parts}
 use Rattle.record.specs.Shown.{listIn}
+use Rattle.record.proofs.LaidLaws.{entries-size}
 use Rattle.writer.specs.Written.{Fits, listBytes}
-use Rattle.writer.specs.Listed.{left}
 
--- a list has an entry for each row
-entries-size : (w : List ℕ) (f : Forest) (k : ℕ) → entries# (entriesIn w k f) ≡ size f
-unfolding entriesIn
-entries-size w leaf k = refl
-entries-size w (item s kids later) k = omega (arith, entries-size w kids (suc k), entries-size w later (suc k + size kids))
-
--- so its bytes can be counted
+-- a list has an entry for each row, so its bytes can be counted
 pub list-fits : (text w : List ℕ) (from to at : ℕ) → to ≤ 800 → at ≤ 10 → Fits at (listBytes text w from to)
 list-fits text w from to at few small =
     omega (arith, listing-few text (listIn w from to), entries-size w (rowsForest w from to) from, size-stretch w from to)

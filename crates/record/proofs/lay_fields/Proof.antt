@@ -40,7 +40,7 @@ record-length-requires : tie.Need-record-length-requires
 record-length-requires c κs = tree (c .before .before .before .before .before .before .before .before .before .before)
 
 returns : tie.Need-returns
-returns c = let x = c .before .before .before .before .before .before .before .before .before .before .before in let a = c .before .before .before .before .before .before .before .before .before .before .before .before .before .before .before .before .before .before .before .args in laid-listed (a .text .now) (a .work .now) (a .from) (a .to) (inner x) (c .before .before .before .before .before .before .before .before .fold-check .ensures) (c .before .before .before .before .before .before .enum-told .given .1) (c .before .before .before .before .ends-fit .ensures) (c .before .before .enum-told2 .given .1) (tree x) (c .before .before .before .before .before .before .before .before .before .before .before .before .before .before .before .before .before .before .before .pre .2) (c .record-length .ensures)
+returns c = let x = c .before .before .before .before .before .before .before .before .before .before .before in let s = x .before .before .before .before .before .before .before .before in let a = s .args in laid-listed (a .text .now) (a .work .now) (a .from) (a .to) (inner x) (c .before .before .before .before .before .before .before .before .fold-check .ensures) (c .before .before .before .before .before .before .enum-told .given .1) (c .before .before .before .before .ends-fit .ensures) (c .before .before .enum-told2 .given .1) (s .pre .0) (s .pre .1 .fits) (s .pre .2) (c .record-length .ensures)
 
 returns-2 : tie.Need-returns-2
 returns-2 c = let x = c .before .before .before .before .before .before .before .before .before .before in let a = c .before .before .before .before .before .before .before .before .before .before .before .before .before .before .before .before .before .before .args in end-refused (a .text .now) (a .work .now) (a .from) (a .to) (inner x) (c .before .before .before .before .before .before .before .fold-check .ensures) (c .before .before .before .before .before .enum-told .given .1) (c .before .before .before .ends-fit .ensures) (c .before .r .given .1)

@@ -1,0 +1,48 @@
+-- Demand 3 of what the code answers (`demand3`, of the proofs, keeps it). A call of `layout_listing` that writes n bytes leaves in the output
+-- the listing of some entries; if the copybook has no REDEFINES and no DEPENDING ON, a dropped root's own aside, those entries are the owner
+-- rule's, and every call of `byte_owner` on the same text answers with the one piece, or slack, that has the byte.
+-- Assumes nothing.
+use Prim.Native.Nat.{ℕ, _≤_, _<_}
+use mathlib.Core.Path.{_≡_}
+use mathlib.Core.Bool.{true, false}
+use mathlib.Core.List.{List, []}
+use lib.ListN.{length, take, drop}
+use Rattle.definition.specs.declared.Owner.{Owner}
+use Rattle.definition.specs.declared.OwnerAnswer.{OwnerAnswer}
+use Rattle.definition.specs.declared.Writing.{Writing}
+use Rattle.definition.specs.Basic.{Answer, give, refused}
+use Rattle.definition.specs.Calls.{left, layoutCall, ownerCall, ownerAnswerOf, writingOf}
+use Rattle.definition.specs.Demand.{Owned, Kept}
+use Rattle.definition.specs.Fold.{Entries}
+use Rattle.definition.specs.Listing.{listing}
+use Rattle.definition.specs.Owner.{pieces, ownerOf, overlaid}
+use Rattle.definition.specs.Record.{recordLength}
+
+-- what the contract of `layout_listing` says of a call: its answer, and the output and work memory after it
+abbrev pub Listing : List ℕ → List ℕ → List ℕ → Writing → List ℕ → List ℕ → Type 0
+Listing text out work r out′ work′ = left (writingOf r) out′ work′ ≡ layoutCall text out work
+
+-- what the contract of `byte_owner` says of a call
+abbrev pub Owning : List ℕ → ℕ → List ℕ → OwnerAnswer → List ℕ → Type 0
+Owning text position work r work′ = left (ownerAnswerOf r) [] work′ ≡ ownerCall text position work
+
+-- every call of `byte_owner` at the position q answers so, whatever work memory of at least 16,384 numbers it is lent
+abbrev pub Owns : List ℕ → ℕ → Answer Owner → Type 0
+Owns text q a = (work : List ℕ) (r : OwnerAnswer) (work′ : List ℕ) → 16384 ≤ length work → Owning text q work r work′ → ownerAnswerOf r ≡ a
+
+-- what holds after a call of `layout_listing` that wrote n bytes
+pub record Answered (text out work : List ℕ) (n : ℕ) (out′ : List ℕ) : Type 0 where
+  -- the written bytes are the listing of these entries, and the bytes behind them are as they were
+  pub shown : Entries
+  pub written : take n out′ ≡ listing shown
+  pub behind : drop n out′ ≡ drop n out
+  -- the fields that were read, and what demand 3 says of the entries: the pieces' widths add up to the record length; each offset is the place
+  -- that its list has reached after the earlier items and the entry's own slack; slack is the fewest bytes, only before a SYNC binary item; a
+  -- record that is cut into the pieces and joined again is itself
+  pub kept : Kept text (length work) shown
+  -- without a REDEFINES or DEPENDING ON every byte below the record length has exactly one owner, and the byte owner names it;
+  pub names : overlaid (kept .of) ≡ false → (q : ℕ) → q < recordLength shown → Owned 0 (pieces text (kept .of)) q × Owns text q (give (ownerOf (pieces text (kept .of)) q))
+  -- there is no byte behind them, and it says so;
+  pub ends : overlaid (kept .of) ≡ false → (q : ℕ) → recordLength shown ≤ q → Owns text q (refused 41 0)
+  -- with one, it refuses every position
+  pub refuses : overlaid (kept .of) ≡ true → (q : ℕ) → Owns text q (refused 40 0)

@@ -36,6 +36,7 @@ extern "C" {
 #define COPYBOOK_LAYOUT_ANSWER 2
 #define COPYBOOK_PICTURE_ANSWER 7
 #define COPYBOOK_MASK_ANSWER 2
+#define COPYBOOK_OWNER_ANSWER 4
 
 /* Numbers returned. */
 enum copybook_number {
@@ -71,6 +72,9 @@ enum copybook_number {
     COPYBOOK_REDEFINES_BEFORE = 30,   /* a redefiner that starts before its base */
 
     COPYBOOK_OUT_TOO_SHORT = 31,      /* `out` is shorter than what is to be written; answer[1] says how long it must be */
+
+    COPYBOOK_OVERLAID = 40,           /* the owner: a kept REDEFINES or DEPENDING ON, a dropped root's own aside */
+    COPYBOOK_PAST_RECORD = 41,        /* the owner: a position not below the record length */
 
     COPYBOOK_RECORD_TOO_SHORT = 42,   /* the record check */
 
@@ -149,6 +153,17 @@ uint32_t copybook_picture(const uint8_t *pic, size_t n, uint8_t usage, uint8_t s
  * A mask has at most 255 bytes. Refusals: those of copybook_picture, and 31 last.
  */
 uint32_t copybook_mask(const uint8_t *pic, size_t n, uint8_t usage, uint8_t *out, size_t m, uint64_t *answer, size_t k);
+
+/* answer[0] of copybook_owner. */
+enum copybook_owned { COPYBOOK_PIECE = 0, COPYBOOK_SLACK = 1 };
+
+/*
+ * Which entry of the listing has the byte at `position` of the record. To `answer`, 4 numbers:
+ *     COPYBOOK_PIECE, the entry's number, the first byte of that piece (one occurrence of the item), the place of the byte inside it; or
+ *     COPYBOOK_SLACK, the number of the entry that the slack precedes, 0, 0
+ * Entries are numbered from 0 in the order of the listing, COPYBOOK_RECORD not counted. `work` as for copybook_layout. Refusals: 1 to 3, 10 to 14, 20 to 30, 40, 41.
+ */
+uint32_t copybook_owner(const uint8_t *text, size_t n, uint64_t position, uint32_t *work, size_t w, uint64_t *answer, size_t k);
 
 /*
  * Whether a record of `len` bytes is long enough for a layout of `record_len` bytes: COPYBOOK_OK, or COPYBOOK_RECORD_TOO_SHORT where it is shorter and `variable` is

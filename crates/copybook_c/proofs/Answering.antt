@@ -21,6 +21,9 @@ stored numbers l h = rw (le-ltb (length l) (length numbers) h, sets-eq numbers l
 pub two : (l : List ℕ) (a b : ℕ) → 2 ≤ length l → set (set l 0 a) 1 b ≡ answered (a ∷ b ∷ []) l
 two l a b h = stored (a ∷ b ∷ []) l h
 
+pub four : (l : List ℕ) (a b c d : ℕ) → 4 ≤ length l → set (set (set (set l 0 a) 1 b) 2 c) 3 d ≡ answered (a ∷ b ∷ c ∷ d ∷ []) l
+four l a b c d h = stored (a ∷ b ∷ c ∷ d ∷ []) l h
+
 pub seven :
     (l : List ℕ) (a b c d e f g : ℕ) →
     7 ≤ length l →

@@ -8,10 +8,12 @@ use Rattle.definition.specs.declared.Check.{Check}
 use Rattle.definition.specs.declared.Writing.{Writing}
 use Rattle.definition.specs.declared.Pictured.{Pictured}
 use Rattle.definition.specs.declared.PicAnswer.{PicAnswer}
+use Rattle.definition.specs.declared.Owner.{Owner}
+use Rattle.definition.specs.declared.OwnerAnswer.{OwnerAnswer}
 use Rattle.definition.specs.Basic.{Answer}
-use Rattle.definition.specs.Calls.{After, writingOf, pictureOf, checkOf}
+use Rattle.definition.specs.Calls.{After, left, writingOf, pictureOf, ownerAnswerOf, checkOf}
 use Rattle.definition.specs.Listing.{kindByte}
-use Rattle.copybook_c.specs.Numbers.{returned, writingNumbers, kindNumbers, pictureNumbers, answered}
+use Rattle.copybook_c.specs.Numbers.{returned, writingNumbers, kindNumbers, pictureNumbers, ownerNumbers, answered}
 
 -- the answer of a call that writes bytes
 module _ {w : Writing} (l l′ : List ℕ) where
@@ -44,10 +46,42 @@ module _ {a : PicAnswer} (l l′ d : List ℕ) where
       (r .number ≡ returned (pictureOf a)) × (l′ ≡ answered (pictureNumbers (pictureOf a)) l)
   no-picture e g q = rw (e, q, g) (refl, refl)
 
+-- the answer to a byte
+module _ {o : OwnerAnswer} (l l′ : List ℕ) where
+  pub piece :
+      {entry first place : ℕ} →
+      o ≡ OwnerAnswer.Piece entry first place →
+      l′ ≡ answered (0 ∷ entry ∷ first ∷ place ∷ []) l →
+      (0 ≡ returned (ownerAnswerOf o)) × (l′ ≡ answered (ownerNumbers (ownerAnswerOf o)) l)
+  piece e q = rw (e, q) (refl, refl)
+
+  pub slack :
+      {entry : ℕ} →
+      o ≡ OwnerAnswer.Slack entry →
+      l′ ≡ answered (1 ∷ entry ∷ 0 ∷ 0 ∷ []) l →
+      (0 ≡ returned (ownerAnswerOf o)) × (l′ ≡ answered (ownerNumbers (ownerAnswerOf o)) l)
+  slack e q = rw (e, q) (refl, refl)
+
+  pub no-owner :
+      {r : Refusal} →
+      o ≡ OwnerAnswer.Refused r →
+      l′ ≡ answered (r .position ∷ r .needed ∷ 0 ∷ 0 ∷ []) l →
+      (r .number ≡ returned (ownerAnswerOf o)) × (l′ ≡ answered (ownerNumbers (ownerAnswerOf o)) l)
+  no-owner e q = rw (e, q) (refl, refl)
+
+pub owner-handed :
+    (after : After Owner) (a : Answer Owner) (out work : List ℕ) (r : ℕ) (l l′ : List ℕ) →
+    left a out work ≡ after →
+    (r ≡ returned a) × (l′ ≡ answered (ownerNumbers a) l) →
+    (r ≡ returned (after .answer)) × ((l′ ≡ answered (ownerNumbers (after .answer)) l) × (work ≡ after .work))
+owner-handed after a out work r l l′ e p =
+    let s = ap (λ (x : After Owner). x .answer) e in
+    (p .0 ∙ ap returned s, (p .1 ∙ ap (λ (x : Answer Owner). answered (ownerNumbers x) l) s, ap (λ (x : After Owner). x .work) e))
+
 -- what an entry leaves, and what was handed on of its answer
 pub handed :
     (after : After ℕ) (a : Answer ℕ) (out work : List ℕ) (r : ℕ) (l l′ : List ℕ) →
-    _≡_ {A = After ℕ} (record { answer = a; output = out; work = work }) after →
+    left a out work ≡ after →
     (r ≡ returned a) × (l′ ≡ answered (writingNumbers a) l) →
     (r ≡ returned (after .answer)) × ((l′ ≡ answered (writingNumbers (after .answer)) l) × ((out ≡ after .output) × (work ≡ after .work)))
 handed after a out work r l l′ e p =

@@ -1,5 +1,5 @@
 -- How answers become numbers for C: the number that a call returns, and the numbers that it writes to the lent `answer`. Every call writes as many
--- numbers as its definition here has, 2 or 7, whatever it answers; where `answer` has fewer, it keeps its values.
+-- numbers as its definition here has, 2, 4 or 7, whatever it answers; where `answer` has fewer, it keeps its values.
 -- Assumes nothing.
 use Prim.Native.Nat.{ℕ}
 use mathlib.Core.Bool.{Bool, not}
@@ -11,6 +11,7 @@ use Rattle.definition.specs.declared.SignKind.{SignKind}
 use Rattle.definition.specs.declared.SignClause.{SignClause}
 use Rattle.definition.specs.declared.FieldKind.{FieldKind}
 use Rattle.definition.specs.declared.Pictured.{Pictured}
+use Rattle.definition.specs.declared.Owner.{Owner}
 use Rattle.definition.specs.Basic.{if_then_else_, Answer, refuse, give}
 use Rattle.definition.specs.Listing.{flag, signByte, storageByte, kindByte}
 
@@ -65,6 +66,14 @@ kindNumbers FieldKind.Group = 0 ∷ 0 ∷ 0 ∷ 0 ∷ 0 ∷ []
 abbrev pub pictureNumbers : Answer Pictured → List ℕ
 pictureNumbers (refuse r) = r .position ∷ r .needed ∷ 0 ∷ 0 ∷ 0 ∷ 0 ∷ 0 ∷ []
 pictureNumbers (give p) = kindByte (p .kind) ∷ p .width ∷ kindNumbers (p .kind)
+
+-- the four numbers of a byte's owner: 0, the entry's number, the piece's first byte and the place inside it; or 1 and the number of the entry that the slack
+-- precedes; or position and needed length. A byte below the record length has an owner
+abbrev pub ownerNumbers : Answer Owner → List ℕ
+ownerNumbers (refuse r) = r .position ∷ r .needed ∷ 0 ∷ 0 ∷ []
+ownerNumbers (give (Owner.Piece entry first place)) = 0 ∷ entry ∷ first ∷ place ∷ []
+ownerNumbers (give (Owner.Slack entry)) = 1 ∷ entry ∷ 0 ∷ 0 ∷ []
+ownerNumbers (give Owner.Unowned) = 0 ∷ 0 ∷ 0 ∷ 0 ∷ []
 
 -- the lent `answer` after a call that writes these numbers to it
 unfoldable pub answered : List ℕ → List ℕ → List ℕ

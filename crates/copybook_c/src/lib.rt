@@ -6,12 +6,13 @@ ghost use mathlib.Core.List.{[], _∷_};
 ghost use lib.Dec.{ltb};
 ghost use Rattle.definition.specs.Basic.{if_then_else_};
 ghost use Rattle.definition.specs.Listing.{flag, signByte, storageByte, kindByte};
-ghost use Rattle.definition.specs.Calls.{layoutCall, pictureAnswer, maskCall, recordCheck, pictureOf, writingOf, checkOf};
+ghost use Rattle.definition.specs.Calls.{layoutCall, pictureAnswer, maskCall, ownerCall, recordCheck, pictureOf, writingOf, ownerAnswerOf, checkOf};
 ghost use Rattle.copybook_c.specs.Numbers.{usageOf, signOf, noUsage, noSign, marked};
-ghost use Rattle.copybook_c.specs.Numbers.{returned, writingNumbers, kindNumbers, pictureNumbers, answered};
+ghost use Rattle.copybook_c.specs.Numbers.{returned, writingNumbers, kindNumbers, pictureNumbers, ownerNumbers, answered};
 use definition::Check;
 use definition::FieldKind;
 use definition::NumRepr;
+use definition::OwnerAnswer;
 use definition::PicAnswer;
 use definition::SignClause;
 use definition::SignKind;
@@ -63,6 +64,19 @@ fn put_two(answer: &mut [u64], a: u64, b: u64)
     }
     answer[0] = a;
     answer[1] = b;
+}
+
+// Writes four numbers, where there is room for them.
+fn put_four(answer: &mut [u64], a: u64, b: u64, c: u64, d: u64)
+    ensures { λ _. ⌜ now (answer .exit) ≡ answered (a ∷ b ∷ c ∷ d ∷ []) (now (answer .entry)) ⌝ }
+{
+    if answer.len() < 4 {
+        return;
+    }
+    answer[0] = a;
+    answer[1] = b;
+    answer[2] = c;
+    answer[3] = d;
 }
 
 // The numbers that a kind has: signed, sign, precision, scale and storage.
@@ -247,6 +261,31 @@ fn hand_on_picture(p: PicAnswer, answer: &mut [u64]) -> u32
     }
 }
 
+// Hands on the answer to a byte.
+fn hand_on_owner(o: OwnerAnswer, answer: &mut [u64]) -> u32
+    ensures { λ r. ⌜ r ≡ returned (ownerAnswerOf o) ⌝ }
+    ensures { λ _. ⌜ now (answer .exit) ≡ answered (ownerNumbers (ownerAnswerOf o)) (now (answer .entry)) ⌝ }
+{
+    match o {
+        OwnerAnswer::Piece {
+            entry,
+            first,
+            place,
+        } => {
+            put_four(answer, 0, entry as u64, first as u64, place as u64);
+            return 0;
+        }
+        OwnerAnswer::Slack { entry } => {
+            put_four(answer, 1, entry as u64, 0, 0);
+            return 0;
+        }
+        OwnerAnswer::Refused(r) => {
+            put_four(answer, r.position as u64, r.needed as u64, 0, 0);
+            return r.number;
+        }
+    }
+}
+
 // ---------------------------------------------------------------- the calls
 
 // The layout listing of a copybook, as `copybook::layout_listing` says. To `answer`, 2 numbers: the bytes written, and 0; or position and
@@ -301,6 +340,24 @@ pub extern "C" fn copybook_mask(pic: &[u8], usage: u8, out: &mut [u8], answer: &
     }
     let w = copybook::mask(pic, usage_of(usage), out);
     hand_on(w, answer)
+}
+
+// The owner of a byte of the record, as `copybook::byte_owner` says. To `answer`, 4 numbers: 0, the entry's number, the piece's first byte and the place inside
+// it; or 1 for slack, the number of the entry it precedes, and zeros; or position, needed length and zeros.
+// The contract rules out a call that says slack of a piece, and one that leaves work memory as the walk left it.
+#[no_mangle]
+pub extern "C" fn copybook_owner(
+    text: &[u8],
+    position: u64,
+    work: &mut [u32],
+    answer: &mut [u64],
+) -> u32
+    ensures { λ r. ⌜ r ≡ returned (ownerCall (now (text .entry)) position (now (work .entry)) .answer) ⌝ }
+    ensures { λ _. ⌜ now (answer .exit) ≡ answered (ownerNumbers (ownerCall (now (text .entry)) position (now (work .entry)) .answer)) (now (answer .entry)) ⌝ }
+    ensures { λ _. ⌜ now (work .exit) ≡ ownerCall (now (text .entry)) position (now (work .entry)) .work ⌝ }
+{
+    let o = copybook::byte_owner(text, position as usize, work);
+    hand_on_owner(o, answer)
 }
 
 // Whether a record of `len` bytes is long enough for a layout of `record_len` bytes, as `copybook::check_record_len` says: 0, or 42. `variable` is 0

@@ -5,6 +5,7 @@
 uint32_t right_copybook_layout(const uint8_t *, size_t, uint32_t *, size_t, uint8_t *, size_t, uint64_t *, size_t);
 uint32_t right_copybook_picture(const uint8_t *, size_t, uint8_t, uint8_t, uint64_t *, size_t);
 uint32_t right_copybook_mask(const uint8_t *, size_t, uint8_t, uint8_t *, size_t, uint64_t *, size_t);
+uint32_t right_copybook_owner(const uint8_t *, size_t, uint64_t, uint32_t *, size_t, uint64_t *, size_t);
 uint32_t right_copybook_check_record(uint64_t, uint8_t, uint64_t);
 
 uint32_t copybook_layout(const uint8_t *text, size_t n, uint32_t *work, size_t w, uint8_t *out, size_t m, uint64_t *answer, size_t k)
@@ -55,6 +56,16 @@ uint32_t copybook_mask(const uint8_t *pic, size_t n, uint8_t usage, uint8_t *out
     uint32_t r = right_copybook_mask(pic, n, usage, out, m, answer, k);
     if (WRONG == 15 && r == 0 && m > 0 && out[0] == '*')
         out[0] = 'Z'; /* a wrong symbol */
+    return r;
+}
+
+uint32_t copybook_owner(const uint8_t *text, size_t n, uint64_t position, uint32_t *work, size_t w, uint64_t *answer, size_t k)
+{
+    uint32_t r = right_copybook_owner(text, n, position, work, w, answer, k);
+    if (WRONG == 17 && r == 0 && k >= 4)
+        answer[2] += answer[3], answer[3] = 0; /* every byte a piece of its own */
+    if (WRONG == 18 && r == 0 && k >= 4 && answer[0] == 1)
+        answer[0] = 0; /* no slack */
     return r;
 }
 

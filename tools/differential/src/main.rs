@@ -8,7 +8,8 @@
 //! A copybook must get the bytes of listing that the Rust's answer comes to by document 01's format (`answer`), or the number of refusal that its
 //! error means. Places in the text and positions, which the Rust does not have, are those of a reading of document 01 that shares no code
 //! with the product (`reading`); so are the added refusals 1, 2, 14, 24, 27, 29 and 30: an input with one is left out of the comparison with the
-//! Rust, and counted, but number and position are checked. The masks of the edited pictures of a listing are compared too, and the record check. A picture is
+//! Rust, and counted, but number and position are checked. The Rust has no byte owner: owners are compared, for some copybooks, with the bytes laid one by one by
+//! the reading. The masks of the edited pictures of a listing are compared too, and the record check. A picture is
 //! compared under every usage and sign, and its mask under every usage.
 //!
 //! With each call (`product`): the output keeps its bytes after a refusal and past what is written, for outputs that are longer, exact and too short (31);
@@ -58,6 +59,7 @@ const BOOKS: &str = "copybooks";
 const SHORT: &str = "copybook calls with too short an output";
 const LITTLE: &str = "copybook calls with too little work memory";
 const LEFT: &str = "copybooks left out";
+const OWNERS: &str = "owners, by the reading alone";
 const CHECKS: &str = "record checks";
 const PICTURES: &str = "picture answers";
 const PICTURES_LEFT: &str = "picture answers left out";
@@ -138,11 +140,13 @@ impl Run {
                 let (got, _) = product::layout(r, text, work, room, None)?;
                 same_refusal(&got, want, 0)?;
                 self.count(BOOKS, want.0, "");
+                self.owner_refused(r, text, want)?;
             }
             Expected::Added(want, how) => {
                 let room = r.below(600);
                 let (got, _) = product::layout(r, text, work, room, None)?;
                 same_refusal(&got, want, 0)?;
+                self.owner_refused(r, text, want)?;
                 self.count(LEFT, want.0, &format!(" (the Rust {how})"));
             }
             Expected::Listing(want) => {
@@ -160,8 +164,61 @@ impl Run {
                     self.written(r, span.of(text), 0, mask.as_bytes())?;
                 }
                 self.record_checks(r, want.record_len, want.variable)?;
+                if r.chance(1, 4) {
+                    self.owners(r, text, want.record_len as u64)?;
+                }
                 self.count(BOOKS, 0, "");
             }
+        }
+        Ok(())
+    }
+
+    /// The owner refuses what the layout refuses.
+    fn owner_refused(&mut self, r: &mut Random, text: &[u8], want: Refused) -> Found<()> {
+        if r.chance(1, 4) {
+            let position = r.below(50) as u64;
+            let got = product::owner(r, text, position, product::ENOUGH_WORK)?;
+            same_refusal(&got, want, 0).map_err(|e| format!("owner: {e}"))?;
+            self.count(OWNERS, want.0, "");
+        }
+        Ok(())
+    }
+
+    /// The owners of some bytes of an accepted record.
+    fn owners(&mut self, r: &mut Random, text: &[u8], record_len: u64) -> Found<()> {
+        let reading = reading::read(text);
+        let laid = if reading.overlaid() { None } else { reading.laid(text) };
+        if let Some(laid) = &laid {
+            let all: u128 = laid.iter().map(|l| l.len).sum();
+            if all != u128::from(record_len) {
+                return Err(format!("owner: {all} bytes are laid where the Rust has a record of {record_len}"));
+            }
+        }
+        for position in [0, record_len.saturating_sub(1), record_len, r.below(record_len as usize + 2) as u64, u64::MAX - r.below(2) as u64] {
+            let named = |e: String| format!("owner of {position}: {e}");
+            let refusal = if reading.overlaid() { Some(40) } else { (position >= record_len).then_some(41) };
+            if refusal.is_none() && laid.is_none() {
+                continue;
+            }
+            let got = product::owner(r, text, position, product::ENOUGH_WORK).map_err(named)?;
+            if let Some(number) = refusal {
+                same_refusal(&got, Refused(number, 0), 0).map_err(named)?;
+                self.count(OWNERS, number, "");
+                continue;
+            }
+            let laid = laid.as_ref().expect("laid").iter();
+            let placed = laid.scan(0, |next, l| {
+                let at = *next;
+                *next += l.len as u64;
+                Some((at, l))
+            });
+            let found = { placed }.find(|(at, l)| position < at + l.len as u64);
+            let (at, l) = found.expect("a position below the record length");
+            let want = if l.slack { [1, l.entry as u64, 0, 0] } else { [0, l.entry as u64, at, position - at] };
+            if got.number != 0 || got.answer.as_ref().is_some_and(|a| a[..] != want) {
+                return Err(named(format!("number {}, answer {:?}, where {want:?} is due", got.number, got.answer)));
+            }
+            self.count(OWNERS, 0, if l.slack { ", slack" } else { ", a piece" });
         }
         Ok(())
     }

@@ -7,6 +7,7 @@ extern "C" {
     fn copybook_layout(text: *const u8, n: usize, work: *mut u32, w: usize, out: *mut u8, m: usize, answer: *mut u64, k: usize) -> u32;
     fn copybook_picture(pic: *const u8, n: usize, usage: u8, sign: u8, answer: *mut u64, k: usize) -> u32;
     fn copybook_mask(pic: *const u8, n: usize, usage: u8, out: *mut u8, m: usize, answer: *mut u64, k: usize) -> u32;
+    fn copybook_owner(text: *const u8, n: usize, position: u64, work: *mut u32, w: usize, answer: *mut u64, k: usize) -> u32;
     fn copybook_check_record(record_len: u64, variable: u8, len: u64) -> u32;
 }
 
@@ -117,6 +118,18 @@ pub fn mask(r: &mut Random, text: &[u8], usage: u8, room: usize, long: Option<us
     let returned = answered(&answer, 2, number)?;
     let bytes = written(&out, &returned, long)?;
     Ok((returned, bytes))
+}
+
+pub fn owner(r: &mut Random, text: &[u8], position: u64, work_len: usize) -> Result<Returned, String> {
+    let seed = r.next() | 1;
+    let mut work = Lent::new(work_len, |i| (seed >> (i % 13)) as u32 ^ i as u32);
+    let mut answer = lent_answer(r, 4);
+    let number = unsafe { copybook_owner(text.as_ptr(), text.len(), position, work.pointer(), work.len, answer.pointer(), answer.len) };
+    if work.now().iter().any(|&n| n != 0) {
+        return Err(format!("owner: work memory is not zero after number {number}"));
+    }
+    work.kept_from(work_len, "the memory beside work memory")?;
+    answered(&answer, 4, number)
 }
 
 pub fn record_check(record_len: u64, variable: u8, len: u64) -> u32 {

@@ -1,5 +1,5 @@
 //! A reading of document 01 of its own: it gives what the Rust does not have, that is places in the text, positions of refusals and the
-//! added refusals 1, 2, 14, 24, 27, 29 and 30. Offsets, widths and kinds of a listing are taken from the Rust, never from here.
+//! added refusals 1, 2, 14, 24, 27, 29, 30, 40 and 41, and the owners of bytes. Offsets, widths and kinds of a listing are taken from the Rust, never from here.
 
 /// A part of the text; length 0 means absent.
 #[derive(Clone, Copy, PartialEq, Eq, Debug, Default)]
@@ -66,6 +66,9 @@ pub struct Shape {
 
 pub struct Reading {
     pub statements: Vec<Statement>,
+    /// The record's fields, and whether the only root was dropped.
+    pub fields: Vec<usize>,
+    pub dropped: bool,
     /// The folded top list, or why there is none. The last check, 29 for a top-level end, needs the widths of folds, and is made on the Rust's
     /// answer (`answer::copybook`).
     pub top: Answer<Vec<Shape>>,
@@ -487,15 +490,71 @@ impl Laying<'_> {
 
 pub fn read(text: &[u8]) -> Reading {
     if let Err(r) = text_checks(text) {
-        return Reading { statements: Vec::new(), top: Err(r) };
+        return Reading { statements: Vec::new(), fields: Vec::new(), dropped: false, top: Err(r) };
     }
     let (mut kept, read) = statements(text);
     if let Err(r) = read {
-        return Reading { statements: kept, top: Err(r) };
+        return Reading { statements: kept, fields: Vec::new(), dropped: false, top: Err(r) };
     }
-    let top = fields(&mut kept);
+    let fields = fields(&mut kept);
+    let dropped = fields.first().is_some_and(|&k| k > 0);
     let laying = Laying { text, kept: &kept };
-    let folded = laying.list(&top, 0).and_then(|(items, _)| laying.fold(items));
+    let folded = laying.list(&fields, 0).and_then(|(items, _)| laying.fold(items));
     let top = folded.map(|items| items.into_iter().map(|i| i.shape).collect());
-    Reading { statements: kept, top }
+    Reading { statements: kept, fields, dropped, top }
+}
+
+// ---------------------------------------------------------------- the owner rule
+
+/// What lays a byte: a piece or slack, with the number of its entry, and how many bytes it lays.
+pub struct Laid {
+    pub slack: bool,
+    pub entry: usize,
+    pub len: u128,
+}
+
+/// More are not laid.
+const MOST_LAID: usize = 20_000;
+
+impl Reading {
+    /// A kept REDEFINES or DEPENDING ON, a dropped root's own aside.
+    pub fn overlaid(&self) -> bool {
+        let kept = &self.statements[usize::from(self.dropped)..];
+        kept.iter().any(|s| s.redefines.len > 0 || s.depending.len > 0)
+    }
+
+    /// The pieces and the slack of an accepted record that is not overlaid, in order; nothing where they are too many to lay.
+    pub fn laid(&self, text: &[u8]) -> Option<Vec<Laid>> {
+        let mut out = Vec::new();
+        self.lay(text, &self.fields, &mut out)?;
+        Some(out)
+    }
+
+    /// Lays a list from place 0, and answers the place after it. Without REDEFINES no list is folded, so entries are numbered as statements.
+    fn lay(&self, text: &[u8], list: &[usize], out: &mut Vec<Laid>) -> Option<u128> {
+        let mut place = 0;
+        for &k in list {
+            let s = &self.statements[k];
+            let entry = k - usize::from(self.dropped);
+            let item = s.below.is_empty().then(|| picture(s.picture.of(text), s.usage, s.sign).expect("an accepted picture"));
+            if let Some((width, true)) = item {
+                let slack = if s.sync { (width - place % width) % width } else { 0 };
+                out.push(Laid { slack: true, entry, len: slack });
+                place += slack;
+            }
+            for _ in 0..s.occurs.unwrap_or(1) {
+                if out.len() > MOST_LAID {
+                    return None;
+                }
+                place += match item {
+                    Some((width, _)) => {
+                        out.push(Laid { slack: false, entry, len: width });
+                        width
+                    }
+                    None => self.lay(text, &s.below, out)?,
+                };
+            }
+        }
+        Some(place)
+    }
 }

@@ -194,7 +194,19 @@ impl Run {
                 return Err(format!("owner: {all} bytes are laid where the Rust has a record of {record_len}"));
             }
         }
-        for position in [0, record_len.saturating_sub(1), record_len, r.below(record_len as usize + 2) as u64, u64::MAX - r.below(2) as u64] {
+        let mut positions = vec![0, record_len.saturating_sub(1), record_len, r.below(record_len as usize + 2) as u64, u64::MAX - r.below(2) as u64];
+        // the last byte of some slack, which is rare
+        let mut ends = Vec::new();
+        laid.iter().flatten().fold(0, |at, l| {
+            if l.slack && l.len > 0 {
+                ends.push(at + l.len as u64 - 1);
+            }
+            at + l.len as u64
+        });
+        if !ends.is_empty() {
+            positions.push(ends[r.below(ends.len())]);
+        }
+        for position in positions {
             let named = |e: String| format!("owner of {position}: {e}");
             let refusal = if reading.overlaid() { Some(40) } else { (position >= record_len).then_some(41) };
             if refusal.is_none() && laid.is_none() {

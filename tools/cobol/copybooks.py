@@ -287,16 +287,19 @@ class Maker:
     def redefiners(self, base):
         """Items that redefine `base`, none of them longer: as text of 1 byte, as a copy of its lists with other names, or as a table."""
         out = []
+        target = base.name                          # a redefiner that is as long may be redefined too
         for _ in range(self.rng.choice((1, 1, 2, 3))):
             form = self.rng.randrange(4)
             if form == 0:
-                out.append(Item(self.name(), f"REDEFINES {base.name} {self.pic(self.rng.choice(('X', '9', 'A', 'S9', 'Z', 'V9')))}", kind="byte", redefines=base.name))
+                picture = self.pic(self.rng.choice(("X", "9", "A", "S9", "Z", "V9")))
+                out.append(Item(self.name(), f"REDEFINES {target} {picture}", "byte", redefines=target))
             elif form == 1:
-                out.append(self.group([Item(self.name(), self.pic("X"), "byte")], redefines=base.name))
+                out.append(self.group([Item(self.name(), self.pic("X"), "byte")], redefines=target))
             elif form == 2:
-                out.append(self.copy(base, base.name))
+                out.append(self.copy(base, target))
             else:
-                out.append(self.group([self.copy(base)], redefines=base.name))
+                out.append(self.group([self.copy(base)], redefines=target))
+            target = out[-1].name if form >= 2 and self.chance(0.2) else base.name
         return out
 
     def copy(self, item, redefines=None):

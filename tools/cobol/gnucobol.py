@@ -6,7 +6,7 @@ import pathlib
 import re
 import subprocess
 
-from copybooks import walk
+from copybooks import Item, walk
 
 # IBM's rules: COMP in 2, 4 and 8 bytes.
 COBC = ["cobc", "-x", "-std=ibm", "-free", "-w"]
@@ -37,26 +37,25 @@ ASK-SHOW.
 
 def reference(item, above, last=1):
     """The item with its subscripts: 1 for every table around it, `last` for its own."""
-    subscripts = ["1"] * sum(a.occurs is not None for a in above) + ([str(last)] if item.occurs else [])
+    subscripts = ["1" for table in above if table.occurs] + ([str(last)] if item.occurs else [])
     return f"{item.name}({' '.join(subscripts)})" if subscripts else item.name
 
 
-def show(name, first, second):
-    return (f'    MOVE "{name.upper()}" TO ASK-NAME\n    SET ASK-FIRST TO ADDRESS OF {first}\n    SET ASK-SECOND TO ADDRESS OF {second}\n'
-            f"    MOVE LENGTH OF {name} TO ASK-LENGTH\n    PERFORM ASK-SHOW\n")
+def show(item, above=()):
+    second = reference(item, above, 2) if item.occurs and item.occurs > 1 else reference(item, above)
+    return (f'    MOVE "{item.name.upper()}" TO ASK-NAME\n    SET ASK-FIRST TO ADDRESS OF {reference(item, above)}\n    SET ASK-SECOND TO ADDRESS OF {second}\n'
+            f"    MOVE LENGTH OF {item.name} TO ASK-LENGTH\n    PERFORM ASK-SHOW\n")
 
 
 def questions(copybook):
-    """The statements that show the record and each named item, after every DEPENDING ON item was given the most occurrences."""
-    record = copybook.record()
-    out = f"    MOVE {copybook.number} TO ASK-NUMBER\n    SET ASK-RECORD TO ADDRESS OF {record}\n"
+    """The statements that show each record and each named item, after every DEPENDING ON item was given the most occurrences."""
+    out = f"    MOVE {copybook.number} TO ASK-NUMBER\n"
     for item, _ in walk(copybook.items):
         if item.depending:
             out += f"    MOVE {item.occurs} TO {item.depending}\n"
-    out += show(record, record, record)
-    for item, above in walk(copybook.items):
-        if item.name not in ("FILLER", record):
-            out += show(item.name, reference(item, above), reference(item, above, 2 if item.occurs and item.occurs > 1 else 1))
+    for record in copybook.items if copybook.root else [Item(copybook.record(), children=copybook.items)]:
+        out += f"    SET ASK-RECORD TO ADDRESS OF {reference(record, ())}\n"
+        out += "".join(show(item, above) for item, above in walk([record]) if item.name != "FILLER")
     return out
 
 

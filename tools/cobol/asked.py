@@ -161,6 +161,18 @@ ASKED = [
     ("01 R. 05 A PIC X. 05 G OCCURS 1. 10 B PIC 9 COMP SYNC. 10 C PIC X.",
      "record 4 fixed 2 / 0 A 0 1 text - - - / 0 G 1 3 group 1 - - / 1 B 0 2 bin - - - / 1 C 2 1 text - - -",
      "R 0 5; A 0 1; G 1 4; B 2 2; C 4 1"),
+    ("0 A PIC X.",
+     "record 1 fixed 1 / 0 A 0 1 text - - -",
+     "error: syntax error, unexpected Identifier"),
+    ("255 A PIC X.",
+     "record 1 fixed 1 / 0 A 0 1 text - - -",
+     "error: syntax error, unexpected Identifier"),
+    ("01 R. 05 A PIC X(4) VALUE 'a*>b'. 05 B PIC X.",
+     "record 4 fixed 1 / 0 A 0 4 text - - -",
+     "R 0 5; A 0 4; B 4 1"),
+    ("01 R. 05 A PIC X(4); OCCURS 2. 05 B PIC X.",
+     "refused 25 6",
+     "R 0 9; A 0 4; B 8 1"),
 ]
 
 

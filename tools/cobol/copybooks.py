@@ -160,9 +160,9 @@ class Maker:
         if form == 6:
             return self.repeat(r.choice("+-"), n + 1) + self.repeat("9", r.randint(1, 4)) + fraction
         if form == 7:                               # all suppressed
-            symbol = r.choice("Z*")
-            return self.repeat(symbol, n) + r.choice(("." + symbol * 2, "." + symbol, "")) + end if symbol == "Z" else \
-                self.repeat(symbol, n + 1) + "." + symbol * 2 + end
+            if r.choice("Z*") == "Z":
+                return self.repeat("Z", n) + r.choice((".ZZ", ".Z", "")) + end
+            return self.repeat("*", n + 1) + ".**" + end
         if form == 8:                               # dates and the like
             return r.choice(("99/99/9999", "9(4)/99/99", "99/99/99", "9999/99", "99B99B9999", "9B9", "99B(2)99", "9(3)B9(3)", "Z9/99/99", "9(2)/9(2)"))
         if form == 9:                               # zeros put in
@@ -200,10 +200,10 @@ class Maker:
 
     # -------------------------------------------------- items
 
-    def elementary(self, kinds, occurs=None, redefines=None, value=True, name=None):
+    def elementary(self, kinds, occurs=None, value=True, name=None):
         """An item of one of the kinds: text, display, sign, comp, comp3, edited, sync, native."""
         kind = self.rng.choice(kinds)
-        item = Item(name or ("FILLER" if self.chance(0.08) and not redefines else self.name()), kind=kind, occurs=occurs, redefines=redefines)
+        item = Item(name or ("FILLER" if self.chance(0.08) else self.name()), kind=kind, occurs=occurs)
         signed = kind == "sign" or self.chance(0.5)
         clauses = []
         literal = None
@@ -242,9 +242,7 @@ class Maker:
         if occurs:
             clauses.append(self.times(occurs))
         self.rng.shuffle(clauses)
-        if redefines:
-            clauses.insert(0, f"{self.case('REDEFINES')} {self.case(redefines)}")
-        if literal and value and not occurs and not redefines and self.chance(0.15):
+        if literal and value and not occurs and self.chance(0.15):
             clauses.append(self.case(self.rng.choice(("VALUE ", "VALUE IS "))) + literal)
         item.clauses = " ".join(clauses)
         return item
@@ -259,7 +257,7 @@ class Maker:
         item = Item("FILLER" if self.chance(0.1) and not redefines else self.name(), occurs=occurs, redefines=redefines, children=children)
         clauses = []
         if redefines:
-            clauses.append(f"REDEFINES {redefines}")
+            clauses.append(f"{'redefines' if self.number % 5 == 0 else 'REDEFINES'} {redefines}")
         if occurs:
             clauses.append(self.times(occurs))
         item.clauses = " ".join(clauses)

@@ -30,9 +30,20 @@ fn pictures() {
     assert_eq!(ask(" $$$9 ", Display, None), Picture { kind: edited, width: 4 });
 }
 
+/// The refusals of a picture, which has no place in a copybook.
+#[test]
+fn pictures_refused() {
+    for (text, number) in [("X(", 22), ("X()", 23), ("X(65536)", 24), ("Q", 25), ("X9", 26), ("9(256)", 27)] {
+        let r = picture(text.as_bytes(), Usage::Display, None).unwrap_err();
+        assert_eq!((r.number, r.position, r.line, r.column, r.needed), (number, 0, 0, 0, 0), "{text}");
+        assert_eq!(mask(text.as_bytes(), Usage::Display), Err(r), "{text}");
+    }
+}
+
 #[test]
 fn masks() {
     assert_eq!(mask(b"z(3)9.9(2)cr", Usage::Display).unwrap(), "ZZZ9.99CR");
+    assert_eq!(mask(b"*(4)9-", Usage::Display).unwrap(), "****9-");
     assert_eq!(mask(b"9(3)V99", Usage::Display).unwrap(), "");
     assert_eq!(mask(b"zz9", Usage::Comp3).unwrap(), "");
     assert_eq!(mask(b"Z(255)", Usage::Display).unwrap(), "Z".repeat(255));

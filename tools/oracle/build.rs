@@ -1,48 +1,8 @@
-//! Takes the Rust files of the original module from the folder that the environment variable ORACLE_SRC names,
-//! copies them byte for byte, and writes `modules.rs`, which declares them as modules. None of them stands in this repository.
+//! Takes the Rust files of the original module from the folder that ORACLE_SRC names: see ../original/modules.rs.
 
-use std::path::{Path, PathBuf};
-use std::{env, fs};
-
-const MODULES: [&str; 4] = ["copybook", "layout", "packed", "template"];
-
-/// The file of a module, under its plain name or under the one that it has among the documents.
-fn find(folder: &Path, module: &str) -> PathBuf {
-    let names = [
-        format!("src--crates--fixedformat-core--src--{module}.rs.txt"),
-        format!("{module}.rs"),
-    ];
-    for name in &names {
-        let path = folder.join(name);
-        if path.is_file() {
-            return path;
-        }
-    }
-    panic!(
-        "ORACLE_SRC ({}) holds neither {} nor {}",
-        folder.display(),
-        names[0],
-        names[1]
-    );
-}
+#[path = "../original/modules.rs"]
+mod modules;
 
 fn main() {
-    println!("cargo:rerun-if-env-changed=ORACLE_SRC");
-    let folder =
-        env::var("ORACLE_SRC").expect("ORACLE_SRC must name the folder with the Rust files");
-    let folder = fs::canonicalize(&folder).unwrap_or_else(|e| panic!("ORACLE_SRC ({folder}): {e}"));
-    let out = PathBuf::from(env::var("OUT_DIR").expect("cargo sets OUT_DIR"));
-    let mut modules = String::new();
-    for module in MODULES {
-        let from = find(&folder, module);
-        println!("cargo:rerun-if-changed={}", from.display());
-        let to = out.join(format!("{module}.rs"));
-        let bytes = fs::read(&from).expect("a readable Rust file");
-        fs::write(&to, &bytes).expect("OUT_DIR can be written");
-        modules += &format!(
-            "#[allow(dead_code)]\n#[path = {:?}]\npub mod {module};\n",
-            to.to_str().expect("a path in UTF-8")
-        );
-    }
-    fs::write(out.join("modules.rs"), modules).expect("OUT_DIR can be written");
+    modules::write();
 }

@@ -1,0 +1,220 @@
+//! Layouts: the worked example in full, each kind, unions, absolute offsets, and the examples of the repository.
+
+use copybook::{layout, Entry, FieldKind, Layout, NumRepr, Reader, Refusal, SignKind};
+use std::fs;
+
+const FISH: &[u8] = b"01 FISH. 05 TAG PIC X(5). 05 SIRE PIC 9(4) COMP SYNC. 05 WT OCCURS 3 PIC 9(3)V9.";
+
+fn four(n: u32) -> [u8; 4] {
+    n.to_le_bytes()
+}
+
+/// The 38 bytes that every entry starts with, for one without DEPENDING ON and REDEFINES.
+fn start(kind: u8, name: [u32; 2], offset: u32, width: u32, occurs: (u8, u32)) -> Vec<u8> {
+    let mut b = vec![kind];
+    for n in [name[0], name[1], offset, width] {
+        b.extend(four(n));
+    }
+    b.push(occurs.0);
+    b.extend(four(occurs.1));
+    b.extend([0; 16]);
+    b
+}
+
+#[test]
+fn worked_example_listing() {
+    let mut expected = vec![0];
+    expected.extend(four(20));
+    expected.push(0);
+    expected.extend(four(3));
+    expected.extend(start(1, [12, 3], 0, 5, (0, 0)));
+    expected.extend(start(3, [29, 4], 6, 2, (0, 0)));
+    expected.push(0);
+    expected.extend(start(4, [57, 2], 8, 4, (1, 3)));
+    expected.extend([4, 1, 0, 0]);
+    let found = layout(FISH).unwrap();
+    assert_eq!(found.listing().len(), 129);
+    assert_eq!(found.listing(), expected);
+}
+
+#[test]
+fn worked_example_entries() {
+    let found = layout(FISH).unwrap();
+    assert_eq!((found.record_len(), found.variable(), found.top_len()), (20, false, 3));
+    let plain = Entry {
+        number: 0,
+        depth: 0,
+        name: Some("TAG"),
+        offset: 0,
+        absolute: 0,
+        width: 5,
+        kind: FieldKind::Text,
+        occurs: None,
+        depending_on: None,
+        redefines: None,
+        is_union: false,
+    };
+    let sire = Entry { number: 1, name: Some("SIRE"), offset: 6, absolute: 6, width: 2, kind: FieldKind::Binary { signed: false }, ..plain };
+    let decimal = FieldKind::Decimal { precision: 4, scale: 1, repr: NumRepr::Display, sign: SignKind::Unsigned };
+    let wt = Entry { number: 2, name: Some("WT"), offset: 8, absolute: 8, width: 4, kind: decimal, occurs: Some(3), ..plain };
+    assert_eq!(found.entries().collect::<Vec<_>>(), [plain, sire, wt]);
+    assert_eq!(wt.reserved_width(), 12);
+}
+
+/// The kind and width of the only entry of a copybook.
+fn only(text: &str) -> (FieldKind<'_>, usize) {
+    let found = layout(text.as_bytes()).unwrap();
+    let entries: Vec<Entry> = found.entries().collect();
+    assert_eq!(entries.len(), 1, "{text}");
+    (entries[0].kind, entries[0].width)
+}
+
+#[test]
+fn each_kind() {
+    use SignKind::*;
+    assert_eq!(only("05 A PIC X(7)."), (FieldKind::Text, 7));
+    assert_eq!(only("05 A PIC 9(4)."), (FieldKind::Int { signed: false, sign: Unsigned }, 4));
+    assert_eq!(only("05 A PIC S9(4) SIGN LEADING SEPARATE."), (FieldKind::Int { signed: true, sign: LeadingSeparate }, 5));
+    assert_eq!(only("05 A PIC S9(4) SIGN TRAILING SEPARATE."), (FieldKind::Int { signed: true, sign: TrailingSeparate }, 5));
+    assert_eq!(only("05 A PIC 9(10) COMP."), (FieldKind::Binary { signed: false }, 8));
+    assert_eq!(only("05 A PIC S9(9) BINARY."), (FieldKind::Binary { signed: true }, 4));
+    let decimal = |precision, scale, repr, sign| FieldKind::Decimal { precision, scale, repr, sign };
+    assert_eq!(only("05 A PIC 9(3)V99."), (decimal(5, 2, NumRepr::Display, Unsigned), 5));
+    assert_eq!(only("05 A PIC S9(4)."), (decimal(4, 0, NumRepr::Zoned, Embedded), 4));
+    assert_eq!(only("05 A PIC S9(3)V99 COMP-3."), (decimal(5, 2, NumRepr::Comp3, Embedded), 3));
+    assert_eq!(only("05 A PIC S9(3)V99."), (decimal(5, 2, NumRepr::Zoned, Embedded), 5));
+    let edited = |precision, scale, signed, picture| FieldKind::Edited { precision, scale, signed, picture };
+    assert_eq!(only("05 A PIC ZZ9.99."), (edited(5, 2, false, "ZZ9.99"), 6));
+    assert_eq!(only("05 A PIC z(3)9cr."), (edited(4, 0, true, "z(3)9cr"), 6));
+}
+
+#[test]
+fn group_with_members() {
+    let text = b"05 G OCCURS 2. 10 B PIC XX. 10 H. 15 A PIC X. 15 FILLER PIC 99. 10 C PIC X. 05 Z PIC X.";
+    let found = layout(text).unwrap();
+    let places: Vec<_> = found.entries().map(|e| (e.number, e.depth, e.name.unwrap(), e.offset, e.absolute, e.width)).collect();
+    assert_eq!(
+        places,
+        [
+            (0, 0, "G", 0, 0, 6),
+            (1, 1, "B", 0, 0, 2),
+            (2, 1, "H", 2, 2, 3),
+            (3, 2, "A", 0, 2, 1),
+            (4, 2, "FILLER", 1, 3, 2),
+            (5, 1, "C", 5, 5, 1),
+            (6, 0, "Z", 12, 12, 1),
+        ]
+    );
+    let members: Vec<_> = found.entries().map(|e| e.kind).filter(|k| matches!(k, FieldKind::Group { .. })).collect();
+    assert_eq!(members, [FieldKind::Group { members: 3 }, FieldKind::Group { members: 2 }]);
+    assert_eq!((found.record_len(), found.top_len()), (13, 2));
+}
+
+#[test]
+fn absent_name() {
+    let found = layout(b"05 A PIC X. 05. 10 B PIC X.").unwrap();
+    let names: Vec<_> = found.entries().map(|e| (e.name, e.absolute, e.is_union)).collect();
+    assert_eq!(names, [(Some("A"), 0, false), (None, 1, false), (Some("B"), 1, false)]);
+}
+
+#[test]
+fn empty_copybook() {
+    let found = layout(b"").unwrap();
+    assert_eq!((found.listing().len(), found.record_len(), found.variable(), found.entries().count()), (10, 0, false, 0));
+}
+
+/// Name, place in the record, width, and whether it is a union.
+fn outline<'t>(found: &Layout<'t, '_>) -> Vec<(&'t str, usize, usize, bool)> {
+    found.entries().map(|e| (e.name.unwrap(), e.absolute, e.width, e.is_union)).collect()
+}
+
+#[test]
+fn union_of_a_base_and_its_redefiner() {
+    let found = layout(b"05 A PIC X(2). 05 B REDEFINES A PIC X(5). 05 C PIC X.").unwrap();
+    assert_eq!(outline(&found), [("A", 0, 5, true), ("A", 0, 2, false), ("B", 0, 5, false), ("C", 2, 1, false)]);
+    assert_eq!(found.record_len(), 5);
+    let depths: Vec<_> = found.entries().map(|e| (e.depth, e.redefines)).collect();
+    assert_eq!(depths, [(0, None), (1, None), (1, None), (0, None)]);
+}
+
+#[test]
+fn union_inside_a_group() {
+    let found = layout(b"01 R. 05 K PIC X(3). 05 G. 10 A PIC X. 10 B PIC 99. 10 C REDEFINES B. 15 D PIC X. 15 E PIC X.").unwrap();
+    assert_eq!(
+        outline(&found),
+        [
+            ("K", 0, 3, false),
+            ("G", 3, 3, false),
+            ("A", 3, 1, false),
+            ("B", 4, 2, true),
+            ("B", 4, 2, false),
+            ("C", 4, 2, false),
+            ("D", 4, 1, false),
+            ("E", 5, 1, false),
+        ]
+    );
+}
+
+/// A group with a member of its own name is no union, and a redefiner becomes one more member; a redefiner of a redefiner stays where it is and says so.
+#[test]
+fn not_unions() {
+    let found = layout(b"05 A. 10 A PIC X. 10 B PIC X. 05 C PIC X.").unwrap();
+    assert_eq!(outline(&found), [("A", 0, 2, false), ("A", 0, 1, false), ("B", 1, 1, false), ("C", 2, 1, false)]);
+    let found = layout(b"05 A. 10 A PIC X. 10 B PIC X. 05 C REDEFINES A PIC X(5).").unwrap();
+    assert_eq!(outline(&found), [("A", 0, 5, false), ("A", 0, 1, false), ("B", 1, 1, false), ("C", 0, 5, false)]);
+    let found = layout(b"05 A PIC X. 05 B REDEFINES A PIC X. 05 C REDEFINES B PIC X.").unwrap();
+    assert_eq!(outline(&found), [("A", 0, 1, true), ("A", 0, 1, false), ("B", 0, 1, false), ("C", 0, 1, false)]);
+    assert_eq!(found.entries().last().unwrap().redefines, Some("B"));
+}
+
+#[test]
+fn variable_record() {
+    let found = layout(b"05 N PIC 9(2). 05 T OCCURS 1 TO 5 DEPENDING ON N PIC X(3). 05 Z PIC X.").unwrap();
+    assert_eq!((found.record_len(), found.variable()), (3, true));
+    let t = found.entries().nth(1).unwrap();
+    assert_eq!((t.name, t.offset, t.width, t.occurs, t.depending_on), (Some("T"), 2, 3, Some(5), Some("N")));
+    assert_eq!(t.reserved_width(), 0);
+    assert_eq!(found.entries().nth(2).unwrap().offset, 2);
+    assert_eq!(layout(b"05 A OCCURS 0 PIC X.").unwrap().entries().next().unwrap().occurs, Some(0));
+}
+
+/// Names are borrowed from the text, not from the layout, so they may outlive it.
+#[test]
+fn names_outlive_the_layout() {
+    let mut reader = Reader::new();
+    let texts: [&[u8]; 2] = [b"05 A PIC X.", b"05 B PIC XX. 05 C PIC X."];
+    let mut names = Vec::new();
+    for text in texts {
+        names.extend(reader.layout(text).unwrap().entries().map(|e| e.name.unwrap()));
+    }
+    assert_eq!(names, ["A", "B", "C"]);
+}
+
+/// What the program `./layout` prints.
+fn printed(answer: Result<Layout, Refusal>) -> String {
+    let found = match answer {
+        Ok(found) => found,
+        Err(r) => return format!("refused {} {}\n", r.number, r.position),
+    };
+    let mut lines = format!("record {} {} {}\n", found.record_len(), if found.variable() { "variable" } else { "fixed" }, found.top_len());
+    for e in found.entries() {
+        let name = e.name.unwrap_or("FILLER");
+        let occurs = e.occurs.map_or("-".into(), |n| n.to_string());
+        let (depending, redefines) = (e.depending_on.unwrap_or("-"), e.redefines.unwrap_or("-"));
+        lines += &format!("{} {name} {} {} {} {occurs} {depending} {redefines}\n", e.depth, e.offset, e.width, e.kind.word());
+    }
+    lines
+}
+
+/// The examples of the repository have the answers that stand beside them, from a fresh call and from a reader that is used again.
+#[test]
+fn examples_of_the_repository() {
+    let folder = concat!(env!("CARGO_MANIFEST_DIR"), "/../../examples");
+    let mut reader = Reader::new();
+    for name in ["fish", "breeding", "harvest", "refused", "fish"] {
+        let text = fs::read(format!("{folder}/{name}.cpy")).unwrap();
+        let expected = fs::read_to_string(format!("{folder}/{name}.txt")).unwrap();
+        assert_eq!(printed(layout(&text)), expected, "{name}");
+        assert_eq!(printed(reader.layout(&text)), expected, "{name}, with a reader");
+    }
+}

@@ -1,0 +1,85 @@
+//! The copybooks and pictures that are measured. Each copybook has exactly as many statements as asked, its 01 counted, so at 800 it is the longest that is accepted.
+
+use product::{SignKind, Usage};
+
+/// How many statements the copybooks have.
+pub const SIZES: [usize; 5] = [5, 20, 100, 400, 800];
+
+/// A copybook of so many statements.
+type Shape = fn(usize) -> Vec<String>;
+
+pub const SHAPES: [(&str, Shape); 4] = [("flat", flat), ("nested", nested), ("REDEFINES", redefines), ("long pictures, comments", long)];
+
+/// Those without REDEFINES and DEPENDING ON: the byte owner refuses others.
+pub const OWNED: [(&str, Shape); 2] = [SHAPES[0], SHAPES[1]];
+
+/// Statements below one 01, by number from 1 on.
+fn below_01(n: usize, statement: impl FnMut(usize) -> String) -> Vec<String> {
+    std::iter::once("01 REC.\n".into()).chain((1..n).map(statement)).collect()
+}
+
+/// Elementary items of every usage.
+fn flat(n: usize) -> Vec<String> {
+    const CLAUSES: [&str; 5] = ["X(10)", "9(5)", "S9(7)V99 COMP-3", "9(4) COMP", "Z(6)9.99"];
+    below_01(n, |i| format!("    05 FIELD-{i} PIC {}.\n", CLAUSES[i % 5]))
+}
+
+/// Six groups, one inside the other, then one to three items, again and again.
+fn nested(n: usize) -> Vec<String> {
+    let mut depth = 0;
+    below_01(n, |i| {
+        let level = 5 + 2 * depth;
+        if depth < 6 && i < n - 1 {
+            depth += 1;
+            return format!("{:indent$}{level:02} GROUP-{i}.\n", "", indent = 2 * depth);
+        }
+        let item = format!("{:indent$}{level:02} FIELD-{i} PIC 9(5).\n", "", indent = 2 * depth);
+        if i % 3 == 0 {
+            depth = 0;
+        }
+        item
+    })
+}
+
+/// An item and three that redefine it, again and again.
+fn redefines(n: usize) -> Vec<String> {
+    below_01(n, |i| match (i - 1) % 4 {
+        0 => format!("    05 BASE-{i} PIC X(10).\n"),
+        k => format!("    05 OTHER-{i} REDEFINES BASE-{} PIC 9(10).\n", i - k),
+    })
+}
+
+/// Edited items whose pictures are written out, each below a line of comment and before a note.
+fn long(n: usize) -> Vec<String> {
+    const PICTURES: [&str; 3] = ["$$,$$$,$$$,$$9.99CR", "+ZZZ,ZZZ,ZZZ,ZZ9.99", "*,***,***,**9.99DB"];
+    below_01(n, |i| format!("* item {i} of the record\n 05 FIELD-{i} PIC {}. *> note\n", PICTURES[i % 3]))
+}
+
+/// A copybook as text.
+pub fn text(shape: Shape, n: usize) -> String {
+    let statements = shape(n);
+    assert_eq!(statements.len(), n);
+    statements.concat()
+}
+
+/// The same three items in a record of 20 bytes, and in the longest record.
+pub const RECORDS: [(usize, &str); 2] = [
+    (20, "01 R. 05 TAG PIC X(5). 05 SIRE PIC 9(4) COMP SYNC. 05 WT OCCURS 12 PIC X."),
+    (2_147_483_647, "01 R. 05 TAG PIC X(5). 05 SIRE PIC 9(4) COMP SYNC. 05 WT OCCURS 2147483639 PIC X."),
+];
+
+/// A dozen pictures, with usage and sign.
+pub const PICTURES: [(&str, Usage, Option<SignKind>); 12] = [
+    ("X", Usage::Display, None),
+    ("X(30)", Usage::Display, None),
+    ("A(5)X(250)", Usage::Display, None),
+    ("9(4)", Usage::Comp, None),
+    ("S9(9)", Usage::Comp, None),
+    ("S9(7)V99", Usage::Comp3, None),
+    ("S9(4)", Usage::Display, None),
+    ("S9(5)V9(4)", Usage::Display, Some(SignKind::LeadingSeparate)),
+    ("ZZ9.99", Usage::Display, None),
+    ("Z(6)9.99", Usage::Display, None),
+    ("$$,$$$,$$$,$$9.99CR", Usage::Display, None),
+    ("*(9)9.9(4)-", Usage::Display, None),
+];

@@ -3,9 +3,7 @@
 ghost use Prim.Native.Nat.{_+_, _≤_, _<_};
 ghost use lib.ListN.{length};
 use definition::Writing;
-
-// The most bytes that a listing has: 10, and 98 for each of 800 statements.
-const MOST: usize = 78410;
+use printing::MOST;
 
 // ---------------------------------------------------------------- one entry
 

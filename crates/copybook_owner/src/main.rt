@@ -16,10 +16,8 @@ ghost use Prim.Native.Nat.{_+_, _≤_, _<_};
 ghost use lib.ListN.{length};
 use definition::OwnerAnswer;
 use definition::Writing;
+use printing::MOST;
 use text::Number;
-
-// The most bytes that a listing has: 10, and 98 for each of 800 statements.
-const MOST: usize = 78410;
 
 // ---------------------------------------------------------------- one entry of the listing
 

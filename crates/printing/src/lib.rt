@@ -71,6 +71,9 @@ pub fn refusal(r: Refusal) {
 
 // ---------------------------------------------------------------- the bytes of a listing
 
+// The most bytes that a listing has: 10, and 98 for each of 800 statements.
+pub const MOST: usize = 78410;
+
 fn wide(b: u8) -> u64
     ensures { λ r. ⌜ r < 256 ⌝ }
 {

@@ -1,7 +1,7 @@
 #!/usr/bin/env python3
 """Writes the lists that the test programs replay.
 
-    tools/make_lists.py ORACLE_SRC
+    tools/make_lists.py [ORACLE_SRC]
 
 ORACLE_SRC is the folder with the Rust files; tools/oracle is built from it, and asked. The inputs are those of tools/compare_definition.py,
 with a fixed seed, so that the same lists are made each time:
@@ -15,6 +15,9 @@ with a fixed seed, so that the same lists are made each time:
   with the Rust's: the listing, read back into the oracle's numbers, or the number of the refusal. Where the answer is a refusal that document
   01 adds, the Rust's is held against the reason as far as it shows.
 - crates/test_layout/data/document.txt: the copybooks that document 01 speaks of, and its traps, with answers written here by hand.
+- crates/test_owner/data/records.txt and asked.txt: copybooks with the owners of their bytes by tools/owner_list.py, which lays each record by
+  document 01's owner rule; its length is compared with that of tools/layout_list.py. The Rust has no owners. `tools/make_lists.py` with no
+  argument writes these two lists alone.
 
 A list has the lexical form of a copybook: a case is the words up to a period. An input is one word: %XX stands for a byte, and % alone for
 the empty input. What follows are decimal numbers.
@@ -31,6 +34,7 @@ import sys
 import compare_definition as compare
 import inputs as generator
 import layout_list
+import owner_list
 import reader_list
 from inputs import Input
 
@@ -455,10 +459,21 @@ def layout_document():
     return [[escaped(text.encode("latin-1")), *answer] for text, answer in cases]
 
 
+def owners():
+    """The lists of owners."""
+    made = "Made by tools/make_lists.py: copybook texts with the owners of their bytes by tools/owner_list.py.\n"
+    for name, form, cases in (("records.txt", "Text, number of runs; for each run its mark (1 a piece, 2 slack), its entry, its bytes.", owner_list.records()),
+                              ("asked.txt", "Text, position and its answer: 1, entry, first byte, place inside; 2, entry; or a refusal.", owner_list.asked())):
+        write("test_owner", name, made + form, [[escaped(text), *numbers] for text, *numbers in cases])
+
+
 def main():
     parser = argparse.ArgumentParser(description="Writes the lists that the test programs replay.")
-    parser.add_argument("oracle_src", type=pathlib.Path, help="the folder with the Rust files")
+    parser.add_argument("oracle_src", type=pathlib.Path, nargs="?", help="the folder with the Rust files; without it, only the lists that need no Rust")
     o = parser.parse_args()
+    owners()
+    if o.oracle_src is None:
+        return
     oracle = compare.Oracle(o.oracle_src)
     write("test_picture", "pictures.txt", "Made by tools/make_lists.py: pictures with the answers of the Rust.\n"
           "Usage, sign, picture, and the numbers that tools/oracle answers.", pictures(oracle))

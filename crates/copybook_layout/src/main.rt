@@ -3,37 +3,9 @@
 ghost use Prim.Native.Nat.{_+_, _≤_, _<_};
 ghost use lib.ListN.{length};
 use definition::Writing;
-
-// The most bytes that a listing has: 10, and 98 for each of 800 statements.
-const MOST: usize = 78410;
+use printing::MOST;
 
 // ---------------------------------------------------------------- one entry
-
-// How many bytes an entry of a kind has, its kind included.
-fn entry_size(kind: u8) -> usize
-    ensures { λ r. ⌜ (38 ≤ r) × (r ≤ 49) ⌝ }
-{
-    match kind {
-        1 => 38,
-        2 => 40,
-        3 => 39,
-        4 => 42,
-        5 => 49,
-        _ => 42,
-    }
-}
-
-// Prints the word for a kind.
-fn print_kind(kind: u8) {
-    match kind {
-        1 => printing::word(b" text"),
-        2 => printing::word(b" int"),
-        3 => printing::word(b" bin"),
-        4 => printing::word(b" dec"),
-        5 => printing::word(b" edit"),
-        _ => printing::word(b" group"),
-    }
-}
 
 // Prints how often an item occurs, by the mark and the count at a place.
 fn print_occurs(listing: &[u8], at: usize)
@@ -54,64 +26,11 @@ fn print_entry(text: &[u8], listing: &[u8], at: usize, depth: usize)
     printing::next_name(text, printing::span_at(listing, at + 1), b"FILLER");
     printing::next_number(printing::four_at(listing, at + 9));
     printing::next_number(printing::four_at(listing, at + 13));
-    print_kind(listing[at]);
+    printing::kind(listing[at]);
     print_occurs(listing, at + 17);
     printing::next_name(text, printing::span_at(listing, at + 22), b"-");
     printing::next_name(text, printing::span_at(listing, at + 30), b"-");
     printing::word(b"\n");
-}
-
-// ---------------------------------------------------------------- depths
-
-// `left` says how many entries are still to come in each open list, the top list first. A listing has at most 130 lists in one another: 65 of
-// statements, and a fold in each.
-
-// The depth of the next entry: that of the innermost list, up to this depth, in which one is still to come.
-fn still_open(left: &[u64; 256], depth: usize) -> usize
-    requires { ⌜ depth < 256 ⌝ }
-    ensures { λ r. ⌜ r ≤ depth ⌝ }
-{
-    let mut d = depth;
-    while 0 < d {
-        if left[d] != 0 {
-            return d;
-        }
-        d -= 1;
-    }
-    0
-}
-
-// One entry less to come in the list at a depth.
-fn take_entry(left: &mut [u64; 256], depth: usize)
-    requires { ⌜ depth < 256 ⌝ }
-{
-    if left[depth] != 0 {
-        left[depth] -= 1;
-    }
-}
-
-// Opens the list of a group's members below a depth, and answers how deep the next entry is.
-fn open_group(left: &mut [u64; 256], depth: usize, members: u64) -> usize
-    requires { ⌜ depth < 256 ⌝ }
-    ensures { λ r. ⌜ r < 256 ⌝ }
-{
-    if 255 <= depth {
-        return depth;
-    }
-    left[depth + 1] = members;
-    depth + 1
-}
-
-// The depth after the entry at a place, which stands at a depth.
-fn depth_after(listing: &[u8], at: usize, left: &mut [u64; 256], depth: usize) -> usize
-    requires { ⌜ (at + 38 ≤ length (now listing)) × (depth < 256) ⌝ }
-    ensures { λ r. ⌜ r < 256 ⌝ }
-{
-    take_entry(left, depth);
-    if listing[at] == 6 {
-        return open_group(left, depth, printing::four_at(listing, at + 38));
-    }
-    depth
 }
 
 // ---------------------------------------------------------------- the listing
@@ -123,13 +42,13 @@ fn print_entries(text: &[u8], listing: &[u8], first: usize, top: u64) {
     let mut depth = 0;
     let mut at = first;
     while at < listing.len() {
-        let size = entry_size(listing[at]);
+        let size = printing::entry_size(listing[at]);
         if listing.len() - at < size {
             return;
         }
-        depth = still_open(&left, depth);
+        depth = printing::still_open(&left, depth);
         print_entry(text, listing, at, depth);
-        depth = depth_after(listing, at, &mut left, depth);
+        depth = printing::depth_after(listing, at, &mut left, depth);
         at += size;
     }
 }

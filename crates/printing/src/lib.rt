@@ -49,6 +49,18 @@ pub fn next_name(text: &[u8], w: Span, absent: &[u8]) {
     name(text, w, absent);
 }
 
+// Prints a blank and the word for a kind.
+pub fn kind(kind: u8) {
+    match kind {
+        1 => word(b" text"),
+        2 => word(b" int"),
+        3 => word(b" bin"),
+        4 => word(b" dec"),
+        5 => word(b" edit"),
+        _ => word(b" group"),
+    }
+}
+
 // Prints the line of a refusal: its number and its position.
 pub fn refusal(r: Refusal) {
     word(b"refused");
@@ -58,6 +70,9 @@ pub fn refusal(r: Refusal) {
 }
 
 // ---------------------------------------------------------------- the bytes of a listing
+
+// The most bytes that a listing has: 10, and 98 for each of 800 statements.
+pub const MOST: usize = 78410;
 
 fn wide(b: u8) -> u64
     ensures { λ r. ⌜ r < 256 ⌝ }
@@ -101,4 +116,71 @@ pub fn span_at(listing: &[u8], at: usize) -> Span {
         start: four_at(listing, at) as usize,
         len: four_at(listing, at + 4) as usize,
     }
+}
+
+// How many bytes an entry of a kind has, its kind included.
+pub fn entry_size(kind: u8) -> usize
+    ensures { λ r. ⌜ (38 ≤ r) × (r ≤ 49) ⌝ }
+{
+    match kind {
+        1 => 38,
+        2 => 40,
+        3 => 39,
+        4 => 42,
+        5 => 49,
+        _ => 42,
+    }
+}
+
+// ---------------------------------------------------------------- depths
+
+// `left` says how many entries are still to come in each open list, the top list first. A listing has at most 130 lists in one another: 65 of
+// statements, and a fold in each.
+
+// The depth of the next entry: that of the innermost list, up to this depth, in which one is still to come.
+pub fn still_open(left: &[u64; 256], depth: usize) -> usize
+    requires { ⌜ depth < 256 ⌝ }
+    ensures { λ r. ⌜ r ≤ depth ⌝ }
+{
+    let mut d = depth;
+    while 0 < d {
+        if left[d] != 0 {
+            return d;
+        }
+        d -= 1;
+    }
+    0
+}
+
+// One entry less to come in the list at a depth.
+fn take_entry(left: &mut [u64; 256], depth: usize)
+    requires { ⌜ depth < 256 ⌝ }
+{
+    if left[depth] != 0 {
+        left[depth] -= 1;
+    }
+}
+
+// Opens the list of a group's members below a depth, and answers how deep the next entry is.
+fn open_group(left: &mut [u64; 256], depth: usize, members: u64) -> usize
+    requires { ⌜ depth < 256 ⌝ }
+    ensures { λ r. ⌜ r < 256 ⌝ }
+{
+    if 255 <= depth {
+        return depth;
+    }
+    left[depth + 1] = members;
+    depth + 1
+}
+
+// The depth after the entry at a place, which stands at a depth.
+pub fn depth_after(listing: &[u8], at: usize, left: &mut [u64; 256], depth: usize) -> usize
+    requires { ⌜ (at + 38 ≤ length (now listing)) × (depth < 256) ⌝ }
+    ensures { λ r. ⌜ r < 256 ⌝ }
+{
+    take_entry(left, depth);
+    if listing[at] == 6 {
+        return open_group(left, depth, four_at(listing, at + 38));
+    }
+    depth
 }

@@ -1,9 +1,9 @@
--- `copybook_layout::still_open` meets its contract. The loop only goes up the open lists.
+-- `printing::still_open` meets its contract. The loop only goes up the open lists.
 -- Assumes nothing.
 use borrow.Author.Needs.{needs}
 use Prim.Native.Nat.{_≤_}
-use Rattle.copybook_layout.proofs.still_open.Statement.{statement}
-use Rattle.copybook_layout.proofs.still_open.Tie as tie
+use Rattle.printing.proofs.still_open.Statement.{statement}
+use Rattle.printing.proofs.still_open.Tie as tie
 
 abbrev Inv-loop : tie.InvT-loop
 Inv-loop left depth d₀ d = d ≤ depth

@@ -1,0 +1,49 @@
+-- `test_owner::replay_positions` meets its contract. The loop's invariant: the cases are counted fairly.
+-- Assumes nothing.
+use borrow.Author.Needs.{needs}
+use Prim.Native.Nat.{_-_}
+use lib.ListN.{length}
+use Rattle.replay.specs.Places.{Fair}
+use Rattle.test_owner.proofs.replay_positions.Statement.{statement}
+use Rattle.test_owner.proofs.replay_positions.Tie as tie
+
+abbrev Inv-loop : tie.InvT-loop
+Inv-loop list t₀ at₀ t at = Fair 1000000 t
+
+abbrev μ-loop : tie.MeasureT-loop
+μ-loop list t₀ at₀ t at = length list - at
+
+no-cases-requires : tie.Need-no-cases-requires Inv-loop μ-loop
+no-cases-requires c κs = search needs
+
+loop-holds : tie.Need-loop-holds Inv-loop μ-loop
+loop-holds c = search needs
+
+replay-asked-requires : tie.Need-replay-asked-requires Inv-loop μ-loop
+replay-asked-requires c κs = search needs
+
+after-case-requires : tie.Need-after-case-requires Inv-loop μ-loop
+after-case-requires c κs = search needs
+
+loop-less : tie.Need-loop-less Inv-loop μ-loop
+loop-less c = search needs
+
+loop-again : tie.Need-loop-again Inv-loop μ-loop
+loop-again c = search needs
+
+returns : tie.Need-returns Inv-loop μ-loop
+returns c = search needs
+
+pub replay-positions-spec : {M : Type 1} → statement M
+replay-positions-spec =
+    tie.close
+    (tie.spec
+    Inv-loop
+    μ-loop
+    no-cases-requires
+    loop-holds
+    replay-asked-requires
+    after-case-requires
+    loop-less
+    loop-again
+    returns)

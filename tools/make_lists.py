@@ -11,6 +11,10 @@ with a fixed seed, so that the same lists are made each time:
 - crates/test_reader/data/texts.txt: copybook texts with the answers of tools/reader_list.py, a reading by document 01. Where the Rust has
   an answer, the two are compared: its refusals 10 to 13, and where it accepts a copybook without REDEFINES, the names, the nesting, the
   counts and the DEPENDING ON names.
+- crates/test_layout/data/layouts1.txt to layouts4.txt: copybook texts with the answers of tools/layout_list.py, a layout by document 01. Each answer is compared
+  with the Rust's: the listing, read back into the oracle's numbers, or the number of the refusal. Where the answer is a refusal that document
+  01 adds, the Rust's is held against the reason as far as it shows.
+- crates/test_layout/data/document.txt: the copybooks that document 01 speaks of, and its traps, with answers written here by hand.
 
 A list has the lexical form of a copybook: a case is the words up to a period. An input is one word: %XX stands for a byte, and % alone for
 the empty input. What follows are decimal numbers.
@@ -20,11 +24,15 @@ import argparse
 import collections
 import itertools
 import pathlib
+import re
+import struct
 import sys
 
 import compare_definition as compare
+import inputs as generator
+import layout_list
 import reader_list
-from compare_definition import Input
+from inputs import Input
 
 CRATES = compare.HERE.parent / "crates"
 SEED = 1
@@ -51,7 +59,7 @@ def write(crate, name, comment, cases):
 # ---------------------------------------------------------------- pictures
 
 PICTURES = 2600
-SYMBOLS = compare.SYMBOLS
+SYMBOLS = generator.SYMBOLS
 FLOATS = [float_ * n + tail for float_ in ("$", "+", "-") for n in (1, 2, 3, 12) for tail in ("", "9", ".99", ",$$$", "9.99CR", "+", "-")]
 HALVES = [c + a + r + b for c, r in ("CR", "DB", "cr", "Db") for a in ("", "(0)", "(1)", "(2)", "(+1)", "( 1 )") for b in ("", "(0)", "(1)", "(2)")]
 ZEROS = [s + "(0)" for s in SYMBOLS] + [s + "(0)9" for s in SYMBOLS] + ["X" + s + "(0)" for s in SYMBOLS]
@@ -61,11 +69,11 @@ COUNTS = [s + f"({n})" for s in "X9ZSPV$" for n in (0, 1, 4, 5, 9, 10, 17, 18, 1
 def picture_inputs():
     """Every symbol and pair of symbols; floats; CR and DB split by repeats; zero repeats; counts; stray brackets; white space; lower case;
     every usage and sign; then random ones."""
-    m = compare.Maker(SEED)
+    m = generator.Maker(SEED)
     pairs = [a + b for a, b in itertools.product(SYMBOLS, repeat=2)]
-    for text in itertools.chain(compare.alone(), pairs, FLOATS, HALVES, ZEROS, COUNTS, compare.PICTURES, compare.SPACED):
+    for text in itertools.chain(generator.alone(), pairs, FLOATS, HALVES, ZEROS, COUNTS, generator.PICTURES, generator.SPACED):
         yield text, m.usage(), m.sign()
-    for text in compare.EVERY:
+    for text in generator.EVERY:
         yield from ((text, usage, sign) for usage in range(3) for sign in range(5))
     while True:
         yield m.picture()[1:]
@@ -216,10 +224,10 @@ NAMES = ["05 A", "05", "05.", "05 . A", "05 A.B PIC X.", "05 PIC X.", "05 OCCURS
 
 def text_inputs():
     """The limits, what is written by hand, some of what is made in every combination, then random copybooks."""
-    m = compare.Maker(SEED)
-    written = [LIMITS, NAMES, compare.FOLDS, compare.REPEATED, compare.ROOTS, compare.ORDER, compare.LARGE, compare.GOOD, compare.chains(), compare.levels()]
-    written.append(text for text in compare.edges() if len(text) < 2000)
-    for made, count in ((compare.at_every_place(), 150), (compare.bare_clauses(), 120), (compare.counts(), 60)):
+    m = generator.Maker(SEED)
+    written = [LIMITS, NAMES, generator.FOLDS, generator.REPEATED, generator.ROOTS, generator.ORDER, generator.LARGE, generator.GOOD, generator.chains(), generator.levels()]
+    written.append(text for text in generator.edges() if len(text) < 2000)
+    for made, count in ((generator.at_every_place(), 150), (generator.bare_clauses(), 120), (generator.counts(), 60)):
         written.append(m.r.sample(list(made), count))
     yield from itertools.chain(*written)
     while True:
@@ -295,6 +303,158 @@ def texts(oracle):
     return cases
 
 
+# ---------------------------------------------------------------- layouts
+
+LAYOUTS, LAYOUT_LISTS = 2700, 4
+# Groups in groups, each with a redefiner: around an item of a list of depth 64 stand 64 groups and 65 folds. Names that are all one make the groups
+# count as already folded.
+FOLDED_CHAINS = [" ".join(f"{k} {g(k)}." for k in range(1, n)) + f" {n} A PIC X. " + " ".join(f"{k} H REDEFINES {'A' if k == n else g(k)} PIC X(2)." for k in range(n, 1, -1))
+                 for n in (4, 66, 67) for g in ("G{}".format, "G".format)]
+MANY = ["1 A PIC X.\n" * 800, "1 A PIC X.\n" * 801, "1 A PIC Z9. " + "1 B REDEFINES A PIC $9. " * 799, "1 R. " + "2 G. 3 G PIC X. " * 399 + "2 Z PIC 9(9) COMP SYNC."]
+MANY.append(MANY[3] + " 2 Y PIC X.")
+
+
+def layout_inputs():
+    """The limits, what is written by hand, some of what is made in every combination, then random copybooks."""
+    m = generator.Maker(SEED + 1)
+    written = [FOLDED_CHAINS, MANY, LIMITS, NAMES, generator.FOLDS, generator.REPEATED, generator.ROOTS, generator.ORDER, generator.LARGE, generator.GOOD, generator.chains(), generator.levels()]
+    written.append(text for text in generator.edges() if len(text) < 2000)
+    for made, count in ((generator.at_every_place(), 150), (generator.bare_clauses(), 120), (generator.counts(), 100)):
+        written.append(m.r.sample(list(made), count))
+    yield from itertools.chain(*written)
+    while True:
+        yield m.copybook()[1]
+
+
+def check_layout(i, made, answer):
+    """How the Rust's answer stands to the one made here; ends the program where it says something else."""
+    number = made[1] if made[0] == 0 else 0
+    if number in compare.ADDED:
+        how, same = f"added refusal {number}", compare.due(i, answer, number)
+    elif number:
+        how, same = f"refused {number}", answer == [0, number]
+    else:
+        how, same = "accepted", answer == layout_list.oracle_numbers(i.text, bytes(made[2:])) and compare.due(i, answer, 0)
+    if not same:
+        sys.exit(f"the Rust lays {i.text!r} out otherwise: {answer}, {made}")
+    return how
+
+
+def layouts(oracle):
+    inputs = {}
+    for text in layout_inputs():
+        i = Input(text.encode("latin-1"), None, None, "")
+        inputs.setdefault(i.text, i)
+        if len(inputs) == LAYOUTS:
+            break
+    inputs = list(inputs.values())
+    cases, kinds = [], collections.Counter()
+    for i, answer in zip(inputs, oracle.ask(inputs)):
+        made = layout_list.answer(i.text)
+        kinds[check_layout(i, made, answer)] += 1
+        cases.append([escaped(i.text), *made])
+    print(", ".join(f"{k}: {n}" for k, n in sorted(kinds.items())))
+    return cases
+
+
+def parts(cases, count):
+    """The cases in order, in so many lists of about the same length."""
+    numbers = sum(map(len, cases))
+    out, seen = [[] for _ in range(count)], 0
+    for case in cases:
+        out[seen * count // numbers].append(case)
+        seen += len(case)
+    return out
+
+
+# ---------------------------------------------------------------- document 01's copybooks
+
+GROUP = 6
+
+
+def item(name, offset, width, kind, *details, occurs=None, depending=None, redefines=None):
+    """An entry. A name, a picture or a number of members is as it stands; a name `A#2` is the second word A of the text."""
+    return name, offset, width, kind, details, occurs, depending, redefines
+
+
+def place(text, name):
+    """Start and length of a word of the text; 0 and 0 if there is none."""
+    if name is None:
+        return 0, 0
+    word, _, n = name.partition("#")
+    starts = [m.start() for m in re.finditer(rf"(?<!\S){re.escape(word)}(?=\.?(\s|$))", text)]
+    return starts[int(n or 1) - 1], len(word)
+
+
+def listed(text, length, variable, top, *entries):
+    """The listing, after its length."""
+    made = struct.pack("<BIBI", 0, length, variable, top)
+    for name, offset, width, kind, details, occurs, depending, redefines in entries:
+        made += struct.pack("<B4I", kind, *place(text, name), offset, width)
+        made += struct.pack("<BI", 0, 0) if occurs is None else struct.pack("<BI", 1, occurs)
+        made += struct.pack("<4I", *place(text, depending), *place(text, redefines))
+        for d in details:
+            made += struct.pack("<2I", *place(text, d)) if isinstance(d, str) else struct.pack("<I", d) if kind == GROUP else bytes([d])
+    return [1, len(made), *made]
+
+
+def chain(n):
+    """Groups in groups around one item: the outermost is dropped, so the item's list has depth n - 2."""
+    return " ".join(f"{k} G{k}." for k in range(1, n)) + f" {n} A PIC X."
+
+
+def one(text, *entry):
+    """A text with one item A and no root."""
+    return text, listed(text, entry[1], 0, 1, item("A", *entry))
+
+
+def layout_document():
+    fish = "01 FISH. 05 TAG PIC X(5). 05 SIRE PIC 9(4) COMP SYNC. 05 WT OCCURS 3 PIC 9(3)V9."
+    wide = "05 A PIC X(2). 05 B REDEFINES A PIC X(5). 05 C PIC X."
+    before = "05 A PIC X. 05 B PIC X. 05 B REDEFINES A PIC X. 05 C REDEFINES B PIC X."
+    table = "05 N PIC 9(2). 05 T OCCURS 1 TO 5 DEPENDING ON N PIC X(3). 05 Z PIC X."
+    group = "05 A PIC X. 05 G. 10 B PIC X. 10 C PIC 9(4) COMP SYNC."
+    sync = "05 A PIC X. 05 G SYNC. 10 B PIC 9(4) COMP."
+    dots = "05 A PIC 9.9. 05 B.C PIC X."
+    root = "01 R OCCURS 9. 05 A PIC X."
+    cases = [
+        (fish, listed(fish, 20, 0, 3, item("TAG", 0, 5, TEXT), item("SIRE", 6, 2, BINARY, 0), item("WT", 8, 4, DECIMAL, 4, 1, STORED_DISPLAY, 0, occurs=3))),
+        # the catches that are not marked
+        one("05 A PIC 9(255).", 0, 255, INT, 0, 0),
+        ("05 A PIC 9(256).", refused(27, 0)),
+        ("05 Z PIC X. 05 A PIC 9(256).", refused(27, 12)),
+        (chain(66), listed(chain(66), 1, 0, 1, *(item(f"G{k}", 0, 1, GROUP, 1) for k in range(2, 66)), item("A", 0, 1, TEXT))),
+        (chain(67), refused(20, len(chain(67)) - len("67 A PIC X."))),
+        one("05 A PIC 99P.", 0, 3, DECIMAL, 3, 1, STORED_DISPLAY, 0),
+        # the traps: a statement that ends at every period, the cursor past a wide redefiner, COMP-3 digits modulo 256, an aligned group
+        (dots, listed(dots, 4, 0, 2, item("A", 0, 3, EDITED, 2, 1, 0, "9.9"), item("B.C", 3, 1, TEXT))),
+        (wide, listed(wide, 5, 0, 2, item("A", 0, 5, GROUP, 2), item("A", 0, 2, TEXT), item("B", 0, 5, TEXT), item("C", 2, 1, TEXT))),
+        one("05 A PIC 9(255) COMP-3.", 0, 128, DECIMAL, 255, 0, STORED_COMP3, 1),
+        ("05 A PIC 9(256) COMP-3.", refused(27, 0)),
+        ("05 A PIC 9(257) COMP-3.", refused(27, 0)),
+        (group, listed(group, 5, 0, 2, item("A", 0, 1, TEXT), item("G", 1, 4, GROUP, 2), item("B", 0, 1, TEXT), item("C", 2, 2, BINARY, 0))),
+        (sync, listed(sync, 3, 0, 2, item("A", 0, 1, TEXT), item("G", 1, 2, GROUP, 1), item("B", 0, 2, BINARY, 0))),
+        # marked catches, once more by running
+        ("", listed("", 0, 0, 0)),
+        (root, listed(root, 1, 0, 1, item("A", 0, 1, TEXT))),
+        one("05 A PIC ZZ9.99.", 0, 6, EDITED, 5, 2, 0, "ZZ9.99"),
+        one("05 A PIC $$$9.", 0, 4, EDITED, 3, 0, 0, "$$$9"),
+        *(one(f"05 A PIC 9({n}) COMP.", 0, width, BINARY, 0) for n, width in ((4, 2), (5, 4), (9, 4), (10, 8))),
+        one("05 A PIC S COMP-3.", 0, 1, DECIMAL, 0, 0, STORED_COMP3, 1),
+        one("05 A PIC 9(5) COMP-3.", 0, 3, DECIMAL, 5, 0, STORED_COMP3, 1),
+        one("05 A PIC S9(4) SIGN TRAILING SEPARATE.", 0, 5, INT, 1, 3),
+        one("05 A PIC 9(4) SIGN LEADING SEPARATE.", 0, 4, INT, 0, 0),
+        ("05 PIC X.", refused(21, 0)),
+        one("255 A PIC X.", 0, 1, TEXT),
+        ("256 A PIC X.", refused(10, 0)),
+        (before, refused(30, before.index("05 C"))),
+        (table, listed(table, 3, 1, 3, item("N", 0, 2, INT, 0, 0), item("T", 2, 3, TEXT, occurs=5, depending="N#2"), item("Z", 2, 1, TEXT))),
+    ]
+    if cases[0][1][1] != 129:
+        sys.exit("the worked example has 129 bytes")
+    return [[escaped(text.encode("latin-1")), *answer] for text, answer in cases]
+
+
 def main():
     parser = argparse.ArgumentParser(description="Writes the lists that the test programs replay.")
     parser.add_argument("oracle_src", type=pathlib.Path, help="the folder with the Rust files")
@@ -307,6 +467,10 @@ def main():
           "A refusal is 0, its number, its position and the needed length.", document())
     write("test_reader", "texts.txt", "Made by tools/make_lists.py: copybook texts with the answers of tools/reader_list.py.\n"
           "Where the Rust has an answer, the two were compared.", texts(oracle))
+    for n, cases in enumerate(parts(layouts(oracle), LAYOUT_LISTS), 1):
+        write("test_layout", f"layouts{n}.txt", "Made by tools/make_lists.py: copybook texts with the answers of tools/layout_list.py.\n"
+              "Where the Rust has an answer, the two were compared.", cases)
+    write("test_layout", "document.txt", "Made by tools/make_lists.py: the copybooks of document 01 with its answers, written by hand.", layout_document())
 
 
 if __name__ == "__main__":

@@ -1,0 +1,46 @@
+-- `copybook_c::copybook_picture` meets its contract: 255, or the entry's answer, handed on.
+-- Assumes nothing.
+use borrow.Author.Needs.{needs}
+use mathlib.Core.Path.{refl}
+use borrow.Author.Tests.{lt-ltb, le-ltb}
+use Rattle.copybook_c.proofs.copybook_picture.Statement.{statement}
+use Rattle.copybook_c.proofs.copybook_picture.Tie as tie
+
+returns : tie.Need-returns
+returns c = rw (lt-ltb 2 _ (c .if1 .taken)) (refl, refl)
+
+returns-2 : tie.Need-returns-2
+returns-2 c = rw (le-ltb 2 _ (c .before .if1 .left), lt-ltb 4 _ (c .if2 .taken)) (refl, refl)
+
+usage-of-requires : tie.Need-usage-of-requires
+usage-of-requires c κs = search needs
+
+sign-of-requires : tie.Need-sign-of-requires
+sign-of-requires c κs = search needs
+
+parse-pic-requires : tie.Need-parse-pic-requires
+parse-pic-requires c κs = search needs
+
+hand-on-picture-requires : tie.Need-hand-on-picture-requires
+hand-on-picture-requires c κs = search needs
+
+same-length : tie.Need-same-length
+same-length c = search needs
+
+returns-3 : tie.Need-returns-3
+returns-3 c =
+    rw (le-ltb 2 _ (c .before .before .before .before .before .before .before .before .if1 .left), le-ltb 4 _ (c .before .before .before .before .before .before .before .if2 .left), ← c .before .before .before .before .before .before .usage-of .ensures, ← c .before .before .before .before .before .sign-of .ensures, ← c .before .before .before .before .parse-pic .ensures)
+    (c .before .before .hand-on-picture .ensures)
+
+pub copybook-picture-spec : {M : Type 1} → statement M
+copybook-picture-spec =
+    tie.close
+    (tie.spec
+    returns
+    returns-2
+    usage-of-requires
+    sign-of-requires
+    parse-pic-requires
+    hand-on-picture-requires
+    same-length
+    returns-3)

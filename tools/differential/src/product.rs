@@ -1,0 +1,137 @@
+//! The calls of `copybook_c`, each with lent buffers that stand between guards. What a call may not touch is checked here: the guards, the
+//! answer where it is too short, the output after a refusal and past what was written, and work memory, which must be zero.
+
+use crate::inputs::Random;
+
+extern "C" {
+    fn copybook_layout(text: *const u8, n: usize, work: *mut u32, w: usize, out: *mut u8, m: usize, answer: *mut u64, k: usize) -> u32;
+    fn copybook_picture(pic: *const u8, n: usize, usage: u8, sign: u8, answer: *mut u64, k: usize) -> u32;
+    fn copybook_mask(pic: *const u8, n: usize, usage: u8, out: *mut u8, m: usize, answer: *mut u64, k: usize) -> u32;
+    fn copybook_owner(text: *const u8, n: usize, position: u64, work: *mut u32, w: usize, answer: *mut u64, k: usize) -> u32;
+    fn copybook_check_record(record_len: u64, variable: u8, len: u64) -> u32;
+}
+
+pub const ENOUGH_WORK: usize = 16_384;
+const GUARD: usize = 8;
+
+/// A lent buffer with guards on both sides, and what it held before.
+struct Lent<T> {
+    cells: Vec<T>,
+    before: Vec<T>,
+    len: usize,
+}
+
+impl<T: Copy + PartialEq> Lent<T> {
+    fn new(len: usize, mut make: impl FnMut(usize) -> T) -> Self {
+        let cells: Vec<T> = (0..len + 2 * GUARD).map(&mut make).collect();
+        Lent { before: cells.clone(), cells, len }
+    }
+
+    fn pointer(&mut self) -> *mut T {
+        self.cells[GUARD..].as_mut_ptr()
+    }
+
+    fn now(&self) -> &[T] {
+        &self.cells[GUARD..GUARD + self.len]
+    }
+
+    /// The guards, and everything of the buffer from `kept` on, are as before.
+    fn kept_from(&self, kept: usize, what: &str) -> Result<(), String> {
+        let at = GUARD + kept;
+        if self.cells[..GUARD] != self.before[..GUARD] || self.cells[at..] != self.before[at..] {
+            return Err(format!("{what} was touched where it may not be"));
+        }
+        Ok(())
+    }
+}
+
+/// What a call returned, and the numbers of its answer where it was lent room for them.
+pub struct Returned {
+    pub number: u32,
+    pub answer: Option<Vec<u64>>,
+}
+
+/// The lent answer: mostly with room, sometimes too short.
+fn lent_answer(r: &mut Random, writes: usize) -> Lent<u64> {
+    let len = if r.chance(1, 16) { r.below(writes) } else { writes + r.below(3) };
+    let seed = r.next();
+    Lent::new(len, |i| seed ^ i as u64)
+}
+
+fn answered(answer: &Lent<u64>, writes: usize, number: u32) -> Result<Returned, String> {
+    let room = answer.len >= writes && number != 255;
+    answer.kept_from(if room { writes } else { 0 }, "the answer")?;
+    Ok(Returned { number, answer: room.then(|| answer.now()[..writes].to_vec()) })
+}
+
+/// The output after a call: what was written, or nothing where it was refused.
+fn written(out: &Lent<u8>, returned: &Returned, long: Option<usize>) -> Result<Vec<u8>, String> {
+    if returned.number != 0 {
+        out.kept_from(0, "the output of a refusal")?;
+        return Ok(Vec::new());
+    }
+    let n = match (&returned.answer, long) {
+        (Some(a), _) => a[0] as usize,
+        (None, Some(n)) => n,
+        (None, None) => return Err("accepted, against what is expected".into()),
+    };
+    if n > out.len {
+        return Err(format!("{n} bytes in an output of {}", out.len));
+    }
+    out.kept_from(n, "the output")?;
+    Ok(out.now()[..n].to_vec())
+}
+
+/// The layout call with so much work memory and output. `long` is the length of the listing that is expected, if one is.
+pub fn layout(r: &mut Random, text: &[u8], work_len: usize, room: usize, long: Option<usize>) -> Result<(Returned, Vec<u8>), String> {
+    let seed = r.next() | 1;
+    let mut work = Lent::new(work_len, |i| (seed >> (i % 13)) as u32 ^ i as u32);
+    let mut out = Lent::new(room, |i| (seed >> (i % 23)) as u8 ^ i as u8);
+    let mut answer = lent_answer(r, 2);
+    let text_copy = text.to_vec();
+    let number = unsafe {
+        copybook_layout(text.as_ptr(), text.len(), work.pointer(), work.len, out.pointer(), out.len, answer.pointer(), answer.len)
+    };
+    if text != text_copy {
+        return Err("the text was changed".into());
+    }
+    if work.now().iter().any(|&n| n != 0) {
+        return Err(format!("work memory is not zero after number {number}"));
+    }
+    work.kept_from(work_len, "the memory beside work memory")?;
+    let returned = answered(&answer, 2, number)?;
+    let bytes = written(&out, &returned, long)?;
+    Ok((returned, bytes))
+}
+
+pub fn picture(r: &mut Random, text: &[u8], usage: u8, sign: u8) -> Result<Returned, String> {
+    let mut answer = lent_answer(r, 7);
+    let number = unsafe { copybook_picture(text.as_ptr(), text.len(), usage, sign, answer.pointer(), answer.len) };
+    answered(&answer, 7, number)
+}
+
+pub fn mask(r: &mut Random, text: &[u8], usage: u8, room: usize, long: Option<usize>) -> Result<(Returned, Vec<u8>), String> {
+    let seed = r.next();
+    let mut out = Lent::new(room, |i| (seed >> (i % 23)) as u8 ^ i as u8);
+    let mut answer = lent_answer(r, 2);
+    let number = unsafe { copybook_mask(text.as_ptr(), text.len(), usage, out.pointer(), out.len, answer.pointer(), answer.len) };
+    let returned = answered(&answer, 2, number)?;
+    let bytes = written(&out, &returned, long)?;
+    Ok((returned, bytes))
+}
+
+pub fn owner(r: &mut Random, text: &[u8], position: u64, work_len: usize) -> Result<Returned, String> {
+    let seed = r.next() | 1;
+    let mut work = Lent::new(work_len, |i| (seed >> (i % 13)) as u32 ^ i as u32);
+    let mut answer = lent_answer(r, 4);
+    let number = unsafe { copybook_owner(text.as_ptr(), text.len(), position, work.pointer(), work.len, answer.pointer(), answer.len) };
+    if work.now().iter().any(|&n| n != 0) {
+        return Err(format!("owner: work memory is not zero after number {number}"));
+    }
+    work.kept_from(work_len, "the memory beside work memory")?;
+    answered(&answer, 4, number)
+}
+
+pub fn record_check(record_len: u64, variable: u8, len: u64) -> u32 {
+    unsafe { copybook_check_record(record_len, variable, len) }
+}

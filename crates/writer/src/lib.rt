@@ -255,8 +255,7 @@ fn depends(work: &[u32], i: usize) -> bool
     requires { ⌜ 20 * i + 20 ≤ length (now work) ⌝ }
     ensures { λ r. ⌜ r ≡ given (entryIn (now (work .entry)) i .depending) ⌝ }
 {
-    let e = layout::entry_at(work, i);
-    let name = e.depending;
+    let name = rows::span_at(work[20 * i + 5]);
     if 0 < name.len {
         return true;
     }
@@ -386,8 +385,8 @@ fn measure(text: &[u8], work: &[u32], from: usize, to: usize, long: usize) -> us
     put_listing(text, work, from, to, long, &mut spare)
 }
 
-// Writes that listing if the output has room for it; 31, with its length, if not.
-pub fn write_listing(
+// Writes that listing if the output has room for it; 31, with its length, if not. It is measured first.
+fn write_measured(
     text: &[u8],
     work: &[u32],
     from: usize,
@@ -408,4 +407,22 @@ pub fn write_listing(
     }
     put_listing(text, work, from, to, long, out);
     Writing::Written(needed)
+}
+
+// The same. An output with 98 bytes for each row has room for every listing, and nothing is measured then.
+pub fn write_listing(
+    text: &[u8],
+    work: &[u32],
+    from: usize,
+    to: usize,
+    long: usize,
+    out: &mut [u8],
+) -> Writing
+    requires { ⌜ Tree (now text) (now work) from to × (to ≤ 800) × (long ≡ recordLength (entriesOf (now text) (now work) from to)) ⌝ }
+    ensures { λ r. ⌜ left (writingOf r) (now (out .exit)) [] ≡ afterWriting (fitting (length (now (out .entry))) (listingOf (now (text .entry)) (now (work .entry)) from to)) (now (out .entry)) [] ⌝ }
+{
+    if out.len() < 98 * to + 10 {
+        return write_measured(text, work, from, to, long, out);
+    }
+    Writing::Written(put_listing(text, work, from, to, long, out))
 }

@@ -101,55 +101,58 @@ set-own w a v h = getD-set-same w (20 * a + 18) v 0 (omega arith)
 
 module _ (t w : List ℕ) (from k : ℕ) (fits : 20 * k + 20 ≤ length w) {b : ℕ} (p : b ≡ baseOf t w k) where
   -- the row that is counted up
-  pub can-count : Countable w from k → from < b → (20 * (b - 1) + 20 ≤ length (set w (20 * k + 18) 0)) × (cell (set w (20 * k + 18) 0) (b - 1) 18 < 4294967295)
+  pub base-small : k < 4294967296 → b < 4294967296
+  base-small h = omega (arith, p, base-within t w k)
+
+  pub can-count : Countable w from k → from < b → (20 * (b - 1) + 20 ≤ length (set w (20 * k + 18) b)) × (cell (set w (20 * k + 18) b) (b - 1) 18 < 4294967295)
   can-count c h =
       let m = base-within t w k in
-      let long = length-set w (20 * k + 18) 0 in
+      let long = length-set w (20 * k + 18) b in
       let low = c .small (b - 1) (omega arith) (omega (arith, p, m)) in
-      (omega (arith, p, m, long), omega (arith, low, set-other w k 0 (b - 1) (λ e. omega (arith, p, m))))
+      (omega (arith, p, m, long), omega (arith, low, set-other w k b (b - 1) (λ e. omega (arith, p, m))))
 
   no-hit : (i : ℕ) → (b ≡ suc i → ⊥) → hit t w i k ≡ 0
   no-hit i h = rw (ne-eqb (baseOf t w k) (suc i) (λ e. h (p ∙ e)))
 
   -- a row from `from` on is counted up
-  pub tallied-up : from < b → {w′ : List ℕ} → w′ ≡ set (set w (20 * k + 18) 0) (20 * (b - 1) + 18) (cell (set w (20 * k + 18) 0) (b - 1) 18 + 1) → RowTallied t w from k w′
+  pub tallied-up : from < b → {w′ : List ℕ} → w′ ≡ set (set w (20 * k + 18) b) (20 * (b - 1) + 18) (cell (set w (20 * k + 18) b) (b - 1) 18 + 1) → RowTallied t w from k w′
   tallied-up h e =
-      let w₁ = set w (20 * k + 18) 0 in
+      let w₁ = set w (20 * k + 18) b in
       let v = cell w₁ (b - 1) 18 + 1 in
       let m = base-within t w k in
-      let long = length-set w (20 * k + 18) 0 in
+      let long = length-set w (20 * k + 18) b in
       let at : b ≡ suc (b - 1) = omega arith in
-      let own : cell (set w₁ (20 * (b - 1) + 18) v) k 18 ≡ 0 = set-other w₁ (b - 1) v k (λ x. omega (arith, p, m)) ∙ set-own w k 0 fits in
+      let own : cell (set w₁ (20 * (b - 1) + 18) v) k 18 ≡ baseOf t w k = set-other w₁ (b - 1) v k (λ x. omega (arith, p, m)) ∙ set-own w k b fits ∙ p in
       subst (RowTallied t w from k) (sym e)
       (record {
-        kept = kept-on (kept-set w k 0) (kept-set w₁ (b - 1) v);
+        kept = kept-on (kept-set w k b) (kept-set w₁ (b - 1) v);
         own = own;
         others =
             λ i l u.
             ⊎-elim
             (λ (x : i < b - 1).
-            set-other w₁ (b - 1) v i (λ y. omega arith) ∙ set-other w k 0 i (λ y. omega arith) ∙ (let z = no-hit i (λ y. omega arith) in omega (arith, z)))
+            set-other w₁ (b - 1) v i (λ y. omega arith) ∙ set-other w k b i (λ y. omega arith) ∙ (let z = no-hit i (λ y. omega arith) in omega (arith, z)))
             (λ (x : b - 1 ≤ i).
             ⊎-elim
             (λ (y : b - 1 < i).
-            set-other w₁ (b - 1) v i (λ x. omega arith) ∙ set-other w k 0 i (λ x. omega arith) ∙ (let z = no-hit i (λ x. omega arith) in omega (arith, z)))
+            set-other w₁ (b - 1) v i (λ x. omega arith) ∙ set-other w k b i (λ x. omega arith) ∙ (let z = no-hit i (λ x. omega arith) in omega (arith, z)))
             (λ (y : i ≤ b - 1).
             let same : b - 1 ≡ i = omega arith in
             let one : hit t w i k ≡ 1 = rw (eq-eqb (baseOf t w k) (suc i) (sym p ∙ at ∙ ap suc same)) in
             subst (λ (n : ℕ). cell (set w₁ (20 * (b - 1) + 18) v) n 18 ≡ cell w n 18 + 1) same
-            (set-own w₁ (b - 1) v (omega (arith, p, m, long)) ∙ ap (λ (x : ℕ). x + 1) (set-other w k 0 (b - 1) (λ x. omega (arith, p, m))))
+            (set-own w₁ (b - 1) v (omega (arith, p, m, long)) ∙ ap (λ (x : ℕ). x + 1) (set-other w k b (b - 1) (λ x. omega (arith, p, m))))
             ∙ (omega (arith, one)))
             (order (b - 1) i))
             (order i (b - 1));
       })
 
   -- none is
-  pub tallied-alone : b ≤ from → RowTallied t w from k (set w (20 * k + 18) 0)
+  pub tallied-alone : b ≤ from → RowTallied t w from k (set w (20 * k + 18) b)
   tallied-alone h =
       record {
-        kept = kept-set w k 0;
-        own = set-own w k 0 fits;
-        others = λ i l u. set-other w k 0 i (λ x. omega arith) ∙ (let z = no-hit i (λ x. omega arith) in omega (arith, z));
+        kept = kept-set w k b;
+        own = set-own w k b fits ∙ p;
+        others = λ i l u. set-other w k b i (λ x. omega arith) ∙ (let z = no-hit i (λ x. omega arith) in omega (arith, z));
       }
 
 -- ---------------------------------------------------------------- the loop
@@ -160,16 +163,16 @@ pub record Tallying (t w : List ℕ) (from to k : ℕ) (now : List ℕ) : Type 0
   pub few : to ≤ 800
   pub low : from ≤ k
   pub kept : Kept w now
-  pub counts : (i : ℕ) → from ≤ i → i < k → cell now i 18 + hits t w i k (to - k) ≡ hits t w i from (to - from)
+  pub counts : (i : ℕ) → from ≤ i → i < k → cell now i 18 + hits t w i k (to - k) ≡ baseOf t w i + hits t w i from (to - from)
 
 pub tallying-starts : (t w : List ℕ) (from to : ℕ) → 20 * to ≤ length w → to ≤ 800 → Tallying t w from to from w
 tallying-starts t w from to f h =
     record { fits = f; few = h; low = omega arith; kept = kept-self w; counts = λ i l u. absurd (omega arith) }
 
 module _ {t w : List ℕ} {from to k : ℕ} {now : List ℕ} (inv : Tallying t w from to k now) where
-  pub tallying-row : k < to → (20 * k + 20 ≤ length now) × Countable now from k
+  pub tallying-row : k < to → (20 * k + 20 ≤ length now) × (k < 4294967296) × Countable now from k
   tallying-row h =
-      (omega (arith, inv .fits, inv .kept .long), record { small = λ i l u. omega (arith, inv .counts i l u, hits-most t w i from (to - from), inv .few) })
+      (omega (arith, inv .fits, inv .kept .long), omega (arith, inv .few), record { small = λ i l u. omega (arith, inv .counts i l u, hits-most t w i from (to - from), base-within t w i, inv .few) })
 
   pub tallying-on : k < to → {w′ : List ℕ} → RowTallied t now from k w′ → Tallying t w from to (k + 1) w′
   unfolding hits
@@ -180,7 +183,7 @@ module _ {t w : List ℕ} {from to k : ℕ} {now : List ℕ} (inv : Tallying t w
         low = omega (arith, inv .low);
         kept = kept-on (inv .kept) (r .kept);
         counts =
-            subst (λ (n : ℕ). (i : ℕ) → from ≤ i → i < n → cell w′ i 18 + hits t w i n (to - n) ≡ hits t w i from (to - from)) (sym (add-one k)) (λ i l u.
+            subst (λ (n : ℕ). (i : ℕ) → from ≤ i → i < n → cell w′ i 18 + hits t w i n (to - n) ≡ baseOf t w i + hits t w i from (to - from)) (sym (add-one k)) (λ i l u.
             ⊎-elim
             (λ (x : i < k).
             let here : hits t w i k (to - k) ≡ hit t w i k + hits t w i (suc k) (to - suc k) = ap (hits t w i k) (let e : to - k ≡ suc (to - suc k) = omega arith in e) in
@@ -192,7 +195,7 @@ module _ {t w : List ℕ} {from to k : ℕ} {now : List ℕ} (inv : Tallying t w
             ∙ hits-append t w k from (suc k - from) (to - suc k)
             ∙ ap (λ (n : ℕ). hits t w k from (suc k - from) + hits t w k n (to - suc k)) (let e : from + (suc k - from) ≡ suc k = omega (arith, inv .low) in e) in
             let none = hits-low t w k from (suc k - from) (omega (arith, inv .low)) in
-            subst (λ (n : ℕ). cell w′ n 18 + hits t w n (suc k) (to - suc k) ≡ hits t w n from (to - from)) same (omega (arith, r .own, all, none)))
+            subst (λ (n : ℕ). cell w′ n 18 + hits t w n (suc k) (to - suc k) ≡ baseOf t w n + hits t w n from (to - from)) same (omega (arith, r .own, base-of-kept (inv .kept) t k, all, none)))
             (order i k));
       }
 
@@ -228,6 +231,6 @@ module _ (text : List ℕ) {w w′ : List ℕ} (a b : ℕ) (low : a ≤ b) (r : 
         fits = omega (arith, r .fits, m .kept .long);
         marked =
             marked-all text w′ f a (column-kept (m .kept) 16 (λ before kids. before) a b (lit< tt) (r .chained)) marked-counted
-            (λ i l u. m .counts i l (omega (arith, many)) ∙ sym (hits-kept (m .kept) text i a (b - a)) ∙ ap (hits text w′ i a) (sym many));
+            (λ i l u. omega (arith, m .counts i l (omega (arith, many)), base-of-kept (m .kept) text i, hits-kept (m .kept) text i a (b - a), ap (hits text w′ i a) many));
         sized = sized-kept (m .kept) a b (r .sized);
       }

@@ -4,23 +4,25 @@
 use Prim.Native.Nat.{ℕ, zero, suc, _+_, _-_, _≤_, _<_}
 use mathlib.Core.Path.{_≡_, refl, sym, ap, ap₂, subst, _∙_}
 use mathlib.Core.Bool.{Bool, true, false}
-use mathlib.Core.List.{List}
+use mathlib.Core.List.{List, _∷_}
 use mathlib.Core.Logic.{⊎-elim}
+use mathlib.Core.Option.{some}
 use native.Mathlib.Omega.{arith}
-use lib.Dec.{eqb, lit<}
-use borrow.Author.Tests.{eq-eqb, ne-eqb, eqb-true, eqb-false}
+use lib.Dec.{eqb, ltb}
+use borrow.Author.Tests.{lt-ltb, eq-eqb, ne-eqb}
 use Rattle.definition.specs.declared.Span.{Span}
 use Rattle.definition.specs.declared.Entry.{Entry}
 use Rattle.definition.specs.Basic.{if_then_else_, given}
 use Rattle.definition.specs.Tree.{Forest, leaf, item}
-use Rattle.definition.specs.Fold.{Entries, sameName, nameOf, redefiners}
+use Rattle.definition.specs.Fold.{Entries, Place, find, sameName, nameOf, redefiners}
 use Rattle.definition.specs.Basic.{uppers}
 use Rattle.definition.specs.Listing.{members#}
 use Rattle.definition.specs.Owner.{size}
 use Rattle.definition.proofs.Lists.{order}
 use Rattle.definition.proofs.LayoutLaws.{redefiners-hit, redefiners-miss, redefiners-ends, redefiners-next}
 use Rattle.rows.specs.Table.{cell, spanAt}
-use Rattle.layout.specs.Places.{isTarget, placeAt, entryIn, entriesIn}
+use Rattle.layout.specs.Places.{isTarget, seenFrom, placeAt, entryIn, entriesIn}
+use Rattle.layout.specs.Bare.{hasBase}
 use Rattle.layout.proofs.SizeLaws.{never, same-sym, same-first}
 use Rattle.record.specs.Marks.{baseFrom, baseOf, hit, hits}
 use Rattle.record.specs.Shown.{Chained, Counted, Marked}
@@ -32,6 +34,10 @@ if-most false p q = q
 if-not : (b : Bool) {x y z : ℕ} → (x ≡ z → ⊥) → (b ≡ false → y ≡ z → ⊥) → (if b then x else y) ≡ z → ⊥
 if-not true p q e = p e
 if-not false p q e = q refl e
+
+if-neither : (b : Bool) {x y z : ℕ} → (b ≡ true → x ≡ z → ⊥) → (y ≡ z → ⊥) → (if b then x else y) ≡ z → ⊥
+if-neither true p q e = p refl e
+if-neither false p q e = q e
 
 module _ (t w : List ℕ) where
   -- ---------------------------------------------------------------- the search
@@ -68,6 +74,29 @@ module _ (t w : List ℕ) where
         let back = base-most k (cell w k 16) in
         let on = base-most k last in
         if-most (eqb last (suc k)) (if-most (isTarget t target true w k) (omega arith) (omega (arith, back))) (omega (arith, on))
+
+    -- it finds a base where the definition finds one
+    pub base-found : (n last : ℕ) → hasBase (find t target (seenFrom true w n last)) ≡ ltb 0 (baseFrom t target w n last)
+    unfolding baseFrom seenFrom find
+    base-found zero last = refl
+    base-found (suc k) last = go (eqb last (suc k)) (given (spanAt (cell w k 6))) (base-found k (cell w k 16)) (base-found k last)
+      where
+        named :
+            (c : Bool) →
+            hasBase (find t target (seenFrom true w k (cell w k 16))) ≡ ltb 0 (baseFrom t target w k (cell w k 16)) →
+            hasBase (if c then some (cell w k 13) else find t target (seenFrom true w k (cell w k 16))) ≡ ltb 0 (if c then suc k else baseFrom t target w k (cell w k 16))
+        named true p = sym (lt-ltb 0 (suc k) (omega arith))
+        named false p = p
+
+        go :
+            (a b : Bool) →
+            hasBase (find t target (seenFrom true w k (cell w k 16))) ≡ ltb 0 (baseFrom t target w k (cell w k 16)) →
+            hasBase (find t target (seenFrom true w k last)) ≡ ltb 0 (baseFrom t target w k last) →
+            hasBase (find t target (if a then (if b then seenFrom true w k (cell w k 16) else placeAt w k ∷ seenFrom true w k (cell w k 16)) else seenFrom true w k last))
+            ≡ ltb 0 (if a then (if (if b then false else sameName t target (spanAt (cell w k 3))) then suc k else baseFrom t target w k (cell w k 16)) else baseFrom t target w k last)
+        go true true p q = p
+        go true false p q = named (sameName t target (spanAt (cell w k 3))) p
+        go false b p q = q
 
     -- what is found from the sibling `last` back
     abbrev back : ℕ → ℕ
@@ -164,6 +193,32 @@ module _ (t w : List ℕ) where
       if-not′ : (b : Bool) {x z : ℕ} → (x ≡ suc z → ⊥) → (if b then x else 0) ≡ suc z → ⊥
       if-not′ true p e = p e
       if-not′ false p e = omega arith
+
+  -- no row redefines a redefiner
+  never-found : (i : ℕ) → given (spanAt (cell w i 6)) ≡ true → (target : Span) (n last : ℕ) → baseFrom t target w n last ≡ suc i → ⊥
+  unfolding baseFrom
+  never-found i g target zero last e = omega arith
+  never-found i g target (suc k) last e =
+      let back = never-found i g target k (cell w k 16) in
+      let on = never-found i g target k last in
+      if-not (eqb last (suc k)) (if-neither (isTarget t target true w k) left-out back) (λ _. on) e
+    where
+      left-out : isTarget t target true w k ≡ true → suc k ≡ suc i → ⊥
+      left-out h q =
+          let same : i ≡ k = omega arith in
+          let g′ : given (spanAt (cell w k 6)) ≡ true = subst (λ (n : ℕ). given (spanAt (cell w n 6)) ≡ true) same g in
+          never (sym (ap (λ (b : Bool). if b then false else sameName t target (spanAt (cell w k 3))) g′) ∙ h)
+
+  redefiner-forest : (f : Forest) (i k : ℕ) → given (spanAt (cell w i 6)) ≡ true → hitsIn i k f ≡ 0
+  redefiner-forest leaf i k g = refl
+  redefiner-forest (item s kids later) i k g =
+      let r = spanAt (cell w k 6) in
+      let own = no-hit i k (λ e. if-given (given r) (never-found i g r k (cell w k 16)) e) in
+      omega (arith, own, redefiner-forest kids i (suc k) g, redefiner-forest later i (suc k + size kids) g)
+    where
+      if-given : (b : Bool) {x z : ℕ} → (x ≡ suc z → ⊥) → (if b then x else 0) ≡ suc z → ⊥
+      if-given true p e = p e
+      if-given false p e = omega arith
 
   -- ---------------------------------------------------------------- the definition's count
 
@@ -300,7 +355,7 @@ module _ (t w : List ℕ) where
       Chained w k last f →
       Counted w k last f →
       last ≤ k →
-      ((i : ℕ) → k ≤ i → i < k + size f → cell w i 18 ≡ hitsIn i k f) →
+      ((i : ℕ) → k ≤ i → i < k + size f → cell w i 18 ≡ baseOf t w i + hitsIn i k f) →
       Marked t w k last f
   marked-forest leaf k last ch co l h = tt
   marked-forest (item s kids later) k last ch co l h =
@@ -312,7 +367,15 @@ module _ (t w : List ℕ) where
       let below = none-forest kids k (suc k) 0 (ch .1) (omega arith) (omega arith) (λ target e. zero-suc k (sym (back-none target) ∙ e)) in
       let after = count-forest later k n (suc k) (ch .2) (omega arith) (omega arith) in
       (
-        record { before = ch .0; below = co .0; count = λ g. omega (arith, row, own, below, after (opens k k last (ch .0) l refl g)) },
+        record {
+          before = ch .0;
+          below = co .0;
+          count = λ g. (let none : baseOf t w k ≡ 0 = ap (λ (b : Bool). if b then baseFrom t (spanAt (cell w k 6)) w k (cell w k 16) else 0) g in omega (arith, row, none, own, below, after (opens k k last (ch .0) l refl g)));
+          under =
+              λ g.
+              (let some = base-own k last (ch .0) l ∙ ap (λ (b : Bool). if b then back (spanAt (cell w k 6)) last else 0) g in
+              omega (arith, row, some, redefiner-forest (item s kids later) k k g));
+        },
         inner
         (λ i a b.
         omega (
@@ -331,6 +394,6 @@ module _ (t w : List ℕ) where
       (f : Forest) (k : ℕ) →
       Chained w k 0 f →
       Counted w k 0 f →
-      ((i : ℕ) → k ≤ i → i < k + size f → cell w i 18 ≡ hits t w i k (size f)) →
+      ((i : ℕ) → k ≤ i → i < k + size f → cell w i 18 ≡ baseOf t w i + hits t w i k (size f)) →
       Marked t w k 0 f
-  marked-all f k ch co h = marked-forest f k 0 ch co (omega arith) (λ i a b. h i a b ∙ hits-forest f i k)
+  marked-all f k ch co h = marked-forest f k 0 ch co (omega arith) (λ i a b. h i a b ∙ ap (λ (n : ℕ). baseOf t w i + n) (hits-forest f i k))

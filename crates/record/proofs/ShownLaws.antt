@@ -8,6 +8,7 @@ use native.Mathlib.Numerals.{add-one}
 use native.Mathlib.Omega.{arith}
 use Rattle.definition.specs.declared.Span.{Span}
 use Rattle.definition.specs.Basic.{if_then_else_, given}
+use lib.Dec.{ltb}
 use lib.ListN.{length}
 use Rattle.definition.specs.Tree.{Forest, leaf, item, higher}
 use Rattle.definition.specs.Listing.{members#}
@@ -21,7 +22,9 @@ use Rattle.layout.proofs.FoldLaws.{next-row, bases-after, entries-step, linked-
 use Rattle.layout.proofs.PlaceLaws.{seen-low, seen-out, seen-in}
 use Rattle.layout.proofs.RowLaws.{children-end, forest-split, forest-empty}
 use Rattle.record.specs.declared.Relation.{Relation}
-use Rattle.record.specs.Shown.{relation, listIn, redefinersIn, foldedRest, shownAt, IsBase, Numbered, Marked}
+use Rattle.record.specs.Shown.{relation, listIn, redefinersIn, foldedRest, shownAt, IsBase, Numbered, Known, Marked}
+use Rattle.record.specs.Marks.{baseFrom}
+use Rattle.record.proofs.MarkLaws.{base-found}
 use Rattle.record.proofs.FoldedLaws.{append-end, append-append, byRelation, list-step, redefiners-step}
 
 -- ---------------------------------------------------------------- one row
@@ -36,6 +39,7 @@ pub record RowIs (t w : List ℕ) (i j to last : ℕ) : Type 0 where
   pub before : cell w i 16 ≡ last
   pub next : suc i + cell w i 17 ≡ j
   pub count : IsBase w i → cell w i 18 ≡ members# (redefinersIn t w i j to)
+  pub under : given (spanAt (cell w i 6)) ≡ true → cell w i 18 ≡ baseFrom t (spanAt (cell w i 6)) w last last
 
 module _ (w : List ℕ) (i to j : ℕ) (h : ChildrenEnd w i to j) where
   -- row i, its children up to j, and the rest
@@ -54,7 +58,7 @@ module _ (w : List ℕ) (i to j : ℕ) (h : ChildrenEnd w i to j) where
       let below : suc i + cell w i 17 ≡ j = ap (λ (n : ℕ). suc i + n) (row .below) ∙ next in
       let count : IsBase w i → cell w i 18 ≡ members# (redefinersIn t w i j to) =
       λ b. row .count b ∙ ap (λ (n : ℕ). members# (redefiners t (placeAt w i) (entriesIn w n (rowsForest w j to)))) next in
-      (record { before = row .before; next = below; count = count }, all .1, subst (λ (n : ℕ). Marked t w n (suc i) (rowsForest w j to)) next (all .2))
+      (record { before = row .before; next = below; count = count; under = row .under }, all .1, subst (λ (n : ℕ). Marked t w n (suc i) (rowsForest w j to)) next (all .2))
 
 pub marked-linked : (t w : List ℕ) (f : Forest) (k last : ℕ) → Marked t w k last f → Linked w k last f
 marked-linked t w leaf k last h = tt
@@ -66,6 +70,18 @@ marked-numbered t w i to last fits h m =
     let j = suc i + higher (statementAt w i .level) (statementsFrom w (suc i) (to - suc i)) in
     let c : ChildrenEnd w i to j = children-end w i to h in
     record { low = h; fits = fits; is = subst (ChildrenEnd w i to) (sym (marked-step w i to j c t last m .0 .next)) c }
+
+-- and a redefiner knows whether it has a base
+pub marked-known : (t w : List ℕ) (i to last : ℕ) → 20 * to ≤ length w → last ≤ i → i < to → Marked t w i last (rowsForest w i to) → Known t w i last
+marked-known t w i to last fits back h m =
+    let j = suc i + higher (statementAt w i .level) (statementsFrom w (suc i) (to - suc i)) in
+    let c : ChildrenEnd w i to j = children-end w i to h in
+    let row = marked-step w i to j c t last m .0 in
+    record {
+      fits = omega arith;
+      back = back;
+      is = λ g. base-found t w (spanAt (cell w i 6)) last last ∙ ap (ltb 0) (sym (row .under g));
+    }
 
 -- ---------------------------------------------------------------- redefiners
 

@@ -20,9 +20,9 @@ use Rattle.layout.specs.Places.{basesAt, placeAt, entryIn, rowsForest}
 use Rattle.layout.specs.Steps.{ChildrenEnd}
 use Rattle.record.specs.declared.Standing.{Standing}
 use Rattle.record.specs.declared.Relation.{Relation}
-use Rattle.record.specs.Shown.{standing, shownAs, relation, listIn, redefinersIn, shownAt, unionWidth, Numbered, Marked, Sized, Tree, Branch, Base, SizedRow, Measured}
+use Rattle.record.specs.Shown.{standing, shownAs, relation, listIn, redefinersIn, shownAt, unionWidth, Numbered, Known, Marked, Sized, Tree, Branch, Base, SizedRow, Measured}
 use Rattle.record.proofs.FoldedLaws.{width-alone, width-union, end-alone, end-union, union-inner, union-outer, redefiners-below, count-below, widest-below}
-use Rattle.record.proofs.ShownLaws.{marked-step, marked-linked, marked-numbered, redefined-by, redefined-none, Walking, walking-starts, walking-on}
+use Rattle.record.proofs.ShownLaws.{marked-step, marked-linked, marked-numbered, marked-known, redefined-by, redefined-none, Walking, walking-starts, walking-on}
 
 -- ---------------------------------------------------------------- parts of a table
 
@@ -160,6 +160,9 @@ along-starts t w from to h =
 module _ {t w : List ℕ} {from to i last : ℕ} {done : Entries} (inv : Along t w from to i last done) where
   pub along-numbered : i < to → Numbered w i to
   along-numbered h = marked-numbered t w i to last (inv .tree .fits) h (inv .marked)
+
+  pub along-known : i < to → Known t w i last
+  along-known h = marked-known t w i to last (inv .tree .fits) (inv .back) h (inv .marked)
 
   module _ {j : ℕ} (h : ChildrenEnd w i to j) where
     pub along-branch : Branch t w i j to

@@ -1,3 +1,3 @@
+pub mod Marks
 pub mod Shown
 pub mod Laying
-pub mod Marks

@@ -40,13 +40,13 @@ pub record Kept (w w′ : List ℕ) : Type 0 where
 pub record Countable (w : List ℕ) (from k : ℕ) : Type 0 where
   pub small : (i : ℕ) → from ≤ i → i < k → cell w i 18 < 4294967295
 
--- row k starts at 0, and the row that it redefines has one more
+-- row k holds its base, and the row that it redefines has one more
 pub record RowTallied (text w : List ℕ) (from k : ℕ) (w′ : List ℕ) : Type 0 where
   pub kept : Kept w w′
-  pub own : cell w′ k 18 ≡ 0
+  pub own : cell w′ k 18 ≡ baseOf text w k
   pub others : (i : ℕ) → from ≤ i → i < k → cell w′ i 18 ≡ cell w i 18 + hit text w i k
 
--- each row from `from` up to `to` holds how many of these rows redefine it
+-- each row from `from` up to `to` holds its base, and how many of these rows redefine it: one of the two is 0
 pub record Tallied (text w : List ℕ) (from to : ℕ) (w′ : List ℕ) : Type 0 where
   pub kept : Kept w w′
-  pub counts : (i : ℕ) → from ≤ i → i < to → cell w′ i 18 ≡ hits text w i from (to - from)
+  pub counts : (i : ℕ) → from ≤ i → i < to → cell w′ i 18 ≡ baseOf text w i + hits text w i from (to - from)

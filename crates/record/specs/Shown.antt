@@ -2,7 +2,8 @@
 -- Assumes nothing.
 use Prim.Native.Nat.{ℕ, suc, _+_, _*_, _≤_, _<_}
 use mathlib.Core.Path.{_≡_}
-use mathlib.Core.Bool.{Bool, false}
+use mathlib.Core.Bool.{Bool, true, false}
+use lib.Dec.{ltb}
 use mathlib.Core.List.{List, _∷_}
 use lib.ListN.{length}
 use Rattle.definition.specs.declared.Span.{Span}
@@ -18,6 +19,7 @@ use Rattle.layout.specs.Places.{basesAt, placeAt, entryIn, entriesIn, rowsFores
 use Rattle.layout.specs.Steps.{ChildrenEnd}
 use Rattle.record.specs.declared.Standing.{Standing}
 use Rattle.record.specs.declared.Relation.{Relation}
+use Rattle.record.specs.Marks.{baseFrom}
 
 -- ---------------------------------------------------------------- one entry
 
@@ -88,6 +90,12 @@ pub record Numbered (w : List ℕ) (i to : ℕ) : Type 0 where
   pub fits : 20 * to ≤ length w
   pub is : ChildrenEnd w i to (suc i + cell w i 17)
 
+-- row i is there, after the sibling `last`, and a redefiner knows whether it has a base
+pub record Known (text w : List ℕ) (i last : ℕ) : Type 0 where
+  pub fits : 20 * i + 20 ≤ length w
+  pub back : last ≤ i
+  pub is : given (spanAt (cell w i 6)) ≡ true → hasBase (find text (spanAt (cell w i 6)) (basesAt w last)) ≡ ltb 0 (cell w i 18)
+
 -- column c of each row of a list, and of the lists below it, holds what `value` says of the sibling before the row and of the forest below it
 abbrev pub Column : ℕ → (ℕ → Forest → ℕ) → List ℕ → ℕ → ℕ → Forest → Type 0
 Column c value w k last leaf = Unit {0}
@@ -102,11 +110,12 @@ Chained w k last f = Column 16 (λ before kids. before) w k last f
 abbrev pub Counted : List ℕ → ℕ → ℕ → Forest → Type 0
 Counted w k last f = Column 17 (λ before kids. size kids) w k last f
 
--- a row names the sibling before it, counts the rows below it and, where it is a base, its redefiners among the later siblings
+-- a row names the sibling before it and counts the rows below it; a base counts its redefiners among the later siblings, and a redefiner names its base
 pub record RowMarked (text w : List ℕ) (k last : ℕ) (kids later : Forest) : Type 0 where
   pub before : cell w k 16 ≡ last
   pub below : cell w k 17 ≡ size kids
   pub count : IsBase w k → cell w k 18 ≡ members# (redefiners text (placeAt w k) (entriesIn w (suc k + size kids) later))
+  pub under : given (spanAt (cell w k 6)) ≡ true → cell w k 18 ≡ baseFrom text (spanAt (cell w k 6)) w last last
 
 -- each row of a list, and of the lists below it, does
 abbrev pub Marked : List ℕ → List ℕ → ℕ → ℕ → Forest → Type 0

@@ -4,15 +4,15 @@ ghost use mathlib.Core.Bool.{true};
 ghost use Prim.Native.Nat.{_+_, _*_, _≤_, _<_, max};
 ghost use lib.ListN.{length, set};
 ghost use Rattle.definition.specs.Basic.{give};
-ghost use Rattle.definition.specs.Fold.{times, total, entryEnd, sameSpelling, find, hasMember, widest};
+ghost use Rattle.definition.specs.Fold.{times, total, entryEnd, sameSpelling, hasMember, widest};
 ghost use Rattle.definition.specs.Listing.{members#};
 ghost use Rattle.definition.specs.Record.{recordLength, endsFit};
 ghost use Rattle.definition.specs.Calls.{checkOf, recordFields};
-ghost use Rattle.layout.specs.Bare.{hasBase, foldedAll};
+ghost use Rattle.layout.specs.Bare.{foldedAll};
 ghost use Rattle.layout.specs.Places.{entryIn, basesAt, isTarget, rowsForest};
 ghost use Rattle.layout.specs.Steps.{Room, ChildrenEnd};
 ghost use Rattle.rows.specs.Table.{cell};
-ghost use Rattle.record.specs.Shown.{standing, relation, listIn, redefinersIn, shownAt, shown#, shownNamed, unionWidth, Numbered, Tree, Branch, Base, SizedRow, Measured, Few};
+ghost use Rattle.record.specs.Shown.{standing, relation, listIn, redefinersIn, shownAt, shown#, shownNamed, unionWidth, Numbered, Known, Tree, Branch, Base, SizedRow, Measured, Few};
 ghost use Rattle.record.specs.Marks.{baseFrom, baseOf, Countable, RowTallied, Tallied};
 ghost use Rattle.record.specs.Laying.{FieldsFrom, RecordIs, fieldsOf};
 use definition::Check;
@@ -20,7 +20,6 @@ use definition::Occurs;
 use definition::Refusal;
 use definition::Span;
 use layout::LaidList;
-use layout::Target;
 use rows::RowsRead;
 
 // How an entry stands in the folded list.
@@ -37,25 +36,14 @@ pub enum Relation {
     Other,
 }
 
-// Whether some base from `last` back has that name.
-fn has_base(text: &[u8], work: &[u32], target: Span, last: usize) -> bool
-    requires { ⌜ 20 * last ≤ length (now work) ⌝ }
-    ensures { λ r. ⌜ r ≡ hasBase (find (now (text .entry)) target (basesAt (now (work .entry)) last)) ⌝ }
-{
-    match layout::find_target(text, work, target, last, true) {
-        Target::At(offset) => true,
-        Target::Nothing => false,
-    }
-}
-
 // How the entry of row i stands in the folded list, where the siblings before it go back from `last`.
 pub fn standing_of(text: &[u8], work: &[u32], i: usize, last: usize) -> Standing
-    requires { ⌜ (20 * i + 20 ≤ length (now work)) × (last ≤ i) ⌝ }
+    requires { ⌜ Known (now text) (now work) i last ⌝ }
     ensures { λ r. ⌜ r ≡ standing (now (text .entry)) (basesAt (now (work .entry)) last) (entryIn (now (work .entry)) i) ⌝ }
 {
     let redefines = rows::span_at(work[20 * i + 6]);
     if 0 < redefines.len {
-        if has_base(text, work, redefines, last) {
+        if 0 < work[20 * i + 18] {
             return Standing::Under;
         }
         return Standing::Alone;
@@ -139,7 +127,7 @@ pub fn redefiner_width(text: &[u8], work: &[u32], i: usize, j: usize, to: usize)
 
 // Whether row i stands in the folded list: 1, or 0 for one that stands under its base.
 fn shown_count(text: &[u8], work: &[u32], i: usize, last: usize) -> usize
-    requires { ⌜ (20 * i + 20 ≤ length (now work)) × (last ≤ i) ⌝ }
+    requires { ⌜ Known (now text) (now work) i last ⌝ }
     ensures { λ r. ⌜ Few (shown# (standing (now (text .entry)) (basesAt (now (work .entry)) last) (entryIn (now (work .entry)) i))) r ⌝ }
 {
     match standing_of(text, work, i, last) {
@@ -183,7 +171,7 @@ fn same_spellings(text: &[u8], a: Span, b: Span) -> bool
 
 // Whether row i stands in the folded list under that name.
 fn shown_named(text: &[u8], work: &[u32], i: usize, last: usize, name: Span) -> bool
-    requires { ⌜ (20 * i + 20 ≤ length (now work)) × (last ≤ i) ⌝ }
+    requires { ⌜ Known (now text) (now work) i last ⌝ }
     ensures { λ r. ⌜ r ≡ shownNamed (now (text .entry)) name (standing (now (text .entry)) (basesAt (now (work .entry)) last) (entryIn (now (work .entry)) i)) (entryIn (now (work .entry)) i) ⌝ }
 {
     let own = rows::span_at(work[20 * i + 3]);
@@ -227,7 +215,7 @@ pub fn union_width(text: &[u8], work: &[u32], i: usize, j: usize, to: usize) -> 
 
 // How wide row i is in the folded list: 0 where it stands under its base.
 fn shown_width(text: &[u8], work: &[u32], i: usize, j: usize, to: usize, last: usize) -> usize
-    requires { ⌜ Branch (now text) (now work) i j to × (last ≤ i) ⌝ }
+    requires { ⌜ Branch (now text) (now work) i j to × Known (now text) (now work) i last ⌝ }
     ensures { λ r. ⌜ Measured (widest (shownAt (now (text .entry)) (now (work .entry)) i j to last)) r ⌝ }
 {
     match standing_of(text, work, i, last) {
@@ -278,7 +266,7 @@ fn row_end(work: &[u32], i: usize) -> usize
 
 // Where row i ends in the folded list: 0 where it stands under its base.
 fn shown_end(text: &[u8], work: &[u32], i: usize, j: usize, to: usize, last: usize) -> usize
-    requires { ⌜ Branch (now text) (now work) i j to × (last ≤ i) ⌝ }
+    requires { ⌜ Branch (now text) (now work) i j to × Known (now text) (now work) i last ⌝ }
     ensures { λ r. ⌜ r ≡ recordLength (shownAt (now (text .entry)) (now (work .entry)) i j to last) ⌝ }
 {
     match standing_of(text, work, i, last) {
@@ -384,20 +372,20 @@ fn count_up(work: &mut [u32], i: usize)
     work[at] = work[at] + 1;
 }
 
-// Row k has no redefiners yet, and the row from `from` on that it redefines has one more.
+// Row k holds the base that it redefines, or 0, and the base, if it is a row from `from` on, has one redefiner more.
 fn mark_row(text: &[u8], work: &mut [u32], from: usize, k: usize)
-    requires { ⌜ (20 * k + 20 ≤ length (now work)) × Countable (now work) from k ⌝ }
+    requires { ⌜ (20 * k + 20 ≤ length (now work)) × (k < 4294967296) × Countable (now work) from k ⌝ }
     ensures { λ _. ⌜ RowTallied (now (text .entry)) (now (work .entry)) from k (now (work .exit)) ⌝ }
 {
     let base = base_of(text, work, k);
-    work[20 * k + 18] = 0;
+    work[20 * k + 18] = base as u32;
     if from < base {
         count_up(work, base - 1);
         return;
     }
 }
 
-// Has each row from `from` up to `to` hold how many of these rows redefine it.
+// Has each row from `from` up to `to` hold its base, or how many of these rows redefine it.
 fn mark_redefiners(text: &[u8], work: &mut [u32], from: usize, to: usize)
     requires { ⌜ (20 * to ≤ length (now work)) × (to ≤ 800) ⌝ }
     ensures { λ _. ⌜ Tallied (now (text .entry)) (now (work .entry)) from to (now (work .exit)) ⌝ }

@@ -13,7 +13,7 @@ ghost use Rattle.rows.specs.Table.{cell};
 ghost use Rattle.layout.specs.Bare.{foldedBelow};
 ghost use Rattle.layout.specs.Places.{entryIn};
 ghost use Rattle.listing.specs.Puts.{Put};
-ghost use Rattle.record.specs.Shown.{redefinersIn, shownAt, Tree, Branch, Base};
+ghost use Rattle.record.specs.Shown.{redefinersIn, shownAt, Known, Tree, Branch, Base};
 ghost use Rattle.writer.specs.Written.{Fits, listBytes, itemBytes, shownBytes, ownMember, unionIn, unionEntry, unionBytes, redefinersBytes, listVaries, itemVaries};
 ghost use Rattle.writer.specs.Listed.{entriesOf, listingOf};
 use definition::Entry;
@@ -205,7 +205,7 @@ fn write_shown(
     out: &mut [u8],
     at: usize,
 ) -> usize
-    requires { ⌜ Branch (now text) (now work) i j to × (last ≤ i) × Fits at (shownBytes (now text) (now work) i j to last) ⌝ }
+    requires { ⌜ Branch (now text) (now work) i j to × Known (now text) (now work) i last × Fits at (shownBytes (now text) (now work) i j to last) ⌝ }
     ensures { λ r. ⌜ Put (now (out .entry)) at (shownBytes (now (text .entry)) (now (work .entry)) i j to last) r (now (out .exit)) ⌝ }
 {
     match record::standing_of(text, work, i, last) {
@@ -321,7 +321,7 @@ fn members_vary(text: &[u8], work: &[u32], i: usize, j: usize, to: usize) -> boo
 
 // Whether what row i comes to in the folded list has a DEPENDING ON, at any depth.
 fn shown_varies(text: &[u8], work: &[u32], i: usize, j: usize, to: usize, last: usize) -> bool
-    requires { ⌜ Branch (now text) (now work) i j to × (last ≤ i) ⌝ }
+    requires { ⌜ Branch (now text) (now work) i j to × Known (now text) (now work) i last ⌝ }
     ensures { λ r. ⌜ r ≡ variable (shownAt (now (text .entry)) (now (work .entry)) i j to last) ⌝ }
 {
     match record::standing_of(text, work, i, last) {

@@ -13,7 +13,7 @@ use Rattle.layout.specs.Steps.{ChildrenEnd}
 use Rattle.record.specs.Shown.{listIn, shownAt, Tree, Measured}
 use Rattle.record.proofs.FoldedLaws.{widest-append}
 use Rattle.record.proofs.ShownLaws.{walking-ends}
-use Rattle.record.proofs.WidthLaws.{branch-tree, branch-row, branch-base, union-folds, union-stands, width-under, width-single, width-base, width-joined, Along, along-starts, along-numbered, along-branch, along-on}
+use Rattle.record.proofs.WidthLaws.{branch-tree, branch-row, branch-base, union-folds, union-stands, width-under, width-single, width-base, width-joined, Along, along-starts, along-numbered, along-known, along-branch, along-on}
 use borrow.Fn.Kinds.{In}
 use borrow.Fn.PlainCycle.{Measures, is, falls, and}
 use Rattle.record.proofs.folded_width.Reads as folded-width
@@ -119,7 +119,7 @@ folded-width-next-of-requires : (t : ℕ) → folded-width-lts.Need-next-of-requ
 folded-width-next-of-requires t c κs = along-numbered (c .before .loop .inv .along) (c .loop-test .taken)
 
 folded-width-shown-width-requires : (t : ℕ) → folded-width-lts.Need-shown-width-requires (folded-width-callees t) (folded-width-at t) folded-width.Post folded-width-Inv-loop folded-width-μ-loop
-folded-width-shown-width-requires t c κs = (omega arith, (along-branch (c .before .before .loop .inv .along) (c .next-of .ensures), c .before .before .loop .inv .along .back))
+folded-width-shown-width-requires t c κs = (omega arith, (along-branch (c .before .before .loop .inv .along) (c .next-of .ensures), along-known (c .before .before .loop .inv .along) (c .before .loop-test .taken)))
 
 folded-width-loop-again : (t : ℕ) → folded-width-lts.Need-loop-again (folded-width-callees t) (folded-width-at t) folded-width.Post folded-width-Inv-loop folded-width-μ-loop
 folded-width-loop-again t c = next (c .before .before .before .before .loop .inv) (c .before .before .next-of .ensures) (c .before .shown-width .ensures) (c .most .ensures)

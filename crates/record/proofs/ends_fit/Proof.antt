@@ -15,7 +15,7 @@ use Rattle.layout.specs.Steps.{ChildrenEnd}
 use Rattle.record.specs.Shown.{standing, listIn, foldedRest, shownAt, Tree}
 use Rattle.record.proofs.FoldedLaws.{fit-append, shown-fits, shown-over}
 use Rattle.record.proofs.ShownLaws.{walking-ends, walking-here}
-use Rattle.record.proofs.WidthLaws.{Along, along-starts, along-numbered, along-branch, along-on}
+use Rattle.record.proofs.WidthLaws.{Along, along-starts, along-numbered, along-known, along-branch, along-on}
 use Rattle.record.proofs.ends_fit.Statement.{statement}
 use Rattle.record.proofs.ends_fit.Tie as tie
 
@@ -70,7 +70,7 @@ next-of-requires : tie.Need-next-of-requires Inv-loop μ-loop
 next-of-requires c κs = along-numbered (c .before .loop .inv .along) (c .loop-test .taken)
 
 shown-end-requires : tie.Need-shown-end-requires Inv-loop μ-loop
-shown-end-requires c κs = (along-branch (c .before .before .loop .inv .along) (c .next-of .ensures), c .before .before .loop .inv .along .back)
+shown-end-requires c κs = (along-branch (c .before .before .loop .inv .along) (c .next-of .ensures), along-known (c .before .before .loop .inv .along) (c .before .loop-test .taken))
 
 returns : tie.Need-returns Inv-loop μ-loop
 returns c = search over

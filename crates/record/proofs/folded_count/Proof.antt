@@ -14,7 +14,7 @@ use Rattle.layout.specs.Steps.{ChildrenEnd}
 use Rattle.record.specs.Shown.{standing, shown#, listIn, shownAt, Numbered, Tree, Few}
 use Rattle.record.proofs.FoldedLaws.{count-append, shown-count}
 use Rattle.record.proofs.ShownLaws.{walking-ends}
-use Rattle.record.proofs.WidthLaws.{Along, along-starts, along-numbered, along-on}
+use Rattle.record.proofs.WidthLaws.{Along, along-starts, along-numbered, along-known, along-on}
 use Rattle.record.proofs.folded_count.Statement.{statement}
 use Rattle.record.proofs.folded_count.Tie as tie
 
@@ -63,6 +63,9 @@ loop-holds c = search start
 next-of-requires : tie.Need-next-of-requires Inv-loop μ-loop
 next-of-requires c κs = search numbered
 
+shown-count-requires : tie.Need-shown-count-requires Inv-loop μ-loop
+shown-count-requires c κs = along-known (c .before .loop .inv .along) (c .loop-test .taken)
+
 loop-again : tie.Need-loop-again Inv-loop μ-loop
 loop-again c = search next
 
@@ -76,7 +79,7 @@ folded-count-spec =
     Inv-loop
     μ-loop
     loop-holds
-    (λ c κs. search needs)
+    shown-count-requires
     (λ c. search needs)
     (λ c. search needs)
     next-of-requires

@@ -17,7 +17,7 @@ use Rattle.layout.proofs.RowLaws.{children-end}
 use Rattle.record.specs.Shown.{standing, shownNamed, listIn, foldedRest, shownAt, Numbered, Tree}
 use Rattle.record.proofs.FoldedLaws.{member-append, shown-named}
 use Rattle.record.proofs.ShownLaws.{walking-ends, walking-here}
-use Rattle.record.proofs.WidthLaws.{Along, along-starts, along-numbered, along-on}
+use Rattle.record.proofs.WidthLaws.{Along, along-starts, along-numbered, along-known, along-on}
 use Rattle.record.proofs.has_member.Statement.{statement}
 use Rattle.record.proofs.has_member.Tie as tie
 
@@ -82,6 +82,9 @@ abbrev μ-loop : tie.MeasureT-loop
 loop-holds : tie.Need-loop-holds Inv-loop μ-loop
 loop-holds c = search start
 
+shown-named-requires : tie.Need-shown-named-requires Inv-loop μ-loop
+shown-named-requires c κs = along-known (c .before .loop .inv .along) (c .loop-test .taken)
+
 returns : tie.Need-returns Inv-loop μ-loop
 returns c = search hit
 
@@ -101,7 +104,7 @@ has-member-spec =
     Inv-loop
     μ-loop
     loop-holds
-    (λ c κs. search needs)
+    shown-named-requires
     returns
     (λ c. search needs)
     next-of-requires

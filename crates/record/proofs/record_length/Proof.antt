@@ -12,7 +12,7 @@ use Rattle.layout.specs.Steps.{ChildrenEnd}
 use Rattle.record.specs.Shown.{listIn, shownAt, Tree}
 use Rattle.record.proofs.FoldedLaws.{length-append}
 use Rattle.record.proofs.ShownLaws.{walking-ends}
-use Rattle.record.proofs.WidthLaws.{Along, along-starts, along-numbered, along-branch, along-on}
+use Rattle.record.proofs.WidthLaws.{Along, along-starts, along-numbered, along-known, along-branch, along-on}
 use Rattle.record.proofs.record_length.Statement.{statement}
 use Rattle.record.proofs.record_length.Tie as tie
 
@@ -51,7 +51,7 @@ next-of-requires : tie.Need-next-of-requires Inv-loop μ-loop
 next-of-requires c κs = along-numbered (c .before .loop .inv .along) (c .loop-test .taken)
 
 shown-end-requires : tie.Need-shown-end-requires Inv-loop μ-loop
-shown-end-requires c κs = (along-branch (c .before .before .loop .inv .along) (c .next-of .ensures), c .before .before .loop .inv .along .back)
+shown-end-requires c κs = (along-branch (c .before .before .loop .inv .along) (c .next-of .ensures), along-known (c .before .before .loop .inv .along) (c .before .loop-test .taken))
 
 loop-again : tie.Need-loop-again Inv-loop μ-loop
 loop-again c = next (c .before .before .before .before .loop .inv) (c .before .before .next-of .ensures) (c .before .shown-end .ensures) (c .most .ensures)

@@ -9,7 +9,7 @@ use Rattle.definition.specs.Record.{variable}
 use Rattle.layout.specs.Bare.{foldedBelow}
 use Rattle.layout.specs.Places.{basesAt, entryIn}
 use Rattle.record.specs.Shown.{redefinersIn}
-use Rattle.record.proofs.WidthLaws.{branch-tree, branch-base, along-numbered, along-branch, counting-numbered, counting-row, counting-tree}
+use Rattle.record.proofs.WidthLaws.{branch-tree, branch-base, along-numbered, along-known, along-branch, counting-numbered, counting-row, counting-tree}
 use Rattle.writer.specs.Written.{listVaries, itemVaries}
 use Rattle.writer.proofs.VaryLaws.{first-yes, first-not, under-varies, alone-varies, base-varies, union-varies, folded-varies, based-varies, Looking, looking-starts, looking-ends, looking-finds, looking-on, Seeking, seeking-starts, seeking-ends, seeking-stops, seeking-passes, seeking-finds, seeking-on}
 use borrow.Fn.Kinds.{In}
@@ -170,7 +170,7 @@ list-varies-next-of-requires t c κs =
 list-varies-shown-varies-requires : (t : ℕ) → list-varies-lts.Need-shown-varies-requires (list-varies-callees t) (list-varies-at t) list-varies.Post list-varies-Inv-loop list-varies-μ-loop
 list-varies-shown-varies-requires t c κs =
     let s = c .before .before .before .before .before in
-    (omega (arith, s .pre .0, c .before .before .loop .inv .along .low, c .before .loop-test .taken), (along-branch (c .before .before .loop .inv .along) (c .next-of .ensures), c .before .before .loop .inv .along .back))
+    (omega (arith, s .pre .0, c .before .before .loop .inv .along .low, c .before .loop-test .taken), (along-branch (c .before .before .loop .inv .along) (c .next-of .ensures), along-known (c .before .before .loop .inv .along) (c .before .loop-test .taken)))
 
 list-varies-returns : (t : ℕ) → list-varies-lts.Need-returns (list-varies-callees t) (list-varies-at t) list-varies.Post list-varies-Inv-loop list-varies-μ-loop
 list-varies-returns t c =
@@ -287,7 +287,7 @@ redefiners-vary-returns-3 t c =
 shown-varies-standing-of-requires : (t : ℕ) → shown-varies-lts.Need-standing-of-requires (shown-varies-callees t) (shown-varies-at t) shown-varies.Post
 shown-varies-standing-of-requires t c κs =
     let s = c .before .before in
-    (omega (arith, s .pre .1 .0 .low, s .pre .1 .0 .high, s .pre .1 .0 .fits), s .pre .1 .1)
+    s .pre .1 .1
 
 shown-varies-returns : (t : ℕ) → shown-varies-lts.Need-returns (shown-varies-callees t) (shown-varies-at t) shown-varies.Post
 shown-varies-returns t c =

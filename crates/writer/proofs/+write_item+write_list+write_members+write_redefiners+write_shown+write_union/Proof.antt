@@ -7,7 +7,7 @@ use native.Mathlib.Omega.{arith}
 use Rattle.definition.specs.Listing.{members#, entryBytes, entriesBytes}
 use Rattle.listing.proofs.PutLaws.{put-none, put-length}
 use Rattle.layout.specs.Places.{basesAt}
-use Rattle.record.proofs.WidthLaws.{branch-tree, branch-base, along-numbered, along-branch, counting-numbered, counting-row, counting-tree}
+use Rattle.record.proofs.WidthLaws.{branch-tree, branch-base, along-numbered, along-known, along-branch, counting-numbered, counting-row, counting-tree}
 use Rattle.writer.specs.Written.{listBytes, itemBytes, unionIn, unionEntry, unionBytes}
 use Rattle.writer.proofs.WriteLaws.{put-as, fits-as, fits-entry, shown-under, shown-alone, shown-base, shown-union}
 use Rattle.writer.proofs.WalkLaws.{head-rest, head-then, union-few, folded-first, folded-rest, folded-then, based-first, based-rest, based-then, Writing, writing-starts, writing-ends, writing-fits, writing-on, Redefining, redefining-starts, redefining-ends, redefining-stops, redefining-passes, redefining-fits, redefining-on}
@@ -189,7 +189,7 @@ write-list-next-of-requires t c κs =
 write-list-write-shown-requires : (t : ℕ) → write-list-lts.Need-write-shown-requires (write-list-callees t) (write-list-at t) write-list.Post write-list-Inv-loop write-list-μ-loop
 write-list-write-shown-requires t c κs =
     let s = c .before .before .before .before .before .before .before in
-    (omega (arith, s .pre .0, c .before .before .before .loop .inv .along .low, c .before .before .loop-test .taken), (along-branch (c .before .before .before .loop .inv .along) (c .before .next-of .ensures), c .before .before .before .loop .inv .along .back, writing-fits (c .before .before .before .loop .inv) (c .before .next-of .ensures)))
+    (omega (arith, s .pre .0, c .before .before .before .loop .inv .along .low, c .before .before .loop-test .taken), (along-branch (c .before .before .before .loop .inv .along) (c .before .next-of .ensures), along-known (c .before .before .before .loop .inv .along) (c .before .before .loop-test .taken), writing-fits (c .before .before .before .loop .inv) (c .before .next-of .ensures)))
 
 write-list-loop-again : (t : ℕ) → write-list-lts.Need-loop-again (write-list-callees t) (write-list-at t) write-list.Post write-list-Inv-loop write-list-μ-loop
 write-list-loop-again t c =
@@ -314,7 +314,7 @@ write-redefiners-returns-2 t c =
 write-shown-standing-of-requires : (t : ℕ) → write-shown-lts.Need-standing-of-requires (write-shown-callees t) (write-shown-at t) write-shown.Post
 write-shown-standing-of-requires t c κs =
     let s = c .before .before .before in
-    (omega (arith, s .pre .1 .0 .low, s .pre .1 .0 .high, s .pre .1 .0 .fits), s .pre .1 .1)
+    s .pre .1 .1
 
 write-shown-returns : (t : ℕ) → write-shown-lts.Need-returns (write-shown-callees t) (write-shown-at t) write-shown.Post
 write-shown-returns t c =

@@ -226,12 +226,12 @@ module _ (t w : List ℕ) where
   abbrev Open : ℕ → ℕ → Type 0
   Open i last = (target : Span) → eqb (back target last) (suc i) ≡ sameName t target (spanAt (cell w i 3))
 
-  swapped : (a b : Span) → sameName t a b ≡ sameName t b a
+  pub swapped : (a b : Span) → sameName t a b ≡ sameName t b a
   swapped a b = same-sym (uppers (nameOf t a)) (uppers (nameOf t b))
 
   module _ (i k last : ℕ) (e : cell w k 16 ≡ last) (l : last ≤ k) where
     -- the base's own row
-    opens : i ≡ k → given (spanAt (cell w k 6)) ≡ false → Open k (suc k)
+    pub opens : i ≡ k → given (spanAt (cell w k 6)) ≡ false → Open k (suc k)
     opens q g target =
         ap (λ (n : ℕ). eqb n (suc k)) (back-step target k last e l)
         ∙ ap (λ (b : Bool). eqb (if (if b then false else sameName t target (spanAt (cell w k 3))) then suc k else back target last) (suc k)) g
@@ -242,7 +242,7 @@ module _ (t w : List ℕ) where
         go false = ne-eqb (back target last) (suc k) (λ x. omega (arith, base-most target last last))
 
     -- a redefiner leaves it open
-    passes : Open i last → given (spanAt (cell w k 6)) ≡ true → Open i (suc k)
+    pub passes : Open i last → given (spanAt (cell w k 6)) ≡ true → Open i (suc k)
     passes o g target =
         ap (λ (n : ℕ). eqb n (suc i)) (back-step target k last e l)
         ∙ ap (λ (b : Bool). eqb (if (if b then false else sameName t target (spanAt (cell w k 3))) then suc k else back target last) (suc i)) g
@@ -255,7 +255,7 @@ module _ (t w : List ℕ) where
           ∙ ap (λ (b : Bool). if (if b then false else sameName t target (spanAt (cell w k 3))) then suc k else back target last) g
 
       -- and so does a base of another name
-      differs : sameName t (spanAt (cell w i 3)) (spanAt (cell w k 3)) ≡ false → Open i (suc k)
+      pub differs : sameName t (spanAt (cell w i 3)) (spanAt (cell w k 3)) ≡ false → Open i (suc k)
       differs d target = ap (λ (n : ℕ). eqb n (suc i)) (here target) ∙ go (sameName t target (spanAt (cell w k 3))) refl
         where
           go :

@@ -1,7 +1,8 @@
 -- How wide the rows are in the folded list, and where they end: a row alone, a base with its redefiners; and the parts of a table of rows.
 -- Assumes nothing.
 use Prim.Native.Nat.{ℕ, suc, _+_, _-_, _*_, max, _≤_, _<_}
-use mathlib.Core.Path.{_≡_, refl, sym, ap, subst, _∙_}
+use mathlib.Core.Path.{_≡_, refl, sym, ap, ap₂, subst, _∙_}
+use lib.Dec.{eqb}
 use mathlib.Core.Bool.{Bool, true, false}
 use mathlib.Core.List.{List}
 use mathlib.Core.Logic.{⊎-elim}
@@ -9,20 +10,23 @@ use native.Mathlib.Numerals.{add-one}
 use native.Mathlib.Omega.{arith}
 use Rattle.definition.specs.declared.Span.{Span}
 use Rattle.definition.specs.Basic.{if_then_else_, given}
-use Rattle.definition.specs.Fold.{Entries, end, entry, append, total, entryEnd, Place, find, hasMember, redefiners, widest}
+use Rattle.definition.specs.Fold.{Entries, end, entry, append, total, entryEnd, Place, find, sameName, hasMember, redefiners, widest}
 use Rattle.definition.proofs.Lists.{order}
 use Rattle.definition.specs.Listing.{members#}
 use Rattle.definition.specs.Record.{recordLength}
-use Rattle.rows.specs.Table.{cell, spanAt}
+use Rattle.definition.specs.Tree.{higher}
+use Rattle.rows.specs.Table.{cell, spanAt, statementAt, statementsFrom}
+use Rattle.layout.proofs.RowLaws.{children-end}
 use Rattle.layout.specs.Bare.{hasBase, foldedBelow, foldedAll}
 use Rattle.layout.proofs.SizeLaws.{never}
 use Rattle.layout.specs.Places.{basesAt, placeAt, entryIn, rowsForest}
 use Rattle.layout.specs.Steps.{ChildrenEnd}
 use Rattle.record.specs.declared.Standing.{Standing}
 use Rattle.record.specs.declared.Relation.{Relation}
-use Rattle.record.specs.Shown.{standing, shownAs, relation, listIn, redefinersIn, shownAt, unionWidth, Numbered, Known, Marked, Sized, Tree, Branch, Base, SizedRow, Measured}
+use Rattle.record.specs.Shown.{standing, shownAs, relation, listIn, redefinersIn, shownAt, unionWidth, Open, IsBase, Numbered, Known, Marked, Sized, Tree, Branch, Base, Kin, SizedRow, Measured}
+use Rattle.record.proofs.MarkLaws.{opens, passes, differs, swapped}
 use Rattle.record.proofs.FoldedLaws.{width-alone, width-union, end-alone, end-union, union-inner, union-outer, redefiners-below, count-below, widest-below}
-use Rattle.record.proofs.ShownLaws.{marked-step, marked-linked, marked-numbered, marked-known, redefined-by, redefined-none, Walking, walking-starts, walking-on}
+use Rattle.record.proofs.ShownLaws.{RowIs, marked-step, marked-linked, marked-numbered, marked-known, redefined-by, redefined-none, Walking, walking-starts, walking-on}
 
 -- ---------------------------------------------------------------- parts of a table
 
@@ -46,9 +50,10 @@ module _ {t w : List ℕ} {i j to : ℕ} (b : Branch t w i j to) where
   branch-row = record { fits = omega (arith, b .low, b .high, b .fits); small = b .sized .totals i (omega arith) (omega (arith, b .low, b .high)) }
 
   -- it is a base
-  pub branch-base : (bases : List Place) {s : Standing} → s ≡ standing t bases (entryIn w i) → s ≡ Standing.Base → Base t w i j to
-  branch-base bases p e =
-      record { low = b .low; high = b .high; fits = b .fits; count = b .count (stands-base (given (spanAt (cell w i 6))) refl (sym p ∙ e)); branch = b }
+  pub branch-base : {s : Standing} (bases : List Place) → s ≡ standing t bases (entryIn w i) → s ≡ Standing.Base → Base t w i j to
+  branch-base {s} bases p e =
+      let stands = stands-base (given (spanAt (cell w i 6))) refl (sym p ∙ e) in
+      record { low = b .low; high = b .high; fits = b .fits; count = b .count stands; opened = b .opened stands; branch = b }
     where
       is-base : Standing → Bool
       is-base Standing.Under = false
@@ -173,6 +178,7 @@ module _ {t w : List ℕ} {from to i last : ℕ} {done : Entries} (inv : Along t
           high = h .high;
           fits = inv .tree .fits;
           count = row .0 .count;
+          opened = λ g. opens t w i i last (row .0 .before) (inv .back) refl g;
           marked = row .1;
           later = row .2;
           sized = sized-part (inv .tree .sized) i to (inv .low) (omega arith);
@@ -196,11 +202,13 @@ pub record Counting (t w : List ℕ) (i j to left k : ℕ) : Type 0 where
   pub low : j ≤ k
   pub high : k ≤ to
   pub before : ℕ
+  pub back : before ≤ k
+  pub opened : Open t w i before
   pub marked : Marked t w k before (rowsForest w k to)
   pub is : left ≡ members# (redefinersIn t w i k to)
 
 pub counting-starts : {t w : List ℕ} {i j to left : ℕ} → Base t w i j to → left ≡ members# (redefinersIn t w i j to) → Counting t w i j to left j
-counting-starts {i = i} b e = record { base = b; low = omega arith; high = b .high; before = suc i; marked = b .branch .later; is = e }
+counting-starts {i = i} b e = record { base = b; low = omega arith; high = b .high; before = suc i; back = b .low; opened = b .opened; marked = b .branch .later; is = e }
 
 none-left : (es : Entries) → members# es ≡ 0 → es ≡ end
 none-left end h = refl
@@ -225,6 +233,42 @@ module _ {t w : List ℕ} {i j to left k : ℕ} (inv : Counting t w i j to left 
         let l = counting-more in
         record { fits = omega (arith, inv .base .fits); small = inv .base .branch .sized .totals k (omega (arith, inv .low, inv .base .low)) l }
 
+    here : ChildrenEnd w k to (suc k + higher (statementAt w k .level) (statementsFrom w (suc k) (to - suc k)))
+    here = children-end w k to counting-more
+
+    row-is : RowIs t w k (suc k + higher (statementAt w k .level) (statementsFrom w (suc k) (to - suc k))) to (inv .before)
+    row-is = marked-step w k to _ here t (inv .before) (inv .marked) .0
+
+    -- no base of its name is met while some are left
+    other-name : IsBase w k → sameName t (spanAt (cell w i 3)) (spanAt (cell w k 3)) ≡ false
+    other-name g = go (sameName t (spanAt (cell w i 3)) (spanAt (cell w k 3))) refl
+      where
+        go : (b : Bool) → sameName t (spanAt (cell w i 3)) (spanAt (cell w k 3)) ≡ b → sameName t (spanAt (cell w i 3)) (spanAt (cell w k 3)) ≡ false
+        go false q = q
+        go true q =
+            let redefined = if sameName t (spanAt (cell w i 3)) (spanAt (cell w k 6)) then Relation.Redefiner else Relation.Other in
+            let next : relation t (spanAt (cell w i 3)) (entryIn w k) ≡ Relation.Next =
+            ap₂ (λ (a b : Bool). if a then redefined else if b then Relation.Next else Relation.Other) g q in
+            let none : members# (redefinersIn t w i k to) ≡ 0 = ap members# (redefined-by t w i k to here refl refl next) in
+            absurd (omega (arith, inv .is, none))
+
+    pub counting-kin : Kin t w i k
+    counting-kin =
+        let name = spanAt (cell w i 3) in
+        let r = spanAt (cell w k 6) in
+        record {
+          fits = counting-row .fits;
+          named = λ g. swapped t w name r ∙ sym (inv .opened r) ∙ ap (λ (n : ℕ). eqb n (suc i)) (sym (row-is .under g));
+          apart = other-name;
+        }
+
+    still-open : Open t w i (suc k)
+    still-open = go (given (spanAt (cell w k 6))) refl
+      where
+        go : (b : Bool) → given (spanAt (cell w k 6)) ≡ b → Open t w i (suc k)
+        go true g = passes t w i k (inv .before) (row-is .before) (inv .back) (inv .opened) g
+        go false g = differs t w i k (inv .before) (row-is .before) (inv .back) (omega (arith, inv .low, inv .base .low)) (inv .opened) g (other-name g)
+
   module _ {m : ℕ} (h : ChildrenEnd w k to m) where
     pub counting-tree : Tree t w (k + 1) m
     counting-tree =
@@ -234,22 +278,24 @@ module _ {t w : List ℕ} {i j to left k : ℕ} (inv : Counting t w i j to left 
           sized = sized-part (inv .base .branch .sized) (k + 1) m (omega (arith, inv .low, inv .base .low)) (h .high);
         }
 
-    counting-next : {n : ℕ} → n ≡ members# (redefinersIn t w i m to) → Counting t w i j to n m
-    counting-next e =
+    counting-next : 0 < left → {n : ℕ} → n ≡ members# (redefinersIn t w i m to) → Counting t w i j to n m
+    counting-next l e =
         record {
           base = inv .base;
           low = omega (arith, inv .low, h .low);
           high = h .high;
           before = suc k;
+          back = h .low;
+          opened = still-open l;
           marked = marked-step w k to m h t (inv .before) (inv .marked) .2;
           is = e;
         }
 
-    module _ {name : Span} {r : Relation} (q : name ≡ spanAt (cell w i 3)) (p : r ≡ relation t name (entryIn w k)) where
+    module _ (l : 0 < left) {r : Relation} (p : r ≡ relation t (spanAt (cell w i 3)) (entryIn w k)) where
       pub counting-hit : r ≡ Relation.Redefiner → Counting t w i j to (left - 1) m
       counting-hit e =
-          let one : members# (redefinersIn t w i k to) ≡ suc (members# (redefinersIn t w i m to)) = ap members# (redefined-by t w i k to h q p e) in
-          counting-next (omega (arith, inv .is, one))
+          let one : members# (redefinersIn t w i k to) ≡ suc (members# (redefinersIn t w i m to)) = ap members# (redefined-by t w i k to h refl p e) in
+          counting-next l (omega (arith, inv .is, one))
 
       pub counting-miss : r ≡ Relation.Other → Counting t w i j to left m
-      counting-miss e = counting-next (inv .is ∙ ap members# (redefined-by t w i k to h q p e))
+      counting-miss e = counting-next l (inv .is ∙ ap members# (redefined-by t w i k to h refl p e))

@@ -3,7 +3,7 @@
 use Prim.Native.Nat.{ℕ, suc, _+_, _*_, _≤_, _<_}
 use mathlib.Core.Path.{_≡_}
 use mathlib.Core.Bool.{Bool, true, false}
-use lib.Dec.{ltb}
+use lib.Dec.{eqb, ltb}
 use mathlib.Core.List.{List, _∷_}
 use lib.ListN.{length}
 use Rattle.definition.specs.declared.Span.{Span}
@@ -80,6 +80,10 @@ unionWidth text w i j to =
 
 -- ---------------------------------------------------------------- what the table is to be
 
+-- a search for a name, from the sibling `last` back, finds row i where row i has that name
+abbrev pub Open : List ℕ → List ℕ → ℕ → ℕ → Type 0
+Open text w i last = (target : Span) → eqb (baseFrom text target w last last) (suc i) ≡ sameName text target (spanAt (cell w i 3))
+
 -- row i has no REDEFINES
 abbrev pub IsBase : List ℕ → ℕ → Type 0
 IsBase w i = given (spanAt (cell w i 6)) ≡ false
@@ -139,6 +143,7 @@ pub record Branch (text w : List ℕ) (i j to : ℕ) : Type 0 where
   pub high : j ≤ to
   pub fits : 20 * to ≤ length w
   pub count : IsBase w i → cell w i 18 ≡ members# (redefinersIn text w i j to)
+  pub opened : IsBase w i → Open text w i (suc i)
   pub marked : Marked text w (suc i) 0 (rowsForest w (suc i) j)
   pub later : Marked text w j (suc i) (rowsForest w j to)
   pub sized : Sized w i to
@@ -149,7 +154,14 @@ pub record Base (text w : List ℕ) (i j to : ℕ) : Type 0 where
   pub high : j ≤ to
   pub fits : 20 * to ≤ length w
   pub count : cell w i 18 ≡ members# (redefinersIn text w i j to)
+  pub opened : Open text w i (suc i)
   pub branch : Branch text w i j to
+
+-- row k is there, names row i as its base if it redefines it, and is no base of its name
+pub record Kin (text w : List ℕ) (i k : ℕ) : Type 0 where
+  pub fits : 20 * k + 20 ≤ length w
+  pub named : given (spanAt (cell w k 6)) ≡ true → sameName text (spanAt (cell w i 3)) (spanAt (cell w k 6)) ≡ eqb (cell w k 18) (suc i)
+  pub apart : IsBase w k → sameName text (spanAt (cell w i 3)) (spanAt (cell w k 3)) ≡ false
 
 -- row k is there, and is not too large
 pub record SizedRow (w : List ℕ) (k : ℕ) : Type 0 where

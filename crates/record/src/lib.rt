@@ -11,8 +11,8 @@ ghost use Rattle.definition.specs.Calls.{checkOf, recordFields};
 ghost use Rattle.layout.specs.Bare.{foldedAll};
 ghost use Rattle.layout.specs.Places.{entryIn, basesAt, isTarget, rowsForest};
 ghost use Rattle.layout.specs.Steps.{Room, ChildrenEnd};
-ghost use Rattle.rows.specs.Table.{cell};
-ghost use Rattle.record.specs.Shown.{standing, relation, listIn, redefinersIn, shownAt, shown#, shownNamed, unionWidth, Numbered, Known, Tree, Branch, Base, SizedRow, Measured, Few};
+ghost use Rattle.rows.specs.Table.{cell, spanAt};
+ghost use Rattle.record.specs.Shown.{standing, relation, listIn, redefinersIn, shownAt, shown#, shownNamed, unionWidth, Numbered, Known, Tree, Branch, Base, Kin, SizedRow, Measured, Few};
 ghost use Rattle.record.specs.Marks.{baseFrom, baseOf, Countable, RowTallied, Tallied};
 ghost use Rattle.record.specs.Laying.{FieldsFrom, RecordIs, fieldsOf};
 use definition::Check;
@@ -51,21 +51,17 @@ pub fn standing_of(text: &[u8], work: &[u32], i: usize, last: usize) -> Standing
     Standing::Base
 }
 
-// What the entry of row k is to a base of that name.
-pub fn relation_to(text: &[u8], work: &[u32], name: Span, k: usize) -> Relation
-    requires { ⌜ 20 * k + 20 ≤ length (now work) ⌝ }
-    ensures { λ r. ⌜ r ≡ relation (now (text .entry)) name (entryIn (now (work .entry)) k) ⌝ }
+// What row k is to the base in row i, while no base of its name stands between them: it names row i as its base, or not.
+pub fn relation_to(text: &[u8], work: &[u32], i: usize, k: usize) -> Relation
+    requires { ⌜ (20 * i + 20 ≤ length (now work)) × Kin (now text) (now work) i k ⌝ }
+    ensures { λ r. ⌜ r ≡ relation (now (text .entry)) (spanAt (cell (now (work .entry)) i 3)) (entryIn (now (work .entry)) k) ⌝ }
 {
     let redefines = rows::span_at(work[20 * k + 6]);
     if 0 < redefines.len {
-        if layout::same_names(text, name, redefines) {
+        if layout::wide(work[20 * k + 18]) == i + 1 {
             return Relation::Redefiner;
         }
         return Relation::Other;
-    }
-    let own = rows::span_at(work[20 * k + 3]);
-    if layout::same_names(text, name, own) {
-        return Relation::Next;
     }
     Relation::Other
 }
@@ -102,13 +98,12 @@ pub fn redefiner_width(text: &[u8], work: &[u32], i: usize, j: usize, to: usize)
     requires { ⌜ Base (now text) (now work) i j to ⌝ }
     ensures { λ r. ⌜ Measured (widest (redefinersIn (now (text .entry)) (now (work .entry)) i j to)) r ⌝ }
 {
-    let name = rows::span_at(work[20 * i + 3]);
     let mut left = redefiner_count(text, work, i, j, to);
     let mut width = 0;
     let mut k = j;
     while 0 < left {
         let m = next_of(work, k, to);
-        match relation_to(text, work, name, k) {
+        match relation_to(text, work, i, k) {
             Relation::Redefiner => {
                 width = layout::most(width, row_total(work, k));
                 left -= 1;

@@ -6,7 +6,6 @@ use mathlib.Core.Bool.{Bool, true, false, _||_}
 use mathlib.Core.List.{List}
 use native.Mathlib.Numerals.{add-one}
 use native.Mathlib.Omega.{arith}
-use Rattle.definition.specs.declared.Span.{Span}
 use Rattle.definition.specs.declared.Entry.{Entry}
 use Rattle.definition.specs.Basic.{if_then_else_, given}
 use Rattle.definition.specs.Fold.{Entries, end, entry, append, rebased}
@@ -159,23 +158,23 @@ module _ {t w : List ℕ} {i j to left k : ℕ} (inv : Seeking t w i j to left k
   unfolding foldedBelow variable
   seeking-ends h = sym (inv .same ∙ ap (λ (es : Entries). variable (foldedBelow t es)) (counting-none (inv .counting) h))
 
-  module _ {m : ℕ} (h : ChildrenEnd w k to m) {name : Span} {r : Relation} (q : name ≡ spanAt (cell w i 3)) (p : r ≡ relation t name (entryIn w k)) where
+  module _ {m : ℕ} (h : ChildrenEnd w k to m) (l : 0 < left) {r : Relation} (p : r ≡ relation t (spanAt (cell w i 3)) (entryIn w k)) where
     pub seeking-stops : r ≡ Relation.Next → false ≡ variable (foldedBelow t (redefinersIn t w i j to))
     unfolding foldedBelow variable
-    seeking-stops e = sym (inv .same ∙ ap (λ (es : Entries). variable (foldedBelow t es)) (redefined-by t w i k to h q p e))
+    seeking-stops e = sym (inv .same ∙ ap (λ (es : Entries). variable (foldedBelow t es)) (redefined-by t w i k to h refl p e))
 
     pub seeking-passes : r ≡ Relation.Other → Seeking t w i j to left m
     seeking-passes e =
         record {
-          counting = counting-miss (inv .counting) h q p e;
-          same = inv .same ∙ ap (λ (es : Entries). variable (foldedBelow t es)) (redefined-by t w i k to h q p e);
+          counting = counting-miss (inv .counting) h l p e;
+          same = inv .same ∙ ap (λ (es : Entries). variable (foldedBelow t es)) (redefined-by t w i k to h refl p e);
         }
 
     module _ (e : r ≡ Relation.Redefiner) {o : Bool} (z : o ≡ itemVaries t w k m) where
       here : variable (foldedBelow t (redefinersIn t w i k to)) ≡ (if itemVaries t w k m then true else variable (foldedBelow t (redefinersIn t w i m to)))
       unfolding foldedBelow
       here =
-          ap (λ (es : Entries). variable (foldedBelow t es)) (redefined-by t w i k to h q p e)
+          ap (λ (es : Entries). variable (foldedBelow t es)) (redefined-by t w i k to h refl p e)
           ∙ item-then t w k m (rebased (cell w i 13) (entryIn w k)) (foldedBelow t (redefinersIn t w i m to)) refl
 
       pub seeking-finds : o ≡ true → true ≡ variable (foldedBelow t (redefinersIn t w i j to))
@@ -184,6 +183,6 @@ module _ {t w : List ℕ} {i j to left k : ℕ} (inv : Seeking t w i j to left k
       pub seeking-on : o ≡ false → Seeking t w i j to (left - 1) m
       seeking-on y =
           record {
-            counting = counting-hit (inv .counting) h q p e;
+            counting = counting-hit (inv .counting) h l p e;
             same = inv .same ∙ sym (first-not (itemVaries t w k m) (variable (foldedBelow t (redefinersIn t w i m to))) here z y refl);
           }

@@ -8,7 +8,6 @@ use mathlib.Core.List.{List, [], _∷_, _++_, append-assoc, append-nil}
 use native.Mathlib.Numerals.{add-one}
 use native.Mathlib.Omega.{arith}
 use lib.ListN.{length, length-append}
-use Rattle.definition.specs.declared.Span.{Span}
 use Rattle.definition.specs.declared.Entry.{Entry}
 use Rattle.definition.specs.Fold.{Entries, end, append, rebased}
 use Rattle.definition.specs.Listing.{members#, entryBytes, entriesBytes}
@@ -134,18 +133,18 @@ module _ {t w out₀ out : List ℕ} {i j to at left place k : ℕ} (inv : Redef
   pub redefining-ends : left ≤ 0 → Put out₀ at (redefinersBytes t w i j to) place out
   redefining-ends h = rest-none (redefined-end t w i k to (counting-none (inv .counting) h))
 
-  module _ {m : ℕ} (h : ChildrenEnd w k to m) {name : Span} {r : Relation} (q : name ≡ spanAt (cell w i 3)) (p : r ≡ relation t name (entryIn w k)) where
+  module _ {m : ℕ} (h : ChildrenEnd w k to m) (l : 0 < left) {r : Relation} (p : r ≡ relation t (spanAt (cell w i 3)) (entryIn w k)) where
     pub redefining-stops : r ≡ Relation.Next → Put out₀ at (redefinersBytes t w i j to) place out
-    redefining-stops e = rest-none (redefined-stop t w i k to h q p e)
+    redefining-stops e = rest-none (redefined-stop t w i k to h refl p e)
 
     pub redefining-passes : r ≡ Relation.Other → Redefining t w out₀ out i j to at left place m
     redefining-passes e =
         record {
-          counting = counting-miss (inv .counting) h q p e;
+          counting = counting-miss (inv .counting) h l p e;
           small = inv .small;
           done = inv .done;
           put = inv .put;
-          same = inv .same ∙ ap (λ (l : List ℕ). inv .done ++ l) (redefined-miss t w i k to h q p e);
+          same = inv .same ∙ ap (λ (l : List ℕ). inv .done ++ l) (redefined-miss t w i k to h refl p e);
         }
 
     module _ (e : r ≡ Relation.Redefiner) {x : Entry} (z : x ≡ rebased (cell w i 13) (entryIn w k)) where
@@ -157,19 +156,19 @@ module _ {t w out₀ out : List ℕ} {i j to at left place k : ℕ} (inv : Redef
             inv .put .next,
             ap length (inv .same),
             length-append (inv .done) (redefinersBytes t w i k to),
-            ap length (redefined-hit t w i k to h q p e z),
+            ap length (redefined-hit t w i k to h refl p e z),
             length-append (itemBytes t w x k m) (redefinersBytes t w i m to),
           )
 
       pub redefining-on : {a : ℕ} {after : List ℕ} → Put out place (itemBytes t w x k m) a after → Redefining t w out₀ after i j to at (left - 1) a m
       redefining-on d =
           record {
-            counting = counting-hit (inv .counting) h q p e;
+            counting = counting-hit (inv .counting) h l p e;
             small = inv .small;
             done = inv .done ++ itemBytes t w x k m;
             put = inv .put and d;
             same =
                 inv .same
-                ∙ ap (λ (l : List ℕ). inv .done ++ l) (redefined-hit t w i k to h q p e z)
+                ∙ ap (λ (l : List ℕ). inv .done ++ l) (redefined-hit t w i k to h refl p e z)
                 ∙ sym (append-assoc (inv .done) (itemBytes t w x k m) (redefinersBytes t w i m to));
           }

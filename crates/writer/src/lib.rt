@@ -130,13 +130,12 @@ fn write_redefiners(
     requires { ⌜ Base (now text) (now work) i j to × Fits at (redefinersBytes (now text) (now work) i j to) ⌝ }
     ensures { λ r. ⌜ Put (now (out .entry)) at (redefinersBytes (now (text .entry)) (now (work .entry)) i j to) r (now (out .exit)) ⌝ }
 {
-    let name = rows::span_at(work[20 * i + 3]);
     let mut left = record::redefiner_count(text, work, i, j, to);
     let mut place = at;
     let mut k = j;
     while 0 < left {
         let m = record::next_of(work, k, to);
-        match record::relation_to(text, work, name, k) {
+        match record::relation_to(text, work, i, k) {
             Relation::Redefiner => {
                 place = write_item(text, work, k, m, member_at(work, k, i), out, place);
                 left -= 1;
@@ -278,12 +277,11 @@ fn redefiners_vary(text: &[u8], work: &[u32], i: usize, j: usize, to: usize) -> 
     requires { ⌜ Base (now text) (now work) i j to ⌝ }
     ensures { λ r. ⌜ r ≡ variable (foldedBelow (now (text .entry)) (redefinersIn (now (text .entry)) (now (work .entry)) i j to)) ⌝ }
 {
-    let name = rows::span_at(work[20 * i + 3]);
     let mut left = record::redefiner_count(text, work, i, j, to);
     let mut k = j;
     while 0 < left {
         let m = record::next_of(work, k, to);
-        match record::relation_to(text, work, name, k) {
+        match record::relation_to(text, work, i, k) {
             Relation::Redefiner => {
                 if item_varies(text, work, k, m) {
                     return true;

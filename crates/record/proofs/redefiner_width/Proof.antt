@@ -2,10 +2,9 @@
 -- Assumes nothing.
 use borrow.Author.Needs.{needs}
 use Prim.Native.Nat.{ℕ, _-_, _≤_, _<_, max}
-use mathlib.Core.Path.{_≡_, sym, ap, _∙_}
+use mathlib.Core.Path.{_≡_, refl, sym, ap, _∙_}
 use mathlib.Core.List.{List}
 use native.Mathlib.Omega.{arith}
-use Rattle.definition.specs.declared.Span.{Span}
 use Rattle.definition.specs.Fold.{Entries, total, widest}
 use Rattle.definition.specs.Listing.{members#}
 use Rattle.rows.specs.Table.{cell, spanAt}
@@ -14,7 +13,7 @@ use Rattle.layout.specs.Steps.{ChildrenEnd}
 use Rattle.record.specs.declared.Relation.{Relation}
 use Rattle.record.specs.Shown.{relation, redefinersIn, Base, Measured}
 use Rattle.record.proofs.ShownLaws.{redefined-by}
-use Rattle.record.proofs.WidthLaws.{Counting, counting-starts, counting-none, counting-more, counting-numbered, counting-row, counting-hit, counting-miss}
+use Rattle.record.proofs.WidthLaws.{Counting, counting-starts, counting-none, counting-more, counting-numbered, counting-row, counting-kin, counting-hit, counting-miss}
 use Rattle.record.proofs.redefiner_width.Statement.{statement}
 use Rattle.record.proofs.redefiner_width.Tie as tie
 
@@ -37,14 +36,14 @@ module _ {t w : List ℕ} {i j to left n k : ℕ} (inv : Left t w i j to left n 
         small = inv .small;
       }
 
-  module _ {name : Span} {r : Relation} (q : name ≡ spanAt (cell w i 3)) (p : r ≡ relation t name (entryIn w k)) {m : ℕ} (h : ChildrenEnd w k to m) where
+  module _ (l : 0 < left) {r : Relation} (p : r ≡ relation t (spanAt (cell w i 3)) (entryIn w k)) {m : ℕ} (h : ChildrenEnd w k to m) where
     hit : r ≡ Relation.Redefiner → {a b : ℕ} → Measured (total (entryIn w k)) a → b ≡ max n a → Left t w i j to (left - 1) b m
     unfolding widest
     hit e {a} {b} x y =
         let more : widest (redefinersIn t w i k to) ≡ max a (widest (redefinersIn t w i m to)) =
-        ap widest (redefined-by t w i k to h q p e) ∙ ap (λ (z : ℕ). max z (widest (redefinersIn t w i m to))) (sym (x .is)) in
+        ap widest (redefined-by t w i k to h refl p e) ∙ ap (λ (z : ℕ). max z (widest (redefinersIn t w i m to))) (sym (x .is)) in
         record {
-          counting = counting-hit (inv .counting) h q p e;
+          counting = counting-hit (inv .counting) h l p e;
           small = omega (arith, inv .small, x .small);
           high = h .high;
           same = inv .same ∙ omega (arith, more, y);
@@ -53,25 +52,25 @@ module _ {t w : List ℕ} {i j to left n k : ℕ} (inv : Left t w i j to left n 
     miss : r ≡ Relation.Other → Left t w i j to left n m
     miss e =
         record {
-          counting = counting-miss (inv .counting) h q p e;
+          counting = counting-miss (inv .counting) h l p e;
           small = inv .small;
           high = h .high;
-          same = inv .same ∙ ap (λ (es : Entries). max n (widest es)) (redefined-by t w i k to h q p e);
+          same = inv .same ∙ ap (λ (es : Entries). max n (widest es)) (redefined-by t w i k to h refl p e);
         }
 
     stop : r ≡ Relation.Next → Measured (widest (redefinersIn t w i j to)) n
     unfolding widest
     stop e =
         record {
-          is = sym (inv .same ∙ ap (λ (es : Entries). max n (widest es)) (redefined-by t w i k to h q p e) ∙ omega arith);
+          is = sym (inv .same ∙ ap (λ (es : Entries). max n (widest es)) (redefined-by t w i k to h refl p e) ∙ omega arith);
           small = inv .small;
         }
 
 abbrev Inv-loop : tie.InvT-loop
-Inv-loop text work i j to name left₀ width₀ k₀ left width k = Left text work i j to left width k
+Inv-loop text work i j to left₀ width₀ k₀ left width k = Left text work i j to left width k
 
 abbrev μ-loop : tie.MeasureT-loop
-μ-loop text work i j to name left₀ width₀ k₀ left width k = to - k
+μ-loop text work i j to left₀ width₀ k₀ left width k = to - k
 
 loop-holds : tie.Need-loop-holds Inv-loop μ-loop
 loop-holds c = search start
@@ -80,7 +79,9 @@ next-of-requires : tie.Need-next-of-requires Inv-loop μ-loop
 next-of-requires c κs = counting-numbered (c .before .loop .inv .counting) (c .loop-test .taken)
 
 relation-to-requires : tie.Need-relation-to-requires Inv-loop μ-loop
-relation-to-requires c κs = counting-row (c .before .before .loop .inv .counting) (c .before .loop-test .taken) .fits
+relation-to-requires c κs =
+    let n = c .before .before .loop .inv .counting in
+    (omega (arith, n .base .low, n .base .high, n .base .fits), counting-kin n (c .before .loop-test .taken))
 
 row-total-requires : tie.Need-row-total-requires Inv-loop μ-loop
 row-total-requires c κs = counting-row (c .before .before .before .before .before .loop .inv .counting) (c .before .before .before .before .loop-test .taken)
@@ -103,11 +104,6 @@ redefiner-width-spec =
     (tie.spec
     Inv-loop
     μ-loop
-    (λ c. search needs)
-    (λ c. search needs)
-    (λ c. search needs)
-    (λ c. search needs)
-    (λ c κs. search needs)
     (λ c κs. search needs)
     loop-holds
     next-of-requires

@@ -9,7 +9,7 @@ use Rattle.definition.specs.Record.{variable}
 use Rattle.layout.specs.Bare.{foldedBelow}
 use Rattle.layout.specs.Places.{basesAt, entryIn}
 use Rattle.record.specs.Shown.{redefinersIn}
-use Rattle.record.proofs.WidthLaws.{branch-tree, branch-base, along-numbered, along-known, along-branch, counting-numbered, counting-row, counting-tree}
+use Rattle.record.proofs.WidthLaws.{branch-tree, branch-base, along-numbered, along-known, along-branch, counting-numbered, counting-kin, counting-tree}
 use Rattle.writer.specs.Written.{listVaries, itemVaries}
 use Rattle.writer.proofs.VaryLaws.{first-yes, first-not, under-varies, alone-varies, base-varies, union-varies, folded-varies, based-varies, Looking, looking-starts, looking-ends, looking-finds, looking-on, Seeking, seeking-starts, seeking-ends, seeking-stops, seeking-passes, seeking-finds, seeking-on}
 use borrow.Fn.Kinds.{In}
@@ -33,7 +33,6 @@ use Rattle.record.proofs.next_of.Reads as next-of-reads
 use Rattle.record.proofs.redefiner_count.Reads as redefiner-count-reads
 use Rattle.record.proofs.relation_to.Reads as relation-to-reads
 use Rattle.record.proofs.standing_of.Reads as standing-of-reads
-use Rattle.rows.proofs.span_at.Reads as span-at-reads
 use Rattle.writer.proofs.depends.Reads as depends-reads
 use Rattle.writer.proofs.has_own.Reads as has-own-reads
 use Rattle.writer.proofs.+item_varies+list_varies+members_vary+redefiners_vary+shown_varies.{
@@ -124,7 +123,7 @@ abbrev members-vary-callees : ℕ → members-vary-lts.Claims
 members-vary-callees t = (has-own-reads.Asked, has-own-reads.Learnt, list-varies-below t, list-varies.Post, redefiners-vary-below t, redefiners-vary.Post, item-varies-below t, item-varies.Post)
 
 abbrev redefiners-vary-callees : ℕ → redefiners-vary-lts.Claims
-redefiners-vary-callees t = (span-at-reads.Asked, span-at-reads.Learnt, redefiner-count-reads.Asked, redefiner-count-reads.Learnt, next-of-reads.Asked, next-of-reads.Learnt, relation-to-reads.Asked, relation-to-reads.Learnt, item-varies-below t, item-varies.Post)
+redefiners-vary-callees t = (redefiner-count-reads.Asked, redefiner-count-reads.Learnt, next-of-reads.Asked, next-of-reads.Learnt, relation-to-reads.Asked, relation-to-reads.Learnt, item-varies-below t, item-varies.Post)
 
 abbrev shown-varies-callees : ℕ → shown-varies-lts.Claims
 shown-varies-callees t = (standing-of-reads.Asked, standing-of-reads.Learnt, item-varies-below t, item-varies.Post, redefiner-count-reads.Asked, redefiner-count-reads.Learnt, members-vary-below t, members-vary.Post)
@@ -235,19 +234,19 @@ members-vary-returns-4 t c =
     first-not (itemVaries (a .text .now) (a .work .now) (a .i) (a .j)) (variable (foldedBelow (a .text .now) (redefinersIn (a .text .now) (a .work .now) (a .i) (a .j) (a .to)))) (based-varies (a .text .now) (a .work .now) (a .i) (a .j) (a .to) (c .before .before .before .before .has-own .ensures) (c .before .before .before .if1 .left)) (c .before .before .item-varies .ensures) (c .before .if3 .left) (c .redefiners-vary2 .ensures)
 
 abbrev redefiners-vary-Inv-loop : redefiners-vary-lts.InvT-loop
-redefiners-vary-Inv-loop text work i j to name left₀ k₀ left k = Seeking text work i j to left k
+redefiners-vary-Inv-loop text work i j to left₀ k₀ left k = Seeking text work i j to left k
 
 abbrev redefiners-vary-μ-loop : redefiners-vary-lts.MeasureT-loop
-redefiners-vary-μ-loop text work i j to name left₀ k₀ left k = to - k
+redefiners-vary-μ-loop text work i j to left₀ k₀ left k = to - k
 
 redefiners-vary-redefiner-count-requires : (t : ℕ) → redefiners-vary-lts.Need-redefiner-count-requires (redefiners-vary-callees t) (redefiners-vary-at t) redefiners-vary.Post redefiners-vary-Inv-loop redefiners-vary-μ-loop
 redefiners-vary-redefiner-count-requires t c κs =
-    let s = c .before .before .before .before in
+    let s = c .before .before in
     s .pre .1
 
 redefiners-vary-loop-holds : (t : ℕ) → redefiners-vary-lts.Need-loop-holds (redefiners-vary-callees t) (redefiners-vary-at t) redefiners-vary.Post redefiners-vary-Inv-loop redefiners-vary-μ-loop
 redefiners-vary-loop-holds t c =
-    let s = c .before .before .before .before .before in
+    let s = c .before .before .before in
     let a = s .args in
     seeking-starts (a .text .now) (a .work .now) (a .i) (a .j) (a .to) (s .pre .1) (c .redefiner-count .ensures)
 
@@ -257,28 +256,29 @@ redefiners-vary-next-of-requires t c κs =
 
 redefiners-vary-relation-to-requires : (t : ℕ) → redefiners-vary-lts.Need-relation-to-requires (redefiners-vary-callees t) (redefiners-vary-at t) redefiners-vary.Post redefiners-vary-Inv-loop redefiners-vary-μ-loop
 redefiners-vary-relation-to-requires t c κs =
-    counting-row (c .before .before .loop .inv .counting) (c .before .loop-test .taken) .fits
+    let n = c .before .before .loop .inv .counting in
+    (omega (arith, n .base .low, n .base .high, n .base .fits), counting-kin n (c .before .loop-test .taken))
 
 redefiners-vary-item-varies-requires : (t : ℕ) → redefiners-vary-lts.Need-item-varies-requires (redefiners-vary-callees t) (redefiners-vary-at t) redefiners-vary.Post redefiners-vary-Inv-loop redefiners-vary-μ-loop
 redefiners-vary-item-varies-requires t c κs =
-    let s = c .before .before .before .before .before .before .before .before .before .before .before in
+    let s = c .before .before .before .before .before .before .before .before .before in
     (omega (arith, s .pre .0, c .before .before .before .before .before .loop .inv .counting .low, c .before .before .before .next-of .ensures .low, c .before .before .before .next-of .ensures .high), (c .before .before .before .next-of .ensures .low, counting-tree (c .before .before .before .before .before .loop .inv .counting) (c .before .before .before .next-of .ensures)))
 
 redefiners-vary-returns : (t : ℕ) → redefiners-vary-lts.Need-returns (redefiners-vary-callees t) (redefiners-vary-at t) redefiners-vary.Post redefiners-vary-Inv-loop redefiners-vary-μ-loop
 redefiners-vary-returns t c =
-    seeking-finds (c .before .before .before .before .before .before .before .loop .inv) (c .before .before .before .before .before .next-of .ensures) (c .before .before .before .before .before .before .before .before .before .span-at .ensures) (c .before .before .before .before .relation-to .ensures) (c .before .before .enum-told .given .1) (c .before .item-varies .ensures) (c .if1 .taken)
+    seeking-finds (c .before .before .before .before .before .before .before .loop .inv) (c .before .before .before .before .before .next-of .ensures) (c .before .before .before .before .before .before .loop-test .taken) (c .before .before .before .before .relation-to .ensures) (c .before .before .enum-told .given .1) (c .before .item-varies .ensures) (c .if1 .taken)
 
 redefiners-vary-loop-again : (t : ℕ) → redefiners-vary-lts.Need-loop-again (redefiners-vary-callees t) (redefiners-vary-at t) redefiners-vary.Post redefiners-vary-Inv-loop redefiners-vary-μ-loop
 redefiners-vary-loop-again t c =
-    seeking-on (c .before .before .before .before .before .before .before .loop .inv) (c .before .before .before .before .before .next-of .ensures) (c .before .before .before .before .before .before .before .before .before .span-at .ensures) (c .before .before .before .before .relation-to .ensures) (c .before .before .enum-told .given .1) (c .before .item-varies .ensures) (c .if1 .left)
+    seeking-on (c .before .before .before .before .before .before .before .loop .inv) (c .before .before .before .before .before .next-of .ensures) (c .before .before .before .before .before .before .loop-test .taken) (c .before .before .before .before .relation-to .ensures) (c .before .before .enum-told .given .1) (c .before .item-varies .ensures) (c .if1 .left)
 
 redefiners-vary-returns-2 : (t : ℕ) → redefiners-vary-lts.Need-returns-2 (redefiners-vary-callees t) (redefiners-vary-at t) redefiners-vary.Post redefiners-vary-Inv-loop redefiners-vary-μ-loop
 redefiners-vary-returns-2 t c =
-    seeking-stops (c .before .before .before .before .before .loop .inv) (c .before .before .before .next-of .ensures) (c .before .before .before .before .before .before .before .span-at .ensures) (c .before .before .relation-to .ensures) (c .enum-told2 .given .1)
+    seeking-stops (c .before .before .before .before .before .loop .inv) (c .before .before .before .next-of .ensures) (c .before .before .before .before .loop-test .taken) (c .before .before .relation-to .ensures) (c .enum-told2 .given .1)
 
 redefiners-vary-loop-again-2 : (t : ℕ) → redefiners-vary-lts.Need-loop-again-2 (redefiners-vary-callees t) (redefiners-vary-at t) redefiners-vary.Post redefiners-vary-Inv-loop redefiners-vary-μ-loop
 redefiners-vary-loop-again-2 t c =
-    seeking-passes (c .before .before .before .before .before .loop .inv) (c .before .before .before .next-of .ensures) (c .before .before .before .before .before .before .before .span-at .ensures) (c .before .before .relation-to .ensures) (c .enum-told3 .given .1)
+    seeking-passes (c .before .before .before .before .before .loop .inv) (c .before .before .before .next-of .ensures) (c .before .before .before .before .loop-test .taken) (c .before .before .relation-to .ensures) (c .enum-told3 .given .1)
 
 redefiners-vary-returns-3 : (t : ℕ) → redefiners-vary-lts.Need-returns-3 (redefiners-vary-callees t) (redefiners-vary-at t) redefiners-vary.Post redefiners-vary-Inv-loop redefiners-vary-μ-loop
 redefiners-vary-returns-3 t c =
@@ -383,11 +383,6 @@ pub +item-varies+list-varies+members-vary+redefiners-vary+shown-varies-spec :
     redefiners-vary.Post
     redefiners-vary-Inv-loop
     redefiners-vary-μ-loop
-    (λ c. search needs)
-    (λ c. search needs)
-    (λ c. search needs)
-    (λ c. search needs)
-    (λ c κs. search needs)
     (redefiners-vary-redefiner-count-requires t)
     (redefiners-vary-loop-holds t)
     (redefiners-vary-next-of-requires t)

@@ -7,7 +7,7 @@ use native.Mathlib.Omega.{arith}
 use Rattle.definition.specs.Listing.{members#, entryBytes, entriesBytes}
 use Rattle.listing.proofs.PutLaws.{put-none, put-length}
 use Rattle.layout.specs.Places.{basesAt}
-use Rattle.record.proofs.WidthLaws.{branch-tree, branch-base, along-numbered, along-known, along-branch, counting-numbered, counting-row, counting-tree}
+use Rattle.record.proofs.WidthLaws.{branch-tree, branch-base, along-numbered, along-known, along-branch, counting-numbered, counting-row, counting-kin, counting-tree}
 use Rattle.writer.specs.Written.{listBytes, itemBytes, unionIn, unionEntry, unionBytes}
 use Rattle.writer.proofs.WriteLaws.{put-as, fits-as, fits-entry, shown-under, shown-alone, shown-base, shown-union}
 use Rattle.writer.proofs.WalkLaws.{head-rest, head-then, union-few, folded-first, folded-rest, folded-then, based-first, based-rest, based-then, Writing, writing-starts, writing-ends, writing-fits, writing-on, Redefining, redefining-starts, redefining-ends, redefining-stops, redefining-passes, redefining-fits, redefining-on}
@@ -38,7 +38,6 @@ use Rattle.record.proofs.next_of.Reads as next-of-reads
 use Rattle.record.proofs.redefiner_count.Reads as redefiner-count-reads
 use Rattle.record.proofs.relation_to.Reads as relation-to-reads
 use Rattle.record.proofs.standing_of.Reads as standing-of-reads
-use Rattle.rows.proofs.span_at.Reads as span-at-reads
 use Rattle.writer.proofs.has_own.Reads as has-own-reads
 use Rattle.writer.proofs.member_at.Reads as member-at-reads
 use Rattle.writer.proofs.union_count.Reads as union-count-reads
@@ -138,7 +137,7 @@ abbrev write-members-callees : ℕ → write-members-lts.Claims
 write-members-callees t = (has-own-reads.Asked, has-own-reads.Learnt, write-list-below t, write-list.Post, write-redefiners-below t, write-redefiners.Post, member-at-reads.Asked, member-at-reads.Learnt, write-item-below t, write-item.Post)
 
 abbrev write-redefiners-callees : ℕ → write-redefiners-lts.Claims
-write-redefiners-callees t = (span-at-reads.Asked, span-at-reads.Learnt, redefiner-count-reads.Asked, redefiner-count-reads.Learnt, next-of-reads.Asked, next-of-reads.Learnt, relation-to-reads.Asked, relation-to-reads.Learnt, member-at-reads.Asked, member-at-reads.Learnt, write-item-below t, write-item.Post)
+write-redefiners-callees t = (redefiner-count-reads.Asked, redefiner-count-reads.Learnt, next-of-reads.Asked, next-of-reads.Learnt, relation-to-reads.Asked, relation-to-reads.Learnt, member-at-reads.Asked, member-at-reads.Learnt, write-item-below t, write-item.Post)
 
 abbrev write-shown-callees : ℕ → write-shown-lts.Claims
 write-shown-callees t = (standing-of-reads.Asked, standing-of-reads.Learnt, entry-at-reads.Asked, entry-at-reads.Learnt, write-item-below t, write-item.Post, redefiner-count-reads.Asked, redefiner-count-reads.Learnt, write-union-below t, write-union.Post)
@@ -252,20 +251,20 @@ write-members-returns-2 t c =
     based-then (a .text .now) (a .work .now) (a .i) (a .j) (a .to) (c .before .before .before .before .before .before .before .before .before .before .has-own .ensures) (a .at) (s .pre .1 .1) (c .before .before .before .before .before .before .before .before .before .if1 .left) (c .before .before .before .before .before .before .before .before .member-at .ensures) (c .before .before .before .before .before .before .write-item .ensures) (c .before .before .write-redefiners2 .ensures)
 
 abbrev write-redefiners-Inv-loop : write-redefiners-lts.InvT-loop
-write-redefiners-Inv-loop text work i j to out₀ at name left₀ place₀ k₀ out left place k =
+write-redefiners-Inv-loop text work i j to out₀ at left₀ place₀ k₀ out left place k =
     Redefining text work out₀ out i j to at left place k
 
 abbrev write-redefiners-μ-loop : write-redefiners-lts.MeasureT-loop
-write-redefiners-μ-loop text work i j to out₀ at name left₀ place₀ k₀ out left place k = to - k
+write-redefiners-μ-loop text work i j to out₀ at left₀ place₀ k₀ out left place k = to - k
 
 write-redefiners-redefiner-count-requires : (t : ℕ) → write-redefiners-lts.Need-redefiner-count-requires (write-redefiners-callees t) (write-redefiners-at t) write-redefiners.Post write-redefiners-Inv-loop write-redefiners-μ-loop
 write-redefiners-redefiner-count-requires t c κs =
-    let s = c .before .before .before .before .before in
+    let s = c .before .before .before in
     s .pre .1 .0
 
 write-redefiners-loop-holds : (t : ℕ) → write-redefiners-lts.Need-loop-holds (write-redefiners-callees t) (write-redefiners-at t) write-redefiners.Post write-redefiners-Inv-loop write-redefiners-μ-loop
 write-redefiners-loop-holds t c =
-    let s = c .before .before .before .before .before .before in
+    let s = c .before .before .before .before in
     let a = s .args in
     redefining-starts (a .text .now) (a .work .now) (a .out .now) (a .i) (a .j) (a .to) (a .at) (s .pre .1 .0) (c .redefiner-count .ensures) (s .pre .1 .1)
 
@@ -275,21 +274,22 @@ write-redefiners-next-of-requires t c κs =
 
 write-redefiners-relation-to-requires : (t : ℕ) → write-redefiners-lts.Need-relation-to-requires (write-redefiners-callees t) (write-redefiners-at t) write-redefiners.Post write-redefiners-Inv-loop write-redefiners-μ-loop
 write-redefiners-relation-to-requires t c κs =
-    counting-row (c .before .before .loop .inv .counting) (c .before .loop-test .taken) .fits
+    let n = c .before .before .loop .inv .counting in
+    (omega (arith, n .base .low, n .base .high, n .base .fits), counting-kin n (c .before .loop-test .taken))
 
 write-redefiners-member-at-requires : (t : ℕ) → write-redefiners-lts.Need-member-at-requires (write-redefiners-callees t) (write-redefiners-at t) write-redefiners.Post write-redefiners-Inv-loop write-redefiners-μ-loop
 write-redefiners-member-at-requires t c κs =
-    let s = c .before .before .before .before .before .before .before .before .before .before .before .before in
+    let s = c .before .before .before .before .before .before .before .before .before .before in
     (counting-row (c .before .before .before .before .before .loop .inv .counting) (c .before .before .before .before .loop-test .taken) .fits, omega (arith, s .pre .1 .0 .low, s .pre .1 .0 .high, s .pre .1 .0 .fits))
 
 write-redefiners-write-item-requires : (t : ℕ) → write-redefiners-lts.Need-write-item-requires (write-redefiners-callees t) (write-redefiners-at t) write-redefiners.Post write-redefiners-Inv-loop write-redefiners-μ-loop
 write-redefiners-write-item-requires t c κs =
-    let s = c .before .before .before .before .before .before .before .before .before .before .before .before .before .before in
-    (omega (arith, s .pre .0, c .before .before .before .before .before .before .before .loop .inv .counting .low, c .before .before .before .before .before .next-of .ensures .low, c .before .before .before .before .before .next-of .ensures .high), (c .before .before .before .before .before .next-of .ensures .low, counting-tree (c .before .before .before .before .before .before .before .loop .inv .counting) (c .before .before .before .before .before .next-of .ensures), redefining-fits (c .before .before .before .before .before .before .before .loop .inv) (c .before .before .before .before .before .next-of .ensures) (c .before .before .before .before .before .before .before .before .before .span-at .ensures) (c .before .before .before .before .relation-to .ensures) (c .before .before .enum-told .given .1) (c .before .member-at .ensures)))
+    let s = c .before .before .before .before .before .before .before .before .before .before .before .before in
+    (omega (arith, s .pre .0, c .before .before .before .before .before .before .before .loop .inv .counting .low, c .before .before .before .before .before .next-of .ensures .low, c .before .before .before .before .before .next-of .ensures .high), (c .before .before .before .before .before .next-of .ensures .low, counting-tree (c .before .before .before .before .before .before .before .loop .inv .counting) (c .before .before .before .before .before .next-of .ensures), redefining-fits (c .before .before .before .before .before .before .before .loop .inv) (c .before .before .before .before .before .next-of .ensures) (c .before .before .before .before .before .before .loop-test .taken) (c .before .before .before .before .relation-to .ensures) (c .before .before .enum-told .given .1) (c .before .member-at .ensures)))
 
 write-redefiners-loop-again : (t : ℕ) → write-redefiners-lts.Need-loop-again (write-redefiners-callees t) (write-redefiners-at t) write-redefiners.Post write-redefiners-Inv-loop write-redefiners-μ-loop
 write-redefiners-loop-again t c =
-    redefining-on (c .before .before .before .before .before .before .before .before .before .before .loop .inv) (c .before .before .before .before .before .before .before .before .next-of .ensures) (c .before .before .before .before .before .before .before .before .before .before .before .before .span-at .ensures) (c .before .before .before .before .before .before .before .relation-to .ensures) (c .before .before .before .before .before .enum-told .given .1) (c .before .before .before .before .member-at .ensures) (c .before .before .write-item .ensures)
+    redefining-on (c .before .before .before .before .before .before .before .before .before .before .loop .inv) (c .before .before .before .before .before .before .before .before .next-of .ensures) (c .before .before .before .before .before .before .before .before .before .loop-test .taken) (c .before .before .before .before .before .before .before .relation-to .ensures) (c .before .before .before .before .before .enum-told .given .1) (c .before .before .before .before .member-at .ensures) (c .before .before .write-item .ensures)
 
 write-redefiners-same-length : (t : ℕ) → write-redefiners-lts.Need-same-length (write-redefiners-callees t) (write-redefiners-at t) write-redefiners.Post write-redefiners-Inv-loop write-redefiners-μ-loop
 write-redefiners-same-length t c =
@@ -297,11 +297,11 @@ write-redefiners-same-length t c =
 
 write-redefiners-returns : (t : ℕ) → write-redefiners-lts.Need-returns (write-redefiners-callees t) (write-redefiners-at t) write-redefiners.Post write-redefiners-Inv-loop write-redefiners-μ-loop
 write-redefiners-returns t c =
-    redefining-stops (c .before .before .before .before .before .loop .inv) (c .before .before .before .next-of .ensures) (c .before .before .before .before .before .before .before .span-at .ensures) (c .before .before .relation-to .ensures) (c .enum-told2 .given .1)
+    redefining-stops (c .before .before .before .before .before .loop .inv) (c .before .before .before .next-of .ensures) (c .before .before .before .before .loop-test .taken) (c .before .before .relation-to .ensures) (c .enum-told2 .given .1)
 
 write-redefiners-loop-again-2 : (t : ℕ) → write-redefiners-lts.Need-loop-again-2 (write-redefiners-callees t) (write-redefiners-at t) write-redefiners.Post write-redefiners-Inv-loop write-redefiners-μ-loop
 write-redefiners-loop-again-2 t c =
-    redefining-passes (c .before .before .before .before .before .loop .inv) (c .before .before .before .next-of .ensures) (c .before .before .before .before .before .before .before .span-at .ensures) (c .before .before .relation-to .ensures) (c .enum-told3 .given .1)
+    redefining-passes (c .before .before .before .before .before .loop .inv) (c .before .before .before .next-of .ensures) (c .before .before .before .before .loop-test .taken) (c .before .before .relation-to .ensures) (c .enum-told3 .given .1)
 
 write-redefiners-same-length-2 : (t : ℕ) → write-redefiners-lts.Need-same-length-2 (write-redefiners-callees t) (write-redefiners-at t) write-redefiners.Post write-redefiners-Inv-loop write-redefiners-μ-loop
 write-redefiners-same-length-2 t c =
@@ -453,11 +453,6 @@ pub +write-item+write-list+write-members+write-redefiners+write-shown+write-unio
     write-redefiners.Post
     write-redefiners-Inv-loop
     write-redefiners-μ-loop
-    (λ c. search needs)
-    (λ c. search needs)
-    (λ c. search needs)
-    (λ c. search needs)
-    (λ c κs. search needs)
     (write-redefiners-redefiner-count-requires t)
     (write-redefiners-loop-holds t)
     (write-redefiners-next-of-requires t)

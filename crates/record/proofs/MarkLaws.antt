@@ -365,8 +365,7 @@ module _ (t w : List ℕ) where
       let row = h k (omega arith) (omega arith) in
       let own = low-hit k k (omega arith) in
       let below = none-forest kids k (suc k) 0 (ch .1) (omega arith) (omega arith) (λ target e. zero-suc k (sym (back-none target) ∙ e)) in
-      let after = count-forest later k n (suc k) (ch .2) (omega arith) (omega arith) in
-      (
+      let after = count-forest later k n (suc k) (ch .2) (omega arith) (omega arith) in (
         record {
           before = ch .0;
           below = co .0;
@@ -377,13 +376,13 @@ module _ (t w : List ℕ) where
               omega (arith, row, some, redefiner-forest (item s kids later) k k g));
         },
         inner
-        (λ i a b.
-        omega (
-          arith,
-          h i (omega arith) (omega arith),
-          low-hit i k (omega arith),
-          none-forest later i n (suc k) (ch .2) (omega arith) (omega arith) (λ target e. omega (arith, base-most target (suc k) (suc k))),
-        )),
+            (λ i a b.
+            omega (
+              arith,
+              h i (omega arith) (omega arith),
+              low-hit i k (omega arith),
+              none-forest later i n (suc k) (ch .2) (omega arith) (omega arith) (λ target e. omega (arith, base-most target (suc k) (suc k))),
+            )),
         rest (λ i a b. omega (arith, h i (omega arith) (omega arith), low-hit i k (omega arith), high-forest kids i (suc k) (omega arith))),
       )
     where

@@ -1,4 +1,4 @@
--- The row that each redefiner belongs to, and how many redefiners each row has: what column 18 of the table is filled from.
+-- What column 18 of the table holds: a redefiner names its base there (its row and 1, or 0 for none), and a base counts its redefiners.
 -- Assumes nothing.
 use Prim.Native.Nat.{ℕ, zero, suc, _+_, _-_, _≤_, _<_}
 use mathlib.Core.Path.{_≡_}

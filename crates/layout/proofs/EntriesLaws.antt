@@ -71,7 +71,7 @@ rows-same w w′ h k (item s kids later) r =
 -- ---------------------------------------------------------------- entries in rows
 
 -- an entry is read from its row
-entry-same : (w w′ : List ℕ) (k : ℕ) → ((c : ℕ) → c < 20 → cell w k c ≡ cell w′ k c) → entryIn w k ≡ entryIn w′ k
+pub entry-same : (w w′ : List ℕ) (k : ℕ) → ((c : ℕ) → c < 18 → cell w k c ≡ cell w′ k c) → entryIn w k ≡ entryIn w′ k
 entry-same w w′ k h =
     cc (
       h 2 (lit< tt),
@@ -88,9 +88,9 @@ entry-same w w′ k h =
     )
 
 -- and the entries of a list from its rows
-entries-same :
+pub entries-same :
     (w w′ : List ℕ) (k : ℕ) (f : Forest) →
-    ((j c : ℕ) → j < k + size f → c < 20 → cell w j c ≡ cell w′ j c) →
+    ((j c : ℕ) → j < k + size f → c < 18 → cell w j c ≡ cell w′ j c) →
     entriesIn w k f ≡ entriesIn w′ k f
 unfolding entriesIn
 entries-same w w′ k leaf h = refl
@@ -155,7 +155,7 @@ places-held (item s kids later) (entry e members more) w k last o r fits =
     let rest = places-held later more w₂ (suc k + size kids) (suc k) (o .2) (rows-same w w₂ s₂ (suc k + size kids) later (r .2)) (omega (arith, l₂)) in
     let rest′ : Held w₃ (suc k + size kids) (suc k) later more = subst (λ (x : ℕ). Held (putPlaces w₂ x (suc k) more) (suc k + size kids) (suc k) later more) (sym at) rest in
     let kept : entriesIn w₃ (suc k) kids ≡ members =
-    entries-same w₃ w₂ (suc k) kids (λ j c h l. before-places more w₂ n (suc k) j c (omega arith) l) ∙ inner .entries in
+    entries-same w₃ w₂ (suc k) kids (λ j c h l. before-places more w₂ n (suc k) j c (omega arith) (omega arith)) ∙ inner .entries in
     record {
       entries = λ i. entry (own i) (kept i) (rest′ .entries i);
       linked = (first-last e members more w k last room, rest′ .linked);

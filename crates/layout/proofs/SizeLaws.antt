@@ -24,14 +24,14 @@ use Rattle.layout.proofs.BareLaws.{list-base, list-alone, list-under}
 
 -- ---------------------------------------------------------------- equal names
 
-never : {A : Type 0} → false ≡ true → A
+pub never : {A : Type 0} → false ≡ true → A
 never e = absurd (let z : _≡_ {A = ℕ} 0 1 = cc in omega arith)
 
 and-both : (a b : Bool) → (a && b) ≡ true → (a ≡ true) × (b ≡ true)
 and-both true b h = (refl, h)
 and-both false b h = never h
 
-same-equal : (a b : List ℕ) → same a b ≡ true → a ≡ b
+pub same-equal : (a b : List ℕ) → same a b ≡ true → a ≡ b
 unfolding same
 same-equal [] [] h = refl
 same-equal [] (y ∷ ys) h = never h
@@ -47,7 +47,7 @@ eqb-sym x y = go (eqb x y) refl
     go true h = sym (eq-eqb y x (sym (eqb-true x y h)))
     go false h = sym (ne-eqb y x (λ e. eqb-false x y h (sym e)))
 
-same-sym : (a b : List ℕ) → same a b ≡ same b a
+pub same-sym : (a b : List ℕ) → same a b ≡ same b a
 unfolding same
 same-sym [] [] = refl
 same-sym [] (y ∷ ys) = refl
@@ -59,7 +59,7 @@ module _ (text : List ℕ) where
   name w = uppers (nameOf text w)
 
   -- a name that is the same as a stands for it
-  same-first : (a b c : Span) → sameName text a b ≡ true → sameName text a c ≡ sameName text b c
+  pub same-first : (a b c : Span) → sameName text a b ≡ true → sameName text a c ≡ sameName text b c
   same-first a b c h = ap (λ (l : List ℕ). same l (name c)) (same-equal (name a) (name b) h)
 
   -- ---------------------------------------------------------------- bases of other names

@@ -250,7 +250,7 @@ fn passed_over(work: &[u32], k: usize, bases: bool) -> bool
 }
 
 // Whether row k is what a search for this name ends at.
-fn is_target(text: &[u8], work: &[u32], target: Span, k: usize, bases: bool) -> bool
+pub fn is_target(text: &[u8], work: &[u32], target: Span, k: usize, bases: bool) -> bool
     requires { ⌜ 20 * k + 20 ≤ length (now work) ⌝ }
     ensures { λ r. ⌜ r ≡ isTarget (now (text .entry)) target bases (now (work .entry)) k ⌝ }
 {

@@ -36,7 +36,7 @@ use Rattle.layout.proofs.EntriesLaws.{size-stretch, Rows, rows-forest}
 use Rattle.layout.proofs.RowLaws.{stretch-cons, stretch-none}
 use Rattle.record.proofs.LaidLaws.{entries-size}
 use Rattle.record.specs.Laying.{laidOf, Listed}
-use Rattle.record.specs.Shown.{listIn, Counted, Tree, SizedRow, Measured}
+use Rattle.record.specs.Shown.{listIn, Counted, SizedRow, Measured}
 use Rattle.owner.specs.Walked.{overlays, rowAt, tableRows, Walkable}
 
 -- ---------------------------------------------------------------- a REDEFINES or a DEPENDING ON
@@ -169,7 +169,7 @@ walk-starts {w} {from} {to} {position} h =
     let e : 0 ≡ from - from = omega arith in
     record {
       held = h;
-      fits = h .tree .fits;
+      fits = h .fits;
       low = omega arith;
       same = ap (λ (l : List Row). walk 0 0 0 l position) all ∙ ap (λ (n : ℕ). walk 0 n 0 (tableRows w from (to - from)) position) e;
       whole = omega arith;
@@ -178,7 +178,7 @@ walk-starts {w} {from} {to} {position} h =
 module _ {w : List ℕ} {from to position k first q : ℕ} (a : At w from to position k first q) where
   -- row k is there, and not too large
   pub row-sized : k < to → SizedRow w k
-  row-sized h = record { fits = omega (arith, a .fits); small = a .held .tree .sized .totals k (a .low) h }
+  row-sized h = record { fits = omega (arith, a .fits); small = a .held .sized .totals k (a .low) h }
 
   -- and so are the rows below it
   pub row-nested : k < to → k + 1 + cell w k 17 ≤ to
@@ -312,7 +312,7 @@ module _ (text : List ℕ) where
 
 -- rows that hold a record can be walked
 pub listed-walkable : {text : List ℕ} {read : Answer Forest} {w : List ℕ} {from to length : ℕ} → Listed text read w from to length → Walkable w from to
-listed-walkable l = record { tree = l .tree; counted = l .counted }
+listed-walkable l = record { fits = l .tree .fits; sized = l .tree .sized; counted = l .counted }
 
 module _ {text w : List ℕ} {from to length : ℕ} (l : Listed text (give (rowsForest w from to)) w from to length) where
   -- the record's layout

@@ -1,14 +1,15 @@
 -- What the byte owner finds in the table: the clauses that it does not take, and the rows as its walk reads them.
 -- Assumes nothing.
-use Prim.Native.Nat.{ℕ, zero, suc}
+use Prim.Native.Nat.{ℕ, zero, suc, _*_, _≤_}
 use mathlib.Core.Bool.{Bool, _||_}
 use mathlib.Core.List.{List, [], _∷_}
+use lib.ListN.{length}
 use Rattle.definition.specs.declared.Statement.{Statement}
 use Rattle.definition.specs.Basic.{given}
 use Rattle.definition.specs.Search.{Row, rowOf}
 use Rattle.rows.specs.Table.{cell}
 use Rattle.layout.specs.Places.{entryIn, rowsForest}
-use Rattle.record.specs.Shown.{Counted, Tree}
+use Rattle.record.specs.Shown.{Counted, Sized}
 
 -- a statement has a REDEFINES or a DEPENDING ON
 abbrev pub overlays : Statement → Bool
@@ -25,5 +26,6 @@ tableRows w k (suc n) = rowAt w k ∷ tableRows w (suc k) n
 
 -- the rows of a list and of those below it are there, none is too large, and each counts the rows below it
 pub record Walkable (w : List ℕ) (from to : ℕ) : Type 0 where
-  pub tree : Tree w from to
+  pub fits : 20 * to ≤ length w
+  pub sized : Sized w from to
   pub counted : Counted w from 0 (rowsForest w from to)

@@ -36,7 +36,9 @@ use Rattle.layout.proofs.ListLaws.{Of, of-size, bare-split, item-is, bare-is}
 use Rattle.layout.proofs.LayLaws.{LaidRows, laid-rows, stopped-was}
 use Rattle.layout.proofs.RowLaws.{children-end, forest-split, forest-empty}
 use Rattle.layout.proofs.PlaceLaws.{length-place, length-places, before-places, statements-places, first-last, first-below}
-use Rattle.record.specs.Shown.{listIn, Column, Chained, Counted, Tree}
+use Rattle.record.specs.Shown.{listIn, Column, Chained, Counted}
+use Rattle.record.specs.Marks.{Tallied}
+use Rattle.record.proofs.KeptLaws.{column-same, forest-kept, list-kept, Ready, marked-counted, marked-tree}
 use Rattle.record.specs.declared.RecordLaid.{RecordLaid}
 use Rattle.record.specs.Laying.{FieldsFrom, fieldsOf, laidOf, Listed, RecordIs, recordOf}
 
@@ -87,16 +89,6 @@ rows-sized w (item s kids later) k h m l u =
     (order k m)
 
 -- ---------------------------------------------------------------- the columns that say how rows stand together
-
--- a column that is the same in two tables
-column-same :
-    (c : ℕ) (value : ℕ → Forest → ℕ) (w w′ : List ℕ) (f : Forest) (k last : ℕ) →
-    ((j : ℕ) → j < k + size f → cell w j c ≡ cell w′ j c) →
-    Column c value w k last f →
-    Column c value w′ k last f
-column-same c value w w′ leaf k last h x = tt
-column-same c value w w′ (item s kids later) k last h x =
-    (sym (h k (omega arith)) ∙ x .0, column-same c value w w′ kids (suc k) 0 (λ j l. h j (omega arith)) (x .1), column-same c value w w′ later (suc k + size kids) (suc k) (λ j l. h j (omega arith)) (x .2))
 
 -- a column that the place of each entry fills
 module _
@@ -161,11 +153,8 @@ module _ (text w : List ℕ) (a b depth : ℕ) {width : ℕ} {w₁ : List ℕ} (
   laid-column c value x =
       subst (λ (y : List ℕ). Column c value y a 0 (rowsForest y a b)) (n .put) (subst (Column c value (putPlaces w a 0 (n .laid .entries)) a 0) same-places x)
 
-  pub laid-counted : Counted w₁ a 0 (rowsForest w₁ a b)
-  laid-counted = laid-column 17 (λ before kids. size kids) (places-counted (rowsForest w a b) (n .laid .entries) w a 0 of-rows (omega (arith, size-stretch w a b)))
-
-  pub laid-tree : Tree w₁ a b
-  laid-tree =
+  pub laid-ready : Ready w₁ a b
+  laid-ready =
       let f = rowsForest w a b in
       let es = n .laid .entries in
       let sized : SizedAll (entriesIn w₁ a (rowsForest w₁ a b)) = subst SizedAll (sym (n .held .entries)) (bare-sized text f depth [] 0 0 (n .is)) in
@@ -173,6 +162,7 @@ module _ (text w : List ℕ) (a b depth : ℕ) {width : ℕ} {w₁ : List ℕ} (
       record {
         fits = subst (λ (x : List ℕ). 20 * b ≤ length x) (n .put) (omega (arith, length-places es w a 0));
         chained = laid-column 16 (λ before kids. before) (places-chained f es w a 0 of-rows (omega (arith, size-stretch w a b)));
+        counted = laid-column 17 (λ before kids. size kids) (places-counted f es w a 0 of-rows (omega (arith, size-stretch w a b)));
         sized = record { totals = λ k l u. rows-sized w₁ (rowsForest w₁ a b) a sized k l (omega (arith, many₁)) };
       }
 
@@ -264,10 +254,13 @@ module _ (text w : List ℕ) (a b : ℕ) where
       unfolding _>>=_
       fold-refused {r} e = checked (Check.Refused r) e
 
-      module _ (e : c ≡ Check.Passed) {d : Check} (q : checkOf d ≡ endsFit (foldedAll text (listIn w₁ a b))) where
-        passed : (x : Check) → d ≡ x → laidOf text (give (rowsForest w a b)) ≡ (checkOf x >>= λ _. give (listIn w₁ a b))
+      module _ (e : c ≡ Check.Passed) {w₂ : List ℕ} (m : Tallied text w₁ a b w₂) {d : Check} (q : checkOf d ≡ endsFit (foldedAll text (listIn w₂ a b))) where
+        passed : (x : Check) → d ≡ x → laidOf text (give (rowsForest w a b)) ≡ (checkOf x >>= λ _. give (listIn w₂ a b))
         unfolding _>>=_
-        passed x f = checked Check.Passed e ∙ ap (λ (y : Answer (Unit {0})). y >>= λ _. give (listIn w₁ a b)) (sym q ∙ ap checkOf f)
+        passed x f =
+            checked Check.Passed e
+            ∙ ap (λ (es : Entries). endsFit (foldedAll text es) >>= λ _. give es) (list-kept (m .kept) a b)
+            ∙ ap (λ (y : Answer (Unit {0})). y >>= λ _. give (listIn w₂ a b)) (sym q ∙ ap checkOf f)
 
         -- 29
         pub end-refused : {r : Refusal} → d ≡ Check.Refused r → laidOf text (give (rowsForest w a b)) ≡ refuse r
@@ -280,18 +273,19 @@ module _ (text w : List ℕ) (a b : ℕ) where
             a ≤ b →
             20 * b ≤ length w →
             b ≤ 800 →
-            {m : ℕ} →
-            m ≡ recordLength (foldedAll text (listIn w₁ a b)) →
-            Listed text (give (rowsForest w a b)) w₁ a b m
+            {l : ℕ} →
+            l ≡ recordLength (foldedAll text (listIn w₂ a b)) →
+            Listed text (give (rowsForest w a b)) w₂ a b l
         unfolding _>>=_
-        laid-listed f h fits few l =
+        laid-listed f h fits few long =
+            let ready = laid-ready text w a b 0 h fits n in
             record {
-              fields = ap give (same-fields text w a b 0 h fits n);
+              fields = ap give (same-fields text w a b 0 h fits n ∙ forest-kept (m .kept) a b);
               is = passed Check.Passed f;
-              tree = laid-tree text w a b 0 h fits n;
-              counted = laid-counted text w a b 0 h fits n;
+              tree = marked-tree text a b h ready m;
+              counted = marked-counted text a b h ready m;
               few = few;
-              long = l;
+              long = long;
             }
 
 -- ---------------------------------------------------------------- the record of a text

@@ -1,6 +1,6 @@
 -- A folded list, row by row along the rows that hold it: what a row comes to, and then the rest; the redefiners of a row.
 -- Assumes nothing.
-use Prim.Native.Nat.{ℕ, suc, _+_, _≤_}
+use Prim.Native.Nat.{ℕ, suc, _+_, _*_, _-_, _≤_, _<_}
 use mathlib.Core.Path.{_≡_, refl, sym, ap, subst, _∙_}
 use mathlib.Core.Bool.{Bool, true, false}
 use mathlib.Core.List.{List, _∷_}
@@ -8,18 +8,23 @@ use native.Mathlib.Numerals.{add-one}
 use native.Mathlib.Omega.{arith}
 use Rattle.definition.specs.declared.Span.{Span}
 use Rattle.definition.specs.Basic.{if_then_else_, given}
-use Rattle.definition.specs.Tree.{Forest, leaf, item}
+use lib.Dec.{ltb}
+use lib.ListN.{length}
+use Rattle.definition.specs.Tree.{Forest, leaf, item, higher}
+use Rattle.definition.specs.Listing.{members#}
 use Rattle.definition.specs.Fold.{Entries, end, entry, append, Place, placeOf, redefiners}
 use Rattle.definition.specs.Owner.{size}
-use Rattle.rows.specs.Table.{cell, spanAt}
+use Rattle.rows.specs.Table.{cell, spanAt, statementAt, statementsFrom}
 use Rattle.layout.specs.Bare.{foldedList, foldedBelow, foldedAll}
 use Rattle.layout.specs.Places.{seenFrom, basesAt, placeAt, entryIn, entriesIn, Linked, rowsForest}
 use Rattle.layout.specs.Steps.{ChildrenEnd}
 use Rattle.layout.proofs.FoldLaws.{next-row, bases-after, entries-step, linked-step}
 use Rattle.layout.proofs.PlaceLaws.{seen-low, seen-out, seen-in}
-use Rattle.layout.proofs.RowLaws.{forest-split, forest-empty}
+use Rattle.layout.proofs.RowLaws.{children-end, forest-split, forest-empty}
 use Rattle.record.specs.declared.Relation.{Relation}
-use Rattle.record.specs.Shown.{relation, listIn, redefinersIn, foldedRest, shownAt, Chained}
+use Rattle.record.specs.Shown.{relation, listIn, redefinersIn, foldedRest, shownAt, IsBase, Numbered, Known, Marked}
+use Rattle.record.specs.Marks.{baseFrom}
+use Rattle.record.proofs.MarkLaws.{base-found}
 use Rattle.record.proofs.FoldedLaws.{append-end, append-append, byRelation, list-step, redefiners-step}
 
 -- ---------------------------------------------------------------- one row
@@ -29,23 +34,54 @@ pub list-none : (w : List ℕ) (a b : ℕ) → b ≤ a → listIn w a b ≡ end
 unfolding entriesIn
 list-none w a b h = ap (entriesIn w a) (forest-empty w a b h)
 
+-- what row i holds, whose children end at j, and its siblings at `to`
+pub record RowIs (t w : List ℕ) (i j to last : ℕ) : Type 0 where
+  pub before : cell w i 16 ≡ last
+  pub next : suc i + cell w i 17 ≡ j
+  pub count : IsBase w i → cell w i 18 ≡ members# (redefinersIn t w i j to)
+  pub under : given (spanAt (cell w i 6)) ≡ true → cell w i 18 ≡ baseFrom t (spanAt (cell w i 6)) w last last
+
 module _ (w : List ℕ) (i to j : ℕ) (h : ChildrenEnd w i to j) where
   -- row i, its children up to j, and the rest
   pub list-split : listIn w i to ≡ entry (entryIn w i) (listIn w (suc i) j) (listIn w j to)
   list-split = entries-step w i to j h
 
-  -- each row of the list, and of those below, names the sibling before it
-  pub chained-step :
-      (last : ℕ) →
-      Chained w i last (rowsForest w i to) →
-      (cell w i 16 ≡ last) × Chained w (suc i) 0 (rowsForest w (suc i) j) × Chained w j (suc i) (rowsForest w j to)
-  chained-step last l =
-      let all = subst (Chained w i last) (forest-split w i to j h) l in
-      (all .0, all .1, subst (λ (n : ℕ). Chained w n (suc i) (rowsForest w j to)) (next-row w i to j h) (all .2))
+  -- what row i holds, its children and the rest
+  pub marked-step :
+      (t : List ℕ) (last : ℕ) →
+      Marked t w i last (rowsForest w i to) →
+      RowIs t w i j to last × Marked t w (suc i) 0 (rowsForest w (suc i) j) × Marked t w j (suc i) (rowsForest w j to)
+  marked-step t last l =
+      let all = subst (Marked t w i last) (forest-split w i to j h) l in
+      let next = next-row w i to j h in
+      let row = all .0 in
+      let below : suc i + cell w i 17 ≡ j = ap (λ (n : ℕ). suc i + n) (row .below) ∙ next in
+      let count : IsBase w i → cell w i 18 ≡ members# (redefinersIn t w i j to) =
+      λ b. row .count b ∙ ap (λ (n : ℕ). members# (redefiners t (placeAt w i) (entriesIn w n (rowsForest w j to)))) next in
+      (record { before = row .before; next = below; count = count; under = row .under }, all .1, subst (λ (n : ℕ). Marked t w n (suc i) (rowsForest w j to)) next (all .2))
 
-pub chained-linked : (w : List ℕ) (f : Forest) (k last : ℕ) → Chained w k last f → Linked w k last f
-chained-linked w leaf k last h = tt
-chained-linked w (item s kids later) k last h = (h .0, chained-linked w later (suc k + size kids) (suc k) (h .2))
+pub marked-linked : (t w : List ℕ) (f : Forest) (k last : ℕ) → Marked t w k last f → Linked w k last f
+marked-linked t w leaf k last h = tt
+marked-linked t w (item s kids later) k last h = (h .0 .before, marked-linked t w later (suc k + size kids) (suc k) (h .2))
+
+-- a row of a list counts the rows below it
+pub marked-numbered : (t w : List ℕ) (i to last : ℕ) → 20 * to ≤ length w → i < to → Marked t w i last (rowsForest w i to) → Numbered w i to
+marked-numbered t w i to last fits h m =
+    let j = suc i + higher (statementAt w i .level) (statementsFrom w (suc i) (to - suc i)) in
+    let c : ChildrenEnd w i to j = children-end w i to h in
+    record { low = h; fits = fits; is = subst (ChildrenEnd w i to) (sym (marked-step w i to j c t last m .0 .next)) c }
+
+-- and a redefiner knows whether it has a base
+pub marked-known : (t w : List ℕ) (i to last : ℕ) → 20 * to ≤ length w → last ≤ i → i < to → Marked t w i last (rowsForest w i to) → Known t w i last
+marked-known t w i to last fits back h m =
+    let j = suc i + higher (statementAt w i .level) (statementsFrom w (suc i) (to - suc i)) in
+    let c : ChildrenEnd w i to j = children-end w i to h in
+    let row = marked-step w i to j c t last m .0 in
+    record {
+      fits = omega arith;
+      back = back;
+      is = λ g. base-found t w (spanAt (cell w i 6)) last last ∙ ap (ltb 0) (sym (row .under g));
+    }
 
 -- ---------------------------------------------------------------- redefiners
 

@@ -33,7 +33,7 @@ laidOf text read = read >>= λ f. bareRecord text f
 pub record Listed (text : List ℕ) (read : Answer Forest) (w : List ℕ) (from to length : ℕ) : Type 0 where
   pub fields : read ≡ give (rowsForest w from to)
   pub is : laidOf text read ≡ give (listIn w from to)
-  pub tree : Tree w from to
+  pub tree : Tree text w from to
   pub counted : Counted w from 0 (rowsForest w from to)
   pub few : to ≤ 800
   pub long : length ≡ recordLength (foldedAll text (listIn w from to))

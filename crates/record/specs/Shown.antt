@@ -2,7 +2,8 @@
 -- Assumes nothing.
 use Prim.Native.Nat.{ℕ, suc, _+_, _*_, _≤_, _<_}
 use mathlib.Core.Path.{_≡_}
-use mathlib.Core.Bool.{Bool, false}
+use mathlib.Core.Bool.{Bool, true, false}
+use lib.Dec.{eqb, ltb}
 use mathlib.Core.List.{List, _∷_}
 use lib.ListN.{length}
 use Rattle.definition.specs.declared.Span.{Span}
@@ -11,11 +12,14 @@ use Rattle.definition.specs.Basic.{if_then_else_, given}
 use Rattle.definition.specs.Tree.{Forest, leaf, item}
 use Rattle.definition.specs.Fold.{Entries, end, entry, total, sameName, sameSpelling, Place, placeOf, find, redefiners, widest, unionMembers, withRedefiners}
 use Rattle.definition.specs.Owner.{size}
-use Rattle.rows.specs.Table.{cell}
+use Rattle.definition.specs.Listing.{members#}
+use Rattle.rows.specs.Table.{cell, spanAt}
 use Rattle.layout.specs.Bare.{hasBase, foldedList, foldedBelow, foldedAll}
-use Rattle.layout.specs.Places.{basesAt, placeAt, entryIn, entriesIn, Linked, rowsForest}
+use Rattle.layout.specs.Places.{basesAt, placeAt, entryIn, entriesIn, rowsForest}
+use Rattle.layout.specs.Steps.{ChildrenEnd}
 use Rattle.record.specs.declared.Standing.{Standing}
 use Rattle.record.specs.declared.Relation.{Relation}
+use Rattle.record.specs.Marks.{baseFrom}
 
 -- ---------------------------------------------------------------- one entry
 
@@ -76,10 +80,25 @@ unionWidth text w i j to =
 
 -- ---------------------------------------------------------------- what the table is to be
 
--- the rows of a list are there, and each names the sibling before it
-pub record Siblings (w : List ℕ) (from to : ℕ) : Type 0 where
+-- a search for a name, from the sibling `last` back, finds row i where row i has that name
+abbrev pub Open : List ℕ → List ℕ → ℕ → ℕ → Type 0
+Open text w i last = (target : Span) → eqb (baseFrom text target w last last) (suc i) ≡ sameName text target (spanAt (cell w i 3))
+
+-- row i has no REDEFINES
+abbrev pub IsBase : List ℕ → ℕ → Type 0
+IsBase w i = given (spanAt (cell w i 6)) ≡ false
+
+-- row i is there, before `to`, and counts the rows below it
+pub record Numbered (w : List ℕ) (i to : ℕ) : Type 0 where
+  pub low : i < to
   pub fits : 20 * to ≤ length w
-  pub linked : Linked w from 0 (rowsForest w from to)
+  pub is : ChildrenEnd w i to (suc i + cell w i 17)
+
+-- row i is there, after the sibling `last`, and a redefiner knows whether it has a base
+pub record Known (text w : List ℕ) (i last : ℕ) : Type 0 where
+  pub fits : 20 * i + 20 ≤ length w
+  pub back : last ≤ i
+  pub is : given (spanAt (cell w i 6)) ≡ true → hasBase (find text (spanAt (cell w i 6)) (basesAt w last)) ≡ ltb 0 (cell w i 18)
 
 -- column c of each row of a list, and of the lists below it, holds what `value` says of the sibling before the row and of the forest below it
 abbrev pub Column : ℕ → (ℕ → Forest → ℕ) → List ℕ → ℕ → ℕ → Forest → Type 0
@@ -95,23 +114,54 @@ Chained w k last f = Column 16 (λ before kids. before) w k last f
 abbrev pub Counted : List ℕ → ℕ → ℕ → Forest → Type 0
 Counted w k last f = Column 17 (λ before kids. size kids) w k last f
 
+-- a row names the sibling before it and counts the rows below it; a base counts its redefiners among the later siblings, and a redefiner names its base
+pub record RowMarked (text w : List ℕ) (k last : ℕ) (kids later : Forest) : Type 0 where
+  pub before : cell w k 16 ≡ last
+  pub below : cell w k 17 ≡ size kids
+  pub count : IsBase w k → cell w k 18 ≡ members# (redefiners text (placeAt w k) (entriesIn w (suc k + size kids) later))
+  pub under : given (spanAt (cell w k 6)) ≡ true → cell w k 18 ≡ baseFrom text (spanAt (cell w k 6)) w last last
+
+-- each row of a list, and of the lists below it, does
+abbrev pub Marked : List ℕ → List ℕ → ℕ → ℕ → Forest → Type 0
+Marked text w k last leaf = Unit {0}
+Marked text w k last (item s kids later) =
+    RowMarked text w k last kids later × Marked text w (suc k) 0 kids × Marked text w (suc k + size kids) (suc k) later
+
 -- no row from `from` up to `to` has more than 2,147,483,647 bytes in all its occurrences
 pub record Sized (w : List ℕ) (from to : ℕ) : Type 0 where
   pub totals : (k : ℕ) → from ≤ k → k < to → total (entryIn w k) ≤ 2147483647
 
--- the rows of a list and of those below it are there, linked, and none too large
-pub record Tree (w : List ℕ) (from to : ℕ) : Type 0 where
+-- the rows of a list and of those below it are there, marked, and none too large
+pub record Tree (text w : List ℕ) (from to : ℕ) : Type 0 where
   pub fits : 20 * to ≤ length w
-  pub chained : Chained w from 0 (rowsForest w from to)
+  pub marked : Marked text w from 0 (rowsForest w from to)
   pub sized : Sized w from to
 
 -- row i with its children up to j and its later siblings up to `to`
-pub record Branch (w : List ℕ) (i j to : ℕ) : Type 0 where
+pub record Branch (text w : List ℕ) (i j to : ℕ) : Type 0 where
   pub low : i < j
   pub high : j ≤ to
   pub fits : 20 * to ≤ length w
-  pub chained : Chained w (suc i) 0 (rowsForest w (suc i) j)
+  pub count : IsBase w i → cell w i 18 ≡ members# (redefinersIn text w i j to)
+  pub opened : IsBase w i → Open text w i (suc i)
+  pub marked : Marked text w (suc i) 0 (rowsForest w (suc i) j)
+  pub later : Marked text w j (suc i) (rowsForest w j to)
   pub sized : Sized w i to
+
+-- such a row that is a base
+pub record Base (text w : List ℕ) (i j to : ℕ) : Type 0 where
+  pub low : i < j
+  pub high : j ≤ to
+  pub fits : 20 * to ≤ length w
+  pub count : cell w i 18 ≡ members# (redefinersIn text w i j to)
+  pub opened : Open text w i (suc i)
+  pub branch : Branch text w i j to
+
+-- row k is there, names row i as its base if it redefines it, and is no base of its name
+pub record Kin (text w : List ℕ) (i k : ℕ) : Type 0 where
+  pub fits : 20 * k + 20 ≤ length w
+  pub named : given (spanAt (cell w k 6)) ≡ true → sameName text (spanAt (cell w i 3)) (spanAt (cell w k 6)) ≡ eqb (cell w k 18) (suc i)
+  pub apart : IsBase w k → sameName text (spanAt (cell w i 3)) (spanAt (cell w k 3)) ≡ false
 
 -- row k is there, and is not too large
 pub record SizedRow (w : List ℕ) (k : ℕ) : Type 0 where

@@ -2,23 +2,24 @@
 ghost use mathlib.Core.Path.{_≡_};
 ghost use mathlib.Core.Bool.{true};
 ghost use Prim.Native.Nat.{_+_, _*_, _≤_, _<_, max};
-ghost use lib.ListN.{length};
+ghost use lib.ListN.{length, set};
 ghost use Rattle.definition.specs.Basic.{give};
-ghost use Rattle.definition.specs.Fold.{times, total, entryEnd, sameSpelling, find, hasMember, widest};
+ghost use Rattle.definition.specs.Fold.{times, total, entryEnd, sameSpelling, hasMember, widest};
 ghost use Rattle.definition.specs.Listing.{members#};
 ghost use Rattle.definition.specs.Record.{recordLength, endsFit};
 ghost use Rattle.definition.specs.Calls.{checkOf, recordFields};
-ghost use Rattle.layout.specs.Bare.{hasBase, foldedAll};
+ghost use Rattle.layout.specs.Bare.{foldedAll};
 ghost use Rattle.layout.specs.Places.{entryIn, basesAt, isTarget, rowsForest};
-ghost use Rattle.layout.specs.Steps.{Room};
-ghost use Rattle.record.specs.Shown.{standing, relation, listIn, redefinersIn, shownAt, shown#, shownNamed, unionWidth, Siblings, Tree, Branch, Sized, SizedRow, Measured, Few};
+ghost use Rattle.layout.specs.Steps.{Room, ChildrenEnd};
+ghost use Rattle.rows.specs.Table.{cell, spanAt};
+ghost use Rattle.record.specs.Shown.{standing, relation, listIn, redefinersIn, shownAt, shown#, shownNamed, unionWidth, Numbered, Known, Tree, Branch, Base, Kin, SizedRow, Measured, Few};
+ghost use Rattle.record.specs.Marks.{baseFrom, baseOf, Countable, RowTallied, Tallied};
 ghost use Rattle.record.specs.Laying.{FieldsFrom, RecordIs, fieldsOf};
 use definition::Check;
 use definition::Occurs;
 use definition::Refusal;
 use definition::Span;
 use layout::LaidList;
-use layout::Target;
 use rows::RowsRead;
 
 // How an entry stands in the folded list.
@@ -35,25 +36,14 @@ pub enum Relation {
     Other,
 }
 
-// Whether some base from `last` back has that name.
-fn has_base(text: &[u8], work: &[u32], target: Span, last: usize) -> bool
-    requires { ⌜ 20 * last ≤ length (now work) ⌝ }
-    ensures { λ r. ⌜ r ≡ hasBase (find (now (text .entry)) target (basesAt (now (work .entry)) last)) ⌝ }
-{
-    match layout::find_target(text, work, target, last, true) {
-        Target::At(offset) => true,
-        Target::Nothing => false,
-    }
-}
-
 // How the entry of row i stands in the folded list, where the siblings before it go back from `last`.
 pub fn standing_of(text: &[u8], work: &[u32], i: usize, last: usize) -> Standing
-    requires { ⌜ (20 * i + 20 ≤ length (now work)) × (last ≤ i) ⌝ }
+    requires { ⌜ Known (now text) (now work) i last ⌝ }
     ensures { λ r. ⌜ r ≡ standing (now (text .entry)) (basesAt (now (work .entry)) last) (entryIn (now (work .entry)) i) ⌝ }
 {
     let redefines = rows::span_at(work[20 * i + 6]);
     if 0 < redefines.len {
-        if has_base(text, work, redefines, last) {
+        if 0 < work[20 * i + 18] {
             return Standing::Under;
         }
         return Standing::Alone;
@@ -61,21 +51,17 @@ pub fn standing_of(text: &[u8], work: &[u32], i: usize, last: usize) -> Standing
     Standing::Base
 }
 
-// What the entry of row k is to a base of that name.
-pub fn relation_to(text: &[u8], work: &[u32], name: Span, k: usize) -> Relation
-    requires { ⌜ 20 * k + 20 ≤ length (now work) ⌝ }
-    ensures { λ r. ⌜ r ≡ relation (now (text .entry)) name (entryIn (now (work .entry)) k) ⌝ }
+// What row k is to the base in row i, while no base of its name stands between them: it names row i as its base, or not.
+pub fn relation_to(text: &[u8], work: &[u32], i: usize, k: usize) -> Relation
+    requires { ⌜ (20 * i + 20 ≤ length (now work)) × Kin (now text) (now work) i k ⌝ }
+    ensures { λ r. ⌜ r ≡ relation (now (text .entry)) (spanAt (cell (now (work .entry)) i 3)) (entryIn (now (work .entry)) k) ⌝ }
 {
     let redefines = rows::span_at(work[20 * k + 6]);
     if 0 < redefines.len {
-        if layout::same_names(text, name, redefines) {
+        if layout::wide(work[20 * k + 18]) == i + 1 {
             return Relation::Redefiner;
         }
         return Relation::Other;
-    }
-    let own = rows::span_at(work[20 * k + 3]);
-    if layout::same_names(text, name, own) {
-        return Relation::Next;
     }
     Relation::Other
 }
@@ -91,50 +77,43 @@ pub fn row_total(work: &[u32], k: usize) -> usize
     layout::wide(work[20 * k + 14]) * layout::times_of(occurs) as usize
 }
 
-// How many redefiners row i has among the rows from j up to `to`.
+// The end of the children of row i, which counts the rows below it.
+pub fn next_of(work: &[u32], i: usize, to: usize) -> usize
+    requires { ⌜ Numbered (now work) i to ⌝ }
+    ensures { λ r. ⌜ ChildrenEnd (now (work .entry)) i to r ⌝ }
+{
+    i + 1 + layout::wide(work[20 * i + 17])
+}
+
+// How many redefiners row i has among the rows from j up to `to`: it counts them.
 pub fn redefiner_count(text: &[u8], work: &[u32], i: usize, j: usize, to: usize) -> usize
-    requires { ⌜ (i < j) × (j ≤ to) × (20 * to ≤ length (now work)) ⌝ }
+    requires { ⌜ Base (now text) (now work) i j to ⌝ }
     ensures { λ r. ⌜ r ≡ members# (redefinersIn (now (text .entry)) (now (work .entry)) i j to) ⌝ }
 {
-    let name = rows::span_at(work[20 * i + 3]);
-    let mut n = 0;
-    let mut k = j;
-    while k < to {
-        match relation_to(text, work, name, k) {
-            Relation::Redefiner => {
-                n += 1;
-                k = layout::end_of(work, k, to);
-            }
-            Relation::Next => {
-                return n;
-            }
-            Relation::Other => {
-                k = layout::end_of(work, k, to);
-            }
-        }
-    }
-    n
+    layout::wide(work[20 * i + 18])
 }
 
 // The most bytes that a redefiner of row i has in all its occurrences, among the rows from j up to `to`.
 pub fn redefiner_width(text: &[u8], work: &[u32], i: usize, j: usize, to: usize) -> usize
-    requires { ⌜ (i < j) × (j ≤ to) × (20 * to ≤ length (now work)) × Sized (now work) j to ⌝ }
+    requires { ⌜ Base (now text) (now work) i j to ⌝ }
     ensures { λ r. ⌜ Measured (widest (redefinersIn (now (text .entry)) (now (work .entry)) i j to)) r ⌝ }
 {
-    let name = rows::span_at(work[20 * i + 3]);
+    let mut left = redefiner_count(text, work, i, j, to);
     let mut width = 0;
     let mut k = j;
-    while k < to {
-        match relation_to(text, work, name, k) {
+    while 0 < left {
+        let m = next_of(work, k, to);
+        match relation_to(text, work, i, k) {
             Relation::Redefiner => {
                 width = layout::most(width, row_total(work, k));
-                k = layout::end_of(work, k, to);
+                left -= 1;
+                k = m;
             }
             Relation::Next => {
                 return width;
             }
             Relation::Other => {
-                k = layout::end_of(work, k, to);
+                k = m;
             }
         }
     }
@@ -143,7 +122,7 @@ pub fn redefiner_width(text: &[u8], work: &[u32], i: usize, j: usize, to: usize)
 
 // Whether row i stands in the folded list: 1, or 0 for one that stands under its base.
 fn shown_count(text: &[u8], work: &[u32], i: usize, last: usize) -> usize
-    requires { ⌜ (20 * i + 20 ≤ length (now work)) × (last ≤ i) ⌝ }
+    requires { ⌜ Known (now text) (now work) i last ⌝ }
     ensures { λ r. ⌜ Few (shown# (standing (now (text .entry)) (basesAt (now (work .entry)) last) (entryIn (now (work .entry)) i))) r ⌝ }
 {
     match standing_of(text, work, i, last) {
@@ -155,7 +134,7 @@ fn shown_count(text: &[u8], work: &[u32], i: usize, last: usize) -> usize
 
 // How many entries the folded list of the rows from `from` up to `to` has.
 pub fn folded_count(text: &[u8], work: &[u32], from: usize, to: usize) -> usize
-    requires { ⌜ Siblings (now work) from to ⌝ }
+    requires { ⌜ Tree (now text) (now work) from to ⌝ }
     ensures { λ r. ⌜ r ≡ members# (foldedAll (now (text .entry)) (listIn (now (work .entry)) from to)) ⌝ }
 {
     let mut n = 0;
@@ -164,7 +143,7 @@ pub fn folded_count(text: &[u8], work: &[u32], from: usize, to: usize) -> usize
     while i < to {
         n += shown_count(text, work, i, last);
         last = i + 1;
-        i = layout::end_of(work, i, to);
+        i = next_of(work, i, to);
     }
     n
 }
@@ -187,7 +166,7 @@ fn same_spellings(text: &[u8], a: Span, b: Span) -> bool
 
 // Whether row i stands in the folded list under that name.
 fn shown_named(text: &[u8], work: &[u32], i: usize, last: usize, name: Span) -> bool
-    requires { ⌜ (20 * i + 20 ≤ length (now work)) × (last ≤ i) ⌝ }
+    requires { ⌜ Known (now text) (now work) i last ⌝ }
     ensures { λ r. ⌜ r ≡ shownNamed (now (text .entry)) name (standing (now (text .entry)) (basesAt (now (work .entry)) last) (entryIn (now (work .entry)) i)) (entryIn (now (work .entry)) i) ⌝ }
 {
     let own = rows::span_at(work[20 * i + 3]);
@@ -200,7 +179,7 @@ fn shown_named(text: &[u8], work: &[u32], i: usize, last: usize, name: Span) -> 
 
 // Whether the folded list of the rows from `from` up to `to` has an entry spelled like that name.
 pub fn has_member(text: &[u8], work: &[u32], from: usize, to: usize, name: Span) -> bool
-    requires { ⌜ Siblings (now work) from to ⌝ }
+    requires { ⌜ Tree (now text) (now work) from to ⌝ }
     ensures { λ r. ⌜ r ≡ hasMember (now (text .entry)) name (foldedAll (now (text .entry)) (listIn (now (work .entry)) from to)) ⌝ }
 {
     let mut i = from;
@@ -210,14 +189,14 @@ pub fn has_member(text: &[u8], work: &[u32], from: usize, to: usize, name: Span)
             return true;
         }
         last = i + 1;
-        i = layout::end_of(work, i, to);
+        i = next_of(work, i, to);
     }
     false
 }
 
 // How wide the union of row i with its redefiners is: as wide as its widest member. Its children end at j, and its siblings at `to`.
 pub fn union_width(text: &[u8], work: &[u32], i: usize, j: usize, to: usize) -> usize
-    requires { ⌜ Branch (now work) i j to ⌝ }
+    requires { ⌜ Base (now text) (now work) i j to ⌝ }
     ensures { λ r. ⌜ Measured (unionWidth (now (text .entry)) (now (work .entry)) i j to) r ⌝ }
 {
     let rest = redefiner_width(text, work, i, j, to);
@@ -231,7 +210,7 @@ pub fn union_width(text: &[u8], work: &[u32], i: usize, j: usize, to: usize) -> 
 
 // How wide row i is in the folded list: 0 where it stands under its base.
 fn shown_width(text: &[u8], work: &[u32], i: usize, j: usize, to: usize, last: usize) -> usize
-    requires { ⌜ Branch (now work) i j to × (last ≤ i) ⌝ }
+    requires { ⌜ Branch (now text) (now work) i j to × Known (now text) (now work) i last ⌝ }
     ensures { λ r. ⌜ Measured (widest (shownAt (now (text .entry)) (now (work .entry)) i j to last)) r ⌝ }
 {
     match standing_of(text, work, i, last) {
@@ -252,14 +231,14 @@ fn shown_width(text: &[u8], work: &[u32], i: usize, j: usize, to: usize, last: u
 
 // How wide the widest entry of the folded list of the rows from `from` up to `to` is.
 pub fn folded_width(text: &[u8], work: &[u32], from: usize, to: usize) -> usize
-    requires { ⌜ Tree (now work) from to ⌝ }
+    requires { ⌜ Tree (now text) (now work) from to ⌝ }
     ensures { λ r. ⌜ Measured (widest (foldedAll (now (text .entry)) (listIn (now (work .entry)) from to))) r ⌝ }
 {
     let mut width = 0;
     let mut i = from;
     let mut last = 0;
     while i < to {
-        let j = layout::end_of(work, i, to);
+        let j = next_of(work, i, to);
         width = layout::most(width, shown_width(text, work, i, j, to, last));
         last = i + 1;
         i = j;
@@ -282,7 +261,7 @@ fn row_end(work: &[u32], i: usize) -> usize
 
 // Where row i ends in the folded list: 0 where it stands under its base.
 fn shown_end(text: &[u8], work: &[u32], i: usize, j: usize, to: usize, last: usize) -> usize
-    requires { ⌜ Branch (now work) i j to × (last ≤ i) ⌝ }
+    requires { ⌜ Branch (now text) (now work) i j to × Known (now text) (now work) i last ⌝ }
     ensures { λ r. ⌜ r ≡ recordLength (shownAt (now (text .entry)) (now (work .entry)) i j to last) ⌝ }
 {
     match standing_of(text, work, i, last) {
@@ -303,14 +282,14 @@ fn shown_end(text: &[u8], work: &[u32], i: usize, j: usize, to: usize, last: usi
 
 // How long the folded list of the rows from `from` up to `to` is: its largest end.
 pub fn record_length(text: &[u8], work: &[u32], from: usize, to: usize) -> usize
-    requires { ⌜ Tree (now work) from to ⌝ }
+    requires { ⌜ Tree (now text) (now work) from to ⌝ }
     ensures { λ r. ⌜ r ≡ recordLength (foldedAll (now (text .entry)) (listIn (now (work .entry)) from to)) ⌝ }
 {
     let mut length = 0;
     let mut i = from;
     let mut last = 0;
     while i < to {
-        let j = layout::end_of(work, i, to);
+        let j = next_of(work, i, to);
         length = layout::most(length, shown_end(text, work, i, j, to, last));
         last = i + 1;
         i = j;
@@ -320,13 +299,13 @@ pub fn record_length(text: &[u8], work: &[u32], from: usize, to: usize) -> usize
 
 // Refusal 29 for the folded list of the rows from `from` up to `to`: its first end above 2,147,483,647.
 pub fn ends_fit(text: &[u8], work: &[u32], from: usize, to: usize) -> Check
-    requires { ⌜ Tree (now work) from to ⌝ }
+    requires { ⌜ Tree (now text) (now work) from to ⌝ }
     ensures { λ r. ⌜ checkOf r ≡ endsFit (foldedAll (now (text .entry)) (listIn (now (work .entry)) from to)) ⌝ }
 {
     let mut i = from;
     let mut last = 0;
     while i < to {
-        let j = layout::end_of(work, i, to);
+        let j = next_of(work, i, to);
         let end = shown_end(text, work, i, j, to, last);
         if 2147483647 < end {
             return Check::Refused(Refusal {
@@ -340,6 +319,80 @@ pub fn ends_fit(text: &[u8], work: &[u32], from: usize, to: usize) -> Check
     }
     Check::Passed
 }
+
+// ---------------------------------------------------------------- the redefiners counted
+
+// The latest base of that name from `last` back: its row and 1, or 0 for none.
+fn find_base(text: &[u8], work: &[u32], target: Span, last: usize) -> usize
+    requires { ⌜ 20 * last ≤ length (now work) ⌝ }
+    ensures { λ r. ⌜ r ≡ baseFrom (now (text .entry)) target (now (work .entry)) last last ⌝ }
+{
+    let mut k = last;
+    while 0 < k {
+        let row = k - 1;
+        if layout::is_target(text, work, target, row, true) {
+            return k;
+        }
+        let before = layout::wide(work[20 * row + 16]);
+        if row < before {
+            return 0;
+        }
+        k = before;
+    }
+    0
+}
+
+// The base that row k redefines: its row and 1, or 0 for none.
+fn base_of(text: &[u8], work: &[u32], k: usize) -> usize
+    requires { ⌜ 20 * k + 20 ≤ length (now work) ⌝ }
+    ensures { λ r. ⌜ r ≡ baseOf (now (text .entry)) (now (work .entry)) k ⌝ }
+{
+    let redefines = rows::span_at(work[20 * k + 6]);
+    if 0 < redefines.len {
+        let last = layout::wide(work[20 * k + 16]);
+        if k < last {
+            return 0;
+        }
+        return find_base(text, work, redefines, last);
+    }
+    0
+}
+
+// One redefiner more for row i.
+fn count_up(work: &mut [u32], i: usize)
+    requires { ⌜ (20 * i + 20 ≤ length (now work)) × (cell (now work) i 18 < 4294967295) ⌝ }
+    ensures { λ _. ⌜ now (work .exit) ≡ set (now (work .entry)) (20 * i + 18) (cell (now (work .entry)) i 18 + 1) ⌝ }
+{
+    let at = 20 * i + 18;
+    work[at] = work[at] + 1;
+}
+
+// Row k holds the base that it redefines, or 0, and the base, if it is a row from `from` on, has one redefiner more.
+fn mark_row(text: &[u8], work: &mut [u32], from: usize, k: usize)
+    requires { ⌜ (20 * k + 20 ≤ length (now work)) × (k < 4294967296) × Countable (now work) from k ⌝ }
+    ensures { λ _. ⌜ RowTallied (now (text .entry)) (now (work .entry)) from k (now (work .exit)) ⌝ }
+{
+    let base = base_of(text, work, k);
+    work[20 * k + 18] = base as u32;
+    if from < base {
+        count_up(work, base - 1);
+        return;
+    }
+}
+
+// Has each row from `from` up to `to` hold its base, or how many of these rows redefine it.
+fn mark_redefiners(text: &[u8], work: &mut [u32], from: usize, to: usize)
+    requires { ⌜ (20 * to ≤ length (now work)) × (to ≤ 800) ⌝ }
+    ensures { λ _. ⌜ Tallied (now (text .entry)) (now (work .entry)) from to (now (work .exit)) ⌝ }
+{
+    let mut k = from;
+    while k < to {
+        mark_row(text, work, from, k);
+        k += 1;
+    }
+}
+
+// ---------------------------------------------------------------- a record
 
 // The rows that hold a record and its length, or why it is refused.
 pub enum RecordLaid {
@@ -372,18 +425,21 @@ pub fn lay_fields(text: &[u8], work: &mut [u32], from: usize, to: usize) -> Reco
 {
     match layout::lay_list(text, work, from, to, 64) {
         LaidList::Done { width, last } => match layout::fold_check(text, work, from, to) {
-            Check::Passed => match ends_fit(text, work, from, to) {
-                Check::Passed => {
-                    return RecordLaid::Record {
-                        from,
-                        to,
-                        length: record_length(text, work, from, to),
-                    };
+            Check::Passed => {
+                mark_redefiners(text, work, from, to);
+                match ends_fit(text, work, from, to) {
+                    Check::Passed => {
+                        return RecordLaid::Record {
+                            from,
+                            to,
+                            length: record_length(text, work, from, to),
+                        };
+                    }
+                    Check::Refused(r) => {
+                        return RecordLaid::Refused(r);
+                    }
                 }
-                Check::Refused(r) => {
-                    return RecordLaid::Refused(r);
-                }
-            },
+            }
             Check::Refused(r) => {
                 return RecordLaid::Refused(r);
             }

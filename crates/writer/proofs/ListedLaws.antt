@@ -6,7 +6,7 @@ use mathlib.Core.Bool.{Bool}
 use mathlib.Core.List.{List, [], _∷_, _++_}
 use native.Mathlib.Omega.{arith}
 use native.Mathlib.Nat.{zero-add}
-use lib.ListN.{length, drop}
+use lib.ListN.{length, drop, length-append}
 use borrow.Author.Tests.{lt-ltb, le-ltb}
 use Rattle.definition.specs.declared.Writing.{Writing}
 use Rattle.definition.specs.Calls.{fitting, left, afterWriting, writingOf}
@@ -21,6 +21,7 @@ use Rattle.listing.proofs.PutLaws.{_and_, put-first, listing-parts}
 use Rattle.record.specs.Shown.{listIn}
 use Rattle.record.proofs.LaidLaws.{entries-size}
 use Rattle.writer.specs.Written.{Fits, listBytes}
+use Rattle.writer.specs.Listed.{entriesOf, listingOf}
 
 -- a list has an entry for each row, so its bytes can be counted
 pub list-fits : (text w : List ℕ) (from to at : ℕ) → to ≤ 800 → at ≤ 10 → Fits at (listBytes text w from to)
@@ -49,3 +50,27 @@ module _ (bs out : List ℕ) {n : ℕ} (e : n ≡ length bs) where
   -- else it stands in front of what was there
   pub room : n ≤ length out → {m : ℕ} {o : List ℕ} → Put out 0 bs m o → left (writingOf (Writing.Written n)) o [] ≡ afterWriting (fitting (length out) bs) out []
   room h p = rw (le-ltb (length out) (length bs) (omega arith), e, put-first p (omega arith))
+
+-- a listing has at most 98 bytes for each row, and its head
+listing-most : (text w : List ℕ) (from to : ℕ) → length (listingOf text w from to) ≤ 98 * to + 10
+listing-most text w from to =
+    let es = entriesOf text w from to in
+    omega (
+      arith,
+      ap length (listing-parts es),
+      length-append (headBytes (recordLength es) (variable es) (members# es)) (entriesBytes es),
+      listing-few text (listIn w from to),
+      entries-size w (rowsForest w from to) from,
+      size-stretch w from to,
+    )
+
+-- an output with room for so many has room
+pub ample :
+    (text w out : List ℕ) (from to : ℕ) →
+    98 * to + 10 ≤ length out →
+    {m : ℕ} {o : List ℕ} →
+    Put out 0 (listingOf text w from to) m o →
+    left (writingOf (Writing.Written m)) o [] ≡ afterWriting (fitting (length out) (listingOf text w from to)) out []
+ample text w out from to h {m} p =
+    let e : m ≡ length (listingOf text w from to) = omega (arith, p .next) in
+    room (listingOf text w from to) out e (omega (arith, e, listing-most text w from to)) p

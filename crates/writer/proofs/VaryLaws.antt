@@ -6,7 +6,6 @@ use mathlib.Core.Bool.{Bool, true, false, _||_}
 use mathlib.Core.List.{List}
 use native.Mathlib.Numerals.{add-one}
 use native.Mathlib.Omega.{arith}
-use Rattle.definition.specs.declared.Span.{Span}
 use Rattle.definition.specs.declared.Entry.{Entry}
 use Rattle.definition.specs.Basic.{if_then_else_, given}
 use Rattle.definition.specs.Fold.{Entries, end, entry, append, rebased}
@@ -14,16 +13,15 @@ use Rattle.definition.specs.Listing.{members#}
 use Rattle.definition.specs.Record.{variable}
 use Rattle.rows.specs.Table.{cell, spanAt}
 use Rattle.layout.specs.Bare.{foldedBelow, foldedAll}
-use Rattle.layout.specs.Places.{basesAt, placeAt, entryIn, rowsForest}
+use Rattle.layout.specs.Places.{basesAt, placeAt, entryIn}
 use Rattle.layout.specs.Steps.{ChildrenEnd}
 use Rattle.record.specs.declared.Standing.{Standing}
 use Rattle.record.specs.declared.Relation.{Relation}
-use Rattle.record.specs.Shown.{standing, relation, listIn, redefinersIn, foldedRest, shownAt, Chained, Tree}
-use Rattle.record.proofs.ShownLaws.{chained-step, redefined-by, redefined-none, walking-here, walking-ends}
-use Rattle.record.proofs.WidthLaws.{Along, along-starts, along-branch, along-on}
-use Rattle.writer.specs.Written.{unionIn, ownMember, Family, listVaries, itemVaries}
+use Rattle.record.specs.Shown.{standing, relation, listIn, redefinersIn, foldedRest, shownAt, Tree, Base}
+use Rattle.record.proofs.ShownLaws.{redefined-by, walking-here, walking-ends}
+use Rattle.record.proofs.WidthLaws.{Along, along-starts, along-on, Counting, counting-starts, counting-none, counting-hit, counting-miss}
+use Rattle.writer.specs.Written.{unionIn, ownMember, listVaries, itemVaries}
 use Rattle.writer.proofs.WriteLaws.{shown-is, base-alone, base-union, union-is}
-use Rattle.writer.proofs.WalkLaws.{row-tree}
 
 -- ---------------------------------------------------------------- one or the other
 
@@ -115,7 +113,7 @@ pub record Looking (t w : List ℕ) (from to i last : ℕ) : Type 0 where
   pub along : Along t w from to i last done
   pub none : variable done ≡ false
 
-pub looking-starts : (t w : List ℕ) (from to : ℕ) → Tree w from to → Looking t w from to from 0
+pub looking-starts : (t w : List ℕ) (from to : ℕ) → Tree t w from to → Looking t w from to from 0
 unfolding variable
 looking-starts t w from to h = record { done = end; along = along-starts t w from to h; none = refl }
 
@@ -124,18 +122,6 @@ module _ {t w : List ℕ} {from to i last : ℕ} (inv : Looking t w from to i la
   looking-ends h = sym (ap variable (walking-ends (inv .along .walk) h) ∙ inv .none)
 
   module _ {j : ℕ} (h : ChildrenEnd w i to j) where
-    pub looking-family : Family w i j to
-    looking-family =
-        let b = along-branch (inv .along) h in
-        record {
-          low = b .low;
-          high = b .high;
-          fits = b .fits;
-          chained = b .chained;
-          later = chained-step w i to j h last (inv .along .chained) .2;
-          sized = b .sized;
-        }
-
     module _ {o : Bool} (p : o ≡ variable (shownAt t w i j to last)) where
       pub looking-finds : o ≡ true → true ≡ listVaries t w from to
       looking-finds e =
@@ -159,56 +145,44 @@ module _ {t w : List ℕ} {from to i last : ℕ} (inv : Looking t w from to i la
 -- ---------------------------------------------------------------- the redefiners
 
 -- what the loop keeps: the redefiners from row k on decide
-pub record Seeking (t w : List ℕ) (i j to k : ℕ) : Type 0 where
-  pub family : Family w i j to
-  pub low : j ≤ k
-  pub high : k ≤ to
-  pub before : ℕ
-  pub chained : Chained w k before (rowsForest w k to)
+pub record Seeking (t w : List ℕ) (i j to left k : ℕ) : Type 0 where
+  pub counting : Counting t w i j to left k
   pub same : variable (foldedBelow t (redefinersIn t w i j to)) ≡ variable (foldedBelow t (redefinersIn t w i k to))
 
-pub seeking-starts : (t w : List ℕ) (i j to : ℕ) → Family w i j to → Seeking t w i j to j
-seeking-starts t w i j to h =
-    record { family = h; low = omega arith; high = h .high; before = suc i; chained = h .later; same = refl }
+pub seeking-starts :
+    (t w : List ℕ) (i j to : ℕ) {left : ℕ} → Base t w i j to → left ≡ members# (redefinersIn t w i j to) → Seeking t w i j to left j
+seeking-starts t w i j to h e = record { counting = counting-starts h e; same = refl }
 
-module _ {t w : List ℕ} {i j to k : ℕ} (inv : Seeking t w i j to k) where
-  pub seeking-ends : to ≤ k → false ≡ variable (foldedBelow t (redefinersIn t w i j to))
+module _ {t w : List ℕ} {i j to left k : ℕ} (inv : Seeking t w i j to left k) where
+  pub seeking-ends : left ≤ 0 → false ≡ variable (foldedBelow t (redefinersIn t w i j to))
   unfolding foldedBelow variable
-  seeking-ends h = sym (inv .same ∙ ap (λ (es : Entries). variable (foldedBelow t es)) (redefined-none t w i k to h))
+  seeking-ends h = sym (inv .same ∙ ap (λ (es : Entries). variable (foldedBelow t es)) (counting-none (inv .counting) h))
 
-  module _ {m : ℕ} (h : ChildrenEnd w k to m) where
-    pub seeking-tree : Tree w (k + 1) m
-    seeking-tree = row-tree (inv .family) (omega (arith, inv .low, inv .family .low)) h (inv .before) (inv .chained)
+  module _ {m : ℕ} (h : ChildrenEnd w k to m) (l : 0 < left) {r : Relation} (p : r ≡ relation t (spanAt (cell w i 3)) (entryIn w k)) where
+    pub seeking-stops : r ≡ Relation.Next → false ≡ variable (foldedBelow t (redefinersIn t w i j to))
+    unfolding foldedBelow variable
+    seeking-stops e = sym (inv .same ∙ ap (λ (es : Entries). variable (foldedBelow t es)) (redefined-by t w i k to h refl p e))
 
-    module _ {name : Span} {r : Relation} (q : name ≡ spanAt (cell w i 3)) (p : r ≡ relation t name (entryIn w k)) where
-      pub seeking-stops : r ≡ Relation.Next → false ≡ variable (foldedBelow t (redefinersIn t w i j to))
-      unfolding foldedBelow variable
-      seeking-stops e = sym (inv .same ∙ ap (λ (es : Entries). variable (foldedBelow t es)) (redefined-by t w i k to h q p e))
+    pub seeking-passes : r ≡ Relation.Other → Seeking t w i j to left m
+    seeking-passes e =
+        record {
+          counting = counting-miss (inv .counting) h l p e;
+          same = inv .same ∙ ap (λ (es : Entries). variable (foldedBelow t es)) (redefined-by t w i k to h refl p e);
+        }
 
-      -- the rest decides
-      seeking-next : variable (foldedBelow t (redefinersIn t w i k to)) ≡ variable (foldedBelow t (redefinersIn t w i m to)) → Seeking t w i j to m
-      seeking-next e =
+    module _ (e : r ≡ Relation.Redefiner) {o : Bool} (z : o ≡ itemVaries t w k m) where
+      here : variable (foldedBelow t (redefinersIn t w i k to)) ≡ (if itemVaries t w k m then true else variable (foldedBelow t (redefinersIn t w i m to)))
+      unfolding foldedBelow
+      here =
+          ap (λ (es : Entries). variable (foldedBelow t es)) (redefined-by t w i k to h refl p e)
+          ∙ item-then t w k m (rebased (cell w i 13) (entryIn w k)) (foldedBelow t (redefinersIn t w i m to)) refl
+
+      pub seeking-finds : o ≡ true → true ≡ variable (foldedBelow t (redefinersIn t w i j to))
+      seeking-finds y = first-yes (itemVaries t w k m) (variable (foldedBelow t (redefinersIn t w i m to))) (inv .same ∙ here) z y
+
+      pub seeking-on : o ≡ false → Seeking t w i j to (left - 1) m
+      seeking-on y =
           record {
-            family = inv .family;
-            low = omega (arith, inv .low, h .low);
-            high = h .high;
-            before = suc k;
-            chained = chained-step w k to m h (inv .before) (inv .chained) .2;
-            same = inv .same ∙ e;
+            counting = counting-hit (inv .counting) h l p e;
+            same = inv .same ∙ sym (first-not (itemVaries t w k m) (variable (foldedBelow t (redefinersIn t w i m to))) here z y refl);
           }
-
-      pub seeking-passes : r ≡ Relation.Other → Seeking t w i j to m
-      seeking-passes e = seeking-next (ap (λ (es : Entries). variable (foldedBelow t es)) (redefined-by t w i k to h q p e))
-
-      module _ (e : r ≡ Relation.Redefiner) {o : Bool} (z : o ≡ itemVaries t w k m) where
-        here : variable (foldedBelow t (redefinersIn t w i k to)) ≡ (if itemVaries t w k m then true else variable (foldedBelow t (redefinersIn t w i m to)))
-        unfolding foldedBelow
-        here =
-            ap (λ (es : Entries). variable (foldedBelow t es)) (redefined-by t w i k to h q p e)
-            ∙ item-then t w k m (rebased (cell w i 13) (entryIn w k)) (foldedBelow t (redefinersIn t w i m to)) refl
-
-        pub seeking-finds : o ≡ true → true ≡ variable (foldedBelow t (redefinersIn t w i j to))
-        seeking-finds y = first-yes (itemVaries t w k m) (variable (foldedBelow t (redefinersIn t w i m to))) (inv .same ∙ here) z y
-
-        pub seeking-on : o ≡ false → Seeking t w i j to m
-        seeking-on y = seeking-next (sym (first-not (itemVaries t w k m) (variable (foldedBelow t (redefinersIn t w i m to))) here z y refl))

@@ -2,28 +2,27 @@
 -- of a list and the loop along the redefiners of a row.
 -- Assumes nothing.
 use Prim.Native.Nat.{ℕ, zero, suc, _+_, _*_, _-_, _≤_, _<_}
-use mathlib.Core.Path.{_≡_, refl, sym, ap, subst, _∙_}
+use mathlib.Core.Path.{_≡_, refl, sym, ap, _∙_}
 use mathlib.Core.Bool.{Bool, true, false}
 use mathlib.Core.List.{List, [], _∷_, _++_, append-assoc, append-nil}
 use native.Mathlib.Numerals.{add-one}
 use native.Mathlib.Omega.{arith}
 use lib.ListN.{length, length-append}
-use Rattle.definition.specs.declared.Span.{Span}
 use Rattle.definition.specs.declared.Entry.{Entry}
 use Rattle.definition.specs.Fold.{Entries, end, append, rebased}
 use Rattle.definition.specs.Listing.{members#, entryBytes, entriesBytes}
 use Rattle.rows.specs.Table.{cell, spanAt}
 use Rattle.layout.specs.Bare.{foldedAll}
-use Rattle.layout.specs.Places.{entryIn, rowsForest}
+use Rattle.layout.specs.Places.{entryIn}
 use Rattle.layout.specs.Steps.{ChildrenEnd}
 use Rattle.listing.specs.Puts.{Put}
 use Rattle.listing.proofs.PutLaws.{put-none, _and_}
 use Rattle.record.specs.declared.Relation.{Relation}
-use Rattle.record.specs.Shown.{relation, foldedRest, shownAt, Chained, Sized, Tree, Branch}
-use Rattle.record.proofs.ShownLaws.{chained-step, walking-here, walking-ends}
-use Rattle.record.proofs.WidthLaws.{branch-tree, Along, along-starts, along-branch, along-on}
-use Rattle.writer.specs.Written.{Fits, listBytes, itemBytes, shownBytes, unionIn, ownMember, unionBytes, redefinersBytes, Family}
-use Rattle.writer.proofs.WriteLaws.{bytes-append, members-few, put-as, fits-as, fits-first, fits-second, family-branch, members-folded, members-based, redefined-end, redefined-hit, redefined-miss, redefined-stop}
+use Rattle.record.specs.Shown.{relation, redefinersIn, foldedRest, shownAt, Tree, Base}
+use Rattle.record.proofs.ShownLaws.{walking-here, walking-ends}
+use Rattle.record.proofs.WidthLaws.{Along, along-starts, along-on, Counting, counting-starts, counting-none, counting-hit, counting-miss}
+use Rattle.writer.specs.Written.{Fits, listBytes, itemBytes, shownBytes, unionIn, ownMember, unionBytes, redefinersBytes}
+use Rattle.writer.proofs.WriteLaws.{bytes-append, members-few, put-as, fits-as, fits-first, fits-second, members-folded, members-based, redefined-end, redefined-hit, redefined-miss, redefined-stop}
 
 -- ---------------------------------------------------------------- an entry, then its members
 
@@ -36,20 +35,6 @@ module _ {e x : Entry} {m n : ℕ} (p : e ≡ x) (q : m ≡ n) {out : List ℕ} 
 
   pub head-then : {ys : List ℕ} {r′ : ℕ} {after′ : List ℕ} → Put after r ys r′ after′ → Put out at (entryBytes x n ++ ys) r′ after′
   head-then k = head-put and k
-
-pub family-tree : {w : List ℕ} {i j to : ℕ} → Family w i j to → Tree w (i + 1) j
-family-tree f = branch-tree (family-branch f)
-
--- the children of a later row
-pub row-tree : {w : List ℕ} {i j to k m : ℕ} → Family w i j to → i ≤ k → ChildrenEnd w k to m → (last : ℕ) → Chained w k last (rowsForest w k to) → Tree w (k + 1) m
-row-tree {w} {to = to} {k = k} {m = m} f l h last c =
-    branch-tree {to = to} (record {
-      low = h .low;
-      high = h .high;
-      fits = f .fits;
-      chained = chained-step w k to m h last c .1;
-      sized = record { totals = λ n p q. f .sized .totals n (omega arith) (omega arith) };
-    })
 
 -- ---------------------------------------------------------------- the members of a union
 
@@ -89,7 +74,7 @@ pub record Writing (t w out₀ out : List ℕ) (from to at i last place : ℕ) :
   pub small : Fits at (listBytes t w from to)
   pub put : Put out₀ at (entriesBytes done) place out
 
-pub writing-starts : (t w out : List ℕ) (from to at : ℕ) → Tree w from to → Fits at (listBytes t w from to) → Writing t w out out from to at from 0 at
+pub writing-starts : (t w out : List ℕ) (from to at : ℕ) → Tree t w from to → Fits at (listBytes t w from to) → Writing t w out out from to at from 0 at
 unfolding entriesBytes
 writing-starts t w out from to at h f = record { done = end; along = along-starts t w from to h; small = f; put = put-none out at }
 
@@ -98,18 +83,6 @@ module _ {t w out₀ out : List ℕ} {from to at i last place : ℕ} (inv : Writ
   writing-ends h = put-as (ap entriesBytes (walking-ends (inv .along .walk) h)) (inv .put)
 
   module _ {j : ℕ} (h : ChildrenEnd w i to j) where
-    pub writing-family : Family w i j to
-    writing-family =
-        let b = along-branch (inv .along) h in
-        record {
-          low = b .low;
-          high = b .high;
-          fits = b .fits;
-          chained = b .chained;
-          later = chained-step w i to j h last (inv .along .chained) .2;
-          sized = b .sized;
-        }
-
     pub writing-fits : Fits place (shownBytes t w i j to last)
     writing-fits =
         let shown = shownAt t w i j to last in
@@ -137,87 +110,65 @@ module _ {t w out₀ out : List ℕ} {from to at i last place : ℕ} (inv : Writ
 -- ---------------------------------------------------------------- the redefiners
 
 -- what the loop keeps: the bytes that are done were put, and those of the rows from k on are the rest
-pub record Redefining (t w out₀ out : List ℕ) (i j to at place k : ℕ) : Type 0 where
-  pub family : Family w i j to
+pub record Redefining (t w out₀ out : List ℕ) (i j to at left place k : ℕ) : Type 0 where
+  pub counting : Counting t w i j to left k
   pub small : Fits at (redefinersBytes t w i j to)
-  pub low : j ≤ k
-  pub high : k ≤ to
-  pub before : ℕ
-  pub chained : Chained w k before (rowsForest w k to)
   pub done : List ℕ
   pub put : Put out₀ at done place out
   pub same : redefinersBytes t w i j to ≡ done ++ redefinersBytes t w i k to
 
-pub redefining-starts : (t w out : List ℕ) (i j to at : ℕ) → Family w i j to → Fits at (redefinersBytes t w i j to) → Redefining t w out out i j to at at j
-redefining-starts t w out i j to at h f =
-    record {
-      family = h;
-      small = f;
-      low = omega arith;
-      high = h .high;
-      before = suc i;
-      chained = h .later;
-      done = [];
-      put = put-none out at;
-      same = refl;
-    }
+pub redefining-starts :
+    (t w out : List ℕ) (i j to at : ℕ) {left : ℕ} →
+    Base t w i j to →
+    left ≡ members# (redefinersIn t w i j to) →
+    Fits at (redefinersBytes t w i j to) →
+    Redefining t w out out i j to at left at j
+redefining-starts t w out i j to at h e f = record { counting = counting-starts h e; small = f; done = []; put = put-none out at; same = refl }
 
-module _ {t w out₀ out : List ℕ} {i j to at place k : ℕ} (inv : Redefining t w out₀ out i j to at place k) where
+module _ {t w out₀ out : List ℕ} {i j to at left place k : ℕ} (inv : Redefining t w out₀ out i j to at left place k) where
   -- nothing is left
   rest-none : redefinersBytes t w i k to ≡ [] → Put out₀ at (redefinersBytes t w i j to) place out
   rest-none e = put-as (inv .same ∙ ap (λ (l : List ℕ). inv .done ++ l) e ∙ append-nil (inv .done)) (inv .put)
 
-  pub redefining-ends : to ≤ k → Put out₀ at (redefinersBytes t w i j to) place out
-  redefining-ends h = rest-none (redefined-end t w i k to h)
+  pub redefining-ends : left ≤ 0 → Put out₀ at (redefinersBytes t w i j to) place out
+  redefining-ends h = rest-none (redefined-end t w i k to (counting-none (inv .counting) h))
 
-  module _ {m : ℕ} (h : ChildrenEnd w k to m) where
-    pub redefining-tree : Tree w (k + 1) m
-    redefining-tree = row-tree (inv .family) (omega (arith, inv .low, inv .family .low)) h (inv .before) (inv .chained)
+  module _ {m : ℕ} (h : ChildrenEnd w k to m) (l : 0 < left) {r : Relation} (p : r ≡ relation t (spanAt (cell w i 3)) (entryIn w k)) where
+    pub redefining-stops : r ≡ Relation.Next → Put out₀ at (redefinersBytes t w i j to) place out
+    redefining-stops e = rest-none (redefined-stop t w i k to h refl p e)
 
-    module _ {name : Span} {r : Relation} (q : name ≡ spanAt (cell w i 3)) (p : r ≡ relation t name (entryIn w k)) where
-      pub redefining-stops : r ≡ Relation.Next → Put out₀ at (redefinersBytes t w i j to) place out
-      redefining-stops e = rest-none (redefined-stop t w i k to h q p e)
+    pub redefining-passes : r ≡ Relation.Other → Redefining t w out₀ out i j to at left place m
+    redefining-passes e =
+        record {
+          counting = counting-miss (inv .counting) h l p e;
+          small = inv .small;
+          done = inv .done;
+          put = inv .put;
+          same = inv .same ∙ ap (λ (l : List ℕ). inv .done ++ l) (redefined-miss t w i k to h refl p e);
+        }
 
-      pub redefining-passes : r ≡ Relation.Other → Redefining t w out₀ out i j to at place m
-      redefining-passes e =
+    module _ (e : r ≡ Relation.Redefiner) {x : Entry} (z : x ≡ rebased (cell w i 13) (entryIn w k)) where
+      pub redefining-fits : Fits place (itemBytes t w x k m)
+      redefining-fits =
+          omega (
+            arith,
+            inv .small,
+            inv .put .next,
+            ap length (inv .same),
+            length-append (inv .done) (redefinersBytes t w i k to),
+            ap length (redefined-hit t w i k to h refl p e z),
+            length-append (itemBytes t w x k m) (redefinersBytes t w i m to),
+          )
+
+      pub redefining-on : {a : ℕ} {after : List ℕ} → Put out place (itemBytes t w x k m) a after → Redefining t w out₀ after i j to at (left - 1) a m
+      redefining-on d =
           record {
-            family = inv .family;
+            counting = counting-hit (inv .counting) h l p e;
             small = inv .small;
-            low = omega (arith, inv .low, h .low);
-            high = h .high;
-            before = suc k;
-            chained = chained-step w k to m h (inv .before) (inv .chained) .2;
-            done = inv .done;
-            put = inv .put;
-            same = inv .same ∙ ap (λ (l : List ℕ). inv .done ++ l) (redefined-miss t w i k to h q p e);
+            done = inv .done ++ itemBytes t w x k m;
+            put = inv .put and d;
+            same =
+                inv .same
+                ∙ ap (λ (l : List ℕ). inv .done ++ l) (redefined-hit t w i k to h refl p e z)
+                ∙ sym (append-assoc (inv .done) (itemBytes t w x k m) (redefinersBytes t w i m to));
           }
-
-      module _ (e : r ≡ Relation.Redefiner) {x : Entry} (z : x ≡ rebased (cell w i 13) (entryIn w k)) where
-        pub redefining-fits : Fits place (itemBytes t w x k m)
-        redefining-fits =
-            omega (
-              arith,
-              inv .small,
-              inv .put .next,
-              ap length (inv .same),
-              length-append (inv .done) (redefinersBytes t w i k to),
-              ap length (redefined-hit t w i k to h q p e z),
-              length-append (itemBytes t w x k m) (redefinersBytes t w i m to),
-            )
-
-        pub redefining-on : {a : ℕ} {after : List ℕ} → Put out place (itemBytes t w x k m) a after → Redefining t w out₀ after i j to at a m
-        redefining-on d =
-            record {
-              family = inv .family;
-              small = inv .small;
-              low = omega (arith, inv .low, h .low);
-              high = h .high;
-              before = suc k;
-              chained = chained-step w k to m h (inv .before) (inv .chained) .2;
-              done = inv .done ++ itemBytes t w x k m;
-              put = inv .put and d;
-              same =
-                  inv .same
-                  ∙ ap (λ (l : List ℕ). inv .done ++ l) (redefined-hit t w i k to h q p e z)
-                  ∙ sym (append-assoc (inv .done) (itemBytes t w x k m) (redefinersBytes t w i m to));
-            }

@@ -21,10 +21,10 @@ use Rattle.listing.specs.Puts.{Countable, Put}
 use Rattle.listing.proofs.PutLaws.{put-none, _and_, entry-countable}
 use Rattle.record.specs.declared.Standing.{Standing}
 use Rattle.record.specs.declared.Relation.{Relation}
-use Rattle.record.specs.Shown.{standing, relation, shownAs, listIn, redefinersIn, foldedRest, shownAt, Siblings, Chained, Sized, Tree, Branch}
+use Rattle.record.specs.Shown.{standing, relation, shownAs, listIn, redefinersIn, foldedRest, shownAt}
 use Rattle.record.proofs.FoldedLaws.{count-append, redefiners-below, count-below}
-use Rattle.record.proofs.ShownLaws.{chained-step, chained-linked, redefined-by, redefined-none}
-use Rattle.writer.specs.Written.{Fits, listBytes, itemBytes, shownBytes, unionIn, ownMember, unionEntry, unionBytes, redefinersBytes, Family}
+use Rattle.record.proofs.ShownLaws.{redefined-by}
+use Rattle.writer.specs.Written.{Fits, listBytes, itemBytes, shownBytes, unionIn, ownMember, unionEntry, unionBytes, redefinersBytes}
 
 -- ---------------------------------------------------------------- bytes
 
@@ -61,14 +61,6 @@ fits-second {xs = xs} p ys f = omega (arith, length-append xs ys, p .next)
 
 pub fits-entry : (at : ℕ) (bs : List ℕ) (e : Entry) (n : ℕ) → Fits at bs → Countable at (entryBytes e n)
 fits-entry at bs e n f = entry-countable e n at (omega arith)
-
--- ---------------------------------------------------------------- parts of a table
-
-pub tree-siblings : {w : List ℕ} {from to : ℕ} → Tree w from to → Siblings w from to
-tree-siblings {w} {from} {to} h = record { fits = h .fits; linked = chained-linked w (rowsForest w from to) from 0 (h .chained) }
-
-pub family-branch : {w : List ℕ} {i j to : ℕ} → Family w i j to → Branch w i j to
-family-branch f = record { low = f .low; high = f .high; fits = f .fits; chained = f .chained; sized = f .sized }
 
 -- ---------------------------------------------------------------- a row
 
@@ -182,9 +174,9 @@ module _ (t w : List ℕ) (i j to : ℕ) where
 -- ---------------------------------------------------------------- redefiners
 
 module _ (t w : List ℕ) (i k to : ℕ) where
-  pub redefined-end : to ≤ k → redefinersBytes t w i k to ≡ []
+  pub redefined-end : redefinersIn t w i k to ≡ end → redefinersBytes t w i k to ≡ []
   unfolding foldedBelow entriesBytes
-  redefined-end h = ap (λ (es : Entries). entriesBytes (foldedBelow t es)) (redefined-none t w i k to h)
+  redefined-end h = ap (λ (es : Entries). entriesBytes (foldedBelow t es)) h
 
   module _ {m : ℕ} (h : ChildrenEnd w k to m) {name : Span} {r : Relation} (q : name ≡ spanAt (cell w i 3)) (p : r ≡ relation t name (entryIn w k)) where
     pub redefined-hit : r ≡ Relation.Redefiner → {x : Entry} → x ≡ rebased (cell w i 13) (entryIn w k) → redefinersBytes t w i k to ≡ itemBytes t w x k m ++ redefinersBytes t w i m to

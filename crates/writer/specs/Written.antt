@@ -1,6 +1,6 @@
 -- The bytes of the listing's entries, row by row: what a row with its members comes to, and what a union comes to.
 -- Assumes nothing.
-use Prim.Native.Nat.{ℕ, suc, _+_, _*_, _≤_, _<_}
+use Prim.Native.Nat.{ℕ, suc, _+_, _<_}
 use mathlib.Core.Bool.{Bool, true}
 use mathlib.Core.List.{List, _++_}
 use lib.ListN.{length}
@@ -11,8 +11,8 @@ use Rattle.definition.specs.Record.{variable}
 use Rattle.definition.specs.Listing.{members#, entryBytes, entriesBytes}
 use Rattle.rows.specs.Table.{cell, spanAt}
 use Rattle.layout.specs.Bare.{foldedBelow, foldedAll}
-use Rattle.layout.specs.Places.{placeAt, entryIn, rowsForest}
-use Rattle.record.specs.Shown.{listIn, redefinersIn, shownAt, Chained, Sized}
+use Rattle.layout.specs.Places.{placeAt, entryIn}
+use Rattle.record.specs.Shown.{listIn, redefinersIn, shownAt}
 
 -- the place after the bytes fits in four bytes
 abbrev pub Fits : ℕ → List ℕ → Type 0
@@ -50,15 +50,6 @@ unionBytes text w i j to = entryBytes (unionEntry text w i j to) (members# (unio
 -- the redefiners of row i among the rows from j up to `to`
 abbrev pub redefinersBytes : List ℕ → List ℕ → ℕ → ℕ → ℕ → List ℕ
 redefinersBytes text w i j to = entriesBytes (foldedBelow text (redefinersIn text w i j to))
-
--- row i with its children up to j and its later siblings up to `to`: they are there, linked, and none too large
-pub record Family (w : List ℕ) (i j to : ℕ) : Type 0 where
-  pub low : i < j
-  pub high : j ≤ to
-  pub fits : 20 * to ≤ length w
-  pub chained : Chained w (suc i) 0 (rowsForest w (suc i) j)
-  pub later : Chained w j (suc i) (rowsForest w j to)
-  pub sized : Sized w i to
 
 -- ---------------------------------------------------------------- whether some entry has a DEPENDING ON
 

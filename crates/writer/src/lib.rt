@@ -13,8 +13,8 @@ ghost use Rattle.rows.specs.Table.{cell};
 ghost use Rattle.layout.specs.Bare.{foldedBelow};
 ghost use Rattle.layout.specs.Places.{entryIn};
 ghost use Rattle.listing.specs.Puts.{Put};
-ghost use Rattle.record.specs.Shown.{redefinersIn, shownAt, Tree, Branch};
-ghost use Rattle.writer.specs.Written.{Fits, listBytes, itemBytes, shownBytes, ownMember, unionIn, unionEntry, unionBytes, redefinersBytes, Family, listVaries, itemVaries};
+ghost use Rattle.record.specs.Shown.{redefinersIn, shownAt, Known, Tree, Branch, Base};
+ghost use Rattle.writer.specs.Written.{Fits, listBytes, itemBytes, shownBytes, ownMember, unionIn, unionEntry, unionBytes, redefinersBytes, listVaries, itemVaries};
 ghost use Rattle.writer.specs.Listed.{entriesOf, listingOf};
 use definition::Entry;
 use definition::Refusal;
@@ -69,7 +69,7 @@ fn member_at(work: &[u32], k: usize, i: usize) -> Entry
 
 // Whether row i, whose children end at j, has a member of its own name.
 fn has_own(text: &[u8], work: &[u32], i: usize, j: usize, to: usize) -> bool
-    requires { ⌜ Branch (now work) i j to ⌝ }
+    requires { ⌜ Base (now text) (now work) i j to ⌝ }
     ensures { λ r. ⌜ r ≡ ownMember (now (text .entry)) (now (work .entry)) i j ⌝ }
 {
     let name = rows::span_at(work[20 * i + 3]);
@@ -78,7 +78,7 @@ fn has_own(text: &[u8], work: &[u32], i: usize, j: usize, to: usize) -> bool
 
 // How many members the union of row i with its redefiners has.
 fn union_count(text: &[u8], work: &[u32], i: usize, j: usize, to: usize) -> usize
-    requires { ⌜ Branch (now work) i j to × (members# (unionIn (now text) (now work) i j to) < 4294967296) ⌝ }
+    requires { ⌜ Base (now text) (now work) i j to × (members# (unionIn (now text) (now work) i j to) < 4294967296) ⌝ }
     ensures { λ r. ⌜ r ≡ members# (unionIn (now (text .entry)) (now (work .entry)) i j to) ⌝ }
 {
     let n = record::redefiner_count(text, work, i, j, to);
@@ -90,7 +90,7 @@ fn union_count(text: &[u8], work: &[u32], i: usize, j: usize, to: usize) -> usiz
 
 // The union's own entry.
 fn union_entry(text: &[u8], work: &[u32], i: usize, j: usize, to: usize) -> Entry
-    requires { ⌜ Branch (now work) i j to ⌝ }
+    requires { ⌜ Base (now text) (now work) i j to ⌝ }
     ensures { λ r. ⌜ r ≡ unionEntry (now (text .entry)) (now (work .entry)) i j to ⌝ }
 {
     let width = record::union_width(text, work, i, j, to);
@@ -109,7 +109,7 @@ fn write_item(
     out: &mut [u8],
     at: usize,
 ) -> usize
-    requires { ⌜ (i < j) × Tree (now work) (i + 1) j × Fits at (itemBytes (now text) (now work) e i j) ⌝ }
+    requires { ⌜ (i < j) × Tree (now text) (now work) (i + 1) j × Fits at (itemBytes (now text) (now work) e i j) ⌝ }
     ensures { λ r. ⌜ Put (now (out .entry)) at (itemBytes (now (text .entry)) (now (work .entry)) e i j) r (now (out .exit)) ⌝ }
 {
     let n = record::folded_count(text, work, i + 1, j);
@@ -127,17 +127,18 @@ fn write_redefiners(
     out: &mut [u8],
     at: usize,
 ) -> usize
-    requires { ⌜ Family (now work) i j to × Fits at (redefinersBytes (now text) (now work) i j to) ⌝ }
+    requires { ⌜ Base (now text) (now work) i j to × Fits at (redefinersBytes (now text) (now work) i j to) ⌝ }
     ensures { λ r. ⌜ Put (now (out .entry)) at (redefinersBytes (now (text .entry)) (now (work .entry)) i j to) r (now (out .exit)) ⌝ }
 {
-    let name = rows::span_at(work[20 * i + 3]);
+    let mut left = record::redefiner_count(text, work, i, j, to);
     let mut place = at;
     let mut k = j;
-    while k < to {
-        let m = layout::end_of(work, k, to);
-        match record::relation_to(text, work, name, k) {
+    while 0 < left {
+        let m = record::next_of(work, k, to);
+        match record::relation_to(text, work, i, k) {
             Relation::Redefiner => {
                 place = write_item(text, work, k, m, member_at(work, k, i), out, place);
+                left -= 1;
                 k = m;
             }
             Relation::Next => {
@@ -162,7 +163,7 @@ fn write_members(
     out: &mut [u8],
     at: usize,
 ) -> usize
-    requires { ⌜ Family (now work) i j to × Fits at (entriesBytes (unionIn (now text) (now work) i j to)) ⌝ }
+    requires { ⌜ Base (now text) (now work) i j to × Fits at (entriesBytes (unionIn (now text) (now work) i j to)) ⌝ }
     ensures { λ r. ⌜ Put (now (out .entry)) at (entriesBytes (unionIn (now (text .entry)) (now (work .entry)) i j to)) r (now (out .exit)) ⌝ }
 {
     if has_own(text, work, i, j, to) {
@@ -183,7 +184,7 @@ fn write_union(
     out: &mut [u8],
     at: usize,
 ) -> usize
-    requires { ⌜ Family (now work) i j to × Fits at (unionBytes (now text) (now work) i j to) ⌝ }
+    requires { ⌜ Base (now text) (now work) i j to × Fits at (unionBytes (now text) (now work) i j to) ⌝ }
     ensures { λ r. ⌜ Put (now (out .entry)) at (unionBytes (now (text .entry)) (now (work .entry)) i j to) r (now (out .exit)) ⌝ }
 {
     let e = union_entry(text, work, i, j, to);
@@ -203,7 +204,7 @@ fn write_shown(
     out: &mut [u8],
     at: usize,
 ) -> usize
-    requires { ⌜ Family (now work) i j to × (last ≤ i) × Fits at (shownBytes (now text) (now work) i j to last) ⌝ }
+    requires { ⌜ Branch (now text) (now work) i j to × Known (now text) (now work) i last × Fits at (shownBytes (now text) (now work) i j to last) ⌝ }
     ensures { λ r. ⌜ Put (now (out .entry)) at (shownBytes (now (text .entry)) (now (work .entry)) i j to last) r (now (out .exit)) ⌝ }
 {
     match record::standing_of(text, work, i, last) {
@@ -231,14 +232,14 @@ pub fn write_list(
     out: &mut [u8],
     at: usize,
 ) -> usize
-    requires { ⌜ Tree (now work) from to × Fits at (listBytes (now text) (now work) from to) ⌝ }
+    requires { ⌜ Tree (now text) (now work) from to × Fits at (listBytes (now text) (now work) from to) ⌝ }
     ensures { λ r. ⌜ Put (now (out .entry)) at (listBytes (now (text .entry)) (now (work .entry)) from to) r (now (out .exit)) ⌝ }
 {
     let mut place = at;
     let mut i = from;
     let mut last = 0;
     while i < to {
-        let j = layout::end_of(work, i, to);
+        let j = record::next_of(work, i, to);
         place = write_shown(text, work, i, j, to, last, out, place);
         last = i + 1;
         i = j;
@@ -253,8 +254,7 @@ fn depends(work: &[u32], i: usize) -> bool
     requires { ⌜ 20 * i + 20 ≤ length (now work) ⌝ }
     ensures { λ r. ⌜ r ≡ given (entryIn (now (work .entry)) i .depending) ⌝ }
 {
-    let e = layout::entry_at(work, i);
-    let name = e.depending;
+    let name = rows::span_at(work[20 * i + 5]);
     if 0 < name.len {
         return true;
     }
@@ -263,7 +263,7 @@ fn depends(work: &[u32], i: usize) -> bool
 
 // Whether row i, or some entry below it, has a DEPENDING ON; its members end at j.
 fn item_varies(text: &[u8], work: &[u32], i: usize, j: usize) -> bool
-    requires { ⌜ (i < j) × Tree (now work) (i + 1) j ⌝ }
+    requires { ⌜ (i < j) × Tree (now text) (now work) (i + 1) j ⌝ }
     ensures { λ r. ⌜ r ≡ itemVaries (now (text .entry)) (now (work .entry)) i j ⌝ }
 {
     if depends(work, i) {
@@ -274,18 +274,19 @@ fn item_varies(text: &[u8], work: &[u32], i: usize, j: usize) -> bool
 
 // Whether some redefiner of row i among the rows from j up to `to` has a DEPENDING ON, or some entry below one.
 fn redefiners_vary(text: &[u8], work: &[u32], i: usize, j: usize, to: usize) -> bool
-    requires { ⌜ Family (now work) i j to ⌝ }
+    requires { ⌜ Base (now text) (now work) i j to ⌝ }
     ensures { λ r. ⌜ r ≡ variable (foldedBelow (now (text .entry)) (redefinersIn (now (text .entry)) (now (work .entry)) i j to)) ⌝ }
 {
-    let name = rows::span_at(work[20 * i + 3]);
+    let mut left = record::redefiner_count(text, work, i, j, to);
     let mut k = j;
-    while k < to {
-        let m = layout::end_of(work, k, to);
-        match record::relation_to(text, work, name, k) {
+    while 0 < left {
+        let m = record::next_of(work, k, to);
+        match record::relation_to(text, work, i, k) {
             Relation::Redefiner => {
                 if item_varies(text, work, k, m) {
                     return true;
                 }
+                left -= 1;
                 k = m;
             }
             Relation::Next => {
@@ -301,7 +302,7 @@ fn redefiners_vary(text: &[u8], work: &[u32], i: usize, j: usize, to: usize) -> 
 
 // Whether some member of the union of row i with its redefiners has a DEPENDING ON, or some entry below one.
 fn members_vary(text: &[u8], work: &[u32], i: usize, j: usize, to: usize) -> bool
-    requires { ⌜ Family (now work) i j to ⌝ }
+    requires { ⌜ Base (now text) (now work) i j to ⌝ }
     ensures { λ r. ⌜ r ≡ variable (unionIn (now (text .entry)) (now (work .entry)) i j to) ⌝ }
 {
     if has_own(text, work, i, j, to) {
@@ -318,7 +319,7 @@ fn members_vary(text: &[u8], work: &[u32], i: usize, j: usize, to: usize) -> boo
 
 // Whether what row i comes to in the folded list has a DEPENDING ON, at any depth.
 fn shown_varies(text: &[u8], work: &[u32], i: usize, j: usize, to: usize, last: usize) -> bool
-    requires { ⌜ Family (now work) i j to × (last ≤ i) ⌝ }
+    requires { ⌜ Branch (now text) (now work) i j to × Known (now text) (now work) i last ⌝ }
     ensures { λ r. ⌜ r ≡ variable (shownAt (now (text .entry)) (now (work .entry)) i j to last) ⌝ }
 {
     match record::standing_of(text, work, i, last) {
@@ -339,13 +340,13 @@ fn shown_varies(text: &[u8], work: &[u32], i: usize, j: usize, to: usize, last: 
 
 // Whether some entry of the folded list of the rows from `from` up to `to` has a DEPENDING ON, at any depth.
 pub fn list_varies(text: &[u8], work: &[u32], from: usize, to: usize) -> bool
-    requires { ⌜ Tree (now work) from to ⌝ }
+    requires { ⌜ Tree (now text) (now work) from to ⌝ }
     ensures { λ r. ⌜ r ≡ listVaries (now (text .entry)) (now (work .entry)) from to ⌝ }
 {
     let mut i = from;
     let mut last = 0;
     while i < to {
-        let j = layout::end_of(work, i, to);
+        let j = record::next_of(work, i, to);
         if shown_varies(text, work, i, j, to, last) {
             return true;
         }
@@ -364,7 +365,7 @@ fn put_listing(
     long: usize,
     out: &mut [u8],
 ) -> usize
-    requires { ⌜ Tree (now work) from to × (to ≤ 800) × (long ≡ recordLength (entriesOf (now text) (now work) from to)) ⌝ }
+    requires { ⌜ Tree (now text) (now work) from to × (to ≤ 800) × (long ≡ recordLength (entriesOf (now text) (now work) from to)) ⌝ }
     ensures { λ r. ⌜ Put (now (out .entry)) 0 (listingOf (now (text .entry)) (now (work .entry)) from to) r (now (out .exit)) ⌝ }
 {
     let variable = list_varies(text, work, from, to);
@@ -375,15 +376,15 @@ fn put_listing(
 
 // How long that listing is.
 fn measure(text: &[u8], work: &[u32], from: usize, to: usize, long: usize) -> usize
-    requires { ⌜ Tree (now work) from to × (to ≤ 800) × (long ≡ recordLength (entriesOf (now text) (now work) from to)) ⌝ }
+    requires { ⌜ Tree (now text) (now work) from to × (to ≤ 800) × (long ≡ recordLength (entriesOf (now text) (now work) from to)) ⌝ }
     ensures { λ r. ⌜ r ≡ length (listingOf (now (text .entry)) (now (work .entry)) from to) ⌝ }
 {
     let mut spare = [0u8; 1];
     put_listing(text, work, from, to, long, &mut spare)
 }
 
-// Writes that listing if the output has room for it; 31, with its length, if not.
-pub fn write_listing(
+// Writes that listing if the output has room for it; 31, with its length, if not. It is measured first.
+fn write_measured(
     text: &[u8],
     work: &[u32],
     from: usize,
@@ -391,7 +392,7 @@ pub fn write_listing(
     long: usize,
     out: &mut [u8],
 ) -> Writing
-    requires { ⌜ Tree (now work) from to × (to ≤ 800) × (long ≡ recordLength (entriesOf (now text) (now work) from to)) ⌝ }
+    requires { ⌜ Tree (now text) (now work) from to × (to ≤ 800) × (long ≡ recordLength (entriesOf (now text) (now work) from to)) ⌝ }
     ensures { λ r. ⌜ left (writingOf r) (now (out .exit)) [] ≡ afterWriting (fitting (length (now (out .entry))) (listingOf (now (text .entry)) (now (work .entry)) from to)) (now (out .entry)) [] ⌝ }
 {
     let needed = measure(text, work, from, to, long);
@@ -404,4 +405,22 @@ pub fn write_listing(
     }
     put_listing(text, work, from, to, long, out);
     Writing::Written(needed)
+}
+
+// The same. An output with 98 bytes for each row has room for every listing, and nothing is measured then.
+pub fn write_listing(
+    text: &[u8],
+    work: &[u32],
+    from: usize,
+    to: usize,
+    long: usize,
+    out: &mut [u8],
+) -> Writing
+    requires { ⌜ Tree (now text) (now work) from to × (to ≤ 800) × (long ≡ recordLength (entriesOf (now text) (now work) from to)) ⌝ }
+    ensures { λ r. ⌜ left (writingOf r) (now (out .exit)) [] ≡ afterWriting (fitting (length (now (out .entry))) (listingOf (now (text .entry)) (now (work .entry)) from to)) (now (out .entry)) [] ⌝ }
+{
+    if out.len() < 98 * to + 10 {
+        return write_measured(text, work, from, to, long, out);
+    }
+    Writing::Written(put_listing(text, work, from, to, long, out))
 }

@@ -8,11 +8,12 @@ use mathlib.Core.List.{List}
 use native.Mathlib.Omega.{arith}
 use Rattle.definition.specs.Fold.{Entries, end, append, widest}
 use Rattle.layout.specs.Bare.{foldedAll}
+use Rattle.layout.specs.Places.{basesAt}
 use Rattle.layout.specs.Steps.{ChildrenEnd}
 use Rattle.record.specs.Shown.{listIn, shownAt, Tree, Measured}
 use Rattle.record.proofs.FoldedLaws.{widest-append}
 use Rattle.record.proofs.ShownLaws.{walking-ends}
-use Rattle.record.proofs.WidthLaws.{branch-tree, branch-siblings, branch-later, branch-row, union-folds, union-stands, width-under, width-single, width-base, width-joined, Along, along-starts, along-branch, along-on}
+use Rattle.record.proofs.WidthLaws.{branch-tree, branch-row, branch-base, union-folds, union-stands, width-under, width-single, width-base, width-joined, Along, along-starts, along-numbered, along-known, along-branch, along-on}
 use borrow.Fn.Kinds.{In}
 use borrow.Fn.PlainCycle.{Measures, is, falls, and}
 use Rattle.record.proofs.folded_width.Reads as folded-width
@@ -24,9 +25,9 @@ use Rattle.record.proofs.+folded_width+shown_width+union_width.Lts-show
 use Rattle.record.proofs.union_width.Reads as union-width
 use Rattle.record.proofs.union_width.Kinds as union-width-kinds
 use Rattle.record.proofs.+folded_width+shown_width+union_width.Lts-union_width as union-width-lts
-use Rattle.layout.proofs.end_of.Reads as end-of-reads
 use Rattle.record.proofs.has_member.Reads as has-member-reads
 use Rattle.layout.proofs.most.Reads as most-reads
+use Rattle.record.proofs.next_of.Reads as next-of-reads
 use Rattle.record.proofs.redefiner_count.Reads as redefiner-count-reads
 use Rattle.record.proofs.redefiner_width.Reads as redefiner-width-reads
 use Rattle.record.proofs.row_total.Reads as row-total-reads
@@ -42,7 +43,7 @@ record Left (t w : List ℕ) (from to width i last : ℕ) : Type 0 where
   along : Along t w from to i last done
   is : width ≡ widest done
 
-start : (t w : List ℕ) (from to : ℕ) → Tree w from to → Left t w from to 0 from 0
+start : (t w : List ℕ) (from to : ℕ) → Tree t w from to → Left t w from to 0 from 0
 unfolding widest
 start t w from to h = record { small = omega arith; done = end; along = along-starts t w from to h; is = refl }
 
@@ -97,7 +98,7 @@ union-width-below t =
     and 2 union-width-kinds.ps (falls 2 union-width-kinds.ps _<_ μ-union-width t) union-width.Pre
 
 abbrev folded-width-callees : ℕ → folded-width-lts.Claims
-folded-width-callees t = (end-of-reads.Asked, end-of-reads.Learnt, shown-width-below t, shown-width.Post, most-reads.Asked, most-reads.Learnt)
+folded-width-callees t = (next-of-reads.Asked, next-of-reads.Learnt, shown-width-below t, shown-width.Post, most-reads.Asked, most-reads.Learnt)
 
 abbrev shown-width-callees : ℕ → shown-width-lts.Claims
 shown-width-callees t = (standing-of-reads.Asked, standing-of-reads.Learnt, row-total-reads.Asked, row-total-reads.Learnt, redefiner-count-reads.Asked, redefiner-count-reads.Learnt, union-width-below t, union-width.Post)
@@ -114,11 +115,14 @@ folded-width-μ-loop text work from to width₀ i₀ last₀ width i last = to -
 folded-width-loop-holds : (t : ℕ) → folded-width-lts.Need-loop-holds (folded-width-callees t) (folded-width-at t) folded-width.Post folded-width-Inv-loop folded-width-μ-loop
 folded-width-loop-holds t c = let s = c .before .before in let a = s .args in start (a .text .now) (a .work .now) (a .from) (a .to) (s .pre .1)
 
+folded-width-next-of-requires : (t : ℕ) → folded-width-lts.Need-next-of-requires (folded-width-callees t) (folded-width-at t) folded-width.Post folded-width-Inv-loop folded-width-μ-loop
+folded-width-next-of-requires t c κs = along-numbered (c .before .loop .inv .along) (c .loop-test .taken)
+
 folded-width-shown-width-requires : (t : ℕ) → folded-width-lts.Need-shown-width-requires (folded-width-callees t) (folded-width-at t) folded-width.Post folded-width-Inv-loop folded-width-μ-loop
-folded-width-shown-width-requires t c κs = (omega arith, (along-branch (c .before .before .loop .inv .along) (c .end-of .ensures), c .before .before .loop .inv .along .back))
+folded-width-shown-width-requires t c κs = (omega arith, (along-branch (c .before .before .loop .inv .along) (c .next-of .ensures), along-known (c .before .before .loop .inv .along) (c .before .loop-test .taken)))
 
 folded-width-loop-again : (t : ℕ) → folded-width-lts.Need-loop-again (folded-width-callees t) (folded-width-at t) folded-width.Post folded-width-Inv-loop folded-width-μ-loop
-folded-width-loop-again t c = next (c .before .before .before .before .loop .inv) (c .before .before .end-of .ensures) (c .before .shown-width .ensures) (c .most .ensures)
+folded-width-loop-again t c = next (c .before .before .before .before .loop .inv) (c .before .before .next-of .ensures) (c .before .shown-width .ensures) (c .most .ensures)
 
 folded-width-returns : (t : ℕ) → folded-width-lts.Need-returns (folded-width-callees t) (folded-width-at t) folded-width.Post folded-width-Inv-loop folded-width-μ-loop
 folded-width-returns t c = ended (c .before .loop .inv) (c .loop-test .left)
@@ -132,8 +136,11 @@ shown-width-row-total-requires t c κs = branch-row (c .before .before .before .
 shown-width-returns-2 : (t : ℕ) → shown-width-lts.Need-returns-2 (shown-width-callees t) (shown-width-at t) shown-width.Post
 shown-width-returns-2 t c = let s = c .before .before .before .before .before .before in let a = s .args in width-single (a .text .now) (a .work .now) (a .i) (a .j) (a .to) (a .last) (c .before .before .before .standing-of .ensures) (c .before .enum-told2 .given .1) (c .row-total .ensures)
 
+shown-width-redefiner-count-requires : (t : ℕ) → shown-width-lts.Need-redefiner-count-requires (shown-width-callees t) (shown-width-at t) shown-width.Post
+shown-width-redefiner-count-requires t c κs = let s = c .before .before .before .before .before in let a = s .args in branch-base (s .pre .1 .0) (basesAt (a .work .now) (a .last)) (c .before .before .standing-of .ensures) (c .enum-told3 .given .1)
+
 shown-width-union-width-requires : (t : ℕ) → shown-width-lts.Need-union-width-requires (shown-width-callees t) (shown-width-at t) shown-width.Post
-shown-width-union-width-requires t c κs = (omega arith, c .before .before .before .before .before .before .before .pre .1 .0)
+shown-width-union-width-requires t c κs = let s = c .before .before .before .before .before .before .before in let a = s .args in (omega arith, branch-base (s .pre .1 .0) (basesAt (a .work .now) (a .last)) (c .before .before .before .before .standing-of .ensures) (c .before .before .enum-told3 .given .1))
 
 shown-width-returns-3 : (t : ℕ) → shown-width-lts.Need-returns-3 (shown-width-callees t) (shown-width-at t) shown-width.Post
 shown-width-returns-3 t c = let s = c .before .before .before .before .before .before .before .before in let a = s .args in width-joined (a .text .now) (a .work .now) (a .i) (a .j) (a .to) (a .last) (c .before .before .before .before .before .standing-of .ensures) (c .before .before .before .enum-told3 .given .1) (c .before .before .redefiner-count .ensures) (c .before .if1 .taken) (c .union-width .ensures)
@@ -145,19 +152,19 @@ shown-width-returns-4 : (t : ℕ) → shown-width-lts.Need-returns-4 (shown-widt
 shown-width-returns-4 t c = let s = c .before .before .before .before .before .before .before .before in let a = s .args in width-base (a .text .now) (a .work .now) (a .i) (a .j) (a .to) (a .last) (c .before .before .before .before .before .standing-of .ensures) (c .before .before .before .enum-told3 .given .1) (c .before .before .redefiner-count .ensures) (c .before .if1 .left) (c .row-total2 .ensures)
 
 union-width-redefiner-width-requires : (t : ℕ) → union-width-lts.Need-redefiner-width-requires (union-width-callees t) (union-width-at t) union-width.Post
-union-width-redefiner-width-requires t c κs = let b = c .before .before .pre .1 in (b .low, b .high, b .fits, branch-later b)
+union-width-redefiner-width-requires t c κs = c .before .before .pre .1
 
 union-width-has-member-requires : (t : ℕ) → union-width-lts.Need-has-member-requires (union-width-callees t) (union-width-at t) union-width.Post
-union-width-has-member-requires t c κs = branch-siblings (c .before .before .before .before .before .pre .1)
+union-width-has-member-requires t c κs = branch-tree (c .before .before .before .before .before .pre .1 .branch)
 
 union-width-folded-width-requires : (t : ℕ) → union-width-lts.Need-folded-width-requires (union-width-callees t) (union-width-at t) union-width.Post
-union-width-folded-width-requires t c κs = (omega arith, branch-tree (c .before .before .before .before .before .before .before .pre .1))
+union-width-folded-width-requires t c κs = (omega arith, branch-tree (c .before .before .before .before .before .before .before .pre .1 .branch))
 
 union-width-returns : (t : ℕ) → union-width-lts.Need-returns (union-width-callees t) (union-width-at t) union-width.Post
 union-width-returns t c = let s = c .before .before .before .before .before .before .before .before .before in let a = s .args in union-folds (a .text .now) (a .work .now) (a .i) (a .j) (a .to) (c .before .before .before .before .span-at .ensures) (c .before .before .before .has-member .ensures) (c .before .before .before .before .before .before .redefiner-width .ensures) (c .most .ensures) (c .before .before .if1 .taken) (c .before .folded-width .ensures)
 
 union-width-row-total-requires : (t : ℕ) → union-width-lts.Need-row-total-requires (union-width-callees t) (union-width-at t) union-width.Post
-union-width-row-total-requires t c κs = branch-row (c .before .before .before .before .before .before .before .pre .1)
+union-width-row-total-requires t c κs = branch-row (c .before .before .before .before .before .before .before .pre .1 .branch)
 
 union-width-returns-2 : (t : ℕ) → union-width-lts.Need-returns-2 (union-width-callees t) (union-width-at t) union-width.Post
 union-width-returns-2 t c = let s = c .before .before .before .before .before .before .before .before .before in let a = s .args in union-stands (a .text .now) (a .work .now) (a .i) (a .j) (a .to) (c .before .before .before .before .span-at .ensures) (c .before .before .before .has-member .ensures) (c .before .before .before .before .before .before .redefiner-width .ensures) (c .most2 .ensures) (c .before .before .if1 .left) (c .before .row-total .ensures)
@@ -170,7 +177,7 @@ pub +folded-width+shown-width+union-width-spec : {M : Type 1} → statement M
     folded-width-Inv-loop
     folded-width-μ-loop
     (folded-width-loop-holds t)
-    (λ c κs. search needs)
+    (folded-width-next-of-requires t)
     (folded-width-shown-width-requires t)
     (λ c κs. search needs)
     (λ c. search needs)
@@ -187,7 +194,7 @@ pub +folded-width+shown-width+union-width-spec : {M : Type 1} → statement M
     (shown-width-row-total-requires t)
     (shown-width-returns-2 t)
     (λ c. search needs)
-    (λ c κs. search needs)
+    (shown-width-redefiner-count-requires t)
     (shown-width-union-width-requires t)
     (shown-width-returns-3 t)
     (shown-width-row-total-requires-2 t)

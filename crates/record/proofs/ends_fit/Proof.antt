@@ -15,7 +15,7 @@ use Rattle.layout.specs.Steps.{ChildrenEnd}
 use Rattle.record.specs.Shown.{standing, listIn, foldedRest, shownAt, Tree}
 use Rattle.record.proofs.FoldedLaws.{fit-append, shown-fits, shown-over}
 use Rattle.record.proofs.ShownLaws.{walking-ends, walking-here}
-use Rattle.record.proofs.WidthLaws.{Along, along-starts, along-branch, along-on}
+use Rattle.record.proofs.WidthLaws.{Along, along-starts, along-numbered, along-known, along-branch, along-on}
 use Rattle.record.proofs.ends_fit.Statement.{statement}
 use Rattle.record.proofs.ends_fit.Tie as tie
 
@@ -25,7 +25,7 @@ record Left (t w : List ℕ) (from to i last : ℕ) : Type 0 where
   along : Along t w from to i last done
   is : endsFit done ≡ give tt
 
-start : {t w : List ℕ} {from to : ℕ} → Tree w from to → Left t w from to from 0
+start : {t w : List ℕ} {from to : ℕ} → Tree t w from to → Left t w from to from 0
 unfolding endsFit
 start {t} {w} {from} {to} h = record { done = end; along = along-starts t w from to h; is = refl }
 
@@ -66,8 +66,11 @@ abbrev μ-loop : tie.MeasureT-loop
 loop-holds : tie.Need-loop-holds Inv-loop μ-loop
 loop-holds c = search start
 
+next-of-requires : tie.Need-next-of-requires Inv-loop μ-loop
+next-of-requires c κs = along-numbered (c .before .loop .inv .along) (c .loop-test .taken)
+
 shown-end-requires : tie.Need-shown-end-requires Inv-loop μ-loop
-shown-end-requires c κs = (along-branch (c .before .before .loop .inv .along) (c .end-of .ensures), c .before .before .loop .inv .along .back)
+shown-end-requires c κs = (along-branch (c .before .before .loop .inv .along) (c .next-of .ensures), along-known (c .before .before .loop .inv .along) (c .before .loop-test .taken))
 
 returns : tie.Need-returns Inv-loop μ-loop
 returns c = search over
@@ -85,7 +88,7 @@ ends-fit-spec =
     Inv-loop
     μ-loop
     loop-holds
-    (λ c κs. search needs)
+    next-of-requires
     shown-end-requires
     (λ c. search needs)
     (λ c. search needs)

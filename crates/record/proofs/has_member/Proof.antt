@@ -14,9 +14,10 @@ use Rattle.layout.specs.Bare.{foldedBelow, foldedAll}
 use Rattle.layout.specs.Places.{basesAt, entryIn}
 use Rattle.layout.specs.Steps.{ChildrenEnd}
 use Rattle.layout.proofs.RowLaws.{children-end}
-use Rattle.record.specs.Shown.{standing, shownNamed, listIn, foldedRest, shownAt, Siblings}
+use Rattle.record.specs.Shown.{standing, shownNamed, listIn, foldedRest, shownAt, Numbered, Tree}
 use Rattle.record.proofs.FoldedLaws.{member-append, shown-named}
-use Rattle.record.proofs.ShownLaws.{Walking, walking-starts, walking-ends, walking-here, walking-on}
+use Rattle.record.proofs.ShownLaws.{walking-ends, walking-here}
+use Rattle.record.proofs.WidthLaws.{Along, along-starts, along-numbered, along-known, along-on}
 use Rattle.record.proofs.has_member.Statement.{statement}
 use Rattle.record.proofs.has_member.Tie as tie
 
@@ -25,16 +26,19 @@ record Left (t w : List ℕ) (from to : ℕ) (name : Span) (i last : ℕ) : Type
   fits : 20 * to ≤ length w
   back : last ≤ i
   done : Entries
-  walk : Walking t w from to i last done
+  along : Along t w from to i last done
   is : hasMember t name done ≡ false
 
-start : {t w : List ℕ} {from to : ℕ} {name : Span} → Siblings w from to → Left t w from to name from 0
+start : {t w : List ℕ} {from to : ℕ} {name : Span} → Tree t w from to → Left t w from to name from 0
 unfolding hasMember
-start {t} {w} {from} {to} h = record { fits = h .fits; back = omega arith; done = end; walk = walking-starts t w from to (h .linked); is = refl }
+start {t} {w} {from} {to} h = record { fits = h .fits; back = omega arith; done = end; along = along-starts t w from to h; is = refl }
 
 module _ {t w : List ℕ} {from to : ℕ} {name : Span} {i last : ℕ} (inv : Left t w from to name i last) where
+  numbered : i < to → Numbered w i to
+  numbered h = along-numbered (inv .along) h
+
   done : to ≤ i → false ≡ hasMember t name (foldedAll t (listIn w from to))
-  done h = sym (ap (hasMember t name) (walking-ends (inv .walk) h) ∙ inv .is)
+  done h = sym (ap (hasMember t name) (walking-ends (inv .along .walk) h) ∙ inv .is)
 
   module _ {r : Bool} (p : r ≡ shownNamed t name (standing t (basesAt w last) (entryIn w i)) (entryIn w i)) where
     -- row i has the name or not
@@ -46,7 +50,7 @@ module _ {t w : List ℕ} {from to : ℕ} {name : Span} {i last : ℕ} (inv : Le
     at-row {j} h e =
         let rest = foldedRest t w j to (suc i) in
         sym
-        (ap (hasMember t name) (walking-here (inv .walk) h)
+        (ap (hasMember t name) (walking-here (inv .along .walk) h)
         ∙ member-append t name (inv .done) (append (shownAt t w i j to last) rest)
         ∙ ap (λ (b : Bool). if b then true else hasMember t name (append (shownAt t w i j to last) rest)) (inv .is)
         ∙ member-append t name (shownAt t w i j to last) rest
@@ -61,7 +65,7 @@ module _ {t w : List ℕ} {from to : ℕ} {name : Span} {i last : ℕ} (inv : Le
           fits = inv .fits;
           back = omega (arith, h .low);
           done = append (inv .done) (shownAt t w i j to last);
-          walk = walking-on (inv .walk) h;
+          along = along-on (inv .along) h;
           is =
               member-append t name (inv .done) (shownAt t w i j to last)
               ∙ ap (λ (b : Bool). if b then true else hasMember t name (shownAt t w i j to last)) (inv .is)
@@ -78,8 +82,14 @@ abbrev μ-loop : tie.MeasureT-loop
 loop-holds : tie.Need-loop-holds Inv-loop μ-loop
 loop-holds c = search start
 
+shown-named-requires : tie.Need-shown-named-requires Inv-loop μ-loop
+shown-named-requires c κs = along-known (c .before .loop .inv .along) (c .loop-test .taken)
+
 returns : tie.Need-returns Inv-loop μ-loop
 returns c = search hit
+
+next-of-requires : tie.Need-next-of-requires Inv-loop μ-loop
+next-of-requires c κs = numbered (c .before .before .before .loop .inv) (c .before .before .loop-test .taken)
 
 loop-again : tie.Need-loop-again Inv-loop μ-loop
 loop-again c = search next
@@ -94,10 +104,10 @@ has-member-spec =
     Inv-loop
     μ-loop
     loop-holds
-    (λ c κs. search needs)
+    shown-named-requires
     returns
     (λ c. search needs)
-    (λ c κs. search needs)
+    next-of-requires
     (λ c. search needs)
     loop-again
     returns-2)

@@ -12,7 +12,7 @@ use Rattle.layout.specs.Steps.{ChildrenEnd}
 use Rattle.record.specs.Shown.{listIn, shownAt, Tree}
 use Rattle.record.proofs.FoldedLaws.{length-append}
 use Rattle.record.proofs.ShownLaws.{walking-ends}
-use Rattle.record.proofs.WidthLaws.{Along, along-starts, along-branch, along-on}
+use Rattle.record.proofs.WidthLaws.{Along, along-starts, along-numbered, along-known, along-branch, along-on}
 use Rattle.record.proofs.record_length.Statement.{statement}
 use Rattle.record.proofs.record_length.Tie as tie
 
@@ -22,7 +22,7 @@ record Left (t w : List ℕ) (from to length i last : ℕ) : Type 0 where
   along : Along t w from to i last done
   is : length ≡ recordLength done
 
-start : {t w : List ℕ} {from to : ℕ} → Tree w from to → Left t w from to 0 from 0
+start : {t w : List ℕ} {from to : ℕ} → Tree t w from to → Left t w from to 0 from 0
 unfolding recordLength
 start {t} {w} {from} {to} h = record { done = end; along = along-starts t w from to h; is = refl }
 
@@ -47,11 +47,14 @@ abbrev μ-loop : tie.MeasureT-loop
 loop-holds : tie.Need-loop-holds Inv-loop μ-loop
 loop-holds c = search start
 
+next-of-requires : tie.Need-next-of-requires Inv-loop μ-loop
+next-of-requires c κs = along-numbered (c .before .loop .inv .along) (c .loop-test .taken)
+
 shown-end-requires : tie.Need-shown-end-requires Inv-loop μ-loop
-shown-end-requires c κs = (along-branch (c .before .before .loop .inv .along) (c .end-of .ensures), c .before .before .loop .inv .along .back)
+shown-end-requires c κs = (along-branch (c .before .before .loop .inv .along) (c .next-of .ensures), along-known (c .before .before .loop .inv .along) (c .before .loop-test .taken))
 
 loop-again : tie.Need-loop-again Inv-loop μ-loop
-loop-again c = next (c .before .before .before .before .loop .inv) (c .before .before .end-of .ensures) (c .before .shown-end .ensures) (c .most .ensures)
+loop-again c = next (c .before .before .before .before .loop .inv) (c .before .before .next-of .ensures) (c .before .shown-end .ensures) (c .most .ensures)
 
 returns : tie.Need-returns Inv-loop μ-loop
 returns c = ended (c .before .loop .inv) (c .loop-test .left)
@@ -63,7 +66,7 @@ record-length-spec =
     Inv-loop
     μ-loop
     loop-holds
-    (λ c κs. search needs)
+    next-of-requires
     shown-end-requires
     (λ c κs. search needs)
     (λ c. search needs)

@@ -1,7 +1,8 @@
 -- `record::shown_end` meets its contract, case by case.
 -- Assumes nothing.
 use borrow.Author.Needs.{needs}
-use Rattle.record.proofs.WidthLaws.{branch-row, end-under, end-single, end-base, end-joined}
+use Rattle.layout.specs.Places.{basesAt}
+use Rattle.record.proofs.WidthLaws.{branch-row, branch-base, end-under, end-single, end-base, end-joined}
 use Rattle.record.proofs.shown_end.Statement.{statement}
 use Rattle.record.proofs.shown_end.Tie as tie
 
@@ -13,6 +14,12 @@ row-end-requires c κs = search branch-row
 
 returns-2 : tie.Need-returns-2
 returns-2 c = search end-single
+
+redefiner-count-requires : tie.Need-redefiner-count-requires
+redefiner-count-requires c κs = let s = c .before .before .before .before .before in let a = s .args in branch-base (s .pre .0) (basesAt (a .work .now) (a .last)) (c .before .before .standing-of .ensures) (c .enum-told3 .given .1)
+
+union-width-requires : tie.Need-union-width-requires
+union-width-requires c κs = let s = c .before .before .before .before .before .before .before .before .before in let a = s .args in branch-base (s .pre .0) (basesAt (a .work .now) (a .last)) (c .before .before .before .before .before .before .standing-of .ensures) (c .before .before .before .before .enum-told3 .given .1)
 
 returns-3 : tie.Need-returns-3
 returns-3 c = search end-joined
@@ -34,13 +41,13 @@ shown-end-spec =
     row-end-requires
     returns-2
     (λ c. search needs)
-    (λ c κs. search needs)
+    redefiner-count-requires
     (λ c. search needs)
     (λ c. search needs)
     (λ c. search needs)
     (λ c. search needs)
     (λ c κs. search needs)
-    (λ c κs. search needs)
+    union-width-requires
     (λ c. search needs)
     returns-3
     row-end-requires-2

@@ -2,7 +2,7 @@
 -- Assumes nothing.
 use borrow.Author.Needs.{needs}
 use Prim.Native.Nat.{ℕ, _≤_, _<_}
-use mathlib.Core.Path.{_≡_, sym, ap, _∙_}
+use mathlib.Core.Path.{_≡_, sym, ap, ap₂, _∙_}
 use mathlib.Core.Bool.{Bool, true, false}
 use mathlib.Core.List.{List}
 use borrow.Author.Tests.{lt-ltb, le-ltb}
@@ -13,7 +13,7 @@ use Rattle.rows.specs.Table.{spanAt, cell}
 use Rattle.layout.specs.Bare.{hasBase}
 use Rattle.layout.specs.Places.{basesAt, entryIn}
 use Rattle.record.specs.declared.Standing.{Standing}
-use Rattle.record.specs.Shown.{standing}
+use Rattle.record.specs.Shown.{standing, Known}
 use Rattle.record.proofs.standing_of.Statement.{statement}
 use Rattle.record.proofs.standing_of.Tie as tie
 
@@ -22,21 +22,18 @@ abbrev told : Bool → Bool → Standing
 told g a = if g then (if a then Standing.Under else Standing.Alone) else Standing.Base
 
 module _ (t w : List ℕ) (i last : ℕ) {s : Span} (p : s ≡ spanAt (cell w i 6)) where
-  whole : told (given s) (hasBase (find t s (basesAt w last))) ≡ standing t (basesAt w last) (entryIn w i)
-  whole = ap (λ (x : Span). told (given x) (hasBase (find t x (basesAt w last)))) p
+  module _ (n : Known t w i last) (h : 0 < s .len) where
+    redefines : given (spanAt (cell w i 6)) ≡ true
+    redefines = ap given (sym p) ∙ lt-ltb 0 (s .len) h
 
-  module _ (h : 0 < s .len) {r : Bool} (e : r ≡ hasBase (find t s (basesAt w last))) where
-    named : told true r ≡ standing t (basesAt w last) (entryIn w i)
-    named = sym (ap (λ (g : Bool). told g r) (lt-ltb 0 (s .len) h)) ∙ ap (told (given s)) e ∙ whole
+    under : 0 < cell w i 18 → Standing.Under ≡ standing t (basesAt w last) (entryIn w i)
+    under v = sym (ap₂ told redefines (n .is redefines ∙ lt-ltb 0 (cell w i 18) v))
 
-    under : r ≡ true → Standing.Under ≡ standing t (basesAt w last) (entryIn w i)
-    under y = sym (ap (told true) y) ∙ named
-
-    alone : r ≡ false → Standing.Alone ≡ standing t (basesAt w last) (entryIn w i)
-    alone y = sym (ap (told true) y) ∙ named
+    alone : cell w i 18 ≤ 0 → Standing.Alone ≡ standing t (basesAt w last) (entryIn w i)
+    alone v = sym (ap₂ told redefines (n .is redefines ∙ le-ltb 0 (cell w i 18) v))
 
   base : s .len ≤ 0 → Standing.Base ≡ standing t (basesAt w last) (entryIn w i)
-  base h = sym (ap (λ (g : Bool). told g (hasBase (find t s (basesAt w last)))) (le-ltb 0 (s .len) h)) ∙ whole
+  base h = sym (ap (λ (g : Bool). told g (hasBase (find t (spanAt (cell w i 6)) (basesAt w last)))) (ap given (sym p) ∙ le-ltb 0 (s .len) h))
 
 returns : tie.Need-returns
 returns c = search under
@@ -56,7 +53,10 @@ standing-of-spec =
     (λ c. search needs)
     (λ c. search needs)
     (λ c κs. search needs)
-    (λ c κs. search needs)
+    (λ c. search needs)
+    (λ c. search needs)
+    (λ c. search needs)
+    (λ c. search needs)
     returns
     returns-2
     returns-3)

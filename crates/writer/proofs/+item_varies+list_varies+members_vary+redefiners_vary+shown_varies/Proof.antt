@@ -7,12 +7,11 @@ use native.Mathlib.Omega.{arith}
 use Rattle.definition.specs.Basic.{given}
 use Rattle.definition.specs.Record.{variable}
 use Rattle.layout.specs.Bare.{foldedBelow}
-use Rattle.layout.specs.Places.{entryIn}
+use Rattle.layout.specs.Places.{basesAt, entryIn}
 use Rattle.record.specs.Shown.{redefinersIn}
+use Rattle.record.proofs.WidthLaws.{branch-tree, branch-base, along-numbered, along-known, along-branch, counting-numbered, counting-kin, counting-tree}
 use Rattle.writer.specs.Written.{listVaries, itemVaries}
-use Rattle.writer.proofs.WriteLaws.{family-branch}
-use Rattle.writer.proofs.WalkLaws.{family-tree}
-use Rattle.writer.proofs.VaryLaws.{first-yes, first-not, under-varies, alone-varies, base-varies, union-varies, folded-varies, based-varies, Looking, looking-starts, looking-ends, looking-family, looking-finds, looking-on, Seeking, seeking-starts, seeking-ends, seeking-tree, seeking-stops, seeking-passes, seeking-finds, seeking-on}
+use Rattle.writer.proofs.VaryLaws.{first-yes, first-not, under-varies, alone-varies, base-varies, union-varies, folded-varies, based-varies, Looking, looking-starts, looking-ends, looking-finds, looking-on, Seeking, seeking-starts, seeking-ends, seeking-stops, seeking-passes, seeking-finds, seeking-on}
 use borrow.Fn.Kinds.{In}
 use borrow.Fn.PlainCycle.{Measures, is, falls, and}
 use Rattle.writer.proofs.item_varies.Reads as item-varies
@@ -30,11 +29,10 @@ use Rattle.writer.proofs.+item_varies+list_varies+members_vary+redefine
 use Rattle.writer.proofs.shown_varies.Reads as shown-varies
 use Rattle.writer.proofs.shown_varies.Kinds as shown-varies-kinds
 use Rattle.writer.proofs.+item_varies+list_varies+members_vary+redefiners_vary+shown_varies.Lts-shown_varies as shown-varies-lts
-use Rattle.layout.proofs.end_of.Reads as end-of-reads
+use Rattle.record.proofs.next_of.Reads as next-of-reads
 use Rattle.record.proofs.redefiner_count.Reads as redefiner-count-reads
 use Rattle.record.proofs.relation_to.Reads as relation-to-reads
 use Rattle.record.proofs.standing_of.Reads as standing-of-reads
-use Rattle.rows.proofs.span_at.Reads as span-at-reads
 use Rattle.writer.proofs.depends.Reads as depends-reads
 use Rattle.writer.proofs.has_own.Reads as has-own-reads
 use Rattle.writer.proofs.+item_varies+list_varies+members_vary+redefiners_vary+shown_varies.{
@@ -119,13 +117,13 @@ abbrev item-varies-callees : ℕ → item-varies-lts.Claims
 item-varies-callees t = (depends-reads.Asked, depends-reads.Learnt, list-varies-below t, list-varies.Post)
 
 abbrev list-varies-callees : ℕ → list-varies-lts.Claims
-list-varies-callees t = (end-of-reads.Asked, end-of-reads.Learnt, shown-varies-below t, shown-varies.Post)
+list-varies-callees t = (next-of-reads.Asked, next-of-reads.Learnt, shown-varies-below t, shown-varies.Post)
 
 abbrev members-vary-callees : ℕ → members-vary-lts.Claims
 members-vary-callees t = (has-own-reads.Asked, has-own-reads.Learnt, list-varies-below t, list-varies.Post, redefiners-vary-below t, redefiners-vary.Post, item-varies-below t, item-varies.Post)
 
 abbrev redefiners-vary-callees : ℕ → redefiners-vary-lts.Claims
-redefiners-vary-callees t = (span-at-reads.Asked, span-at-reads.Learnt, end-of-reads.Asked, end-of-reads.Learnt, relation-to-reads.Asked, relation-to-reads.Learnt, item-varies-below t, item-varies.Post)
+redefiners-vary-callees t = (redefiner-count-reads.Asked, redefiner-count-reads.Learnt, next-of-reads.Asked, next-of-reads.Learnt, relation-to-reads.Asked, relation-to-reads.Learnt, item-varies-below t, item-varies.Post)
 
 abbrev shown-varies-callees : ℕ → shown-varies-lts.Claims
 shown-varies-callees t = (standing-of-reads.Asked, standing-of-reads.Learnt, item-varies-below t, item-varies.Post, redefiner-count-reads.Asked, redefiner-count-reads.Learnt, members-vary-below t, members-vary.Post)
@@ -164,22 +162,22 @@ list-varies-loop-holds t c =
     let a = s .args in
     looking-starts (a .text .now) (a .work .now) (a .from) (a .to) (s .pre .1)
 
-list-varies-end-of-requires : (t : ℕ) → list-varies-lts.Need-end-of-requires (list-varies-callees t) (list-varies-at t) list-varies.Post list-varies-Inv-loop list-varies-μ-loop
-list-varies-end-of-requires t c κs =
-    (c .loop-test .taken, c .before .loop .inv .along .tree .fits)
+list-varies-next-of-requires : (t : ℕ) → list-varies-lts.Need-next-of-requires (list-varies-callees t) (list-varies-at t) list-varies.Post list-varies-Inv-loop list-varies-μ-loop
+list-varies-next-of-requires t c κs =
+    along-numbered (c .before .loop .inv .along) (c .loop-test .taken)
 
 list-varies-shown-varies-requires : (t : ℕ) → list-varies-lts.Need-shown-varies-requires (list-varies-callees t) (list-varies-at t) list-varies.Post list-varies-Inv-loop list-varies-μ-loop
 list-varies-shown-varies-requires t c κs =
     let s = c .before .before .before .before .before in
-    (omega (arith, s .pre .0, c .before .before .loop .inv .along .low, c .before .loop-test .taken), (looking-family (c .before .before .loop .inv) (c .end-of .ensures), c .before .before .loop .inv .along .back))
+    (omega (arith, s .pre .0, c .before .before .loop .inv .along .low, c .before .loop-test .taken), (along-branch (c .before .before .loop .inv .along) (c .next-of .ensures), along-known (c .before .before .loop .inv .along) (c .before .loop-test .taken)))
 
 list-varies-returns : (t : ℕ) → list-varies-lts.Need-returns (list-varies-callees t) (list-varies-at t) list-varies.Post list-varies-Inv-loop list-varies-μ-loop
 list-varies-returns t c =
-    looking-finds (c .before .before .before .before .loop .inv) (c .before .before .end-of .ensures) (c .before .shown-varies .ensures) (c .if1 .taken)
+    looking-finds (c .before .before .before .before .loop .inv) (c .before .before .next-of .ensures) (c .before .shown-varies .ensures) (c .if1 .taken)
 
 list-varies-loop-again : (t : ℕ) → list-varies-lts.Need-loop-again (list-varies-callees t) (list-varies-at t) list-varies.Post list-varies-Inv-loop list-varies-μ-loop
 list-varies-loop-again t c =
-    looking-on (c .before .before .before .before .loop .inv) (c .before .before .end-of .ensures) (c .before .shown-varies .ensures) (c .if1 .left)
+    looking-on (c .before .before .before .before .loop .inv) (c .before .before .next-of .ensures) (c .before .shown-varies .ensures) (c .if1 .left)
 
 list-varies-returns-2 : (t : ℕ) → list-varies-lts.Need-returns-2 (list-varies-callees t) (list-varies-at t) list-varies.Post list-varies-Inv-loop list-varies-μ-loop
 list-varies-returns-2 t c =
@@ -188,12 +186,12 @@ list-varies-returns-2 t c =
 members-vary-has-own-requires : (t : ℕ) → members-vary-lts.Need-has-own-requires (members-vary-callees t) (members-vary-at t) members-vary.Post
 members-vary-has-own-requires t c κs =
     let s = c .before .before in
-    family-branch (s .pre .1)
+    s .pre .1
 
 members-vary-list-varies-requires : (t : ℕ) → members-vary-lts.Need-list-varies-requires (members-vary-callees t) (members-vary-at t) members-vary.Post
 members-vary-list-varies-requires t c κs =
     let s = c .before .before .before .before in
-    (omega (arith, s .pre .0, s .pre .1 .low, s .pre .1 .high), (family-tree (s .pre .1)))
+    (omega (arith, s .pre .0, s .pre .1 .low, s .pre .1 .high), (branch-tree (s .pre .1 .branch)))
 
 members-vary-returns : (t : ℕ) → members-vary-lts.Need-returns (members-vary-callees t) (members-vary-at t) members-vary.Post
 members-vary-returns t c =
@@ -215,7 +213,7 @@ members-vary-returns-2 t c =
 members-vary-item-varies-requires : (t : ℕ) → members-vary-lts.Need-item-varies-requires (members-vary-callees t) (members-vary-at t) members-vary.Post
 members-vary-item-varies-requires t c κs =
     let s = c .before .before .before .before in
-    (omega (arith, s .pre .0, s .pre .1 .low, s .pre .1 .high), (s .pre .1 .low, family-tree (s .pre .1)))
+    (omega (arith, s .pre .0, s .pre .1 .low, s .pre .1 .high), (s .pre .1 .low, branch-tree (s .pre .1 .branch)))
 
 members-vary-returns-3 : (t : ℕ) → members-vary-lts.Need-returns-3 (members-vary-callees t) (members-vary-at t) members-vary.Post
 members-vary-returns-3 t c =
@@ -236,47 +234,51 @@ members-vary-returns-4 t c =
     first-not (itemVaries (a .text .now) (a .work .now) (a .i) (a .j)) (variable (foldedBelow (a .text .now) (redefinersIn (a .text .now) (a .work .now) (a .i) (a .j) (a .to)))) (based-varies (a .text .now) (a .work .now) (a .i) (a .j) (a .to) (c .before .before .before .before .has-own .ensures) (c .before .before .before .if1 .left)) (c .before .before .item-varies .ensures) (c .before .if3 .left) (c .redefiners-vary2 .ensures)
 
 abbrev redefiners-vary-Inv-loop : redefiners-vary-lts.InvT-loop
-redefiners-vary-Inv-loop text work i j to name k₀ k = Seeking text work i j to k
+redefiners-vary-Inv-loop text work i j to left₀ k₀ left k = Seeking text work i j to left k
 
 abbrev redefiners-vary-μ-loop : redefiners-vary-lts.MeasureT-loop
-redefiners-vary-μ-loop text work i j to name k₀ k = to - k
+redefiners-vary-μ-loop text work i j to left₀ k₀ left k = to - k
+
+redefiners-vary-redefiner-count-requires : (t : ℕ) → redefiners-vary-lts.Need-redefiner-count-requires (redefiners-vary-callees t) (redefiners-vary-at t) redefiners-vary.Post redefiners-vary-Inv-loop redefiners-vary-μ-loop
+redefiners-vary-redefiner-count-requires t c κs =
+    let s = c .before .before in
+    s .pre .1
 
 redefiners-vary-loop-holds : (t : ℕ) → redefiners-vary-lts.Need-loop-holds (redefiners-vary-callees t) (redefiners-vary-at t) redefiners-vary.Post redefiners-vary-Inv-loop redefiners-vary-μ-loop
 redefiners-vary-loop-holds t c =
-    let s = c .before .before .before .before in
+    let s = c .before .before .before in
     let a = s .args in
-    seeking-starts (a .text .now) (a .work .now) (a .i) (a .j) (a .to) (s .pre .1)
+    seeking-starts (a .text .now) (a .work .now) (a .i) (a .j) (a .to) (s .pre .1) (c .redefiner-count .ensures)
 
-redefiners-vary-end-of-requires : (t : ℕ) → redefiners-vary-lts.Need-end-of-requires (redefiners-vary-callees t) (redefiners-vary-at t) redefiners-vary.Post redefiners-vary-Inv-loop redefiners-vary-μ-loop
-redefiners-vary-end-of-requires t c κs =
-    let s = c .before .before .before .before .before .before in
-    (c .loop-test .taken, s .pre .1 .fits)
+redefiners-vary-next-of-requires : (t : ℕ) → redefiners-vary-lts.Need-next-of-requires (redefiners-vary-callees t) (redefiners-vary-at t) redefiners-vary.Post redefiners-vary-Inv-loop redefiners-vary-μ-loop
+redefiners-vary-next-of-requires t c κs =
+    counting-numbered (c .before .loop .inv .counting) (c .loop-test .taken)
 
 redefiners-vary-relation-to-requires : (t : ℕ) → redefiners-vary-lts.Need-relation-to-requires (redefiners-vary-callees t) (redefiners-vary-at t) redefiners-vary.Post redefiners-vary-Inv-loop redefiners-vary-μ-loop
 redefiners-vary-relation-to-requires t c κs =
-    let s = c .before .before .before .before .before .before .before in
-    omega (arith, c .before .loop-test .taken, s .pre .1 .fits)
+    let n = c .before .before .loop .inv .counting in
+    (omega (arith, n .base .low, n .base .high, n .base .fits), counting-kin n (c .before .loop-test .taken))
 
 redefiners-vary-item-varies-requires : (t : ℕ) → redefiners-vary-lts.Need-item-varies-requires (redefiners-vary-callees t) (redefiners-vary-at t) redefiners-vary.Post redefiners-vary-Inv-loop redefiners-vary-μ-loop
 redefiners-vary-item-varies-requires t c κs =
-    let s = c .before .before .before .before .before .before .before .before .before .before in
-    (omega (arith, s .pre .0, c .before .before .before .before .before .loop .inv .low, c .before .before .before .before .loop-test .taken, c .before .before .before .end-of .ensures .low, c .before .before .before .end-of .ensures .high), (c .before .before .before .end-of .ensures .low, seeking-tree (c .before .before .before .before .before .loop .inv) (c .before .before .before .end-of .ensures)))
+    let s = c .before .before .before .before .before .before .before .before .before in
+    (omega (arith, s .pre .0, c .before .before .before .before .before .loop .inv .counting .low, c .before .before .before .next-of .ensures .low, c .before .before .before .next-of .ensures .high), (c .before .before .before .next-of .ensures .low, counting-tree (c .before .before .before .before .before .loop .inv .counting) (c .before .before .before .next-of .ensures)))
 
 redefiners-vary-returns : (t : ℕ) → redefiners-vary-lts.Need-returns (redefiners-vary-callees t) (redefiners-vary-at t) redefiners-vary.Post redefiners-vary-Inv-loop redefiners-vary-μ-loop
 redefiners-vary-returns t c =
-    seeking-finds (c .before .before .before .before .before .before .before .loop .inv) (c .before .before .before .before .before .end-of .ensures) (c .before .before .before .before .before .before .before .before .span-at .ensures) (c .before .before .before .before .relation-to .ensures) (c .before .before .enum-told .given .1) (c .before .item-varies .ensures) (c .if1 .taken)
+    seeking-finds (c .before .before .before .before .before .before .before .loop .inv) (c .before .before .before .before .before .next-of .ensures) (c .before .before .before .before .before .before .loop-test .taken) (c .before .before .before .before .relation-to .ensures) (c .before .before .enum-told .given .1) (c .before .item-varies .ensures) (c .if1 .taken)
 
 redefiners-vary-loop-again : (t : ℕ) → redefiners-vary-lts.Need-loop-again (redefiners-vary-callees t) (redefiners-vary-at t) redefiners-vary.Post redefiners-vary-Inv-loop redefiners-vary-μ-loop
 redefiners-vary-loop-again t c =
-    seeking-on (c .before .before .before .before .before .before .before .loop .inv) (c .before .before .before .before .before .end-of .ensures) (c .before .before .before .before .before .before .before .before .span-at .ensures) (c .before .before .before .before .relation-to .ensures) (c .before .before .enum-told .given .1) (c .before .item-varies .ensures) (c .if1 .left)
+    seeking-on (c .before .before .before .before .before .before .before .loop .inv) (c .before .before .before .before .before .next-of .ensures) (c .before .before .before .before .before .before .loop-test .taken) (c .before .before .before .before .relation-to .ensures) (c .before .before .enum-told .given .1) (c .before .item-varies .ensures) (c .if1 .left)
 
 redefiners-vary-returns-2 : (t : ℕ) → redefiners-vary-lts.Need-returns-2 (redefiners-vary-callees t) (redefiners-vary-at t) redefiners-vary.Post redefiners-vary-Inv-loop redefiners-vary-μ-loop
 redefiners-vary-returns-2 t c =
-    seeking-stops (c .before .before .before .before .before .loop .inv) (c .before .before .before .end-of .ensures) (c .before .before .before .before .before .before .span-at .ensures) (c .before .before .relation-to .ensures) (c .enum-told2 .given .1)
+    seeking-stops (c .before .before .before .before .before .loop .inv) (c .before .before .before .next-of .ensures) (c .before .before .before .before .loop-test .taken) (c .before .before .relation-to .ensures) (c .enum-told2 .given .1)
 
 redefiners-vary-loop-again-2 : (t : ℕ) → redefiners-vary-lts.Need-loop-again-2 (redefiners-vary-callees t) (redefiners-vary-at t) redefiners-vary.Post redefiners-vary-Inv-loop redefiners-vary-μ-loop
 redefiners-vary-loop-again-2 t c =
-    seeking-passes (c .before .before .before .before .before .loop .inv) (c .before .before .before .end-of .ensures) (c .before .before .before .before .before .before .span-at .ensures) (c .before .before .relation-to .ensures) (c .enum-told3 .given .1)
+    seeking-passes (c .before .before .before .before .before .loop .inv) (c .before .before .before .next-of .ensures) (c .before .before .before .before .loop-test .taken) (c .before .before .relation-to .ensures) (c .enum-told3 .given .1)
 
 redefiners-vary-returns-3 : (t : ℕ) → redefiners-vary-lts.Need-returns-3 (redefiners-vary-callees t) (redefiners-vary-at t) redefiners-vary.Post redefiners-vary-Inv-loop redefiners-vary-μ-loop
 redefiners-vary-returns-3 t c =
@@ -285,7 +287,7 @@ redefiners-vary-returns-3 t c =
 shown-varies-standing-of-requires : (t : ℕ) → shown-varies-lts.Need-standing-of-requires (shown-varies-callees t) (shown-varies-at t) shown-varies.Post
 shown-varies-standing-of-requires t c κs =
     let s = c .before .before in
-    (omega (arith, s .pre .1 .0 .low, s .pre .1 .0 .high, s .pre .1 .0 .fits), s .pre .1 .1)
+    s .pre .1 .1
 
 shown-varies-returns : (t : ℕ) → shown-varies-lts.Need-returns (shown-varies-callees t) (shown-varies-at t) shown-varies.Post
 shown-varies-returns t c =
@@ -296,7 +298,7 @@ shown-varies-returns t c =
 shown-varies-item-varies-requires : (t : ℕ) → shown-varies-lts.Need-item-varies-requires (shown-varies-callees t) (shown-varies-at t) shown-varies.Post
 shown-varies-item-varies-requires t c κs =
     let s = c .before .before .before .before .before in
-    (omega (arith, s .pre .0, s .pre .1 .0 .low, s .pre .1 .0 .high), (s .pre .1 .0 .low, family-tree (s .pre .1 .0)))
+    (omega (arith, s .pre .0, s .pre .1 .0 .low, s .pre .1 .0 .high), (s .pre .1 .0 .low, branch-tree (s .pre .1 .0)))
 
 shown-varies-returns-2 : (t : ℕ) → shown-varies-lts.Need-returns-2 (shown-varies-callees t) (shown-varies-at t) shown-varies.Post
 shown-varies-returns-2 t c =
@@ -307,12 +309,14 @@ shown-varies-returns-2 t c =
 shown-varies-redefiner-count-requires : (t : ℕ) → shown-varies-lts.Need-redefiner-count-requires (shown-varies-callees t) (shown-varies-at t) shown-varies.Post
 shown-varies-redefiner-count-requires t c κs =
     let s = c .before .before .before .before .before in
-    (s .pre .1 .0 .low, s .pre .1 .0 .high, s .pre .1 .0 .fits)
+    let a = s .args in
+    branch-base (s .pre .1 .0) (basesAt (a .work .now) (a .last)) (c .before .before .standing-of .ensures) (c .enum-told3 .given .1)
 
 shown-varies-members-vary-requires : (t : ℕ) → shown-varies-lts.Need-members-vary-requires (shown-varies-callees t) (shown-varies-at t) shown-varies.Post
 shown-varies-members-vary-requires t c κs =
     let s = c .before .before .before .before .before .before .before in
-    (omega (arith, s .pre .0), (s .pre .1 .0))
+    let a = s .args in
+    (omega (arith, s .pre .0), branch-base (s .pre .1 .0) (basesAt (a .work .now) (a .last)) (c .before .before .before .before .standing-of .ensures) (c .before .before .enum-told3 .given .1))
 
 shown-varies-returns-3 : (t : ℕ) → shown-varies-lts.Need-returns-3 (shown-varies-callees t) (shown-varies-at t) shown-varies.Post
 shown-varies-returns-3 t c =
@@ -323,7 +327,7 @@ shown-varies-returns-3 t c =
 shown-varies-item-varies-requires-2 : (t : ℕ) → shown-varies-lts.Need-item-varies-requires-2 (shown-varies-callees t) (shown-varies-at t) shown-varies.Post
 shown-varies-item-varies-requires-2 t c κs =
     let s = c .before .before .before .before .before .before .before in
-    (omega (arith, s .pre .0, s .pre .1 .0 .low, s .pre .1 .0 .high), (s .pre .1 .0 .low, family-tree (s .pre .1 .0)))
+    (omega (arith, s .pre .0, s .pre .1 .0 .low, s .pre .1 .0 .high), (s .pre .1 .0 .low, branch-tree (s .pre .1 .0)))
 
 shown-varies-returns-4 : (t : ℕ) → shown-varies-lts.Need-returns-4 (shown-varies-callees t) (shown-varies-at t) shown-varies.Post
 shown-varies-returns-4 t c =
@@ -354,7 +358,7 @@ pub +item-varies+list-varies+members-vary+redefiners-vary+shown-varies-spec :
     list-varies-Inv-loop
     list-varies-μ-loop
     (list-varies-loop-holds t)
-    (list-varies-end-of-requires t)
+    (list-varies-next-of-requires t)
     (list-varies-shown-varies-requires t)
     (list-varies-returns t)
     (λ c. search needs)
@@ -379,17 +383,14 @@ pub +item-varies+list-varies+members-vary+redefiners-vary+shown-varies-spec :
     redefiners-vary.Post
     redefiners-vary-Inv-loop
     redefiners-vary-μ-loop
-    (λ c. search needs)
-    (λ c. search needs)
-    (λ c. search needs)
-    (λ c. search needs)
-    (λ c κs. search needs)
+    (redefiners-vary-redefiner-count-requires t)
     (redefiners-vary-loop-holds t)
-    (redefiners-vary-end-of-requires t)
+    (redefiners-vary-next-of-requires t)
     (redefiners-vary-relation-to-requires t)
     (λ c. search needs)
     (redefiners-vary-item-varies-requires t)
     (redefiners-vary-returns t)
+    (λ c. search needs)
     (λ c. search needs)
     (redefiners-vary-loop-again t)
     (λ c. search needs)

@@ -6,9 +6,11 @@ use mathlib.Core.Path.{refl}
 use native.Mathlib.Omega.{arith}
 use Rattle.definition.specs.Listing.{members#, entryBytes, entriesBytes}
 use Rattle.listing.proofs.PutLaws.{put-none, put-length}
+use Rattle.layout.specs.Places.{basesAt}
+use Rattle.record.proofs.WidthLaws.{branch-tree, branch-base, along-numbered, along-known, along-branch, counting-numbered, counting-row, counting-kin, counting-tree}
 use Rattle.writer.specs.Written.{listBytes, itemBytes, unionIn, unionEntry, unionBytes}
-use Rattle.writer.proofs.WriteLaws.{put-as, fits-as, fits-entry, tree-siblings, family-branch, shown-under, shown-alone, shown-base, shown-union}
-use Rattle.writer.proofs.WalkLaws.{head-rest, head-then, family-tree, union-few, folded-first, folded-rest, folded-then, based-first, based-rest, based-then, Writing, writing-starts, writing-ends, writing-family, writing-fits, writing-on, Redefining, redefining-starts, redefining-ends, redefining-tree, redefining-stops, redefining-passes, redefining-fits, redefining-on}
+use Rattle.writer.proofs.WriteLaws.{put-as, fits-as, fits-entry, shown-under, shown-alone, shown-base, shown-union}
+use Rattle.writer.proofs.WalkLaws.{head-rest, head-then, union-few, folded-first, folded-rest, folded-then, based-first, based-rest, based-then, Writing, writing-starts, writing-ends, writing-fits, writing-on, Redefining, redefining-starts, redefining-ends, redefining-stops, redefining-passes, redefining-fits, redefining-on}
 use borrow.Fn.Kinds.{In}
 use borrow.Fn.PlainCycle.{Measures, is, falls, and}
 use Rattle.writer.proofs.write_item.Reads as write-item
@@ -29,14 +31,13 @@ use Rattle.writer.proofs.+write_item+write_list+write_members+write_red
 use Rattle.writer.proofs.write_union.Reads as write-union
 use Rattle.writer.proofs.write_union.Kinds as write-union-kinds
 use Rattle.writer.proofs.+write_item+write_list+write_members+write_redefiners+write_shown+write_union.Lts-write_union as write-union-lts
-use Rattle.layout.proofs.end_of.Reads as end-of-reads
 use Rattle.layout.proofs.entry_at.Reads as entry-at-reads
 use Rattle.listing.proofs.put_entry.Reads as put-entry-reads
 use Rattle.record.proofs.folded_count.Reads as folded-count-reads
+use Rattle.record.proofs.next_of.Reads as next-of-reads
 use Rattle.record.proofs.redefiner_count.Reads as redefiner-count-reads
 use Rattle.record.proofs.relation_to.Reads as relation-to-reads
 use Rattle.record.proofs.standing_of.Reads as standing-of-reads
-use Rattle.rows.proofs.span_at.Reads as span-at-reads
 use Rattle.writer.proofs.has_own.Reads as has-own-reads
 use Rattle.writer.proofs.member_at.Reads as member-at-reads
 use Rattle.writer.proofs.union_count.Reads as union-count-reads
@@ -130,13 +131,13 @@ abbrev write-item-callees : ℕ → write-item-lts.Claims
 write-item-callees t = (folded-count-reads.Asked, folded-count-reads.Learnt, put-entry-reads.Asked, put-entry-reads.Learnt, write-list-below t, write-list.Post)
 
 abbrev write-list-callees : ℕ → write-list-lts.Claims
-write-list-callees t = (end-of-reads.Asked, end-of-reads.Learnt, write-shown-below t, write-shown.Post)
+write-list-callees t = (next-of-reads.Asked, next-of-reads.Learnt, write-shown-below t, write-shown.Post)
 
 abbrev write-members-callees : ℕ → write-members-lts.Claims
 write-members-callees t = (has-own-reads.Asked, has-own-reads.Learnt, write-list-below t, write-list.Post, write-redefiners-below t, write-redefiners.Post, member-at-reads.Asked, member-at-reads.Learnt, write-item-below t, write-item.Post)
 
 abbrev write-redefiners-callees : ℕ → write-redefiners-lts.Claims
-write-redefiners-callees t = (span-at-reads.Asked, span-at-reads.Learnt, end-of-reads.Asked, end-of-reads.Learnt, relation-to-reads.Asked, relation-to-reads.Learnt, member-at-reads.Asked, member-at-reads.Learnt, write-item-below t, write-item.Post)
+write-redefiners-callees t = (redefiner-count-reads.Asked, redefiner-count-reads.Learnt, next-of-reads.Asked, next-of-reads.Learnt, relation-to-reads.Asked, relation-to-reads.Learnt, member-at-reads.Asked, member-at-reads.Learnt, write-item-below t, write-item.Post)
 
 abbrev write-shown-callees : ℕ → write-shown-lts.Claims
 write-shown-callees t = (standing-of-reads.Asked, standing-of-reads.Learnt, entry-at-reads.Asked, entry-at-reads.Learnt, write-item-below t, write-item.Post, redefiner-count-reads.Asked, redefiner-count-reads.Learnt, write-union-below t, write-union.Post)
@@ -147,7 +148,7 @@ write-union-callees t = (union-entry-reads.Asked, union-entry-reads.Learnt, unio
 write-item-folded-count-requires : (t : ℕ) → write-item-lts.Need-folded-count-requires (write-item-callees t) (write-item-at t) write-item.Post
 write-item-folded-count-requires t c κs =
     let s = c .before .before .before in
-    tree-siblings (s .pre .1 .1)
+    s .pre .1 .1
 
 write-item-put-entry-requires : (t : ℕ) → write-item-lts.Need-put-entry-requires (write-item-callees t) (write-item-at t) write-item.Post
 write-item-put-entry-requires t c κs =
@@ -180,18 +181,18 @@ write-list-loop-holds t c =
     let a = s .args in
     writing-starts (a .text .now) (a .work .now) (a .out .now) (a .from) (a .to) (a .at) (s .pre .1 .0) (s .pre .1 .1)
 
-write-list-end-of-requires : (t : ℕ) → write-list-lts.Need-end-of-requires (write-list-callees t) (write-list-at t) write-list.Post write-list-Inv-loop write-list-μ-loop
-write-list-end-of-requires t c κs =
-    (c .loop-test .taken, c .before .loop .inv .along .tree .fits)
+write-list-next-of-requires : (t : ℕ) → write-list-lts.Need-next-of-requires (write-list-callees t) (write-list-at t) write-list.Post write-list-Inv-loop write-list-μ-loop
+write-list-next-of-requires t c κs =
+    along-numbered (c .before .loop .inv .along) (c .loop-test .taken)
 
 write-list-write-shown-requires : (t : ℕ) → write-list-lts.Need-write-shown-requires (write-list-callees t) (write-list-at t) write-list.Post write-list-Inv-loop write-list-μ-loop
 write-list-write-shown-requires t c κs =
     let s = c .before .before .before .before .before .before .before in
-    (omega (arith, s .pre .0, c .before .before .before .loop .inv .along .low, c .before .before .loop-test .taken), (writing-family (c .before .before .before .loop .inv) (c .before .end-of .ensures), c .before .before .before .loop .inv .along .back, writing-fits (c .before .before .before .loop .inv) (c .before .end-of .ensures)))
+    (omega (arith, s .pre .0, c .before .before .before .loop .inv .along .low, c .before .before .loop-test .taken), (along-branch (c .before .before .before .loop .inv .along) (c .before .next-of .ensures), along-known (c .before .before .before .loop .inv .along) (c .before .before .loop-test .taken), writing-fits (c .before .before .before .loop .inv) (c .before .next-of .ensures)))
 
 write-list-loop-again : (t : ℕ) → write-list-lts.Need-loop-again (write-list-callees t) (write-list-at t) write-list.Post write-list-Inv-loop write-list-μ-loop
 write-list-loop-again t c =
-    writing-on (c .before .before .before .before .before .before .loop .inv) (c .before .before .before .before .end-of .ensures) (c .before .before .write-shown .ensures)
+    writing-on (c .before .before .before .before .before .before .loop .inv) (c .before .before .before .before .next-of .ensures) (c .before .before .write-shown .ensures)
 
 write-list-same-length : (t : ℕ) → write-list-lts.Need-same-length (write-list-callees t) (write-list-at t) write-list.Post write-list-Inv-loop write-list-μ-loop
 write-list-same-length t c =
@@ -204,13 +205,13 @@ write-list-returns t c =
 write-members-has-own-requires : (t : ℕ) → write-members-lts.Need-has-own-requires (write-members-callees t) (write-members-at t) write-members.Post
 write-members-has-own-requires t c κs =
     let s = c .before .before .before in
-    family-branch (s .pre .1 .0)
+    s .pre .1 .0
 
 write-members-write-list-requires : (t : ℕ) → write-members-lts.Need-write-list-requires (write-members-callees t) (write-members-at t) write-members.Post
 write-members-write-list-requires t c κs =
     let s = c .before .before .before .before .before .before in
     let a = s .args in
-    (omega (arith, s .pre .0, s .pre .1 .0 .low, s .pre .1 .0 .high), (family-tree (s .pre .1 .0), folded-first (a .text .now) (a .work .now) (a .i) (a .j) (a .to) (c .before .before .has-own .ensures) (a .at) (s .pre .1 .1) (c .before .if1 .taken)))
+    (omega (arith, s .pre .0, s .pre .1 .0 .low, s .pre .1 .0 .high), (branch-tree (s .pre .1 .0 .branch), folded-first (a .text .now) (a .work .now) (a .i) (a .j) (a .to) (c .before .before .has-own .ensures) (a .at) (s .pre .1 .1) (c .before .if1 .taken)))
 
 write-members-write-redefiners-requires :
     (t : ℕ) → write-members-lts.Need-write-redefiners-requires (write-members-callees t) (write-members-at t) write-members.Post
@@ -234,7 +235,7 @@ write-members-write-item-requires : (t : ℕ) → write-members-lts.Need-write-i
 write-members-write-item-requires t c κs =
     let s = c .before .before .before .before .before .before .before in
     let a = s .args in
-    (omega (arith, s .pre .0, s .pre .1 .0 .low, s .pre .1 .0 .high), (s .pre .1 .0 .low, family-tree (s .pre .1 .0), based-first (a .text .now) (a .work .now) (a .i) (a .j) (a .to) (c .before .before .before .has-own .ensures) (a .at) (s .pre .1 .1) (c .before .before .if1 .left) (c .before .member-at .ensures)))
+    (omega (arith, s .pre .0, s .pre .1 .0 .low, s .pre .1 .0 .high), (s .pre .1 .0 .low, branch-tree (s .pre .1 .0 .branch), based-first (a .text .now) (a .work .now) (a .i) (a .j) (a .to) (c .before .before .before .has-own .ensures) (a .at) (s .pre .1 .1) (c .before .before .if1 .left) (c .before .member-at .ensures)))
 
 write-members-write-redefiners-requires-2 :
     (t : ℕ) → write-members-lts.Need-write-redefiners-requires-2 (write-members-callees t) (write-members-at t) write-members.Post
@@ -250,41 +251,45 @@ write-members-returns-2 t c =
     based-then (a .text .now) (a .work .now) (a .i) (a .j) (a .to) (c .before .before .before .before .before .before .before .before .before .before .has-own .ensures) (a .at) (s .pre .1 .1) (c .before .before .before .before .before .before .before .before .before .if1 .left) (c .before .before .before .before .before .before .before .before .member-at .ensures) (c .before .before .before .before .before .before .write-item .ensures) (c .before .before .write-redefiners2 .ensures)
 
 abbrev write-redefiners-Inv-loop : write-redefiners-lts.InvT-loop
-write-redefiners-Inv-loop text work i j to out₀ at name place₀ k₀ out place k =
-    Redefining text work out₀ out i j to at place k
+write-redefiners-Inv-loop text work i j to out₀ at left₀ place₀ k₀ out left place k =
+    Redefining text work out₀ out i j to at left place k
 
 abbrev write-redefiners-μ-loop : write-redefiners-lts.MeasureT-loop
-write-redefiners-μ-loop text work i j to out₀ at name place₀ k₀ out place k = to - k
+write-redefiners-μ-loop text work i j to out₀ at left₀ place₀ k₀ out left place k = to - k
+
+write-redefiners-redefiner-count-requires : (t : ℕ) → write-redefiners-lts.Need-redefiner-count-requires (write-redefiners-callees t) (write-redefiners-at t) write-redefiners.Post write-redefiners-Inv-loop write-redefiners-μ-loop
+write-redefiners-redefiner-count-requires t c κs =
+    let s = c .before .before .before in
+    s .pre .1 .0
 
 write-redefiners-loop-holds : (t : ℕ) → write-redefiners-lts.Need-loop-holds (write-redefiners-callees t) (write-redefiners-at t) write-redefiners.Post write-redefiners-Inv-loop write-redefiners-μ-loop
 write-redefiners-loop-holds t c =
-    let s = c .before .before .before .before .before in
+    let s = c .before .before .before .before in
     let a = s .args in
-    redefining-starts (a .text .now) (a .work .now) (a .out .now) (a .i) (a .j) (a .to) (a .at) (s .pre .1 .0) (s .pre .1 .1)
+    redefining-starts (a .text .now) (a .work .now) (a .out .now) (a .i) (a .j) (a .to) (a .at) (s .pre .1 .0) (c .redefiner-count .ensures) (s .pre .1 .1)
 
-write-redefiners-end-of-requires : (t : ℕ) → write-redefiners-lts.Need-end-of-requires (write-redefiners-callees t) (write-redefiners-at t) write-redefiners.Post write-redefiners-Inv-loop write-redefiners-μ-loop
-write-redefiners-end-of-requires t c κs =
-    let s = c .before .before .before .before .before .before .before in
-    (c .loop-test .taken, s .pre .1 .0 .fits)
+write-redefiners-next-of-requires : (t : ℕ) → write-redefiners-lts.Need-next-of-requires (write-redefiners-callees t) (write-redefiners-at t) write-redefiners.Post write-redefiners-Inv-loop write-redefiners-μ-loop
+write-redefiners-next-of-requires t c κs =
+    counting-numbered (c .before .loop .inv .counting) (c .loop-test .taken)
 
 write-redefiners-relation-to-requires : (t : ℕ) → write-redefiners-lts.Need-relation-to-requires (write-redefiners-callees t) (write-redefiners-at t) write-redefiners.Post write-redefiners-Inv-loop write-redefiners-μ-loop
 write-redefiners-relation-to-requires t c κs =
-    let s = c .before .before .before .before .before .before .before .before in
-    omega (arith, c .before .loop-test .taken, s .pre .1 .0 .fits)
+    let n = c .before .before .loop .inv .counting in
+    (omega (arith, n .base .low, n .base .high, n .base .fits), counting-kin n (c .before .loop-test .taken))
 
 write-redefiners-member-at-requires : (t : ℕ) → write-redefiners-lts.Need-member-at-requires (write-redefiners-callees t) (write-redefiners-at t) write-redefiners.Post write-redefiners-Inv-loop write-redefiners-μ-loop
 write-redefiners-member-at-requires t c κs =
-    let s = c .before .before .before .before .before .before .before .before .before .before .before in
-    (omega (arith, c .before .before .before .before .loop-test .taken, s .pre .1 .0 .fits), omega (arith, s .pre .1 .0 .low, s .pre .1 .0 .high, s .pre .1 .0 .fits))
+    let s = c .before .before .before .before .before .before .before .before .before .before in
+    (counting-row (c .before .before .before .before .before .loop .inv .counting) (c .before .before .before .before .loop-test .taken) .fits, omega (arith, s .pre .1 .0 .low, s .pre .1 .0 .high, s .pre .1 .0 .fits))
 
 write-redefiners-write-item-requires : (t : ℕ) → write-redefiners-lts.Need-write-item-requires (write-redefiners-callees t) (write-redefiners-at t) write-redefiners.Post write-redefiners-Inv-loop write-redefiners-μ-loop
 write-redefiners-write-item-requires t c κs =
-    let s = c .before .before .before .before .before .before .before .before .before .before .before .before .before in
-    (omega (arith, s .pre .0, c .before .before .before .before .before .before .before .loop .inv .low, c .before .before .before .before .before .before .loop-test .taken, c .before .before .before .before .before .end-of .ensures .low, c .before .before .before .before .before .end-of .ensures .high), (c .before .before .before .before .before .end-of .ensures .low, redefining-tree (c .before .before .before .before .before .before .before .loop .inv) (c .before .before .before .before .before .end-of .ensures), redefining-fits (c .before .before .before .before .before .before .before .loop .inv) (c .before .before .before .before .before .end-of .ensures) (c .before .before .before .before .before .before .before .before .span-at .ensures) (c .before .before .before .before .relation-to .ensures) (c .before .before .enum-told .given .1) (c .before .member-at .ensures)))
+    let s = c .before .before .before .before .before .before .before .before .before .before .before .before in
+    (omega (arith, s .pre .0, c .before .before .before .before .before .before .before .loop .inv .counting .low, c .before .before .before .before .before .next-of .ensures .low, c .before .before .before .before .before .next-of .ensures .high), (c .before .before .before .before .before .next-of .ensures .low, counting-tree (c .before .before .before .before .before .before .before .loop .inv .counting) (c .before .before .before .before .before .next-of .ensures), redefining-fits (c .before .before .before .before .before .before .before .loop .inv) (c .before .before .before .before .before .next-of .ensures) (c .before .before .before .before .before .before .loop-test .taken) (c .before .before .before .before .relation-to .ensures) (c .before .before .enum-told .given .1) (c .before .member-at .ensures)))
 
 write-redefiners-loop-again : (t : ℕ) → write-redefiners-lts.Need-loop-again (write-redefiners-callees t) (write-redefiners-at t) write-redefiners.Post write-redefiners-Inv-loop write-redefiners-μ-loop
 write-redefiners-loop-again t c =
-    redefining-on (c .before .before .before .before .before .before .before .before .before .before .loop .inv) (c .before .before .before .before .before .before .before .before .end-of .ensures) (c .before .before .before .before .before .before .before .before .before .before .before .span-at .ensures) (c .before .before .before .before .before .before .before .relation-to .ensures) (c .before .before .before .before .before .enum-told .given .1) (c .before .before .before .before .member-at .ensures) (c .before .before .write-item .ensures)
+    redefining-on (c .before .before .before .before .before .before .before .before .before .before .loop .inv) (c .before .before .before .before .before .before .before .before .next-of .ensures) (c .before .before .before .before .before .before .before .before .before .loop-test .taken) (c .before .before .before .before .before .before .before .relation-to .ensures) (c .before .before .before .before .before .enum-told .given .1) (c .before .before .before .before .member-at .ensures) (c .before .before .write-item .ensures)
 
 write-redefiners-same-length : (t : ℕ) → write-redefiners-lts.Need-same-length (write-redefiners-callees t) (write-redefiners-at t) write-redefiners.Post write-redefiners-Inv-loop write-redefiners-μ-loop
 write-redefiners-same-length t c =
@@ -292,11 +297,11 @@ write-redefiners-same-length t c =
 
 write-redefiners-returns : (t : ℕ) → write-redefiners-lts.Need-returns (write-redefiners-callees t) (write-redefiners-at t) write-redefiners.Post write-redefiners-Inv-loop write-redefiners-μ-loop
 write-redefiners-returns t c =
-    redefining-stops (c .before .before .before .before .before .loop .inv) (c .before .before .before .end-of .ensures) (c .before .before .before .before .before .before .span-at .ensures) (c .before .before .relation-to .ensures) (c .enum-told2 .given .1)
+    redefining-stops (c .before .before .before .before .before .loop .inv) (c .before .before .before .next-of .ensures) (c .before .before .before .before .loop-test .taken) (c .before .before .relation-to .ensures) (c .enum-told2 .given .1)
 
 write-redefiners-loop-again-2 : (t : ℕ) → write-redefiners-lts.Need-loop-again-2 (write-redefiners-callees t) (write-redefiners-at t) write-redefiners.Post write-redefiners-Inv-loop write-redefiners-μ-loop
 write-redefiners-loop-again-2 t c =
-    redefining-passes (c .before .before .before .before .before .loop .inv) (c .before .before .before .end-of .ensures) (c .before .before .before .before .before .before .span-at .ensures) (c .before .before .relation-to .ensures) (c .enum-told3 .given .1)
+    redefining-passes (c .before .before .before .before .before .loop .inv) (c .before .before .before .next-of .ensures) (c .before .before .before .before .loop-test .taken) (c .before .before .relation-to .ensures) (c .enum-told3 .given .1)
 
 write-redefiners-same-length-2 : (t : ℕ) → write-redefiners-lts.Need-same-length-2 (write-redefiners-callees t) (write-redefiners-at t) write-redefiners.Post write-redefiners-Inv-loop write-redefiners-μ-loop
 write-redefiners-same-length-2 t c =
@@ -309,7 +314,7 @@ write-redefiners-returns-2 t c =
 write-shown-standing-of-requires : (t : ℕ) → write-shown-lts.Need-standing-of-requires (write-shown-callees t) (write-shown-at t) write-shown.Post
 write-shown-standing-of-requires t c κs =
     let s = c .before .before .before in
-    (omega (arith, s .pre .1 .0 .low, s .pre .1 .0 .high, s .pre .1 .0 .fits), s .pre .1 .1)
+    s .pre .1 .1
 
 write-shown-returns : (t : ℕ) → write-shown-lts.Need-returns (write-shown-callees t) (write-shown-at t) write-shown.Post
 write-shown-returns t c =
@@ -326,7 +331,7 @@ write-shown-write-item-requires : (t : ℕ) → write-shown-lts.Need-write-item-
 write-shown-write-item-requires t c κs =
     let s = c .before .before .before .before .before .before .before .before in
     let a = s .args in
-    (omega (arith, s .pre .0, s .pre .1 .0 .low, s .pre .1 .0 .high), (s .pre .1 .0 .low, family-tree (s .pre .1 .0), fits-as (a .at) (shown-alone (a .text .now) (a .work .now) (a .i) (a .j) (a .to) (a .last) (c .before .before .before .before .standing-of .ensures) (c .before .before .enum-told2 .given .1) (c .before .entry-at .ensures)) (s .pre .1 .2)))
+    (omega (arith, s .pre .0, s .pre .1 .0 .low, s .pre .1 .0 .high), (s .pre .1 .0 .low, branch-tree (s .pre .1 .0), fits-as (a .at) (shown-alone (a .text .now) (a .work .now) (a .i) (a .j) (a .to) (a .last) (c .before .before .before .before .standing-of .ensures) (c .before .before .enum-told2 .given .1) (c .before .entry-at .ensures)) (s .pre .1 .2)))
 
 write-shown-returns-2 : (t : ℕ) → write-shown-lts.Need-returns-2 (write-shown-callees t) (write-shown-at t) write-shown.Post
 write-shown-returns-2 t c =
@@ -337,13 +342,14 @@ write-shown-returns-2 t c =
 write-shown-redefiner-count-requires : (t : ℕ) → write-shown-lts.Need-redefiner-count-requires (write-shown-callees t) (write-shown-at t) write-shown.Post
 write-shown-redefiner-count-requires t c κs =
     let s = c .before .before .before .before .before .before in
-    (s .pre .1 .0 .low, s .pre .1 .0 .high, s .pre .1 .0 .fits)
+    let a = s .args in
+    branch-base (s .pre .1 .0) (basesAt (a .work .now) (a .last)) (c .before .before .standing-of .ensures) (c .enum-told3 .given .1)
 
 write-shown-write-union-requires : (t : ℕ) → write-shown-lts.Need-write-union-requires (write-shown-callees t) (write-shown-at t) write-shown.Post
 write-shown-write-union-requires t c κs =
     let s = c .before .before .before .before .before .before .before .before .before in
     let a = s .args in
-    (omega (arith, s .pre .0), (s .pre .1 .0, fits-as (a .at) (shown-union (a .text .now) (a .work .now) (a .i) (a .j) (a .to) (a .last) (c .before .before .before .before .before .standing-of .ensures) (c .before .before .before .enum-told3 .given .1) (c .before .before .redefiner-count .ensures) (c .before .if1 .taken)) (s .pre .1 .2)))
+    (omega (arith, s .pre .0), (branch-base (s .pre .1 .0) (basesAt (a .work .now) (a .last)) (c .before .before .before .before .before .standing-of .ensures) (c .before .before .before .enum-told3 .given .1), fits-as (a .at) (shown-union (a .text .now) (a .work .now) (a .i) (a .j) (a .to) (a .last) (c .before .before .before .before .before .standing-of .ensures) (c .before .before .before .enum-told3 .given .1) (c .before .before .redefiner-count .ensures) (c .before .if1 .taken)) (s .pre .1 .2)))
 
 write-shown-returns-3 : (t : ℕ) → write-shown-lts.Need-returns-3 (write-shown-callees t) (write-shown-at t) write-shown.Post
 write-shown-returns-3 t c =
@@ -360,7 +366,7 @@ write-shown-write-item-requires-2 : (t : ℕ) → write-shown-lts.Need-write-ite
 write-shown-write-item-requires-2 t c κs =
     let s = c .before .before .before .before .before .before .before .before .before .before in
     let a = s .args in
-    (omega (arith, s .pre .0, s .pre .1 .0 .low, s .pre .1 .0 .high), (s .pre .1 .0 .low, family-tree (s .pre .1 .0), fits-as (a .at) (shown-base (a .text .now) (a .work .now) (a .i) (a .j) (a .to) (a .last) (c .before .before .before .before .before .before .standing-of .ensures) (c .before .before .before .before .enum-told3 .given .1) (c .before .before .before .redefiner-count .ensures) (c .before .before .if1 .left) (c .before .entry-at2 .ensures)) (s .pre .1 .2)))
+    (omega (arith, s .pre .0, s .pre .1 .0 .low, s .pre .1 .0 .high), (s .pre .1 .0 .low, branch-tree (s .pre .1 .0), fits-as (a .at) (shown-base (a .text .now) (a .work .now) (a .i) (a .j) (a .to) (a .last) (c .before .before .before .before .before .before .standing-of .ensures) (c .before .before .before .before .enum-told3 .given .1) (c .before .before .before .redefiner-count .ensures) (c .before .before .if1 .left) (c .before .entry-at2 .ensures)) (s .pre .1 .2)))
 
 write-shown-returns-4 : (t : ℕ) → write-shown-lts.Need-returns-4 (write-shown-callees t) (write-shown-at t) write-shown.Post
 write-shown-returns-4 t c =
@@ -371,13 +377,13 @@ write-shown-returns-4 t c =
 write-union-union-entry-requires : (t : ℕ) → write-union-lts.Need-union-entry-requires (write-union-callees t) (write-union-at t) write-union.Post
 write-union-union-entry-requires t c κs =
     let s = c .before .before .before in
-    family-branch (s .pre .1 .0)
+    s .pre .1 .0
 
 write-union-union-count-requires : (t : ℕ) → write-union-lts.Need-union-count-requires (write-union-callees t) (write-union-at t) write-union.Post
 write-union-union-count-requires t c κs =
     let s = c .before .before .before .before in
     let a = s .args in
-    (family-branch (s .pre .1 .0), union-few (a .text .now) (a .work .now) (a .i) (a .j) (a .to) (a .at) (entryBytes (unionEntry (a .text .now) (a .work .now) (a .i) (a .j) (a .to)) (members# (unionIn (a .text .now) (a .work .now) (a .i) (a .j) (a .to)))) (s .pre .1 .1))
+    (s .pre .1 .0, union-few (a .text .now) (a .work .now) (a .i) (a .j) (a .to) (a .at) (entryBytes (unionEntry (a .text .now) (a .work .now) (a .i) (a .j) (a .to)) (members# (unionIn (a .text .now) (a .work .now) (a .i) (a .j) (a .to)))) (s .pre .1 .1))
 
 write-union-put-entry-requires : (t : ℕ) → write-union-lts.Need-put-entry-requires (write-union-callees t) (write-union-at t) write-union.Post
 write-union-put-entry-requires t c κs =
@@ -421,7 +427,7 @@ pub +write-item+write-list+write-members+write-redefiners+write-shown+write-unio
     write-list-Inv-loop
     write-list-μ-loop
     (write-list-loop-holds t)
-    (write-list-end-of-requires t)
+    (write-list-next-of-requires t)
     (write-list-write-shown-requires t)
     (λ c. search needs)
     (λ c. search needs)
@@ -447,17 +453,14 @@ pub +write-item+write-list+write-members+write-redefiners+write-shown+write-unio
     write-redefiners.Post
     write-redefiners-Inv-loop
     write-redefiners-μ-loop
-    (λ c. search needs)
-    (λ c. search needs)
-    (λ c. search needs)
-    (λ c. search needs)
-    (λ c κs. search needs)
+    (write-redefiners-redefiner-count-requires t)
     (write-redefiners-loop-holds t)
-    (write-redefiners-end-of-requires t)
+    (write-redefiners-next-of-requires t)
     (write-redefiners-relation-to-requires t)
     (λ c. search needs)
     (write-redefiners-member-at-requires t)
     (write-redefiners-write-item-requires t)
+    (λ c. search needs)
     (λ c. search needs)
     (write-redefiners-loop-again t)
     (λ c. search needs)

@@ -2,7 +2,6 @@
 -- Assumes nothing.
 use borrow.Author.Needs.{needs}
 use native.Mathlib.Omega.{arith}
-use Rattle.writer.proofs.WriteLaws.{tree-siblings}
 use Rattle.writer.proofs.ListedLaws.{list-fits, whole}
 use Rattle.writer.proofs.put_listing.Statement.{statement}
 use Rattle.writer.proofs.put_listing.Tie as tie
@@ -11,7 +10,7 @@ list-varies-requires : tie.Need-list-varies-requires
 list-varies-requires c κs = search needs
 
 folded-count-requires : tie.Need-folded-count-requires
-folded-count-requires c κs = search tree-siblings
+folded-count-requires c κs = search needs
 
 put-head-requires : tie.Need-put-head-requires
 put-head-requires c κs = search needs

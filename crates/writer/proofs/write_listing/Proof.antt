@@ -1,25 +1,22 @@
--- `writer::write_listing` meets its contract: measured first, and written only where there is room.
+-- `writer::write_listing` meets its contract: an ample output has room, and for another the listing is measured first.
 -- Assumes nothing.
 use borrow.Author.Needs.{needs}
-use Rattle.writer.proofs.ListedLaws.{no-room, room}
+use Rattle.writer.proofs.ListedLaws.{ample}
 use Rattle.writer.proofs.write_listing.Statement.{statement}
 use Rattle.writer.proofs.write_listing.Tie as tie
 
-measure-requires : tie.Need-measure-requires
-measure-requires c κs = search needs
-
-returns : tie.Need-returns
-returns c = search no-room
-
-put-listing-requires : tie.Need-put-listing-requires
-put-listing-requires c κs = search needs
-
-same-length : tie.Need-same-length
-same-length c = search needs
-
 returns-2 : tie.Need-returns-2
-returns-2 c = search room
+returns-2 c = search ample
 
 pub write-listing-spec : {M : Type 1} → statement M
 write-listing-spec =
-    tie.close (tie.spec measure-requires returns put-listing-requires same-length returns-2)
+    tie.close
+    (tie.spec
+    (λ c. search needs)
+    (λ c. search needs)
+    (λ c κs. search needs)
+    (λ c. search needs)
+    (λ c. search needs)
+    (λ c κs. search needs)
+    (λ c. search needs)
+    returns-2)

@@ -1,0 +1,99 @@
+-- `record::find_base` meets its contract: what is found from k back is what is found from the last sibling back.
+-- Assumes nothing.
+use borrow.Author.Needs.{needs}
+use Prim.Native.Nat.{ℕ, suc, _*_, _-_, _≤_, _<_}
+use mathlib.Core.Path.{_≡_, refl, sym, ap, _∙_}
+use mathlib.Core.Bool.{Bool, true, false}
+use mathlib.Core.List.{List}
+use native.Mathlib.Omega.{arith}
+use lib.ListN.{length}
+use Rattle.definition.specs.declared.Span.{Span}
+use Rattle.definition.specs.Basic.{if_then_else_}
+use Rattle.rows.specs.Table.{cell}
+use Rattle.layout.specs.Places.{isTarget}
+use Rattle.record.specs.Marks.{baseFrom}
+use Rattle.record.proofs.MarkLaws.{base-low, base-over, base-here}
+use Rattle.record.proofs.find_base.Statement.{statement}
+use Rattle.record.proofs.find_base.Tie as tie
+
+-- the search goes on from k back
+record Left (t w : List ℕ) (target : Span) (last k : ℕ) : Type 0 where
+  fits : 20 * last ≤ length w
+  within : k ≤ last
+  same : baseFrom t target w last last ≡ baseFrom t target w k k
+
+start : {t w : List ℕ} {target : Span} {last : ℕ} → 20 * last ≤ length w → Left t w target last last
+start h = record { fits = h; within = omega arith; same = refl }
+
+module _ {t w : List ℕ} {target : Span} {last k : ℕ} (inv : Left t w target last k) where
+  module _ (h : 0 < k) {o : Bool} (p : o ≡ isTarget t target true w (k - 1)) where
+    here : baseFrom t target w last last ≡ (if o then suc (k - 1) else baseFrom t target w (k - 1) (cell w (k - 1) 16))
+    here =
+        inv .same
+        ∙ ap (λ (m : ℕ). baseFrom t target w m m) (let e : k ≡ suc (k - 1) = omega arith in e)
+        ∙ base-here t w target (k - 1)
+        ∙ ap (λ (b : Bool). if b then suc (k - 1) else baseFrom t target w (k - 1) (cell w (k - 1) 16)) (sym p)
+
+    found : o ≡ true → k ≡ baseFrom t target w last last
+    found e =
+        (let q : k ≡ suc (k - 1) = omega arith in q)
+        ∙ sym (here ∙ ap (λ (b : Bool). if b then suc (k - 1) else baseFrom t target w (k - 1) (cell w (k - 1) 16)) e)
+
+    back : o ≡ false → baseFrom t target w last last ≡ baseFrom t target w (k - 1) (cell w (k - 1) 16)
+    back e = here ∙ ap (λ (b : Bool). if b then suc (k - 1) else baseFrom t target w (k - 1) (cell w (k - 1) 16)) e
+
+    broken : o ≡ false → {n : ℕ} → n ≡ cell w (k - 1) 16 → k - 1 < n → 0 ≡ baseFrom t target w last last
+    broken e q l = sym (back e ∙ base-over t w target (k - 1) (cell w (k - 1) 16) (omega arith))
+
+    next : o ≡ false → {n : ℕ} → n ≡ cell w (k - 1) 16 → n ≤ k - 1 → Left t w target last n
+    next e {n} q l =
+        record {
+          fits = inv .fits;
+          within = omega (arith, inv .within);
+          same = back e ∙ ap (baseFrom t target w (k - 1)) (sym q) ∙ base-low t w target (k - 1) n l;
+        }
+
+  done : k ≤ 0 → 0 ≡ baseFrom t target w last last
+  unfolding baseFrom
+  done h = sym (inv .same ∙ ap (λ (m : ℕ). baseFrom t target w m m) (let e : k ≡ 0 = omega arith in e))
+
+abbrev Inv-loop : tie.InvT-loop
+Inv-loop text work target last k₀ k = Left text work target last k
+
+abbrev μ-loop : tie.MeasureT-loop
+μ-loop text work target last k₀ k = k
+
+loop-holds : tie.Need-loop-holds Inv-loop μ-loop
+loop-holds c = search start
+
+returns : tie.Need-returns Inv-loop μ-loop
+returns c = search found
+
+returns-2 : tie.Need-returns-2 Inv-loop μ-loop
+returns-2 c = search broken
+
+loop-again : tie.Need-loop-again Inv-loop μ-loop
+loop-again c = search next
+
+returns-3 : tie.Need-returns-3 Inv-loop μ-loop
+returns-3 c = search done
+
+pub find-base-spec : {M : Type 1} → statement M
+find-base-spec =
+    tie.close
+    (tie.spec
+    Inv-loop
+    μ-loop
+    loop-holds
+    (λ c. search needs)
+    (λ c κs. search needs)
+    returns
+    (λ c. search needs)
+    (λ c. search needs)
+    (λ c. search needs)
+    (λ c. search needs)
+    (λ c κs. search needs)
+    returns-2
+    (λ c. search needs)
+    loop-again
+    returns-3)

@@ -1,26 +1,20 @@
-// Kept statements as rows in lent work memory, with the open levels that give each its depth, and the entry's own checks.
+// Kept statements as rows in lent work memory: a row written, and read back.
 ghost use mathlib.Core.Path.{_≡_};
 ghost use Prim.Native.Nat.{_+_, _*_, _≤_, _<_};
 ghost use mathlib.Core.List.{[], _∷_};
 ghost use lib.ListN.{length};
 ghost use lib.Seq.{sets};
-ghost use Rattle.definition.specs.Calls.{entryChecks, checkOf, cleared};
+ghost use Rattle.definition.specs.Calls.{cleared};
 ghost use Rattle.definition.specs.Listing.{flag};
-ghost use Rattle.definition.proofs.DepthLaws.{Rising};
-ghost use Rattle.rows.specs.Levels.{stackOf, Nested, Closed, Opened};
-ghost use Rattle.rows.specs.Reading.{Added, RowsAre};
 ghost use Rattle.rows.specs.Table.{spanCode, spanAt, usageCode, usageAt, signCode, signAt, markOf, countOf, occursAt};
 ghost use Rattle.rows.specs.Table.{Short, Brief, Placed, clauseCells, putRow, clausesAt, statementAt};
-use definition::Check;
 use definition::Clauses;
 use definition::Occurs;
-use definition::Refusal;
 use definition::SignWords;
 use definition::Span;
 use definition::Statement;
 use definition::Usage;
 use definition::UsageClause;
-use statement::StatementRead;
 
 // Work memory to zero.
 pub fn clear(work: &mut [u32])
@@ -31,26 +25,6 @@ pub fn clear(work: &mut [u32])
         work[i] = 0;
         i += 1;
     }
-}
-
-// Refusals 1 to 3: those of the text, and work memory under 16,384 numbers.
-pub fn entry_checks(text: &[u8], work_len: usize) -> Check
-    ensures { λ r. ⌜ checkOf r ≡ entryChecks (now (text .entry)) «work_len» ⌝ }
-{
-    match text::text_checks(text) {
-        Check::Passed => {}
-        Check::Refused(r) => {
-            return Check::Refused(r);
-        }
-    }
-    if work_len < 16384 {
-        return Check::Refused(Refusal {
-            number: 3,
-            position: 0,
-            needed: 0,
-        });
-    }
-    Check::Passed
 }
 
 // A span as one number.
@@ -280,112 +254,5 @@ pub fn statement_at(work: &[u32], k: usize) -> Statement
         at: work[20 * k + 2] as usize,
         name: span_at(work[20 * k + 3]),
         clauses: clauses_at(work, k),
-    }
-}
-
-// The levels that are open, the innermost last, and how many.
-pub struct OpenLevels {
-    pub levels: [u8; 256],
-    pub count: usize,
-}
-
-// No level is open.
-fn none_open() -> OpenLevels
-    ensures { λ r. ⌜ (stackOf r ≡ []) × Nested r ⌝ }
-{
-    OpenLevels {
-        levels: [0; 256],
-        count: 0,
-    }
-}
-
-// Closes the levels that are not smaller than a statement's.
-fn close(o: OpenLevels, level: u8) -> OpenLevels
-    requires { ⌜ Nested o ⌝ }
-    ensures { λ r. ⌜ Closed o level r ⌝ }
-{
-    let levels = o.levels;
-    let mut n = o.count;
-    while 0 < n {
-        if levels[n - 1] < level {
-            return OpenLevels {
-                levels: levels,
-                count: n,
-            };
-        }
-        n -= 1;
-    }
-    OpenLevels {
-        levels: levels,
-        count: n,
-    }
-}
-
-// Opens a statement's level, after the others were closed.
-fn open(o: OpenLevels, level: u8) -> OpenLevels
-    requires { ⌜ (o .count ≤ level) × Rising (stackOf o) ⌝ }
-    ensures { λ r. ⌜ Opened o level r ⌝ }
-{
-    let mut levels = o.levels;
-    let n = o.count;
-    levels[n] = level;
-    OpenLevels {
-        levels: levels,
-        count: n + 1,
-    }
-}
-
-// A statement into row n, at the depth that the open levels give; its level is open then.
-fn add_row(work: &mut [u32], n: usize, o: OpenLevels, s: Statement) -> OpenLevels
-    requires { ⌜ (20 * n + 20 ≤ length (now work)) × Nested o × Placed s ⌝ }
-    ensures { λ r. ⌜ Added (now (work .entry)) n o s (now (work .exit)) r ⌝ }
-{
-    let level = s.level;
-    let outer = close(o, level);
-    put_row(work, n, outer.count as u32, s);
-    open(outer, level)
-}
-
-// The number of rows that a text has, or why it is refused.
-pub enum RowsRead {
-    Rows(usize),
-    Refused(Refusal),
-}
-
-// The kept statements of a text as rows of work memory, from row 0 on.
-pub fn read_rows(text: &[u8], work: &mut [u32]) -> RowsRead
-    requires { ⌜ (length (now text) ≤ 65535) × (16384 ≤ length (now work)) ⌝ }
-    ensures { λ r. ⌜ RowsAre (now (text .entry)) (now (work .entry)) r (now (work .exit)) ⌝ }
-{
-    let mut at = 0;
-    let mut fresh = true;
-    let mut n = 0;
-    let mut levels = none_open();
-    loop {
-        match statement::read_statement(text, at, fresh) {
-            StatementRead::Kept(s, next) => {
-                if 800 <= n {
-                    return RowsRead::Refused(Refusal {
-                        number: 14,
-                        position: s.at,
-                        needed: 0,
-                    });
-                }
-                levels = add_row(work, n, levels, s);
-                n += 1;
-                at = next;
-                fresh = false;
-            }
-            StatementRead::Skipped(next) => {
-                at = next;
-                fresh = false;
-            }
-            StatementRead::Refused(r) => {
-                return RowsRead::Refused(r);
-            }
-            StatementRead::End => {
-                return RowsRead::Rows(n);
-            }
-        }
     }
 }

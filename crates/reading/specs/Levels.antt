@@ -6,7 +6,7 @@ use mathlib.Core.List.{List, [], _∷_}
 use lib.ListN.{getD}
 use Rattle.definition.specs.Tree.{stillOpen}
 use Rattle.definition.proofs.DepthLaws.{Rising}
-use Rattle.rows.specs.declared.OpenLevels.{OpenLevels}
+use Rattle.reading.specs.declared.OpenLevels.{OpenLevels}
 
 -- the first n of these levels, from the last of them down
 unfoldable pub topDown : List ℕ → ℕ → List ℕ

@@ -10,10 +10,10 @@ use Rattle.definition.specs.Basic.{Answer, refuse, give}
 use Rattle.definition.specs.Statement.{statements}
 use Rattle.definition.specs.Tree.{stillOpen, depths}
 use Rattle.definition.specs.Words.{statementWords}
-use Rattle.rows.specs.declared.OpenLevels.{OpenLevels}
-use Rattle.rows.specs.declared.RowsRead.{RowsRead}
-use Rattle.rows.specs.Levels.{stackOf, Nested}
+use Rattle.reading.specs.declared.OpenLevels.{OpenLevels}
+use Rattle.reading.specs.declared.RowsRead.{RowsRead}
+use Rattle.reading.specs.Levels.{stackOf, Nested}
 use Rattle.rows.specs.Table.{Storable, Storables, putRow, putRows}
 
 -- a statement was stored in row n of w, which is then w′, and r are the levels that are open after it
 pub record Added (w : List ℕ) (n : ℕ) (o : OpenLevels) (s : Statement) (w′ : List ℕ) (r : OpenLevels) : Type 0 where

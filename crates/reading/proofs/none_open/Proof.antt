@@ -1,10 +1,10 @@
--- `rows::none_open` meets its contract.
+-- `reading::none_open` meets its contract.
 -- Assumes nothing.
 use mathlib.Core.Path.{refl}
 use native.Mathlib.Omega.{arith}
-use Rattle.rows.specs.Levels.{topDown}
-use Rattle.rows.proofs.none_open.Statement.{statement}
-use Rattle.rows.proofs.none_open.Tie as tie
+use Rattle.reading.specs.Levels.{topDown}
+use Rattle.reading.proofs.none_open.Statement.{statement}
+use Rattle.reading.proofs.none_open.Tie as tie
 
 returns : tie.Need-returns
 unfolding topDown

@@ -1,4 +1,4 @@
--- `rows::close` meets its contract. The loop's invariant: what stays open of all levels is what stays open of those that are left.
+-- `reading::close` meets its contract. The loop's invariant: what stays open of all levels is what stays open of those that are left.
 -- Assumes nothing.
 use borrow.Author.Needs.{needs}
 use Prim.Native.Nat.{ℕ, _-_, _≤_, _<_}
@@ -8,10 +8,10 @@ use native.Mathlib.Omega.{arith}
 use lib.ListN.{length, getD}
 use Rattle.definition.specs.Tree.{stillOpen}
 use Rattle.definition.proofs.DepthLaws.{open-none, open-smaller, open-closed, Rising, open-few, open-rising}
-use Rattle.rows.specs.Levels.{topDown, Closed}
-use Rattle.rows.proofs.LevelLaws.{down-none, down-next, length-down}
-use Rattle.rows.proofs.close.Statement.{statement}
-use Rattle.rows.proofs.close.Tie as tie
+use Rattle.reading.specs.Levels.{topDown, Closed}
+use Rattle.reading.proofs.LevelLaws.{down-none, down-next, length-down}
+use Rattle.reading.proofs.close.Statement.{statement}
+use Rattle.reading.proofs.close.Tie as tie
 
 -- n of n₀ levels are left
 record Left (level : ℕ) (levels : List ℕ) (n₀ n : ℕ) : Type 0 where

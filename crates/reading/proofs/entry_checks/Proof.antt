@@ -1,4 +1,4 @@
--- `rows::entry_checks` meets its contract: the text's checks, then the size of work memory.
+-- `reading::entry_checks` meets its contract: the text's checks, then the size of work memory.
 -- Assumes nothing.
 use borrow.Author.Needs.{needs}
 use Prim.Native.Nat.{ℕ, _≤_, _<_}
@@ -10,8 +10,8 @@ use Rattle.definition.specs.declared.Check.the-variants.{Passed, Refused}
 use Rattle.definition.specs.declared.Refusal.{Refusal}
 use Rattle.definition.specs.Basic.{refuse, give, refused, _>>=_}
 use Rattle.definition.specs.Calls.{textChecks, entryChecks, checkOf}
-use Rattle.rows.proofs.entry_checks.Statement.{statement}
-use Rattle.rows.proofs.entry_checks.Tie as tie
+use Rattle.reading.proofs.entry_checks.Statement.{statement}
+use Rattle.reading.proofs.entry_checks.Tie as tie
 
 module _ (t : List ℕ) (work : ℕ) {a : Check} (p : checkOf a ≡ textChecks t) where
   -- the text is refused

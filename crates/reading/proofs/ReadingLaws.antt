@@ -13,10 +13,10 @@ use Rattle.definition.specs.Statement.{statements}
 use Rattle.definition.specs.Tree.{stillOpen, depths, forest, nesting}
 use Rattle.definition.specs.Words.{statementWords}
 use Rattle.definition.proofs.DepthLaws.{length-depths, depths-nesting}
-use Rattle.rows.specs.declared.RowsRead.{RowsRead}
+use Rattle.reading.specs.declared.RowsRead.{RowsRead}
 use Rattle.rows.specs.Table.{Storable, Storables, putRow, putRows, statementsFrom, depthsFrom}
-use Rattle.rows.specs.Reading.{stopped, ready, outcome, Held, RowsAre}
+use Rattle.reading.specs.Reading.{stopped, ready, outcome, Held, RowsAre}
 use Rattle.rows.proofs.TableLaws.{length-putRows, statements-put, depths-put}
 
 -- ---------------------------------------------------------------- one kept statement more
 

@@ -7,7 +7,7 @@ use native.Mathlib.Numerals.{add-one}
 use native.Mathlib.Omega.{arith}
 use lib.ListN.{length, getD, set}
 use lib.Seq.{getD-set-same, getD-set-other}
-use Rattle.rows.specs.Levels.{topDown}
+use Rattle.reading.specs.Levels.{topDown}
 
 -- no level, and the innermost of some
 pub down-none : (ls : List ℕ) → topDown ls 0 ≡ []

@@ -1,4 +1,4 @@
--- `rows::open` meets its contract: fewer levels than the level itself are open, so there is room.
+-- `reading::open` meets its contract: fewer levels than the level itself are open, so there is room.
 -- Assumes nothing.
 use borrow.Author.Needs.{needs}
 use Prim.Native.Nat.{ℕ, _+_, _≤_, _<_}
@@ -6,11 +6,11 @@ use mathlib.Core.Path.{_≡_}
 use native.Mathlib.Omega.{arith}
 use lib.ListN.{length, set}
 use Rattle.definition.proofs.DepthLaws.{Rising}
-use Rattle.rows.specs.declared.OpenLevels.{OpenLevels}
-use Rattle.rows.specs.Levels.{stackOf, Opened}
-use Rattle.rows.proofs.LevelLaws.{length-down, down-more}
-use Rattle.rows.proofs.open.Statement.{statement}
-use Rattle.rows.proofs.open.Tie as tie
+use Rattle.reading.specs.declared.OpenLevels.{OpenLevels}
+use Rattle.reading.specs.Levels.{stackOf, Opened}
+use Rattle.reading.proofs.LevelLaws.{length-down, down-more}
+use Rattle.reading.proofs.open.Statement.{statement}
+use Rattle.reading.proofs.open.Tie as tie
 
 module _ (o : OpenLevels) (level : ℕ) where
   -- one more level

@@ -1,4 +1,4 @@
--- `rows::add_row` meets its contract: as many levels are open as the statement is deep.
+-- `reading::add_row` meets its contract: as many levels are open as the statement is deep.
 -- Assumes nothing.
 use borrow.Author.Needs.{needs}
 use Prim.Native.Nat.{ℕ}
@@ -6,13 +6,13 @@ use mathlib.Core.Path.{_≡_, sym, ap, _∙_}
 use mathlib.Core.List.{List, _∷_}
 use lib.ListN.{length}
 use Rattle.definition.specs.declared.Statement.{Statement}
-use Rattle.rows.specs.declared.OpenLevels.{OpenLevels}
-use Rattle.rows.specs.Levels.{Closed, Opened}
+use Rattle.reading.specs.declared.OpenLevels.{OpenLevels}
+use Rattle.reading.specs.Levels.{Closed, Opened}
 use Rattle.rows.specs.Table.{Placed, putRow}
-use Rattle.rows.specs.Reading.{Added}
-use Rattle.rows.proofs.LevelLaws.{length-down}
-use Rattle.rows.proofs.add_row.Statement.{statement}
-use Rattle.rows.proofs.add_row.Tie as tie
+use Rattle.reading.specs.Reading.{Added}
+use Rattle.reading.proofs.LevelLaws.{length-down}
+use Rattle.reading.proofs.add_row.Statement.{statement}
+use Rattle.reading.proofs.add_row.Tie as tie
 
 module _ (w : List ℕ) (n : ℕ) {o u r : OpenLevels} {s : Statement} {w′ : List ℕ} where
   -- what the three calls say together

@@ -1,4 +1,4 @@
--- `rows::read_rows` meets its contract. The loop's invariant: the statements that are left, from the next row on and with the levels that are open,
+-- `reading::read_rows` meets its contract. The loop's invariant: the statements that are left, from the next row on and with the levels that are open,
 -- lead to what all statements lead to from row 0 on.
 -- Assumes nothing.
 use borrow.Author.Needs.{needs}
@@ -23,15 +23,15 @@ use Rattle.statement.specs.declared.StatementRead.{StatementRead}
 use Rattle.statement.specs.declared.StatementRead.the-variants.{Kept, Skipped, Refused, End}
 use Rattle.statement.specs.Reading.{Inside, FirstKept, FirstSkipped, FirstStatement}
 use Rattle.statement.proofs.ReadLaws.{kept-read, skipped-read, refused-read, end-read}
-use Rattle.rows.specs.declared.OpenLevels.{OpenLevels}
-use Rattle.rows.specs.declared.RowsRead.{RowsRead}
-use Rattle.rows.specs.Levels.{stackOf, Nested}
+use Rattle.reading.specs.declared.OpenLevels.{OpenLevels}
+use Rattle.reading.specs.declared.RowsRead.{RowsRead}
+use Rattle.reading.specs.Levels.{stackOf, Nested}
 use Rattle.rows.specs.Table.{Short, Placed, putRows}
-use Rattle.rows.specs.Reading.{Added, outcome, Held, RowsAre}
+use Rattle.reading.specs.Reading.{Added, outcome, Held, RowsAre}
 use Rattle.rows.proofs.TableLaws.{length-putRow}
-use Rattle.rows.proofs.ReadingLaws.{outcome-kept, held-kept}
-use Rattle.rows.proofs.read_rows.Statement.{statement}
-use Rattle.rows.proofs.read_rows.Tie as tie
+use Rattle.reading.proofs.ReadingLaws.{outcome-kept, held-kept}
+use Rattle.reading.proofs.read_rows.Statement.{statement}
+use Rattle.reading.proofs.read_rows.Tie as tie
 
 -- all kept statements, and those of the tokens from a place on where n are kept already
 abbrev whole : List ℕ → Answer (List Statement)

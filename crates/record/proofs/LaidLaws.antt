@@ -24,7 +24,7 @@ use Rattle.definition.proofs.Lists.{order}
 use Rattle.definition.specs.Statement.{statements}
 use Rattle.definition.specs.Words.{statementWords}
 use Rattle.rows.specs.Table.{cell, statementAt, statementsFrom}
-use Rattle.rows.proofs.ReadingLaws.{Stored}
+use Rattle.reading.proofs.ReadingLaws.{Stored}
 use Rattle.definition.specs.Calls.{checkOf}
 use Rattle.definition.specs.Record.{recordLength, endsFit}
 use Rattle.layout.specs.Bare.{foldCheck, foldedAll, bare, bareRecord}

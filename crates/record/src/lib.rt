@@ -20,7 +20,7 @@ use definition::Occurs;
 use definition::Refusal;
 use definition::Span;
 use layout::LaidList;
-use rows::RowsRead;
+use reading::RowsRead;
 
 // How an entry stands in the folded list.
 pub enum Standing {
@@ -455,7 +455,7 @@ pub fn lay_record(text: &[u8], work: &mut [u32]) -> RecordLaid
     requires { ⌜ (length (now text) ≤ 65535) × (16384 ≤ length (now work)) ⌝ }
     ensures { λ r. ⌜ RecordIs (now (text .entry)) (fieldsOf (now (text .entry))) r (now (work .exit)) ⌝ }
 {
-    match rows::read_rows(text, work) {
+    match reading::read_rows(text, work) {
         RowsRead::Rows(n) => {
             let from = first_field(work, n);
             return lay_fields(text, work, from, n);
@@ -471,7 +471,7 @@ pub fn lay_record(text: &[u8], work: &mut [u32]) -> RecordLaid
 pub fn read_record(text: &[u8], work: &mut [u32]) -> RecordLaid
     ensures { λ r. ⌜ RecordIs (now (text .entry)) (recordFields (now (text .entry)) (length (now (work .entry)))) r (now (work .exit)) ⌝ }
 {
-    match rows::entry_checks(text, work.len()) {
+    match reading::entry_checks(text, work.len()) {
         Check::Passed => {
             return lay_record(text, work);
         }

@@ -10,9 +10,9 @@ use definition::SignWords;
 use definition::Span;
 use definition::Usage;
 use definition::UsageClause;
+use reading::RowsRead;
 use replay::Reached;
 use replay::Tally;
-use rows::RowsRead;
 
 // What stands in work memory before a call.
 const FILL: u32 = 4294967295;
@@ -137,7 +137,7 @@ fn read_answer(list: &[u8], p: Reached, text: &[u8], work: &mut [u32]) -> Reache
     requires { ⌜ Inside (now list) p × (length (now text) ≤ 65535) × (16384 ≤ length (now work)) ⌝ }
     ensures { λ r. ⌜ Inside (now (list .entry)) r ⌝ }
 {
-    match rows::read_rows(text, work) {
+    match reading::read_rows(text, work) {
         RowsRead::Rows(n) => {
             if 800 < n {
                 return Reached::Differs;
@@ -157,7 +157,7 @@ fn answer(list: &[u8], p: Reached, text: &[u8], work: &mut [u32]) -> Reached
     requires { ⌜ Inside (now list) p ⌝ }
     ensures { λ r. ⌜ Inside (now (list .entry)) r ⌝ }
 {
-    match rows::entry_checks(text, work.len()) {
+    match reading::entry_checks(text, work.len()) {
         Check::Passed => {
             if 65535 < text.len() {
                 return Reached::Differs;

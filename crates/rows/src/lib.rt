@@ -127,9 +127,9 @@ fn sign_at(n: u32) -> SignWords
     SignWords::Absent
 }
 
-// 1 for true, 0 for false.
+// 1 for true, 0 for false; no more than a small number for the sums that it stands in.
 pub fn flag_of(b: bool) -> u32
-    ensures { λ r. ⌜ r ≡ flag b ⌝ }
+    ensures { λ r. ⌜ (r ≡ flag b) × (r ≤ 1) ⌝ }
 {
     if b {
         return 1;

@@ -50,7 +50,7 @@ returns c =
     (spans .span-code3 .ensures)
     (first .before .usage-code .ensures)
     (marks .before .before .sign-code .ensures)
-    (marks .before .flag-of .ensures)
+    (marks .before .flag-of .ensures .0)
     (marks .occurs-mark .ensures)
     (counted .occurs-count .ensures .0)
 

@@ -1,7 +1,7 @@
 -- The check of a list, entry by entry, along the rows that hold it.
 -- Assumes nothing.
-use Prim.Native.Nat.{ℕ, suc, _+_, _≤_}
-use mathlib.Core.Path.{_≡_, refl, sym, ap, subst, _∙_}
+use Prim.Native.Nat.{ℕ, suc, _≤_}
+use mathlib.Core.Path.{_≡_, refl, sym, ap, _∙_}
 use mathlib.Core.Bool.{Bool, true, false}
 use mathlib.Core.List.{List, [], _∷_}
 use mathlib.Core.Option.{Option, none, some}
@@ -10,15 +10,14 @@ use Rattle.definition.specs.declared.Refusal.{Refusal}
 use Rattle.definition.specs.declared.Entry.{Entry}
 use Rattle.definition.specs.Basic.{if_then_else_, given, Answer, refuse, give, _>>=_}
 use Rattle.definition.specs.Fold.{Entries, entry, Place, placeOf, find}
-use Rattle.definition.specs.Owner.{size}
 use Rattle.rows.specs.Table.{cell}
+use Rattle.places.specs.Places.{seenFrom, basesAt, entryIn, entriesIn, Linked, rowsForest}
+use Rattle.places.specs.Ends.{ChildrenEnd}
+use Rattle.places.proofs.PlaceLaws.{seen-low, seen-out, seen-in}
+use Rattle.places.proofs.EntriesLaws.{entries-step, linked-step}
 use Rattle.layout.specs.Bare.{basesAfter, foldCheck}
-use Rattle.layout.specs.Places.{seenFrom, basesAt, entryIn, entriesIn, Linked, rowsForest}
-use Rattle.layout.specs.Steps.{ChildrenEnd, checkEntry}
+use Rattle.layout.specs.Steps.{checkEntry}
 use Rattle.layout.proofs.BareLaws.{check-base, check-alone, check-under}
-use Rattle.layout.proofs.EntriesLaws.{size-stretch}
-use Rattle.layout.proofs.PlaceLaws.{seen-low, seen-out, seen-in}
-use Rattle.layout.proofs.RowLaws.{forest-split}
 
 -- ---------------------------------------------------------------- one entry
 
@@ -63,23 +62,6 @@ bases-after w i last h l = go (given (entryIn w i .redefines)) refl
         seen-in true w i g
         ∙ ap (λ (ps : List Place). placeOf (entryIn w i) ∷ ps) before
         ∙ ap (λ (b : Bool). if b then basesAt w last else placeOf (entryIn w i) ∷ basesAt w last) (sym g)
-
-module _ (w : List ℕ) (i to j : ℕ) (h : ChildrenEnd w i to j) where
-  pub next-row : suc i + size (rowsForest w (suc i) j) ≡ j
-  next-row = omega (arith, size-stretch w (suc i) j, h .low)
-
-  -- row i, its children up to j, and the rest
-  pub entries-step : entriesIn w i (rowsForest w i to) ≡ entry (entryIn w i) (entriesIn w (suc i) (rowsForest w (suc i) j)) (entriesIn w j (rowsForest w j to))
-  unfolding entriesIn
-  entries-step =
-      ap (entriesIn w i) (forest-split w i to j h)
-      ∙ ap (λ (n : ℕ). entry (entryIn w i) (entriesIn w (suc i) (rowsForest w (suc i) j)) (entriesIn w n (rowsForest w j to))) next-row
-
-  -- each names the sibling before it
-  pub linked-step : (last : ℕ) → Linked w i last (rowsForest w i to) → (cell w i 16 ≡ last) × Linked w j (suc i) (rowsForest w j to)
-  linked-step last l =
-      let both = subst (Linked w i last) (forest-split w i to j h) l in
-      (both .0, subst (λ (n : ℕ). Linked w n (suc i) (rowsForest w j to)) next-row (both .1))
 
 -- ---------------------------------------------------------------- the loop
 

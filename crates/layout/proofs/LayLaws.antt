@@ -21,17 +21,17 @@ use Rattle.definition.specs.Layout.{shallow, content, entryOf, advance, Laid}
 use Rattle.definition.specs.Owner.{size}
 use Rattle.definition.specs.Search.{entries#}
 use Rattle.rows.specs.Table.{cell, spanAt, statementAt}
+use Rattle.places.specs.Places.{putPlaces, lastOf, placeAt, seenFrom, seenAt, entriesIn, rowsForest}
+use Rattle.places.specs.Ends.{ChildrenEnd}
+use Rattle.places.proofs.PlaceLaws.{kept-places, before-places, statement-places, statements-places, place-late, first-offset, first-last, seen-low, seen-in, seen-same}
+use Rattle.places.proofs.RowLaws.{forest-empty, forest-split, children-end}
+use Rattle.places.proofs.EntriesLaws.{size-stretch, rows-forest, Held, places-held, next-row, of-size}
+use Rattle.places.proofs.EndLaws.{within}
 use Rattle.layout.specs.Bare.{foldCheck, bare, ItemLaid, placed, bareItem}
-use Rattle.layout.specs.Places.{putPlaces, lastOf, placeAt, seenFrom, seenAt, entriesIn, stopped, ready, after, layRest, layTable, rowsForest}
-use Rattle.layout.specs.Places.{halted, placing, afterItem, layItem, afterOwn, placeRow}
-use Rattle.layout.specs.Steps.{ChildrenEnd}
+use Rattle.layout.specs.Outcomes.{stopped, ready, after, layRest, layTable}
+use Rattle.layout.specs.Outcomes.{halted, placing, afterItem, layItem, afterOwn, placeRow}
 use Rattle.layout.proofs.ContentLaws.{leaf-bounded}
-use Rattle.layout.proofs.EntriesLaws.{size-stretch, rows-forest, Held, places-held}
-use Rattle.layout.proofs.FoldLaws.{next-row}
-use Rattle.layout.proofs.ItemLaws.{within}
-use Rattle.layout.proofs.ListLaws.{restAfter, bare-split, item-is, of-size, bare-is}
-use Rattle.layout.proofs.PlaceLaws.{kept-places, before-places, statement-places, statements-places, place-late, first-offset, first-last, seen-low, seen-in, seen-same}
-use Rattle.layout.proofs.RowLaws.{forest-empty, forest-split, children-end}
+use Rattle.layout.proofs.ListLaws.{restAfter, bare-split, item-is, bare-is}
 
 -- ---------------------------------------------------------------- what an outcome says
 

@@ -1,11 +1,7 @@
 pub mod BareLaws
-pub mod KindLaws
-pub mod PlaceLaws
-pub mod RowLaws
 pub mod ItemLaws
 pub mod ContentLaws
 pub mod ListLaws
-pub mod EntriesLaws
 pub mod FoldLaws
 pub mod LayLaws
 pub mod SizeLaws

@@ -1,4 +1,4 @@
--- A list laid bare is its first item and the rest; what the entries of a laid list have of the list's statements.
+-- A list laid bare is its first item and the rest; what a laid list has of its statements.
 -- Assumes nothing.
 use Prim.Native.Nat.{ℕ, suc, max, _≤_}
 use mathlib.Core.Path.{_≡_, refl, sym, ap, subst, _∙_}
@@ -10,16 +10,14 @@ use Rattle.definition.specs.declared.Entry.{Entry}
 use Rattle.definition.specs.declared.Pictured.{Pictured}
 use Rattle.definition.specs.Basic.{Answer, refuse, give, _>>=_, refuseIf}
 use Rattle.definition.specs.Tree.{Forest, leaf, item}
-use Rattle.definition.specs.Fold.{Entries, end, entry, entryEnd, Place, placeOf}
+use Rattle.definition.specs.Fold.{entry, entryEnd, Place, placeOf}
 use Rattle.definition.specs.Layout.{shallow, content, start, entryOf, tooLarge, advance, Laid}
-use Rattle.definition.specs.Owner.{size}
-use Rattle.definition.specs.Search.{entries#}
 use Rattle.definition.proofs.Answers.{through, given-same, not-refused}
+use Rattle.places.proofs.EntriesLaws.{EntryOf, Of}
+use Rattle.places.proofs.EndLaws.{within}
 use Rattle.layout.specs.Bare.{foldCheck, bare, ItemLaid, placed, bareItem}
-use Rattle.layout.specs.Places.{Bytes}
 use Rattle.layout.proofs.BareLaws.{bind-along}
 use Rattle.layout.proofs.ContentLaws.{content-bytes}
-use Rattle.layout.proofs.ItemLaws.{within}
 
 -- ---------------------------------------------------------------- the first item, and the rest
 
@@ -90,27 +88,7 @@ item-is text depth seen cursor s kids h =
       fits = not-refused (tooLarge (entryOf s c o)) 29 (s .at) e₇;
     }
 
--- ---------------------------------------------------------------- entries of statements
-
--- an entry has its statement's words, and a kind that its number gives back
-pub record EntryOf (s : Statement) (e : Entry) : Type 0 where
-  pub place : ℕ
-  pub contents : Pictured
-  pub is : e ≡ entryOf s contents place
-  pub bytes : Bytes (contents .kind)
-
--- a list of entries has an entry for each statement of a forest, in its shape
-abbrev pub Of : Forest → Entries → Type 0
-Of leaf end = Unit {0}
-Of leaf (entry e members later) = ⊥
-Of (item s kids later) end = ⊥
-Of (item s kids later) (entry e members more) = EntryOf s e × Of kids members × Of later more
-
-pub of-size : (f : Forest) (es : Entries) → Of f es → entries# es ≡ size f
-of-size leaf end h = refl
-of-size leaf (entry e members later) h = absurd h
-of-size (item s kids later) end h = absurd h
-of-size (item s kids later) (entry e members more) h = omega (arith, of-size kids members (h .1), of-size later more (h .2))
+-- ---------------------------------------------------------------- a laid list
 
 -- what a laid list has of its forest
 pub record BareIs (f : Forest) (l : Laid) : Type 0 where

@@ -1,3 +1,3 @@
 pub mod Bare
-pub mod Places
+pub mod Outcomes
 pub mod Steps

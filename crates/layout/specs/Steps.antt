@@ -1,49 +1,22 @@
--- The steps of laying one item, and what the code's answers say: the end of its children among the rows, where it starts and where it ends, the
--- check of one entry.
+-- The steps of laying one item, and what the code's answers say: where it starts, what was laid, the check of one entry.
 -- Assumes nothing.
-use Prim.Native.Nat.{ℕ, suc, _+_, _*_, _-_, _≤_, _<_}
-use mathlib.Core.Path.{_≡_}
+use Prim.Native.Nat.{ℕ, _*_, _≤_, _<_}
 use mathlib.Core.List.{List}
 use mathlib.Core.Option.{Option, none, some}
 use lib.Dec.{ltb}
 use lib.ListN.{length}
 use Rattle.definition.specs.declared.Entry.{Entry}
 use Rattle.definition.specs.Basic.{if_then_else_, given, Answer, refuse, give, refuseIf}
-use Rattle.definition.specs.Tree.{higher}
-use Rattle.definition.specs.Fold.{entryEnd, Place, find}
-use Rattle.definition.specs.Layout.{tooLarge}
-use Rattle.rows.specs.Table.{statementAt, statementsFrom}
-use Rattle.layout.specs.declared.Target.{Target}
+use Rattle.definition.specs.Fold.{Place, find}
 use Rattle.layout.specs.declared.Start.{Start}
-use Rattle.layout.specs.declared.Ending.{Ending}
 use Rattle.layout.specs.declared.ItemAnswer.{ItemAnswer}
 use Rattle.layout.specs.declared.LaidList.{LaidList}
-use Rattle.layout.specs.Places.{Outcome, stopped, ready, ItemOutcome, halted, placing}
-
--- j is the end of the children of row i, among the rows up to `to`
-pub record ChildrenEnd (w : List ℕ) (i to j : ℕ) : Type 0 where
-  pub low : i < j
-  pub high : j ≤ to
-  pub is : j ≡ suc i + higher (statementAt w i .level) (statementsFrom w (suc i) (to - suc i))
-
--- the offset that a search found, if it found one
-abbrev pub found : Target → Option ℕ
-found (Target.At offset) = some offset
-found Target.Nothing = none
+use Rattle.layout.specs.Outcomes.{Outcome, stopped, ready, ItemOutcome, halted, placing}
 
 -- a start as the definition's answer
 abbrev pub startOf : Start → Answer ℕ
 startOf (Start.At offset) = give offset
 startOf (Start.Refused r) = refuse r
-
--- where an entry ends, unless 29 is due
-abbrev pub endOf : Entry → Option ℕ
-endOf e = if tooLarge e then none else some (entryEnd e)
-
--- an end, if 29 is not due
-abbrev pub endingOf : Ending → Option ℕ
-endingOf (Ending.At end) = some end
-endingOf Ending.TooLarge = none
 
 -- what an answer says, with the table as the call leaves it; after a refusal its contents are left open
 abbrev pub itemOf : ItemAnswer → List ℕ → ItemOutcome

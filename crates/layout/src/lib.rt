@@ -1,25 +1,20 @@
 // Sibling lists laid out in the rows of work memory: the place of each item, and the checks of each list.
 ghost use mathlib.Core.Path.{_≡_};
-ghost use Prim.Native.Nat.{_+_, _*_, _-_, _≤_, _<_, max};
+ghost use Prim.Native.Nat.{_+_, _*_, _-_, _≤_, _<_};
 ghost use lib.ListN.{length};
-ghost use Rattle.definition.specs.Basic.{if_then_else_, given, part, fewest};
-ghost use Rattle.definition.specs.Fold.{sameName, find, times};
-ghost use Rattle.definition.specs.Layout.{content, start, entryOf};
+ghost use Rattle.definition.specs.Basic.{if_then_else_, given, fewest};
+ghost use Rattle.definition.specs.Layout.{content, start};
 ghost use Rattle.definition.specs.Calls.{pictureOf, checkOf};
 ghost use Rattle.definition.specs.Statement.{usageOf, signOf};
 ghost use Rattle.definition.specs.Tree.{Forest.leaf};
-ghost use Rattle.definition.specs.Listing.{flag, signByte, storageByte};
 ghost use Rattle.definition.specs.Picture.{isBinary};
-ghost use Rattle.rows.specs.Table.{spanAt};
-ghost use Rattle.layout.specs.Places.{kindCode, signOfByte, storageOfByte, kindOfCode, putPlace, seenFrom, seenAt, leftOut, isTarget, basesAt, entryIn, entriesIn, Linked, placeRow, layItem, layTable, rowsForest};
-ghost use Rattle.layout.specs.Steps.{ChildrenEnd, found, startOf, endOf, endingOf, itemOf, listOf, Room, checkEntry};
+ghost use Rattle.places.specs.Places.{seenAt, basesAt, entryIn, entriesIn, Linked, rowsForest};
+ghost use Rattle.layout.specs.Outcomes.{placeRow, layItem, layTable};
+ghost use Rattle.layout.specs.Steps.{startOf, itemOf, listOf, Room, checkEntry};
 ghost use Rattle.layout.specs.Bare.{foldCheck};
 ghost use mathlib.Core.List.{[]};
 use definition::Check;
-use definition::Entry;
 use definition::FieldKind;
-use definition::NumRepr;
-use definition::Occurs;
 use definition::PicAnswer;
 use definition::Pictured;
 use definition::Refusal;
@@ -30,256 +25,8 @@ use definition::Span;
 use definition::Statement;
 use definition::Usage;
 use definition::UsageClause;
-
-// The part of the text that a span fills, cut off at the text's end.
-pub fn part_of(text: &[u8], w: Span) -> &[u8]
-    ensures { λ r. ⌜ now r ≡ part (now (text .entry)) w ⌝ }
-{
-    let start = w.start;
-    let len = w.len;
-    if text.len() <= start {
-        return &text[0..0];
-    }
-    if text.len() - start < len {
-        return &text[start..];
-    }
-    let end = start + len;
-    &text[start..end]
-}
-
-// Whether two names are the same, case aside; an absent one means FILLER.
-pub fn same_names(text: &[u8], a: Span, b: Span) -> bool
-    ensures { λ r. ⌜ r ≡ sameName (now (text .entry)) a b ⌝ }
-{
-    if 0 < a.len {
-        if 0 < b.len {
-            return text::same_name(part_of(text, a), part_of(text, b));
-        }
-        return text::same_name(part_of(text, a), b"FILLER");
-    }
-    if 0 < b.len {
-        return text::same_name(b"FILLER", part_of(text, b));
-    }
-    true
-}
-
-// 1 for true, 0 for false; no more than a small number for the sums that it stands in.
-fn flag_of(b: bool) -> u32
-    ensures { λ r. ⌜ (r ≡ flag b) × (r ≤ 1) ⌝ }
-{
-    if b {
-        return 1;
-    }
-    0
-}
-
-// The listing's number of a sign.
-fn sign_byte(s: SignKind) -> u32
-    ensures { λ r. ⌜ (r ≡ signByte s) × (r ≤ 3) ⌝ }
-{
-    match s {
-        SignKind::Unsigned => 0,
-        SignKind::Embedded => 1,
-        SignKind::LeadingSeparate => 2,
-        SignKind::TrailingSeparate => 3,
-    }
-}
-
-// The listing's number of a storage.
-fn storage_byte(s: NumRepr) -> u32
-    ensures { λ r. ⌜ (r ≡ storageByte s) × (r ≤ 2) ⌝ }
-{
-    match s {
-        NumRepr::Display => 0,
-        NumRepr::Comp3 => 1,
-        NumRepr::Zoned => 2,
-    }
-}
-
-// A byte as a number of 32 bits.
-fn byte_code(b: u8) -> u32
-    ensures { λ r. ⌜ (r ≡ b) × (r ≤ 255) ⌝ }
-{
-    b as u32
-}
-
-// A kind as one number.
-pub fn kind_code(kind: FieldKind) -> u32
-    ensures { λ r. ⌜ r ≡ kindCode kind ⌝ }
-{
-    match kind {
-        FieldKind::Text => 1,
-        FieldKind::Int { signed, sign } => 2 + 8 * (flag_of(signed) + 2 * sign_byte(sign)),
-        FieldKind::Binary { signed } => 3 + 8 * flag_of(signed),
-        FieldKind::Decimal {
-            precision,
-            scale,
-            repr,
-            sign,
-        } => 4
-            + 8
-                * (byte_code(precision)
-                    + 256 * (byte_code(scale) + 256 * (storage_byte(repr) + 4 * sign_byte(sign)))),
-        FieldKind::Edited {
-            precision,
-            scale,
-            signed,
-        } => 5 + 8 * (byte_code(precision) + 256 * (byte_code(scale) + 256 * flag_of(signed))),
-        FieldKind::Group => 6,
-    }
-}
-
-// The sign that a number holds.
-fn sign_of_byte(n: u32) -> SignKind
-    ensures { λ r. ⌜ r ≡ signOfByte n ⌝ }
-{
-    if n == 1 {
-        return SignKind::Embedded;
-    }
-    if n == 2 {
-        return SignKind::LeadingSeparate;
-    }
-    if n == 3 {
-        return SignKind::TrailingSeparate;
-    }
-    SignKind::Unsigned
-}
-
-// The storage that a number holds.
-fn storage_of_byte(n: u32) -> NumRepr
-    ensures { λ r. ⌜ r ≡ storageOfByte n ⌝ }
-{
-    if n == 1 {
-        return NumRepr::Comp3;
-    }
-    if n == 2 {
-        return NumRepr::Zoned;
-    }
-    NumRepr::Display
-}
-
-// The kind that a number holds.
-pub fn kind_of_code(n: u32) -> FieldKind
-    ensures { λ r. ⌜ r ≡ kindOfCode n ⌝ }
-{
-    let k = n % 8;
-    let d = n / 8;
-    if k == 1 {
-        return FieldKind::Text;
-    }
-    if k == 2 {
-        return FieldKind::Int {
-            signed: d % 2 == 1,
-            sign: sign_of_byte(d / 2 % 4),
-        };
-    }
-    if k == 3 {
-        return FieldKind::Binary { signed: d % 2 == 1 };
-    }
-    if k == 4 {
-        return FieldKind::Decimal {
-            precision: (d % 256) as u8,
-            scale: (d / 256 % 256) as u8,
-            repr: storage_of_byte(d / 65536 % 4),
-            sign: sign_of_byte(d / 262144 % 4),
-        };
-    }
-    if k == 5 {
-        return FieldKind::Edited {
-            precision: (d % 256) as u8,
-            scale: (d / 256 % 256) as u8,
-            signed: d / 65536 % 2 == 1,
-        };
-    }
-    FieldKind::Group
-}
-
-// An item's place into row k: its offset, width and kind, the sibling before it (its row and 1, or 0) and the rows below it.
-fn put_place(work: &mut [u32], k: usize, last: usize, below: usize, e: Entry)
-    requires { ⌜ (20 * k + 20 ≤ length (now work)) × (last < 4294967296) × (below < 4294967296) × (e .offset < 4294967296) × (e .width < 4294967296) ⌝ }
-    ensures { λ _. ⌜ now (work .exit) ≡ putPlace (now (work .entry)) k last below e ⌝ }
-{
-    let at = 20 * k + 13;
-    let kind = e.kind;
-    work[at] = e.offset as u32;
-    work[at + 1] = e.width as u32;
-    work[at + 2] = kind_code(kind);
-    work[at + 3] = last as u32;
-    work[at + 4] = below as u32;
-}
-
-// The end of the children of row i, among the rows up to `to`.
-pub fn end_of(work: &[u32], i: usize, to: usize) -> usize
-    requires { ⌜ (i < to) × (20 * to ≤ length (now work)) ⌝ }
-    ensures { λ r. ⌜ ChildrenEnd (now (work .entry)) i to r ⌝ }
-{
-    let level = work[20 * i + 0] % 256;
-    let mut j = i + 1;
-    while j < to {
-        if work[20 * j + 0] % 256 <= level {
-            return j;
-        }
-        j += 1;
-    }
-    j
-}
-
-// The offset that a name stands for, or that it stands for none.
-pub enum Target {
-    At(usize),
-    Nothing,
-}
-
-// A number of 32 bits as a place.
-pub fn wide(n: u32) -> usize
-    ensures { λ r. ⌜ (r ≡ n) × (r < 4294967296) ⌝ }
-{
-    n as usize
-}
-
-// Whether the search passes over row k: one for bases passes over a redefiner.
-fn passed_over(work: &[u32], k: usize, bases: bool) -> bool
-    requires { ⌜ 20 * k + 20 ≤ length (now work) ⌝ }
-    ensures { λ r. ⌜ r ≡ leftOut bases (now (work .entry)) k ⌝ }
-{
-    if bases {
-        let redefines = rows::span_at(work[20 * k + 6]);
-        return 0 < redefines.len;
-    }
-    false
-}
-
-// Whether row k is what a search for this name ends at.
-pub fn is_target(text: &[u8], work: &[u32], target: Span, k: usize, bases: bool) -> bool
-    requires { ⌜ 20 * k + 20 ≤ length (now work) ⌝ }
-    ensures { λ r. ⌜ r ≡ isTarget (now (text .entry)) target bases (now (work .entry)) k ⌝ }
-{
-    if passed_over(work, k, bases) {
-        return false;
-    }
-    let name = rows::span_at(work[20 * k + 3]);
-    same_names(text, target, name)
-}
-
-// The offset of the latest sibling of that name from `last` back, or of the latest base of that name.
-pub fn find_target(text: &[u8], work: &[u32], target: Span, last: usize, bases: bool) -> Target
-    requires { ⌜ 20 * last ≤ length (now work) ⌝ }
-    ensures { λ r. ⌜ found r ≡ find (now (text .entry)) target (seenFrom bases (now (work .entry)) last last) ⌝ }
-{
-    let mut k = last;
-    while 0 < k {
-        let row = k - 1;
-        if is_target(text, work, target, row, bases) {
-            return Target::At(wide(work[20 * row + 13]));
-        }
-        let before = wide(work[20 * row + 16]);
-        if row < before {
-            return Target::Nothing;
-        }
-        k = before;
-    }
-    Target::Nothing
-}
+use places::Ending;
+use places::Target;
 
 // Whether a kind is binary.
 fn is_binary(kind: FieldKind) -> bool
@@ -336,7 +83,7 @@ fn start_of(
     let clauses = s.clauses;
     let redefines = clauses.redefines;
     if 0 < redefines.len {
-        match find_target(text, work, redefines, last, false) {
+        match places::find_target(text, work, redefines, last, false) {
             Target::At(offset) => {
                 return Start::At(offset);
             }
@@ -356,74 +103,6 @@ fn start_of(
         }
     }
     Start::At(cursor)
-}
-
-// An item's entry.
-fn entry_of(s: Statement, c: Pictured, offset: usize) -> Entry
-    ensures { λ r. ⌜ r ≡ entryOf s c offset ⌝ }
-{
-    let clauses = s.clauses;
-    let name = s.name;
-    let kind = c.kind;
-    let picture = clauses.picture;
-    let occurs = clauses.occurs;
-    let depending = clauses.depending;
-    let redefines = clauses.redefines;
-    Entry {
-        at: s.at,
-        name,
-        offset,
-        width: c.width,
-        kind,
-        picture,
-        occurs,
-        depending,
-        redefines,
-    }
-}
-
-// How often an item stands.
-pub fn times_of(o: Occurs) -> u64
-    ensures { λ r. ⌜ r ≡ times o ⌝ }
-{
-    match o {
-        Occurs::Once => 1,
-        Occurs::Times(n) => n,
-    }
-}
-
-// Where an entry ends, or that one of its numbers is too large.
-pub enum Ending {
-    At(usize),
-    TooLarge,
-}
-
-// Where an entry ends: 29 is due where its count, offset, bytes or end are above 2,147,483,647.
-fn entry_end(e: Entry) -> Ending
-    requires { ⌜ e .width ≤ 2147483647 ⌝ }
-    ensures { λ r. ⌜ endingOf r ≡ endOf e ⌝ }
-{
-    let occurs = e.occurs;
-    let n = times_of(occurs);
-    if 2147483647 < n {
-        return Ending::TooLarge;
-    }
-    let offset = e.offset;
-    if 2147483647 < offset {
-        return Ending::TooLarge;
-    }
-    let total = e.width * n as usize;
-    if 2147483647 < total {
-        return Ending::TooLarge;
-    }
-    let depending = e.depending;
-    if 0 < depending.len {
-        return Ending::At(offset);
-    }
-    if 2147483647 < offset + total {
-        return Ending::TooLarge;
-    }
-    Ending::At(offset + total)
 }
 
 // The cursor after an entry: a REDEFINES never moves it.
@@ -473,7 +152,12 @@ fn elementary(text: &[u8], s: Statement) -> PicAnswer
     if 0 < picture.len {
         let usage = clauses.usage;
         let sign = clauses.sign;
-        return picture::picture_at(part_of(text, picture), s.at, usage_of(usage), sign_of(sign));
+        return picture::picture_at(
+            places::part_of(text, picture),
+            s.at,
+            usage_of(usage),
+            sign_of(sign),
+        );
     }
     PicAnswer::Refused(Refusal {
         number: 21,
@@ -510,10 +194,10 @@ fn place(
     let s = rows::statement_at(work, i);
     match start_of(text, work, s, c, last, cursor) {
         Start::At(offset) => {
-            let e = entry_of(s, c, offset);
-            match entry_end(e) {
+            let e = places::entry_of(s, c, offset);
+            match places::entry_end(e) {
                 Ending::At(end) => {
-                    put_place(work, i, last, below, e);
+                    places::put_place(work, i, last, below, e);
                     let redefines = e.redefines;
                     return ItemAnswer::Done {
                         cursor: advanced(cursor, redefines, end),
@@ -544,9 +228,9 @@ fn check_entry(text: &[u8], work: &[u32], i: usize, last: usize) -> Check
     let clauses = s.clauses;
     let redefines = clauses.redefines;
     if 0 < redefines.len {
-        match find_target(text, work, redefines, last, true) {
+        match places::find_target(text, work, redefines, last, true) {
             Target::At(base) => {
-                let offset = wide(work[20 * i + 13]);
+                let offset = places::wide(work[20 * i + 13]);
                 if offset < base {
                     return Check::Refused(Refusal {
                         number: 30,
@@ -575,7 +259,7 @@ pub fn fold_check(text: &[u8], work: &[u32], from: usize, to: usize) -> Check
         match check_entry(text, work, i, last) {
             Check::Passed => {
                 last = i + 1;
-                i = end_of(work, i, to);
+                i = places::end_of(work, i, to);
             }
             Check::Refused(r) => {
                 return Check::Refused(r);
@@ -583,30 +267,6 @@ pub fn fold_check(text: &[u8], work: &[u32], from: usize, to: usize) -> Check
         }
     }
     Check::Passed
-}
-
-// The entry in row k, as it is laid.
-pub fn entry_at(work: &[u32], k: usize) -> Entry
-    requires { ⌜ 20 * k + 20 ≤ length (now work) ⌝ }
-    ensures { λ r. ⌜ r ≡ entryIn (now (work .entry)) k ⌝ }
-{
-    let s = rows::statement_at(work, k);
-    let kind = kind_of_code(work[20 * k + 15]);
-    let c = Pictured {
-        kind,
-        width: wide(work[20 * k + 14]),
-    };
-    entry_of(s, c, wide(work[20 * k + 13]))
-}
-
-// The larger of two numbers.
-pub fn most(a: usize, b: usize) -> usize
-    ensures { λ r. ⌜ r ≡ max a b ⌝ }
-{
-    if a < b {
-        return b;
-    }
-    a
 }
 
 // Lays out row i, whose children are the rows up to j, after the sibling `last`. 20 for an inner list that is too deep; then
@@ -628,7 +288,7 @@ fn lay_item(
         if depth_left == 0 {
             return ItemAnswer::Refused(Refusal {
                 number: 20,
-                position: wide(work[20 * first + 2]),
+                position: places::wide(work[20 * first + 2]),
                 needed: 0,
             });
         }
@@ -679,12 +339,12 @@ pub fn lay_list(text: &[u8], work: &mut [u32], from: usize, to: usize, depth_lef
     let mut cursor = 0;
     let mut reach = 0;
     while i < to {
-        let j = end_of(work, i, to);
+        let j = places::end_of(work, i, to);
         match lay_item(text, work, i, j, depth_left, last, cursor) {
             ItemAnswer::Done { cursor: next, end } => {
                 last = i + 1;
                 cursor = next;
-                reach = most(reach, end);
+                reach = places::most(reach, end);
                 i = j;
             }
             ItemAnswer::Refused(r) => {

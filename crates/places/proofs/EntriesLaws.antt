@@ -1,4 +1,5 @@
--- The entries of a list are read back from the rows that hold their places, and each row names the sibling before it.
+-- The entries of a list are read back from the rows that hold their places, and each row names the sibling before it; the entries of a
+-- stretch of rows, one row further.
 -- Assumes nothing.
 use Prim.Native.Nat.{ℕ, zero, suc, _+_, _*_, _-_, _≤_, _<_}
 use mathlib.Core.Path.{_≡_, refl, sym, ap, subst, _∙_}
@@ -8,6 +9,7 @@ use lib.Dec.{lit<}
 use lib.ListN.{length}
 use Rattle.definition.specs.declared.Statement.{Statement}
 use Rattle.definition.specs.declared.Entry.{Entry}
+use Rattle.definition.specs.declared.Pictured.{Pictured}
 use Rattle.definition.specs.Tree.{Forest, leaf, item, above, notAbove, forest}
 use Rattle.definition.specs.Fold.{Entries, end, entry}
 use Rattle.definition.specs.Layout.{entryOf}
@@ -16,10 +18,11 @@ use Rattle.definition.specs.Search.{entries#}
 use Rattle.definition.proofs.Lists.{tested}
 use Rattle.rows.specs.Table.{cell, statementAt, statementsFrom}
 use Rattle.rows.proofs.TableLaws.{statement-same, length-statements}
-use Rattle.layout.specs.Places.{kindCode, kindOfCode, putPlace, putPlaces, entryIn, entriesIn, Linked}
-use Rattle.layout.proofs.KindLaws.{kind-back}
-use Rattle.layout.proofs.ListLaws.{EntryOf, Of, of-size}
-use Rattle.layout.proofs.PlaceLaws.{length-place, length-places, kept-place, kept-places, before-places, first-offset, first-width, first-kind, first-last}
+use Rattle.places.specs.Places.{kindCode, kindOfCode, Bytes, putPlace, putPlaces, entryIn, rowsForest, entriesIn, Linked}
+use Rattle.places.specs.Ends.{ChildrenEnd}
+use Rattle.places.proofs.KindLaws.{kind-back}
+use Rattle.places.proofs.PlaceLaws.{length-place, length-places, kept-place, kept-places, before-places, first-offset, first-width, first-kind, first-last}
+use Rattle.places.proofs.RowLaws.{forest-split}
 
 -- ---------------------------------------------------------------- sizes
 
@@ -37,6 +40,28 @@ size-forest (s ∷ ss) = omega (arith, size-sides (s .level) (forest ss), size-f
 
 pub size-stretch : (w : List ℕ) (a b : ℕ) → size (forest (statementsFrom w a (b - a))) ≡ b - a
 size-stretch w a b = size-forest (statementsFrom w a (b - a)) ∙ length-statements w a (b - a)
+
+-- ---------------------------------------------------------------- entries of statements
+
+-- an entry has its statement's words, and a kind that its number gives back
+pub record EntryOf (s : Statement) (e : Entry) : Type 0 where
+  pub place : ℕ
+  pub contents : Pictured
+  pub is : e ≡ entryOf s contents place
+  pub bytes : Bytes (contents .kind)
+
+-- a list of entries has an entry for each statement of a forest, in its shape
+abbrev pub Of : Forest → Entries → Type 0
+Of leaf end = Unit {0}
+Of leaf (entry e members later) = ⊥
+Of (item s kids later) end = ⊥
+Of (item s kids later) (entry e members more) = EntryOf s e × Of kids members × Of later more
+
+pub of-size : (f : Forest) (es : Entries) → Of f es → entries# es ≡ size f
+of-size leaf end h = refl
+of-size leaf (entry e members later) h = absurd h
+of-size (item s kids later) end h = absurd h
+of-size (item s kids later) (entry e members more) h = omega (arith, of-size kids members (h .1), of-size later more (h .2))
 
 -- ---------------------------------------------------------------- statements in rows
 
@@ -118,6 +143,25 @@ entry-held w k s e o h a b c =
     let same : entryIn w k ≡ made s = ap made h in
     let whole : made s ≡ entryOf s (o .contents) (o .place) = cc (kind, a′, b′) in
     same ∙ whole ∙ sym (o .is)
+
+-- ---------------------------------------------------------------- a row, its children and the rest
+
+module _ (w : List ℕ) (i to j : ℕ) (h : ChildrenEnd w i to j) where
+  pub next-row : suc i + size (rowsForest w (suc i) j) ≡ j
+  next-row = omega (arith, size-stretch w (suc i) j, h .low)
+
+  -- row i, its children up to j, and the rest
+  pub entries-step : entriesIn w i (rowsForest w i to) ≡ entry (entryIn w i) (entriesIn w (suc i) (rowsForest w (suc i) j)) (entriesIn w j (rowsForest w j to))
+  unfolding entriesIn
+  entries-step =
+      ap (entriesIn w i) (forest-split w i to j h)
+      ∙ ap (λ (n : ℕ). entry (entryIn w i) (entriesIn w (suc i) (rowsForest w (suc i) j)) (entriesIn w n (rowsForest w j to))) next-row
+
+  -- each names the sibling before it
+  pub linked-step : (last : ℕ) → Linked w i last (rowsForest w i to) → (cell w i 16 ≡ last) × Linked w j (suc i) (rowsForest w j to)
+  linked-step last l =
+      let both = subst (Linked w i last) (forest-split w i to j h) l in
+      (both .0, subst (λ (n : ℕ). Linked w n (suc i) (rowsForest w j to)) next-row (both .1))
 
 -- ---------------------------------------------------------------- the places of a list
 

@@ -9,7 +9,7 @@ use Rattle.definition.specs.declared.SignKind.{SignKind}
 use Rattle.definition.specs.declared.NumRepr.{NumRepr}
 use Rattle.definition.specs.declared.FieldKind.{FieldKind}
 use Rattle.definition.specs.Listing.{flag, signByte, storageByte}
-use Rattle.layout.specs.Places.{kindCode, signOfByte, storageOfByte, kindOfCode, Bytes}
+use Rattle.places.specs.Places.{kindCode, signOfByte, storageOfByte, kindOfCode, Bytes}
 
 flag-back : (b : Bool) → eqb (flag b) 1 ≡ b
 flag-back true = refl

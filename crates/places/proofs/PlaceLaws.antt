@@ -20,7 +20,7 @@ use Rattle.definition.proofs.Lists.{order}
 use Rattle.definition.proofs.LayoutLaws.{find-hit, find-miss}
 use Rattle.rows.specs.Table.{cell, statementAt, statementsFrom}
 use Rattle.rows.proofs.TableLaws.{statement-same}
-use Rattle.layout.specs.Places.{kindCode, placeCells, putPlace, putPlaces, placeAt, leftOut, seenFrom, isTarget}
+use Rattle.places.specs.Places.{kindCode, placeCells, putPlace, putPlaces, placeAt, leftOut, seenFrom, isTarget}
 
 -- ---------------------------------------------------------------- runs of stores
 

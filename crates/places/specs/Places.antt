@@ -5,24 +5,22 @@ use Prim.Native.Nat.{ℕ, zero, suc, _+_, _*_, _-_, _/_, _%_, _<_}
 use mathlib.Core.Path.{_≡_}
 use mathlib.Core.Bool.{Bool, true, false, _&&_}
 use mathlib.Core.List.{List, [], _∷_}
+use mathlib.Core.Option.{Option, none, some}
 use lib.Dec.{eqb}
 use lib.Seq.{sets}
-use Rattle.definition.specs.declared.Refusal.{Refusal}
 use Rattle.definition.specs.declared.Span.{Span}
 use Rattle.definition.specs.declared.SignKind.{SignKind}
 use Rattle.definition.specs.declared.NumRepr.{NumRepr}
 use Rattle.definition.specs.declared.FieldKind.{FieldKind}
 use Rattle.definition.specs.declared.Entry.{Entry}
-use Rattle.definition.specs.declared.Pictured.{Pictured}
-use Rattle.definition.specs.Basic.{if_then_else_, given, Answer, refuse, give}
+use Rattle.definition.specs.Basic.{if_then_else_, given}
 use Rattle.definition.specs.Tree.{Forest, leaf, item, forest}
-use Rattle.definition.specs.Fold.{Entries, end, entry, entryEnd, sameName, Place}
-use Rattle.definition.specs.Layout.{advance, Laid}
+use Rattle.definition.specs.Fold.{Entries, end, entry, sameName, Place}
 use Rattle.definition.specs.Owner.{size}
 use Rattle.definition.specs.Listing.{flag, signByte, storageByte}
 use Rattle.definition.specs.Search.{entries#}
-use Rattle.rows.specs.Table.{spanAt, cell, clausesAt, statementAt, statementsFrom}
-use Rattle.layout.specs.Bare.{bare, ItemLaid, placed, bareItem}
+use Rattle.rows.specs.Table.{spanAt, cell, clausesAt, statementsFrom}
+use Rattle.places.specs.declared.Target.{Target}
 
 -- ---------------------------------------------------------------- a number for a kind
 
@@ -133,6 +131,11 @@ basesAt w last = seenFrom true w last last
 abbrev pub isTarget : List ℕ → Span → Bool → List ℕ → ℕ → Bool
 isTarget text target bases w k = if leftOut bases w k then false else sameName text target (spanAt (cell w k 3))
 
+-- the offset that a search found, if it found one
+abbrev pub found : Target → Option ℕ
+found (Target.At offset) = some offset
+found Target.Nothing = none
+
 -- ---------------------------------------------------------------- the entries in the table
 
 -- the statements of the rows a to before b, as a forest
@@ -148,49 +151,3 @@ entriesIn w k (item s kids later) = entry (entryIn w k) (entriesIn w (suc k) kid
 abbrev pub Linked : List ℕ → ℕ → ℕ → Forest → Type 0
 Linked w k last leaf = Unit {0}
 Linked w k last (item s kids later) = (cell w k 16 ≡ last) × Linked w (suc k + size kids) (suc k) later
-
--- ---------------------------------------------------------------- a list laid in the table
-
--- a refusal, or the width of the list, its last sibling and the table
-pub data Outcome : Type 0 where
-  stopped : Refusal → Outcome
-  ready : ℕ → ℕ → List ℕ → Outcome
-
--- what a list's answer leads to, in the rows from k on, after the sibling `last`
-abbrev pub after : List ℕ → ℕ → ℕ → Answer Laid → Outcome
-after w k last (refuse r) = stopped r
-after w k last (give l) = ready (l .width) (lastOf k last (l .entries)) (putPlaces w k last (l .entries))
-
--- the rest of a list, rows i to before `to`, laid after the sibling `last`
-abbrev pub layRest : List ℕ → List ℕ → ℕ → ℕ → ℕ → ℕ → ℕ → ℕ → Outcome
-layRest text w i to depth last cursor reach = after w i last (bare text depth (seenAt w last) cursor reach (rowsForest w i to))
-
--- a whole list
-abbrev pub layTable : List ℕ → List ℕ → ℕ → ℕ → ℕ → Outcome
-layTable text w from to depth = layRest text w from to depth 0 0 0
-
--- ---------------------------------------------------------------- an item laid in the table
-
--- a refusal, or the cursor after the item, where it ends and the table
-pub data ItemOutcome : Type 0 where
-  halted : Refusal → ItemOutcome
-  placing : ℕ → ℕ → List ℕ → ItemOutcome
-
--- the item of row i with its members' places
-abbrev pub afterItem : List ℕ → ℕ → ℕ → ℕ → Answer ItemLaid → ItemOutcome
-afterItem w i last cursor (refuse r) = halted r
-afterItem w i last cursor (give x) = placing (advance cursor (x .own)) (entryEnd (x .own)) (putPlaces w i last (entry (x .own) (x .members) end))
-
--- row i, whose children are the rows up to j, laid after the sibling `last`
-abbrev pub layItem : List ℕ → List ℕ → ℕ → ℕ → ℕ → ℕ → ℕ → ItemOutcome
-layItem text w i j depth last cursor =
-    afterItem w i last cursor (bareItem text depth (seenAt w last) cursor (statementAt w i) (rowsForest w (suc i) j))
-
--- the item of row i alone
-abbrev pub afterOwn : List ℕ → ℕ → ℕ → ℕ → ℕ → Answer Entry → ItemOutcome
-afterOwn w i last below cursor (refuse r) = halted r
-afterOwn w i last below cursor (give e) = placing (advance cursor e) (entryEnd e) (putPlace w i last below e)
-
--- row i, its kind and width known and `below` rows below it laid, placed after the sibling `last`
-abbrev pub placeRow : List ℕ → List ℕ → ℕ → ℕ → ℕ → ℕ → Pictured → ItemOutcome
-placeRow text w i below last cursor c = afterOwn w i last below cursor (placed text (statementAt w i) c (seenAt w last) cursor)

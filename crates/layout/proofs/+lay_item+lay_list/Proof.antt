@@ -19,11 +19,13 @@ use Rattle.definition.specs.Picture.{pictured}
 use Rattle.definition.specs.Layout.{content}
 use Rattle.definition.specs.Calls.{pictureOf, checkOf}
 use Rattle.rows.specs.Table.{cell, statementAt}
+use Rattle.places.specs.Places.{entriesIn, Linked, rowsForest}
+use Rattle.places.specs.Ends.{ChildrenEnd}
 use Rattle.layout.specs.declared.ItemAnswer.{ItemAnswer}
 use Rattle.layout.specs.declared.LaidList.{LaidList}
 use Rattle.layout.specs.Bare.{foldCheck}
-use Rattle.layout.specs.Places.{entriesIn, Linked, Outcome, stopped, ready, layRest, layTable, ItemOutcome, halted, layItem, placeRow, rowsForest}
-use Rattle.layout.specs.Steps.{ChildrenEnd, itemOf, listOf, Room}
+use Rattle.layout.specs.Outcomes.{Outcome, stopped, ready, layRest, layTable, ItemOutcome, halted, layItem, placeRow}
+use Rattle.layout.specs.Steps.{itemOf, listOf, Room}
 use Rattle.layout.proofs.LayLaws.{list-stop, list-step, list-none, item-within, leaf-stop, leaf-place, leaf-narrow, LaidRows, laid-rows, too-deep, inner-stop, fold-stop, group-place}
 use borrow.Fn.Kinds.{In}
 use borrow.Fn.PlainCycle.{Measures, is, falls, and}
@@ -34,11 +36,11 @@ use Rattle.layout.proofs.lay_list.Reads as lay-list
 use Rattle.layout.proofs.lay_list.Kinds as lay-list-kinds
 use Rattle.layout.proofs.+lay_item+lay_list.Lts-lay_list as lay-list-lts
 use Rattle.layout.proofs.elementary.Reads as elementary-reads
-use Rattle.layout.proofs.end_of.Reads as end-of-reads
+use Rattle.places.proofs.end_of.Reads as end-of-reads
 use Rattle.layout.proofs.fold_check.Reads as fold-check-reads
-use Rattle.layout.proofs.most.Reads as most-reads
+use Rattle.places.proofs.most.Reads as most-reads
 use Rattle.layout.proofs.place.Reads as place-reads
-use Rattle.layout.proofs.wide.Reads as wide-reads
+use Rattle.places.proofs.wide.Reads as wide-reads
 use Rattle.rows.proofs.statement_at.Reads as statement-at-reads
 use Rattle.layout.proofs.+lay_item+lay_list.{statement}
 use Rattle.layout.proofs.+lay_item+lay_list.Tie.{close}

@@ -11,9 +11,9 @@ use Rattle.definition.specs.declared.Statement.{Statement}
 use Rattle.definition.specs.Basic.{given, give, refused, if_then_else_}
 use Rattle.definition.specs.Fold.{find}
 use Rattle.rows.specs.Table.{cell, statementAt}
-use Rattle.layout.specs.declared.Target.{Target}
-use Rattle.layout.specs.Places.{seenFrom, basesAt, entryIn}
-use Rattle.layout.specs.Steps.{found, checkBase, checkEntry}
+use Rattle.places.specs.declared.Target.{Target}
+use Rattle.places.specs.Places.{seenFrom, basesAt, entryIn, found}
+use Rattle.layout.specs.Steps.{checkBase, checkEntry}
 use Rattle.layout.proofs.check_entry.Statement.{statement}
 use Rattle.layout.proofs.check_entry.Tie as tie
 

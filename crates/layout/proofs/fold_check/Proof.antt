@@ -11,11 +11,12 @@ use Rattle.definition.specs.declared.Check.{Check}
 use Rattle.definition.specs.declared.Refusal.{Refusal}
 use Rattle.definition.specs.Basic.{refuse, give}
 use Rattle.definition.specs.Calls.{checkOf}
+use Rattle.places.specs.Places.{basesAt, entryIn, entriesIn, rowsForest}
+use Rattle.places.specs.Ends.{ChildrenEnd}
+use Rattle.places.proofs.RowLaws.{forest-empty, children-end}
 use Rattle.layout.specs.Bare.{foldCheck}
-use Rattle.layout.specs.Places.{basesAt, entryIn, entriesIn, rowsForest}
-use Rattle.layout.specs.Steps.{ChildrenEnd, checkEntry}
+use Rattle.layout.specs.Steps.{checkEntry}
 use Rattle.layout.proofs.FoldLaws.{Checking, checking-starts, checking-on, checking-refused}
-use Rattle.layout.proofs.RowLaws.{forest-empty, children-end}
 use Rattle.layout.proofs.fold_check.Statement.{statement}
 use Rattle.layout.proofs.fold_check.Tie as tie
 

@@ -12,12 +12,15 @@ use Rattle.definition.specs.declared.Pictured.{Pictured}
 use Rattle.definition.specs.Basic.{if_then_else_, given, Answer, give}
 use Rattle.definition.specs.Layout.{start, entryOf, tooLarge}
 use Rattle.rows.specs.Table.{statementAt}
+use Rattle.places.specs.declared.Ending.{Ending}
+use Rattle.places.specs.Places.{putPlace, seenAt}
+use Rattle.places.specs.Ends.{endOf, endingOf}
+use Rattle.places.proofs.EndLaws.{ends-at, ends-not}
 use Rattle.layout.specs.declared.Start.{Start}
-use Rattle.layout.specs.declared.Ending.{Ending}
 use Rattle.layout.specs.Bare.{placed}
-use Rattle.layout.specs.Places.{putPlace, seenAt, halted, placing, afterOwn, placeRow}
-use Rattle.layout.specs.Steps.{startOf, endOf, endingOf}
-use Rattle.layout.proofs.ItemLaws.{ends-at, ends-not, placed-refused, placed-large, placed-fits}
+use Rattle.layout.specs.Outcomes.{halted, placing, afterOwn, placeRow}
+use Rattle.layout.specs.Steps.{startOf}
+use Rattle.layout.proofs.ItemLaws.{placed-refused, placed-large, placed-fits}
 use Rattle.layout.proofs.place.Statement.{statement}
 use Rattle.layout.proofs.place.Tie as tie
 

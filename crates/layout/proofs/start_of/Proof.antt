@@ -12,9 +12,8 @@ use Rattle.definition.specs.Basic.{fewest, give, refused}
 use Rattle.definition.specs.Picture.{isBinary}
 use Rattle.definition.specs.Fold.{find}
 use Rattle.definition.specs.Layout.{start}
-use Rattle.layout.specs.declared.Target.{Target}
-use Rattle.layout.specs.Places.{seenAt, seenFrom}
-use Rattle.layout.specs.Steps.{found}
+use Rattle.places.specs.declared.Target.{Target}
+use Rattle.places.specs.Places.{seenAt, seenFrom, found}
 use Rattle.layout.proofs.start_of.Statement.{statement}
 use Rattle.layout.proofs.start_of.Tie as tie
 

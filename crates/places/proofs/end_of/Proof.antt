@@ -1,4 +1,4 @@
--- `layout::end_of` meets its contract: the run of higher levels from j on is what is left of the run from i + 1 on.
+-- `places::end_of` meets its contract: the run of higher levels from j on is what is left of the run from i + 1 on.
 -- Assumes nothing.
 use borrow.Author.Needs.{needs}
 use Prim.Native.Nat.{ℕ, suc, _+_, _-_, _*_, _%_, _≤_, _<_}
@@ -10,10 +10,10 @@ use lib.ListN.{getD}
 use Rattle.definition.specs.Tree.{higher}
 use Rattle.definition.proofs.TreeLaws.{higher-none, higher-hit, higher-miss}
 use Rattle.rows.specs.Table.{statementAt, statementsFrom}
-use Rattle.layout.specs.Steps.{ChildrenEnd}
-use Rattle.layout.proofs.RowLaws.{stretch-cons, stretch-none}
-use Rattle.layout.proofs.end_of.Statement.{statement}
-use Rattle.layout.proofs.end_of.Tie as tie
+use Rattle.places.specs.Ends.{ChildrenEnd}
+use Rattle.places.proofs.RowLaws.{stretch-cons, stretch-none}
+use Rattle.places.proofs.end_of.Statement.{statement}
+use Rattle.places.proofs.end_of.Tie as tie
 
 -- the run goes on at j
 record Left (w : List ℕ) (i to level j : ℕ) : Type 0 where

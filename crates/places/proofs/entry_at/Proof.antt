@@ -1,4 +1,4 @@
--- `layout::entry_at` meets its contract: a statement and its place make the entry.
+-- `places::entry_at` meets its contract: a statement and its place make the entry.
 -- Assumes nothing.
 use borrow.Author.Needs.{needs}
 use Prim.Native.Nat.{ℕ}
@@ -10,9 +10,9 @@ use Rattle.definition.specs.declared.Entry.{Entry}
 use Rattle.definition.specs.Picture.{pictured}
 use Rattle.definition.specs.Layout.{entryOf}
 use Rattle.rows.specs.Table.{cell, statementAt}
-use Rattle.layout.specs.Places.{kindOfCode, entryIn}
-use Rattle.layout.proofs.entry_at.Statement.{statement}
-use Rattle.layout.proofs.entry_at.Tie as tie
+use Rattle.places.specs.Places.{kindOfCode, entryIn}
+use Rattle.places.proofs.entry_at.Statement.{statement}
+use Rattle.places.proofs.entry_at.Tie as tie
 
 in-row :
     (w : List ℕ) (k : ℕ) {s : Statement} {kind : FieldKind} {width offset : ℕ} {e : Entry} →

@@ -1,4 +1,4 @@
--- `layout::entry_end` meets its contract, test by test, in the order of `tooLarge`.
+-- `places::entry_end` meets its contract, test by test, in the order of `tooLarge`.
 -- Assumes nothing.
 use borrow.Author.Needs.{needs}
 use Prim.Native.Nat.{ℕ, _+_, _*_, _≤_, _<_}
@@ -9,9 +9,9 @@ use native.Mathlib.Omega.{arith}
 use borrow.Author.Tests.{lt-ltb, le-ltb}
 use Rattle.definition.specs.declared.Entry.{Entry}
 use Rattle.definition.specs.Fold.{times, largest}
-use Rattle.layout.specs.Steps.{endOf}
-use Rattle.layout.proofs.entry_end.Statement.{statement}
-use Rattle.layout.proofs.entry_end.Tie as tie
+use Rattle.places.specs.Ends.{endOf}
+use Rattle.places.proofs.entry_end.Statement.{statement}
+use Rattle.places.proofs.entry_end.Tie as tie
 
 module _ (e : Entry) {n : ℕ} (p : n ≡ times (e .occurs)) where
   many : 2147483647 < n → none ≡ endOf e

@@ -1,4 +1,4 @@
--- `layout::find_target` meets its contract: what is found from k back is what is found from the last sibling back.
+-- `places::find_target` meets its contract: what is found from k back is what is found from the last sibling back.
 -- Assumes nothing.
 use borrow.Author.Needs.{needs}
 use Prim.Native.Nat.{ℕ, suc, _*_, _-_, _≤_, _<_}
@@ -12,10 +12,10 @@ use Rattle.definition.specs.declared.Span.{Span}
 use Rattle.definition.specs.Fold.{find}
 use Rattle.definition.proofs.LayoutLaws.{find-none}
 use Rattle.rows.specs.Table.{cell}
-use Rattle.layout.specs.Places.{seenFrom, isTarget}
-use Rattle.layout.proofs.PlaceLaws.{seen-low, seen-over, target-hit, target-miss}
-use Rattle.layout.proofs.find_target.Statement.{statement}
-use Rattle.layout.proofs.find_target.Tie as tie
+use Rattle.places.specs.Places.{seenFrom, isTarget}
+use Rattle.places.proofs.PlaceLaws.{seen-low, seen-over, target-hit, target-miss}
+use Rattle.places.proofs.find_target.Statement.{statement}
+use Rattle.places.proofs.find_target.Tie as tie
 
 -- the search goes on from k back
 record Left (t w : List ℕ) (target : Span) (last : ℕ) (bases : Bool) (k : ℕ) : Type 0 where

@@ -1,4 +1,4 @@
--- `layout::is_target` meets its contract.
+-- `places::is_target` meets its contract.
 -- Assumes nothing.
 use borrow.Author.Needs.{needs}
 use Prim.Native.Nat.{ℕ}
@@ -8,9 +8,9 @@ use mathlib.Core.List.{List}
 use Rattle.definition.specs.declared.Span.{Span}
 use Rattle.definition.specs.Fold.{sameName}
 use Rattle.rows.specs.Table.{spanAt, cell}
-use Rattle.layout.specs.Places.{leftOut, isTarget}
-use Rattle.layout.proofs.is_target.Statement.{statement}
-use Rattle.layout.proofs.is_target.Tie as tie
+use Rattle.places.specs.Places.{leftOut, isTarget}
+use Rattle.places.proofs.is_target.Statement.{statement}
+use Rattle.places.proofs.is_target.Tie as tie
 
 module _ (t : List ℕ) (target : Span) (bases : Bool) (w : List ℕ) (k : ℕ) {o : Bool} (p : o ≡ leftOut bases w k) where
   out : o ≡ true → false ≡ isTarget t target bases w k

@@ -1,4 +1,4 @@
--- `layout::kind_code` meets its contract, kind by kind.
+-- `places::kind_code` meets its contract, kind by kind.
 -- Assumes nothing.
 use borrow.Author.Needs.{needs}
 use Prim.Native.Nat.{ℕ, _+_, _*_}
@@ -8,9 +8,9 @@ use Rattle.definition.specs.declared.SignKind.{SignKind}
 use Rattle.definition.specs.declared.NumRepr.{NumRepr}
 use Rattle.definition.specs.declared.FieldKind.{FieldKind}
 use Rattle.definition.specs.Listing.{flag, signByte, storageByte}
-use Rattle.layout.specs.Places.{kindCode}
-use Rattle.layout.proofs.kind_code.Statement.{statement}
-use Rattle.layout.proofs.kind_code.Tie as tie
+use Rattle.places.specs.Places.{kindCode}
+use Rattle.places.proofs.kind_code.Statement.{statement}
+use Rattle.places.proofs.kind_code.Tie as tie
 
 module _ {k : FieldKind} where
   int : {signed : Bool} {sign : SignKind} {a b : ℕ} → k ≡ FieldKind.Int signed sign → a ≡ flag signed → b ≡ signByte sign → 2 + 8 * (a + 2 * b) ≡ kindCode k

@@ -1,4 +1,4 @@
--- `layout::kind_of_code` meets its contract, test by test.
+-- `places::kind_of_code` meets its contract, test by test.
 -- Assumes nothing.
 use borrow.Author.Needs.{needs}
 use Prim.Native.Nat.{ℕ, _/_, _%_}
@@ -8,9 +8,9 @@ use borrow.Author.Tests.{eq-eqb, ne-eqb}
 use Rattle.definition.specs.declared.SignKind.{SignKind}
 use Rattle.definition.specs.declared.NumRepr.{NumRepr}
 use Rattle.definition.specs.declared.FieldKind.{FieldKind}
-use Rattle.layout.specs.Places.{signOfByte, storageOfByte, kindOfCode}
-use Rattle.layout.proofs.kind_of_code.Statement.{statement}
-use Rattle.layout.proofs.kind_of_code.Tie as tie
+use Rattle.places.specs.Places.{signOfByte, storageOfByte, kindOfCode}
+use Rattle.places.proofs.kind_of_code.Statement.{statement}
+use Rattle.places.proofs.kind_of_code.Tie as tie
 
 module _ (n : ℕ) where
   one : n % 8 ≡ 1 → FieldKind.Text ≡ kindOfCode n

@@ -1,4 +1,4 @@
--- `layout::part_of` meets its contract: past the text's end, over its end, and within it.
+-- `places::part_of` meets its contract: past the text's end, over its end, and within it.
 -- Assumes nothing.
 use borrow.Author.Needs.{needs}
 use Prim.Native.Nat.{ℕ, _+_, _-_, _≤_, _<_}
@@ -9,8 +9,8 @@ use native.Mathlib.Omega.{arith}
 use lib.ListN.{length, take, drop, drop-of-length-le, length-drop}
 use lib.Seq.{take-all, take-nil}
 use Rattle.definition.proofs.Lists.{rest-part}
-use Rattle.layout.proofs.part_of.Statement.{statement}
-use Rattle.layout.proofs.part_of.Tie as tie
+use Rattle.places.proofs.part_of.Statement.{statement}
+use Rattle.places.proofs.part_of.Tie as tie
 
 module _ (t : List ℕ) (start len : ℕ) where
   beyond : length t ≤ start → take 0 (drop 0 t) ≡ take len (drop start t)

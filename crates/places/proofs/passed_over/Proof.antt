@@ -1,4 +1,4 @@
--- `layout::passed_over` meets its contract.
+-- `places::passed_over` meets its contract.
 -- Assumes nothing.
 use borrow.Author.Needs.{needs}
 use Prim.Native.Nat.{ℕ}
@@ -8,9 +8,9 @@ use mathlib.Core.List.{List}
 use Rattle.definition.specs.declared.Span.{Span}
 use Rattle.definition.specs.Basic.{given}
 use Rattle.rows.specs.Table.{spanAt, cell}
-use Rattle.layout.specs.Places.{leftOut}
-use Rattle.layout.proofs.passed_over.Statement.{statement}
-use Rattle.layout.proofs.passed_over.Tie as tie
+use Rattle.places.specs.Places.{leftOut}
+use Rattle.places.proofs.passed_over.Statement.{statement}
+use Rattle.places.proofs.passed_over.Tie as tie
 
 redefiner : (bases : Bool) (w : List ℕ) (k : ℕ) {s : Span} → bases ≡ true → s ≡ spanAt (cell w k 6) → given s ≡ leftOut bases w k
 redefiner bases w k b e = rw (b, e)

@@ -1,4 +1,4 @@
--- `layout::put_place` meets its contract: its stores are a run of stores.
+-- `places::put_place` meets its contract: its stores are a run of stores.
 -- Assumes nothing.
 use borrow.Author.Needs.{needs}
 use Prim.Native.Nat.{ℕ, _+_, _*_}
@@ -8,9 +8,9 @@ use native.Mathlib.Numerals.{towards-suc}
 use native.Mathlib.Omega.{arith}
 use lib.ListN.{set, length-set}
 use Rattle.definition.specs.declared.Entry.{Entry}
-use Rattle.layout.specs.Places.{kindCode, putPlace}
-use Rattle.layout.proofs.put_place.Statement.{statement}
-use Rattle.layout.proofs.put_place.Tie as tie
+use Rattle.places.specs.Places.{kindCode, putPlace}
+use Rattle.places.proofs.put_place.Statement.{statement}
+use Rattle.places.proofs.put_place.Tie as tie
 
 one-run :
     (w : List ℕ) (k last below : ℕ) (e : Entry) {n : ℕ} →

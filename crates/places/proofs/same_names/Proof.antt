@@ -1,4 +1,4 @@
--- `layout::same_names` meets its contract: each name is a part of the text, or FILLER.
+-- `places::same_names` meets its contract: each name is a part of the text, or FILLER.
 -- Assumes nothing.
 use borrow.Author.Needs.{needs}
 use Prim.Native.Nat.{ℕ, _≤_, _<_}
@@ -9,8 +9,8 @@ use borrow.Author.Tests.{lt-ltb, le-ltb}
 use Rattle.definition.specs.declared.Span.{Span}
 use Rattle.definition.specs.Basic.{same, uppers, bytes, part}
 use Rattle.definition.specs.Fold.{sameName}
-use Rattle.layout.proofs.same_names.Statement.{statement}
-use Rattle.layout.proofs.same_names.Tie as tie
+use Rattle.places.proofs.same_names.Statement.{statement}
+use Rattle.places.proofs.same_names.Tie as tie
 
 module _ (t : List ℕ) (a b : Span) {r : Bool} where
   both : {x y : List ℕ} → 0 < a .len → 0 < b .len → x ≡ part t a → y ≡ part t b → r ≡ same (uppers x) (uppers y) → r ≡ sameName t a b

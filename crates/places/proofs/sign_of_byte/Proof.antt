@@ -1,12 +1,12 @@
--- `layout::sign_of_byte` meets its contract, test by test.
+-- `places::sign_of_byte` meets its contract, test by test.
 -- Assumes nothing.
 use Prim.Native.Nat.{ℕ}
 use mathlib.Core.Path.{_≡_, refl}
 use borrow.Author.Tests.{ne-eqb}
 use Rattle.definition.specs.declared.SignKind.{SignKind}
-use Rattle.layout.specs.Places.{signOfByte}
-use Rattle.layout.proofs.sign_of_byte.Statement.{statement}
-use Rattle.layout.proofs.sign_of_byte.Tie as tie
+use Rattle.places.specs.Places.{signOfByte}
+use Rattle.places.proofs.sign_of_byte.Statement.{statement}
+use Rattle.places.proofs.sign_of_byte.Tie as tie
 
 module _ (n : ℕ) where
   one : n ≡ 1 → SignKind.Embedded ≡ signOfByte n

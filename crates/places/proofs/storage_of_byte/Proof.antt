@@ -1,12 +1,12 @@
--- `layout::storage_of_byte` meets its contract, test by test.
+-- `places::storage_of_byte` meets its contract, test by test.
 -- Assumes nothing.
 use Prim.Native.Nat.{ℕ}
 use mathlib.Core.Path.{_≡_, refl}
 use borrow.Author.Tests.{ne-eqb}
 use Rattle.definition.specs.declared.NumRepr.{NumRepr}
-use Rattle.layout.specs.Places.{storageOfByte}
-use Rattle.layout.proofs.storage_of_byte.Statement.{statement}
-use Rattle.layout.proofs.storage_of_byte.Tie as tie
+use Rattle.places.specs.Places.{storageOfByte}
+use Rattle.places.proofs.storage_of_byte.Statement.{statement}
+use Rattle.places.proofs.storage_of_byte.Tie as tie
 
 module _ (n : ℕ) where
   one : n ≡ 1 → NumRepr.Comp3 ≡ storageOfByte n

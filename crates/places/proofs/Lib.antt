@@ -1,0 +1,5 @@
+pub mod KindLaws
+pub mod PlaceLaws
+pub mod RowLaws
+pub mod EntriesLaws
+pub mod EndLaws

@@ -1,0 +1,28 @@
+-- The end of a row's children among the rows, and where an entry ends.
+-- Assumes nothing.
+use Prim.Native.Nat.{ℕ, suc, _+_, _-_, _≤_, _<_}
+use mathlib.Core.Path.{_≡_}
+use mathlib.Core.List.{List}
+use mathlib.Core.Option.{Option, none, some}
+use Rattle.definition.specs.declared.Entry.{Entry}
+use Rattle.definition.specs.Basic.{if_then_else_}
+use Rattle.definition.specs.Tree.{higher}
+use Rattle.definition.specs.Fold.{entryEnd}
+use Rattle.definition.specs.Layout.{tooLarge}
+use Rattle.rows.specs.Table.{statementAt, statementsFrom}
+use Rattle.places.specs.declared.Ending.{Ending}
+
+-- j is the end of the children of row i, among the rows up to `to`
+pub record ChildrenEnd (w : List ℕ) (i to j : ℕ) : Type 0 where
+  pub low : i < j
+  pub high : j ≤ to
+  pub is : j ≡ suc i + higher (statementAt w i .level) (statementsFrom w (suc i) (to - suc i))
+
+-- where an entry ends, unless 29 is due
+abbrev pub endOf : Entry → Option ℕ
+endOf e = if tooLarge e then none else some (entryEnd e)
+
+-- an end, if 29 is not due
+abbrev pub endingOf : Ending → Option ℕ
+endingOf (Ending.At end) = some end
+endingOf Ending.TooLarge = none

@@ -30,10 +30,10 @@ use Rattle.definition.proofs.Pieces.{owned-someone, positive}
 use Rattle.definition.proofs.Walk.{walk-slack, walk-piece, walk-in, walk-later, walk-skip}
 use Rattle.rows.specs.Table.{cell, statementAt, statementsFrom}
 use Rattle.layout.specs.Bare.{foldedList, foldedBelow, foldedAll, bareRecord}
-use Rattle.layout.specs.Places.{entryIn, entriesIn, rowsForest}
+use Rattle.places.specs.Places.{entryIn, entriesIn, rowsForest}
 use Rattle.layout.proofs.BareLaws.{fold-is, layout-is}
-use Rattle.layout.proofs.EntriesLaws.{size-stretch, Rows, rows-forest}
-use Rattle.layout.proofs.RowLaws.{stretch-cons, stretch-none}
+use Rattle.places.proofs.EntriesLaws.{size-stretch, Rows, rows-forest}
+use Rattle.places.proofs.RowLaws.{stretch-cons, stretch-none}
 use Rattle.record.proofs.LaidLaws.{entries-size}
 use Rattle.record.specs.Laying.{laidOf, Listed}
 use Rattle.record.specs.Shown.{listIn, Counted, SizedRow, Measured}

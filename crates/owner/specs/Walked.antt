@@ -8,7 +8,7 @@ use Rattle.definition.specs.declared.Statement.{Statement}
 use Rattle.definition.specs.Basic.{given}
 use Rattle.definition.specs.Search.{Row, rowOf}
 use Rattle.rows.specs.Table.{cell}
-use Rattle.layout.specs.Places.{entryIn, rowsForest}
+use Rattle.places.specs.Places.{entryIn, rowsForest}
 use Rattle.record.specs.Shown.{Counted, Sized}
 
 -- a statement has a REDEFINES or a DEPENDING ON

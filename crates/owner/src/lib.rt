@@ -7,7 +7,7 @@ ghost use Rattle.definition.specs.Calls.{ownerAnswerOf, ownerIn};
 ghost use Rattle.definition.specs.Owner.{overlaid};
 ghost use Rattle.definition.specs.Search.{rows, walk};
 ghost use Rattle.rows.specs.Table.{statementAt};
-ghost use Rattle.layout.specs.Places.{rowsForest};
+ghost use Rattle.places.specs.Places.{rowsForest};
 ghost use Rattle.record.specs.Laying.{Listed};
 ghost use Rattle.record.specs.Shown.{listIn};
 ghost use Rattle.owner.specs.Walked.{overlays, Walkable};
@@ -56,12 +56,12 @@ pub fn walk_rows(work: &[u32], from: usize, to: usize, position: usize) -> Owner
     let mut first = 0;
     let mut q = position;
     while k < to {
-        let offset = layout::wide(work[20 * k + 13]);
+        let offset = places::wide(work[20 * k + 13]);
         if q < offset {
             return Owner::Slack { entry: k - from };
         }
-        let width = layout::wide(work[20 * k + 14]);
-        let below = layout::wide(work[20 * k + 17]);
+        let width = places::wide(work[20 * k + 14]);
+        let below = places::wide(work[20 * k + 17]);
         let total = record::row_total(work, k);
         let r = q - offset;
         if r < total {

@@ -28,14 +28,17 @@ use Rattle.reading.proofs.ReadingLaws.{Stored}
 use Rattle.definition.specs.Calls.{checkOf}
 use Rattle.definition.specs.Record.{recordLength, endsFit}
 use Rattle.layout.specs.Bare.{foldCheck, foldedAll, bare, bareRecord}
-use Rattle.layout.specs.Places.{putPlace, putPlaces, seenFrom, entryIn, entriesIn, stopped, after, layTable, rowsForest}
+use Rattle.places.specs.Places.{putPlace, putPlaces, seenFrom, entryIn, entriesIn, rowsForest}
+use Rattle.layout.specs.Outcomes.{stopped, after, layTable}
 use Rattle.layout.specs.declared.LaidList.{LaidList}
-use Rattle.layout.specs.Steps.{ChildrenEnd, listOf}
-use Rattle.layout.proofs.EntriesLaws.{size-stretch}
-use Rattle.layout.proofs.ListLaws.{Of, of-size, bare-split, item-is, bare-is}
+use Rattle.places.specs.Ends.{ChildrenEnd}
+use Rattle.layout.specs.Steps.{listOf}
+use Rattle.places.proofs.EntriesLaws.{size-stretch}
+use Rattle.places.proofs.EntriesLaws.{Of, of-size}
+use Rattle.layout.proofs.ListLaws.{bare-split, item-is, bare-is}
 use Rattle.layout.proofs.LayLaws.{LaidRows, laid-rows, stopped-was}
-use Rattle.layout.proofs.RowLaws.{children-end, forest-split, forest-empty}
-use Rattle.layout.proofs.PlaceLaws.{length-place, length-places, before-places, statements-places, first-last, first-below}
+use Rattle.places.proofs.RowLaws.{children-end, forest-split, forest-empty}
+use Rattle.places.proofs.PlaceLaws.{length-place, length-places, before-places, statements-places, first-last, first-below}
 use Rattle.record.specs.Shown.{listIn, Column, Chained, Counted}
 use Rattle.record.specs.Marks.{Tallied}
 use Rattle.record.proofs.KeptLaws.{column-same, forest-kept, list-kept, Ready, marked-counted, marked-tree}

@@ -21,7 +21,7 @@ use Rattle.definition.specs.Owner.{size}
 use Rattle.definition.proofs.Lists.{order}
 use Rattle.definition.proofs.LayoutLaws.{redefiners-hit, redefiners-miss, redefiners-ends, redefiners-next}
 use Rattle.rows.specs.Table.{cell, spanAt}
-use Rattle.layout.specs.Places.{isTarget, seenFrom, placeAt, entryIn, entriesIn}
+use Rattle.places.specs.Places.{isTarget, seenFrom, placeAt, entryIn, entriesIn}
 use Rattle.layout.specs.Bare.{hasBase}
 use Rattle.layout.proofs.SizeLaws.{never, same-sym, same-first}
 use Rattle.record.specs.Marks.{baseFrom, baseOf, hit, hits}

@@ -16,11 +16,12 @@ use Rattle.definition.specs.Fold.{Entries, end, entry, append, Place, placeOf, 
 use Rattle.definition.specs.Owner.{size}
 use Rattle.rows.specs.Table.{cell, spanAt, statementAt, statementsFrom}
 use Rattle.layout.specs.Bare.{foldedList, foldedBelow, foldedAll}
-use Rattle.layout.specs.Places.{seenFrom, basesAt, placeAt, entryIn, entriesIn, Linked, rowsForest}
-use Rattle.layout.specs.Steps.{ChildrenEnd}
-use Rattle.layout.proofs.FoldLaws.{next-row, bases-after, entries-step, linked-step}
-use Rattle.layout.proofs.PlaceLaws.{seen-low, seen-out, seen-in}
-use Rattle.layout.proofs.RowLaws.{children-end, forest-split, forest-empty}
+use Rattle.places.specs.Places.{seenFrom, basesAt, placeAt, entryIn, entriesIn, Linked, rowsForest}
+use Rattle.places.specs.Ends.{ChildrenEnd}
+use Rattle.places.proofs.EntriesLaws.{next-row, entries-step, linked-step}
+use Rattle.layout.proofs.FoldLaws.{bases-after}
+use Rattle.places.proofs.PlaceLaws.{seen-low, seen-out, seen-in}
+use Rattle.places.proofs.RowLaws.{children-end, forest-split, forest-empty}
 use Rattle.record.specs.declared.Relation.{Relation}
 use Rattle.record.specs.Shown.{relation, listIn, redefinersIn, foldedRest, shownAt, IsBase, Numbered, Known, Marked}
 use Rattle.record.specs.Marks.{baseFrom}

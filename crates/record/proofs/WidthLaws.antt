@@ -16,11 +16,11 @@ use Rattle.definition.specs.Listing.{members#}
 use Rattle.definition.specs.Record.{recordLength}
 use Rattle.definition.specs.Tree.{higher}
 use Rattle.rows.specs.Table.{cell, spanAt, statementAt, statementsFrom}
-use Rattle.layout.proofs.RowLaws.{children-end}
+use Rattle.places.proofs.RowLaws.{children-end}
 use Rattle.layout.specs.Bare.{hasBase, foldedBelow, foldedAll}
 use Rattle.layout.proofs.SizeLaws.{never}
-use Rattle.layout.specs.Places.{basesAt, placeAt, entryIn, rowsForest}
-use Rattle.layout.specs.Steps.{ChildrenEnd}
+use Rattle.places.specs.Places.{basesAt, placeAt, entryIn, rowsForest}
+use Rattle.places.specs.Ends.{ChildrenEnd}
 use Rattle.record.specs.declared.Standing.{Standing}
 use Rattle.record.specs.declared.Relation.{Relation}
 use Rattle.record.specs.Shown.{standing, shownAs, relation, listIn, redefinersIn, shownAt, unionWidth, Open, IsBase, Numbered, Known, Marked, Sized, Tree, Branch, Base, Kin, SizedRow, Measured}

@@ -10,7 +10,7 @@ use Rattle.definition.specs.Words.{statementWords}
 use Rattle.definition.specs.Fold.{Entries}
 use Rattle.definition.specs.Record.{recordLength}
 use Rattle.layout.specs.Bare.{bareRecord, foldedAll}
-use Rattle.layout.specs.Places.{rowsForest}
+use Rattle.places.specs.Places.{rowsForest}
 use Rattle.record.specs.declared.RecordLaid.{RecordLaid}
 use Rattle.record.specs.Shown.{listIn, Counted, Tree}
 

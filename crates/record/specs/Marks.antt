@@ -9,7 +9,7 @@ use lib.ListN.{length}
 use Rattle.definition.specs.declared.Span.{Span}
 use Rattle.definition.specs.Basic.{if_then_else_, given}
 use Rattle.rows.specs.Table.{cell, spanAt}
-use Rattle.layout.specs.Places.{isTarget}
+use Rattle.places.specs.Places.{isTarget}
 
 -- among the first n rows, the latest base of that name from the sibling `last` back: its row and 1, or 0 for none
 unfoldable pub baseFrom : List ℕ → Span → List ℕ → ℕ → ℕ → ℕ

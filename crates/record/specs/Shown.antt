@@ -15,8 +15,8 @@ use Rattle.definition.specs.Owner.{size}
 use Rattle.definition.specs.Listing.{members#}
 use Rattle.rows.specs.Table.{cell, spanAt}
 use Rattle.layout.specs.Bare.{hasBase, foldedList, foldedBelow, foldedAll}
-use Rattle.layout.specs.Places.{basesAt, placeAt, entryIn, entriesIn, rowsForest}
-use Rattle.layout.specs.Steps.{ChildrenEnd}
+use Rattle.places.specs.Places.{basesAt, placeAt, entryIn, entriesIn, rowsForest}
+use Rattle.places.specs.Ends.{ChildrenEnd}
 use Rattle.record.specs.declared.Standing.{Standing}
 use Rattle.record.specs.declared.Relation.{Relation}
 use Rattle.record.specs.Marks.{baseFrom}

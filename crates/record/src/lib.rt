@@ -9,8 +9,9 @@ ghost use Rattle.definition.specs.Listing.{members#};
 ghost use Rattle.definition.specs.Record.{recordLength, endsFit};
 ghost use Rattle.definition.specs.Calls.{checkOf, recordFields};
 ghost use Rattle.layout.specs.Bare.{foldedAll};
-ghost use Rattle.layout.specs.Places.{entryIn, basesAt, isTarget, rowsForest};
-ghost use Rattle.layout.specs.Steps.{Room, ChildrenEnd};
+ghost use Rattle.places.specs.Places.{entryIn, basesAt, isTarget, rowsForest};
+ghost use Rattle.places.specs.Ends.{ChildrenEnd};
+ghost use Rattle.layout.specs.Steps.{Room};
 ghost use Rattle.rows.specs.Table.{cell, spanAt};
 ghost use Rattle.record.specs.Shown.{standing, relation, listIn, redefinersIn, shownAt, shown#, shownNamed, unionWidth, Numbered, Known, Tree, Branch, Base, Kin, SizedRow, Measured, Few};
 ghost use Rattle.record.specs.Marks.{baseFrom, baseOf, Countable, RowTallied, Tallied};
@@ -58,7 +59,7 @@ pub fn relation_to(text: &[u8], work: &[u32], i: usize, k: usize) -> Relation
 {
     let redefines = rows::span_at(work[20 * k + 6]);
     if 0 < redefines.len {
-        if layout::wide(work[20 * k + 18]) == i + 1 {
+        if places::wide(work[20 * k + 18]) == i + 1 {
             return Relation::Redefiner;
         }
         return Relation::Other;
@@ -74,7 +75,7 @@ pub fn row_total(work: &[u32], k: usize) -> usize
     let s = rows::statement_at(work, k);
     let clauses = s.clauses;
     let occurs = clauses.occurs;
-    layout::wide(work[20 * k + 14]) * layout::times_of(occurs) as usize
+    places::wide(work[20 * k + 14]) * places::times_of(occurs) as usize
 }
 
 // The end of the children of row i, which counts the rows below it.
@@ -82,7 +83,7 @@ pub fn next_of(work: &[u32], i: usize, to: usize) -> usize
     requires { ⌜ Numbered (now work) i to ⌝ }
     ensures { λ r. ⌜ ChildrenEnd (now (work .entry)) i to r ⌝ }
 {
-    i + 1 + layout::wide(work[20 * i + 17])
+    i + 1 + places::wide(work[20 * i + 17])
 }
 
 // How many redefiners row i has among the rows from j up to `to`: it counts them.
@@ -90,7 +91,7 @@ pub fn redefiner_count(text: &[u8], work: &[u32], i: usize, j: usize, to: usize)
     requires { ⌜ Base (now text) (now work) i j to ⌝ }
     ensures { λ r. ⌜ r ≡ members# (redefinersIn (now (text .entry)) (now (work .entry)) i j to) ⌝ }
 {
-    layout::wide(work[20 * i + 18])
+    places::wide(work[20 * i + 18])
 }
 
 // The most bytes that a redefiner of row i has in all its occurrences, among the rows from j up to `to`.
@@ -105,7 +106,7 @@ pub fn redefiner_width(text: &[u8], work: &[u32], i: usize, j: usize, to: usize)
         let m = next_of(work, k, to);
         match relation_to(text, work, i, k) {
             Relation::Redefiner => {
-                width = layout::most(width, row_total(work, k));
+                width = places::most(width, row_total(work, k));
                 left -= 1;
                 k = m;
             }
@@ -154,12 +155,12 @@ fn same_spellings(text: &[u8], a: Span, b: Span) -> bool
 {
     if 0 < a.len {
         if 0 < b.len {
-            return text::same_spelling(layout::part_of(text, a), layout::part_of(text, b));
+            return text::same_spelling(places::part_of(text, a), places::part_of(text, b));
         }
-        return text::same_spelling(layout::part_of(text, a), b"FILLER");
+        return text::same_spelling(places::part_of(text, a), b"FILLER");
     }
     if 0 < b.len {
-        return text::same_spelling(b"FILLER", layout::part_of(text, b));
+        return text::same_spelling(b"FILLER", places::part_of(text, b));
     }
     true
 }
@@ -203,9 +204,9 @@ pub fn union_width(text: &[u8], work: &[u32], i: usize, j: usize, to: usize) -> 
     let name = rows::span_at(work[20 * i + 3]);
     let first = i + 1;
     if has_member(text, work, first, j, name) {
-        return layout::most(folded_width(text, work, first, j), rest);
+        return places::most(folded_width(text, work, first, j), rest);
     }
-    layout::most(row_total(work, i), rest)
+    places::most(row_total(work, i), rest)
 }
 
 // How wide row i is in the folded list: 0 where it stands under its base.
@@ -239,7 +240,7 @@ pub fn folded_width(text: &[u8], work: &[u32], from: usize, to: usize) -> usize
     let mut last = 0;
     while i < to {
         let j = next_of(work, i, to);
-        width = layout::most(width, shown_width(text, work, i, j, to, last));
+        width = places::most(width, shown_width(text, work, i, j, to, last));
         last = i + 1;
         i = j;
     }
@@ -251,7 +252,7 @@ fn row_end(work: &[u32], i: usize) -> usize
     requires { ⌜ SizedRow (now work) i ⌝ }
     ensures { λ r. ⌜ r ≡ entryEnd (entryIn (now (work .entry)) i) ⌝ }
 {
-    let offset = layout::wide(work[20 * i + 13]);
+    let offset = places::wide(work[20 * i + 13]);
     let depending = rows::span_at(work[20 * i + 5]);
     if 0 < depending.len {
         return offset;
@@ -273,7 +274,7 @@ fn shown_end(text: &[u8], work: &[u32], i: usize, j: usize, to: usize, last: usi
         }
         Standing::Base => {
             if 0 < redefiner_count(text, work, i, j, to) {
-                return layout::wide(work[20 * i + 13]) + union_width(text, work, i, j, to);
+                return places::wide(work[20 * i + 13]) + union_width(text, work, i, j, to);
             }
             return row_end(work, i);
         }
@@ -290,7 +291,7 @@ pub fn record_length(text: &[u8], work: &[u32], from: usize, to: usize) -> usize
     let mut last = 0;
     while i < to {
         let j = next_of(work, i, to);
-        length = layout::most(length, shown_end(text, work, i, j, to, last));
+        length = places::most(length, shown_end(text, work, i, j, to, last));
         last = i + 1;
         i = j;
     }
@@ -310,7 +311,7 @@ pub fn ends_fit(text: &[u8], work: &[u32], from: usize, to: usize) -> Check
         if 2147483647 < end {
             return Check::Refused(Refusal {
                 number: 29,
-                position: layout::wide(work[20 * i + 2]),
+                position: places::wide(work[20 * i + 2]),
                 needed: 0,
             });
         }
@@ -330,10 +331,10 @@ fn find_base(text: &[u8], work: &[u32], target: Span, last: usize) -> usize
     let mut k = last;
     while 0 < k {
         let row = k - 1;
-        if layout::is_target(text, work, target, row, true) {
+        if places::is_target(text, work, target, row, true) {
             return k;
         }
-        let before = layout::wide(work[20 * row + 16]);
+        let before = places::wide(work[20 * row + 16]);
         if row < before {
             return 0;
         }
@@ -349,7 +350,7 @@ fn base_of(text: &[u8], work: &[u32], k: usize) -> usize
 {
     let redefines = rows::span_at(work[20 * k + 6]);
     if 0 < redefines.len {
-        let last = layout::wide(work[20 * k + 16]);
+        let last = places::wide(work[20 * k + 16]);
         if k < last {
             return 0;
         }
@@ -412,7 +413,7 @@ pub fn first_field(work: &[u32], n: usize) -> usize
     if n < 2 {
         return 0;
     }
-    if layout::end_of(work, 0, n) < n {
+    if places::end_of(work, 0, n) < n {
         return 0;
     }
     1

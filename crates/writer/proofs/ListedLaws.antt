@@ -13,8 +13,8 @@ use Rattle.definition.specs.Calls.{fitting, left, afterWriting, writingOf}
 use Rattle.definition.specs.Fold.{Entries}
 use Rattle.definition.specs.Listing.{members#, entriesBytes, listing}
 use Rattle.definition.specs.Record.{recordLength, variable}
-use Rattle.layout.specs.Places.{rowsForest}
-use Rattle.layout.proofs.EntriesLaws.{size-stretch}
+use Rattle.places.specs.Places.{rowsForest}
+use Rattle.places.proofs.EntriesLaws.{size-stretch}
 use Rattle.layout.proofs.SizeLaws.{listing-few}
 use Rattle.listing.specs.Puts.{Put, headBytes}
 use Rattle.listing.proofs.PutLaws.{_and_, put-first, listing-parts}

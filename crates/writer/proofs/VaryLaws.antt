@@ -13,8 +13,8 @@ use Rattle.definition.specs.Listing.{members#}
 use Rattle.definition.specs.Record.{variable}
 use Rattle.rows.specs.Table.{cell, spanAt}
 use Rattle.layout.specs.Bare.{foldedBelow, foldedAll}
-use Rattle.layout.specs.Places.{basesAt, placeAt, entryIn}
-use Rattle.layout.specs.Steps.{ChildrenEnd}
+use Rattle.places.specs.Places.{basesAt, placeAt, entryIn}
+use Rattle.places.specs.Ends.{ChildrenEnd}
 use Rattle.record.specs.declared.Standing.{Standing}
 use Rattle.record.specs.declared.Relation.{Relation}
 use Rattle.record.specs.Shown.{standing, relation, listIn, redefinersIn, foldedRest, shownAt, Tree, Base}

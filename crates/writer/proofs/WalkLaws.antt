@@ -13,8 +13,8 @@ use Rattle.definition.specs.Fold.{Entries, end, append, rebased}
 use Rattle.definition.specs.Listing.{members#, entryBytes, entriesBytes}
 use Rattle.rows.specs.Table.{cell, spanAt}
 use Rattle.layout.specs.Bare.{foldedAll}
-use Rattle.layout.specs.Places.{entryIn}
-use Rattle.layout.specs.Steps.{ChildrenEnd}
+use Rattle.places.specs.Places.{entryIn}
+use Rattle.places.specs.Ends.{ChildrenEnd}
 use Rattle.listing.specs.Puts.{Put}
 use Rattle.listing.proofs.PutLaws.{put-none, _and_}
 use Rattle.record.specs.declared.Relation.{Relation}

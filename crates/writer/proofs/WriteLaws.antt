@@ -15,8 +15,8 @@ use Rattle.definition.specs.Listing.{members#, entryBytes, entriesBytes}
 use Rattle.definition.proofs.ListingLaws.{bytes-entry, entry-length}
 use Rattle.rows.specs.Table.{cell, spanAt}
 use Rattle.layout.specs.Bare.{foldedBelow, foldedAll}
-use Rattle.layout.specs.Places.{basesAt, placeAt, entryIn, rowsForest}
-use Rattle.layout.specs.Steps.{ChildrenEnd}
+use Rattle.places.specs.Places.{basesAt, placeAt, entryIn, rowsForest}
+use Rattle.places.specs.Ends.{ChildrenEnd}
 use Rattle.listing.specs.Puts.{Countable, Put}
 use Rattle.listing.proofs.PutLaws.{put-none, _and_, entry-countable}
 use Rattle.record.specs.declared.Standing.{Standing}

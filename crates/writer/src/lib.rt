@@ -11,7 +11,7 @@ ghost use Rattle.definition.specs.Listing.{members#, entriesBytes};
 ghost use Rattle.definition.specs.Calls.{afterWriting, fitting, left, writingOf};
 ghost use Rattle.rows.specs.Table.{cell};
 ghost use Rattle.layout.specs.Bare.{foldedBelow};
-ghost use Rattle.layout.specs.Places.{entryIn};
+ghost use Rattle.places.specs.Places.{entryIn};
 ghost use Rattle.listing.specs.Puts.{Put};
 ghost use Rattle.record.specs.Shown.{redefinersIn, shownAt, Known, Tree, Branch, Base};
 ghost use Rattle.writer.specs.Written.{Fits, listBytes, itemBytes, shownBytes, ownMember, unionIn, unionEntry, unionBytes, redefinersBytes, listVaries, itemVaries};
@@ -61,8 +61,8 @@ fn member_at(work: &[u32], k: usize, i: usize) -> Entry
     requires { ⌜ (20 * k + 20 ≤ length (now work)) × (20 * i + 20 ≤ length (now work)) ⌝ }
     ensures { λ r. ⌜ r ≡ rebased (cell (now (work .entry)) i 13) (entryIn (now (work .entry)) k) ⌝ }
 {
-    let base = layout::entry_at(work, i);
-    rebased_to(layout::entry_at(work, k), base.offset)
+    let base = places::entry_at(work, i);
+    rebased_to(places::entry_at(work, k), base.offset)
 }
 
 // ---------------------------------------------------------------- a base with its redefiners
@@ -94,7 +94,7 @@ fn union_entry(text: &[u8], work: &[u32], i: usize, j: usize, to: usize) -> Entr
     ensures { λ r. ⌜ r ≡ unionEntry (now (text .entry)) (now (work .entry)) i j to ⌝ }
 {
     let width = record::union_width(text, work, i, j, to);
-    listing::union_of(layout::entry_at(work, i), width)
+    listing::union_of(places::entry_at(work, i), width)
 }
 
 // ---------------------------------------------------------------- the walk
@@ -212,13 +212,13 @@ fn write_shown(
             return at;
         }
         Standing::Alone => {
-            return write_item(text, work, i, j, layout::entry_at(work, i), out, at);
+            return write_item(text, work, i, j, places::entry_at(work, i), out, at);
         }
         Standing::Base => {
             if 0 < record::redefiner_count(text, work, i, j, to) {
                 return write_union(text, work, i, j, to, out, at);
             }
-            return write_item(text, work, i, j, layout::entry_at(work, i), out, at);
+            return write_item(text, work, i, j, places::entry_at(work, i), out, at);
         }
     }
 }

@@ -8,8 +8,8 @@ use mathlib.Core.List.{List}
 use native.Mathlib.Omega.{arith}
 use Rattle.definition.specs.Fold.{Entries, end, append, widest}
 use Rattle.layout.specs.Bare.{foldedAll}
-use Rattle.layout.specs.Places.{basesAt}
-use Rattle.layout.specs.Steps.{ChildrenEnd}
+use Rattle.places.specs.Places.{basesAt}
+use Rattle.places.specs.Ends.{ChildrenEnd}
 use Rattle.record.specs.Shown.{listIn, shownAt, Tree, Measured}
 use Rattle.record.proofs.FoldedLaws.{widest-append}
 use Rattle.record.proofs.ShownLaws.{walking-ends}
@@ -26,7 +26,7 @@ use Rattle.record.proofs.union_width.Reads as union-width
 use Rattle.record.proofs.union_width.Kinds as union-width-kinds
 use Rattle.record.proofs.+folded_width+shown_width+union_width.Lts-union_width as union-width-lts
 use Rattle.record.proofs.has_member.Reads as has-member-reads
-use Rattle.layout.proofs.most.Reads as most-reads
+use Rattle.places.proofs.most.Reads as most-reads
 use Rattle.record.proofs.next_of.Reads as next-of-reads
 use Rattle.record.proofs.redefiner_count.Reads as redefiner-count-reads
 use Rattle.record.proofs.redefiner_width.Reads as redefiner-width-reads

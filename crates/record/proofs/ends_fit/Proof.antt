@@ -10,8 +10,8 @@ use Rattle.definition.specs.Fold.{Entries, end, append}
 use Rattle.definition.specs.Record.{recordLength, endsFit}
 use Rattle.rows.specs.Table.{cell}
 use Rattle.layout.specs.Bare.{foldedBelow, foldedAll}
-use Rattle.layout.specs.Places.{basesAt, entryIn}
-use Rattle.layout.specs.Steps.{ChildrenEnd}
+use Rattle.places.specs.Places.{basesAt, entryIn}
+use Rattle.places.specs.Ends.{ChildrenEnd}
 use Rattle.record.specs.Shown.{standing, listIn, foldedRest, shownAt, Tree}
 use Rattle.record.proofs.FoldedLaws.{fit-append, shown-fits, shown-over}
 use Rattle.record.proofs.ShownLaws.{walking-ends, walking-here}

@@ -9,8 +9,8 @@ use lib.ListN.{length}
 use Rattle.definition.specs.Fold.{Entries, end, append}
 use Rattle.definition.specs.Listing.{members#}
 use Rattle.layout.specs.Bare.{foldedBelow, foldedAll}
-use Rattle.layout.specs.Places.{basesAt, entryIn}
-use Rattle.layout.specs.Steps.{ChildrenEnd}
+use Rattle.places.specs.Places.{basesAt, entryIn}
+use Rattle.places.specs.Ends.{ChildrenEnd}
 use Rattle.record.specs.Shown.{standing, shown#, listIn, shownAt, Numbered, Tree, Few}
 use Rattle.record.proofs.FoldedLaws.{count-append, shown-count}
 use Rattle.record.proofs.ShownLaws.{walking-ends}

@@ -11,9 +11,9 @@ use Rattle.definition.specs.declared.Span.{Span}
 use Rattle.definition.specs.Basic.{if_then_else_}
 use Rattle.definition.specs.Fold.{Entries, end, append, hasMember}
 use Rattle.layout.specs.Bare.{foldedBelow, foldedAll}
-use Rattle.layout.specs.Places.{basesAt, entryIn}
-use Rattle.layout.specs.Steps.{ChildrenEnd}
-use Rattle.layout.proofs.RowLaws.{children-end}
+use Rattle.places.specs.Places.{basesAt, entryIn}
+use Rattle.places.specs.Ends.{ChildrenEnd}
+use Rattle.places.proofs.RowLaws.{children-end}
 use Rattle.record.specs.Shown.{standing, shownNamed, listIn, foldedRest, shownAt, Numbered, Tree}
 use Rattle.record.proofs.FoldedLaws.{member-append, shown-named}
 use Rattle.record.proofs.ShownLaws.{walking-ends, walking-here}

@@ -8,7 +8,7 @@ use native.Mathlib.Omega.{arith}
 use Rattle.definition.specs.Fold.{Entries, end, append}
 use Rattle.definition.specs.Record.{recordLength}
 use Rattle.layout.specs.Bare.{foldedAll}
-use Rattle.layout.specs.Steps.{ChildrenEnd}
+use Rattle.places.specs.Ends.{ChildrenEnd}
 use Rattle.record.specs.Shown.{listIn, shownAt, Tree}
 use Rattle.record.proofs.FoldedLaws.{length-append}
 use Rattle.record.proofs.ShownLaws.{walking-ends}

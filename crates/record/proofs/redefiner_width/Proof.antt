@@ -8,8 +8,8 @@ use native.Mathlib.Omega.{arith}
 use Rattle.definition.specs.Fold.{Entries, total, widest}
 use Rattle.definition.specs.Listing.{members#}
 use Rattle.rows.specs.Table.{cell, spanAt}
-use Rattle.layout.specs.Places.{entryIn}
-use Rattle.layout.specs.Steps.{ChildrenEnd}
+use Rattle.places.specs.Places.{entryIn}
+use Rattle.places.specs.Ends.{ChildrenEnd}
 use Rattle.record.specs.declared.Relation.{Relation}
 use Rattle.record.specs.Shown.{relation, redefinersIn, Base, Measured}
 use Rattle.record.proofs.ShownLaws.{redefined-by}

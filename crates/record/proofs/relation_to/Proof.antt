@@ -11,7 +11,7 @@ use Rattle.definition.specs.declared.Span.{Span}
 use Rattle.definition.specs.Basic.{if_then_else_, given}
 use Rattle.definition.specs.Fold.{sameName}
 use Rattle.rows.specs.Table.{spanAt, cell}
-use Rattle.layout.specs.Places.{entryIn}
+use Rattle.places.specs.Places.{entryIn}
 use Rattle.record.specs.declared.Relation.{Relation}
 use Rattle.record.specs.Shown.{relation, Kin}
 use Rattle.record.proofs.relation_to.Statement.{statement}

@@ -11,7 +11,7 @@ use Rattle.definition.specs.declared.Span.{Span}
 use Rattle.definition.specs.Basic.{if_then_else_, given}
 use Rattle.definition.specs.Fold.{total, entryEnd}
 use Rattle.rows.specs.Table.{cell, spanAt}
-use Rattle.layout.specs.Places.{entryIn}
+use Rattle.places.specs.Places.{entryIn}
 use Rattle.record.specs.Shown.{Measured}
 use Rattle.record.proofs.row_end.Statement.{statement}
 use Rattle.record.proofs.row_end.Tie as tie

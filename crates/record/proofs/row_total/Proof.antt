@@ -8,7 +8,7 @@ use native.Mathlib.Omega.{arith}
 use Rattle.definition.specs.declared.Statement.{Statement}
 use Rattle.definition.specs.Fold.{times, total}
 use Rattle.rows.specs.Table.{cell, statementAt}
-use Rattle.layout.specs.Places.{entryIn}
+use Rattle.places.specs.Places.{entryIn}
 use Rattle.record.specs.Shown.{Measured}
 use Rattle.record.proofs.row_total.Statement.{statement}
 use Rattle.record.proofs.row_total.Tie as tie

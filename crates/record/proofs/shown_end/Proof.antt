@@ -1,7 +1,7 @@
 -- `record::shown_end` meets its contract, case by case.
 -- Assumes nothing.
 use borrow.Author.Needs.{needs}
-use Rattle.layout.specs.Places.{basesAt}
+use Rattle.places.specs.Places.{basesAt}
 use Rattle.record.proofs.WidthLaws.{branch-row, branch-base, end-under, end-single, end-base, end-joined}
 use Rattle.record.proofs.shown_end.Statement.{statement}
 use Rattle.record.proofs.shown_end.Tie as tie

@@ -8,7 +8,7 @@ use mathlib.Core.List.{List}
 use Rattle.definition.specs.declared.Span.{Span}
 use Rattle.definition.specs.Fold.{sameSpelling}
 use Rattle.rows.specs.Table.{spanAt, cell}
-use Rattle.layout.specs.Places.{entryIn}
+use Rattle.places.specs.Places.{entryIn}
 use Rattle.record.specs.declared.Standing.{Standing}
 use Rattle.record.specs.Shown.{shownNamed}
 use Rattle.record.proofs.shown_named.Statement.{statement}

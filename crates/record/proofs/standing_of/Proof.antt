@@ -11,7 +11,7 @@ use Rattle.definition.specs.Basic.{if_then_else_, given}
 use Rattle.definition.specs.Fold.{find}
 use Rattle.rows.specs.Table.{spanAt, cell}
 use Rattle.layout.specs.Bare.{hasBase}
-use Rattle.layout.specs.Places.{basesAt, entryIn}
+use Rattle.places.specs.Places.{basesAt, entryIn}
 use Rattle.record.specs.declared.Standing.{Standing}
 use Rattle.record.specs.Shown.{standing, Known}
 use Rattle.record.proofs.standing_of.Statement.{statement}

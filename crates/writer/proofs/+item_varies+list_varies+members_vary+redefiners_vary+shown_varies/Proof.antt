@@ -7,7 +7,7 @@ use native.Mathlib.Omega.{arith}
 use Rattle.definition.specs.Basic.{given}
 use Rattle.definition.specs.Record.{variable}
 use Rattle.layout.specs.Bare.{foldedBelow}
-use Rattle.layout.specs.Places.{basesAt, entryIn}
+use Rattle.places.specs.Places.{basesAt, entryIn}
 use Rattle.record.specs.Shown.{redefinersIn}
 use Rattle.record.proofs.WidthLaws.{branch-tree, branch-base, along-numbered, along-known, along-branch, counting-numbered, counting-kin, counting-tree}
 use Rattle.writer.specs.Written.{listVaries, itemVaries}

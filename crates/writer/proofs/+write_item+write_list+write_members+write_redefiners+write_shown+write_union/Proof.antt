@@ -6,7 +6,7 @@ use mathlib.Core.Path.{refl}
 use native.Mathlib.Omega.{arith}
 use Rattle.definition.specs.Listing.{members#, entryBytes, entriesBytes}
 use Rattle.listing.proofs.PutLaws.{put-none, put-length}
-use Rattle.layout.specs.Places.{basesAt}
+use Rattle.places.specs.Places.{basesAt}
 use Rattle.record.proofs.WidthLaws.{branch-tree, branch-base, along-numbered, along-known, along-branch, counting-numbered, counting-row, counting-kin, counting-tree}
 use Rattle.writer.specs.Written.{listBytes, itemBytes, unionIn, unionEntry, unionBytes}
 use Rattle.writer.proofs.WriteLaws.{put-as, fits-as, fits-entry, shown-under, shown-alone, shown-base, shown-union}
@@ -31,7 +31,7 @@ use Rattle.writer.proofs.+write_item+write_list+write_members+write_red
 use Rattle.writer.proofs.write_union.Reads as write-union
 use Rattle.writer.proofs.write_union.Kinds as write-union-kinds
 use Rattle.writer.proofs.+write_item+write_list+write_members+write_redefiners+write_shown+write_union.Lts-write_union as write-union-lts
-use Rattle.layout.proofs.entry_at.Reads as entry-at-reads
+use Rattle.places.proofs.entry_at.Reads as entry-at-reads
 use Rattle.listing.proofs.put_entry.Reads as put-entry-reads
 use Rattle.record.proofs.folded_count.Reads as folded-count-reads
 use Rattle.record.proofs.next_of.Reads as next-of-reads

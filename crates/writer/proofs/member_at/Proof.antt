@@ -7,7 +7,7 @@ use mathlib.Core.List.{List}
 use Rattle.definition.specs.declared.Entry.{Entry}
 use Rattle.definition.specs.Fold.{rebased}
 use Rattle.rows.specs.Table.{cell}
-use Rattle.layout.specs.Places.{entryIn}
+use Rattle.places.specs.Places.{entryIn}
 use Rattle.writer.proofs.member_at.Statement.{statement}
 use Rattle.writer.proofs.member_at.Tie as tie
 

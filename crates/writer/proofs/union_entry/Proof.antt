@@ -6,7 +6,7 @@ use mathlib.Core.Path.{_≡_, refl, sym, ap, _∙_}
 use mathlib.Core.List.{List}
 use Rattle.definition.specs.declared.Entry.{Entry}
 use Rattle.definition.specs.Fold.{union}
-use Rattle.layout.specs.Places.{entryIn}
+use Rattle.places.specs.Places.{entryIn}
 use Rattle.record.specs.Shown.{unionWidth, Measured}
 use Rattle.writer.specs.Written.{unionEntry}
 use Rattle.writer.proofs.union_entry.Statement.{statement}

@@ -160,7 +160,7 @@ fn begin(k: Keyword, c: Clauses) -> Step
 fn on_clause(word: &[u8], c: Clauses) -> Step
     ensures { λ r. ⌜ r ≡ onClause (uppers (now (word .entry))) c ⌝ }
 {
-    begin(text::keyword_of(word), c)
+    begin(keywords::keyword_of(word), c)
 }
 
 // A word where DEPENDING or a clause may stand.

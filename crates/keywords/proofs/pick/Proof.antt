@@ -1,9 +1,9 @@
--- `text::pick` meets its contract.
+-- `keywords::pick` meets its contract.
 -- Assumes nothing.
 use borrow.Author.Needs.{needs}
 use Rattle.definition.specs.Statement.{pick}
-use Rattle.text.proofs.pick.Statement.{statement}
-use Rattle.text.proofs.pick.Tie as tie
+use Rattle.keywords.proofs.pick.Statement.{statement}
+use Rattle.keywords.proofs.pick.Tie as tie
 
 same-key-requires : tie.Need-same-key-requires
 same-key-requires c κs = search needs

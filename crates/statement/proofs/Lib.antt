@@ -1,3 +1,3 @@
 pub mod EndLaws
-pub mod FitLaws
+pub mod FinishLaws
 pub mod ReadLaws

@@ -1,6 +1,6 @@
 -- What the answers of the statement reader say, in terms of the definition and of the tokens from a place on.
 -- Assumes nothing.
-use Prim.Native.Nat.{ℕ, _+_, _<_, _≤_}
+use Prim.Native.Nat.{ℕ, _<_, _≤_}
 use mathlib.Core.Path.{_≡_}
 use mathlib.Core.List.{List, [], _∷_}
 use mathlib.Core.Option.{none, some}
@@ -16,6 +16,7 @@ use Rattle.definition.specs.Basic.{Answer, refuse, give}
 use Rattle.definition.specs.Statement.{noClauses, clauses, named, statement}
 use Rattle.definition.specs.Words.{sentences, firstWords, afterStop}
 use Rattle.text.specs.Tokens.{tokensFrom}
+use Rattle.clauses.specs.Places.{Inside, Fits}
 use Rattle.statement.specs.declared.Finished.{Finished}
 use Rattle.statement.specs.declared.ClausesRead.{ClausesRead}
 use Rattle.statement.specs.declared.NamedRead.{NamedRead}
@@ -23,17 +24,7 @@ use Rattle.statement.specs.declared.StatementRead.{StatementRead}
 
 -- ---------------------------------------------------------------- places in the text
 
--- a span lies in the text
-abbrev pub Inside : List ℕ → Span → Type 0
-Inside text w = w .start + w .len ≤ length text
-
--- the spans that the clauses name lie in the text
-pub record Fits (text : List ℕ) (c : Clauses) : Type 0 where
-  pub picture : Inside text (c .picture)
-  pub depending : Inside text (c .depending)
-  pub redefines : Inside text (c .redefines)
-
--- and so do a statement's first word and its name
+-- a statement's first word, its name and the spans that its clauses name lie in the text
 pub record StatementFits (text : List ℕ) (s : Statement) : Type 0 where
   pub begins : s .at < length text
   pub name : Inside text (s .name)

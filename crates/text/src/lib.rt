@@ -6,13 +6,11 @@ ghost use Prim.Native.Nat.{_+_, _≤_, _<_};
 ghost use lib.ListN.{length, drop, getD};
 ghost use Rattle.definition.specs.Basic.{white, upper as upperOf, uppers, same, numeral, below, number, count};
 ghost use Rattle.definition.specs.Calls.{textChecks, checkOf};
-ghost use Rattle.definition.specs.Statement.{pick as pickOf, keywordOf};
 ghost use Rattle.definition.specs.Words.{cutHere, ends, byteKind};
 ghost use Rattle.text.specs.Words.{folded as foldedOf, valued, levelled};
 ghost use Rattle.text.specs.Tokens.{between, tokensFrom, inWord, NextLine, WordEnd, First};
 use definition::ByteKind;
 use definition::Check;
-use definition::Keyword;
 use definition::Refusal;
 
 // Whether a byte is white space.
@@ -184,44 +182,6 @@ pub fn text_checks(text: &[u8]) -> Check
         i += 1;
     }
     Check::Passed
-}
-
-// `k` where the word is the spelling, else the other.
-fn pick(word: &[u8], spelling: &[u8], k: Keyword, other: Keyword) -> Keyword
-    ensures { λ r. ⌜ r ≡ pickOf (uppers (now (word .entry))) (now (spelling .entry)) k other ⌝ }
-{
-    if same_key(word, spelling) {
-        return k;
-    }
-    other
-}
-
-// The clause that a word begins.
-pub fn keyword_of(word: &[u8]) -> Keyword
-    ensures { λ r. ⌜ r ≡ keywordOf (uppers (now (word .entry))) ⌝ }
-{
-    let k = Keyword::Other;
-    let k = pick(word, b"PIC", Keyword::Picture, k);
-    let k = pick(word, b"PICTURE", Keyword::Picture, k);
-    let k = pick(word, b"REDEFINES", Keyword::Redefines, k);
-    let k = pick(word, b"OCCURS", Keyword::Occurs, k);
-    let k = pick(word, b"USAGE", Keyword::Usage, k);
-    let k = pick(word, b"COMP-3", Keyword::Comp3, k);
-    let k = pick(word, b"COMPUTATIONAL-3", Keyword::Comp3, k);
-    let k = pick(word, b"PACKED-DECIMAL", Keyword::Comp3, k);
-    let k = pick(word, b"COMP", Keyword::Comp, k);
-    let k = pick(word, b"COMPUTATIONAL", Keyword::Comp, k);
-    let k = pick(word, b"COMP-4", Keyword::Comp, k);
-    let k = pick(word, b"COMPUTATIONAL-4", Keyword::Comp, k);
-    let k = pick(word, b"COMP-5", Keyword::Comp, k);
-    let k = pick(word, b"COMPUTATIONAL-5", Keyword::Comp, k);
-    let k = pick(word, b"BINARY", Keyword::Comp, k);
-    let k = pick(word, b"SIGN", Keyword::Sign, k);
-    let k = pick(word, b"SYNC", Keyword::Sync, k);
-    let k = pick(word, b"SYNCHRONIZED", Keyword::Sync, k);
-    let k = pick(word, b"VALUE", Keyword::Value, k);
-    let k = pick(word, b"VALUES", Keyword::Value, k);
-    k
 }
 
 // Whether `*>` stands at a place.

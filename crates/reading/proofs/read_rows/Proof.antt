@@ -21,7 +21,8 @@ use Rattle.definition.proofs.WordLaws.{sentences-end}
 use Rattle.text.specs.Tokens.{between, tokensFrom}
 use Rattle.statement.specs.declared.StatementRead.{StatementRead}
 use Rattle.statement.specs.declared.StatementRead.the-variants.{Kept, Skipped, Refused, End}
-use Rattle.statement.specs.Reading.{Inside, FirstKept, FirstSkipped, FirstStatement}
+use Rattle.clauses.specs.Places.{Inside}
+use Rattle.statement.specs.Reading.{FirstKept, FirstSkipped, FirstStatement}
 use Rattle.statement.proofs.ReadLaws.{kept-read, skipped-read, refused-read, end-read}
 use Rattle.reading.specs.declared.OpenLevels.{OpenLevels}
 use Rattle.reading.specs.declared.RowsRead.{RowsRead}

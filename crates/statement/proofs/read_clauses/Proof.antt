@@ -24,9 +24,11 @@ use Rattle.text.specs.declared.Next.{Next}
 use Rattle.text.specs.Tokens.{tokensFrom, FirstWord, First}
 use Rattle.text.proofs.TokenLaws.{end-first, word-first, word-less, stop-first}
 use Rattle.statement.specs.declared.ClausesRead.{ClausesRead}
-use Rattle.statement.specs.Reading.{Fits, wordsFrom, Ends, closing, ClausesAre}
+use Rattle.clauses.specs.Places.{Fits}
+use Rattle.clauses.proofs.FitLaws.{none-fit, step-fits}
+use Rattle.statement.specs.Reading.{wordsFrom, Ends, closing, ClausesAre}
 use Rattle.statement.proofs.EndLaws.{Reached, reached-start, reached-word, ends-stop, ends-text}
-use Rattle.statement.proofs.FitLaws.{none-fit, step-fits, finish-fits, AnswerFits}
+use Rattle.statement.proofs.FinishLaws.{finish-fits, AnswerFits}
 use Rattle.statement.proofs.read_clauses.Statement.{statement}
 use Rattle.statement.proofs.read_clauses.Tie as tie
 

@@ -19,11 +19,11 @@ use Rattle.definition.specs.Words.{firstWords}
 use Rattle.text.specs.declared.Next.{Next}
 use Rattle.text.specs.Tokens.{tokensFrom, FirstWord, First}
 use Rattle.text.proofs.TokenLaws.{end-first, word-first, stop-first}
+use Rattle.clauses.proofs.FitLaws.{none-fit}
 use Rattle.statement.specs.declared.ClausesRead.{ClausesRead}
 use Rattle.statement.specs.declared.NamedRead.{NamedRead}
 use Rattle.statement.specs.Reading.{wordsFrom, Ends, ClausesDone, ClausesAre, NamedAre}
 use Rattle.statement.proofs.EndLaws.{reached-start, reached-word, ends-stop, ends-text, ends-on}
-use Rattle.statement.proofs.FitLaws.{none-fit}
 use Rattle.statement.proofs.read_named.Statement.{statement}
 use Rattle.statement.proofs.read_named.Tie as tie
 

@@ -1,0 +1,28 @@
+-- `clauses::after_picture` meets its contract.
+-- Assumes nothing.
+use borrow.Author.Needs.{needs}
+use Rattle.definition.specs.Statement.{clauseStep}
+use Rattle.clauses.proofs.after_picture.Statement.{statement}
+use Rattle.clauses.proofs.after_picture.Tie as tie
+
+slice-aggregate-same-key : tie.Need-slice-aggregate-same-key
+slice-aggregate-same-key c = search needs
+
+same-key-requires : tie.Need-same-key-requires
+same-key-requires c κs = search needs
+
+returns : tie.Need-returns
+unfolding clauseStep
+returns c = rw (← c .before .same-key .ensures, c .if1 .taken)
+
+with-picture-requires : tie.Need-with-picture-requires
+with-picture-requires c κs = search needs
+
+returns-2 : tie.Need-returns-2
+unfolding clauseStep
+returns-2 c = rw (← c .before .before .same-key .ensures, c .before .if1 .left, c .with-picture .ensures)
+
+pub after-picture-spec : {M : Type 1} → statement M
+after-picture-spec =
+    tie.close
+    (tie.spec slice-aggregate-same-key same-key-requires returns with-picture-requires returns-2)

@@ -1,0 +1,28 @@
+-- `clauses::after_usage` meets its contract.
+-- Assumes nothing.
+use borrow.Author.Needs.{needs}
+use Rattle.definition.specs.Statement.{clauseStep}
+use Rattle.clauses.proofs.after_usage.Statement.{statement}
+use Rattle.clauses.proofs.after_usage.Tie as tie
+
+slice-aggregate-same-key : tie.Need-slice-aggregate-same-key
+slice-aggregate-same-key c = search needs
+
+same-key-requires : tie.Need-same-key-requires
+same-key-requires c κs = search needs
+
+returns : tie.Need-returns
+unfolding clauseStep
+returns c = rw (← c .before .same-key .ensures, c .if1 .taken)
+
+on-clause-requires : tie.Need-on-clause-requires
+on-clause-requires c κs = search needs
+
+returns-2 : tie.Need-returns-2
+unfolding clauseStep
+returns-2 c = rw (← c .before .before .same-key .ensures, c .before .if1 .left, c .on-clause .ensures)
+
+pub after-usage-spec : {M : Type 1} → statement M
+after-usage-spec =
+    tie.close
+    (tie.spec slice-aggregate-same-key same-key-requires returns on-clause-requires returns-2)

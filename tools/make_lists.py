@@ -290,14 +290,19 @@ def compared(text, reading, answer):
     return True
 
 
-def texts(oracle):
+def distinct(texts, count):
+    """The first so many different texts, as inputs."""
     inputs = {}
-    for text in text_inputs():
+    for text in texts:
         i = Input(text.encode("latin-1"), None, None, "")
         inputs.setdefault(i.text, i)
-        if len(inputs) == TEXTS:
+        if len(inputs) == count:
             break
-    inputs = list(inputs.values())
+    return list(inputs.values())
+
+
+def texts(oracle):
+    inputs = distinct(text_inputs(), TEXTS)
     cases, asked = [], collections.Counter()
     for i, answer in zip(inputs, oracle.ask(inputs)):
         reading = reader_list.reading(i.text)
@@ -345,13 +350,7 @@ def check_layout(i, made, answer):
 
 
 def layouts(oracle):
-    inputs = {}
-    for text in layout_inputs():
-        i = Input(text.encode("latin-1"), None, None, "")
-        inputs.setdefault(i.text, i)
-        if len(inputs) == LAYOUTS:
-            break
-    inputs = list(inputs.values())
+    inputs = distinct(layout_inputs(), LAYOUTS)
     cases, kinds = [], collections.Counter()
     for i, answer in zip(inputs, oracle.ask(inputs)):
         made = layout_list.answer(i.text)

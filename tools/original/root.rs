@@ -1,4 +1,4 @@
-// What the modules of the original take from the root of their crate. modules.rs includes it.
+// What the modules of the original take from the root of their crate, and what their errors mean. modules.rs includes it.
 
 #[derive(Debug, Clone, PartialEq, Eq)]
 pub struct Error(pub String);
@@ -6,6 +6,30 @@ pub struct Error(pub String);
 impl std::fmt::Display for Error {
     fn fmt(&self, f: &mut std::fmt::Formatter<'_>) -> std::fmt::Result {
         f.write_str(&self.0)
+    }
+}
+
+/// The errors by how their messages begin, with the numbers of the refusals that they mean.
+const REFUSALS: [(&str, u32); 12] = [
+    ("invalid level number", 10),
+    ("OCCURS requires a count", 11),
+    ("OCCURS … TO requires", 12),
+    ("DEPENDING ON requires", 13),
+    ("copybook nesting exceeds", 20),
+    ("elementary item", 21),
+    ("unbalanced parentheses", 22),
+    ("invalid PIC repeat count", 23),
+    ("unsupported PIC symbol", 25),
+    ("mixed text/numeric PIC", 26),
+    ("REDEFINES target", 28),
+    ("record too short", 42),
+];
+
+impl Error {
+    /// The number of the refusal, or 0 for an error that is none of the table's.
+    #[allow(dead_code)]
+    pub fn number(&self) -> u32 {
+        REFUSALS.iter().find(|(begin, _)| self.0.starts_with(begin)).map_or(0, |&(_, n)| n)
     }
 }
 

@@ -1,15 +1,8 @@
 //! The calls of include/copybook.h. A Rust slice is what they ask for: its pointer is good for its elements and aligned, and a `&mut` slice overlaps nothing else that is
 //! lent.
 
+use crate::declared::{copybook_check_record, copybook_layout, copybook_mask, copybook_owner, copybook_picture};
 use crate::{FieldKind, NumRepr, Owner, Picture, Refusal, SignKind, Usage};
-
-extern "C" {
-    fn copybook_layout(text: *const u8, n: usize, work: *mut u32, w: usize, out: *mut u8, m: usize, answer: *mut u64, k: usize) -> u32;
-    fn copybook_picture(pic: *const u8, n: usize, usage: u8, sign: u8, answer: *mut u64, k: usize) -> u32;
-    fn copybook_mask(pic: *const u8, n: usize, usage: u8, out: *mut u8, m: usize, answer: *mut u64, k: usize) -> u32;
-    fn copybook_owner(text: *const u8, n: usize, position: u64, work: *mut u32, w: usize, answer: *mut u64, k: usize) -> u32;
-    fn copybook_check_record(record_len: u64, variable: u8, len: u64) -> u32;
-}
 
 fn usage_number(usage: Usage) -> u8 {
     match usage {

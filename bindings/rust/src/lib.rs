@@ -15,6 +15,7 @@
 //! [`lent`] they are the caller's own.
 
 mod calls;
+mod declared;
 mod layout;
 pub mod lent;
 mod refusal;

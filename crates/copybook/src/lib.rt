@@ -75,7 +75,7 @@ pub fn mask(pic: &[u8], usage: Usage, out: &mut [u8]) -> Writing
 
 // Whether a record of `len` bytes is long enough for a layout of `record_len` bytes: 42, at 0, where it is shorter and the record
 // is not variable.
-// The contract rules out a program that refuses a record one byte longer, and one that checks a variable record too.
+// The contract rules out a program that refuses a record of just the length, and one that checks a variable record.
 pub fn check_record_len(record_len: usize, variable: bool, len: usize) -> Check
     ensures { λ r. ⌜ checkOf r ≡ recordCheck record_len variable len ⌝ }
 {

@@ -1,17 +1,15 @@
 // The public entries for C: `include/copybook.h` declares them. A slice is a pointer and a length. Each call returns 0 or the number of its
-// refusal, and writes the other numbers of its answer to a lent slice (`specs/Numbers`). Leans on `copybook` and `definition`.
+// refusal, and writes the other numbers of its answer to a lent slice (`specs/Numbers`). Leans on `copybook`, `listing` and `definition`.
 ghost use mathlib.Core.Path.{_≡_};
 ghost use mathlib.Core.Bool.{_||_};
 ghost use mathlib.Core.List.{[], _∷_};
 ghost use lib.Dec.{ltb};
 ghost use Rattle.definition.specs.Basic.{if_then_else_};
-ghost use Rattle.definition.specs.Listing.{flag, signByte, storageByte, kindByte};
 ghost use Rattle.definition.specs.Calls.{layoutCall, pictureAnswer, maskCall, ownerCall, recordCheck, pictureOf, writingOf, ownerAnswerOf, checkOf};
 ghost use Rattle.copybook_c.specs.Numbers.{usageOf, signOf, noUsage, noSign, marked};
 ghost use Rattle.copybook_c.specs.Numbers.{returned, writingNumbers, kindNumbers, pictureNumbers, ownerNumbers, answered};
 use definition::Check;
 use definition::FieldKind;
-use definition::NumRepr;
 use definition::OwnerAnswer;
 use definition::PicAnswer;
 use definition::SignClause;
@@ -121,80 +119,17 @@ fn hand_on(w: Writing, answer: &mut [u64]) -> u32
     }
 }
 
-// The number of a bool.
-fn flag_number(b: bool) -> u64
-    ensures { λ r. ⌜ r ≡ flag b ⌝ }
-{
-    if b {
-        return 1;
-    }
-    0
-}
-
-// The number of a sign.
-fn sign_number(sign: SignKind) -> u64
-    ensures { λ r. ⌜ r ≡ signByte sign ⌝ }
-{
-    match sign {
-        SignKind::Unsigned => 0,
-        SignKind::Embedded => 1,
-        SignKind::LeadingSeparate => 2,
-        SignKind::TrailingSeparate => 3,
-    }
-}
-
-// The number of a storage.
-fn storage_number(repr: NumRepr) -> u64
-    ensures { λ r. ⌜ r ≡ storageByte repr ⌝ }
-{
-    match repr {
-        NumRepr::Display => 0,
-        NumRepr::Comp3 => 1,
-        NumRepr::Zoned => 2,
-    }
-}
-
-// The number of a kind.
-fn kind_number(kind: FieldKind) -> u64
-    ensures { λ r. ⌜ r ≡ kindByte kind ⌝ }
-{
-    match kind {
-        FieldKind::Text => 1,
-        FieldKind::Int { signed, sign } => 2,
-        FieldKind::Binary { signed } => 3,
-        FieldKind::Decimal {
-            precision,
-            scale,
-            repr,
-            sign,
-        } => 4,
-        FieldKind::Edited {
-            precision,
-            scale,
-            signed,
-        } => 5,
-        FieldKind::Group => 6,
-    }
-}
-
-// Five numbers.
-fn details(signed: u64, sign: u64, precision: u64, scale: u64, storage: u64) -> DetailNumbers
+// Five bytes as numbers.
+fn details(signed: u8, sign: u8, precision: u8, scale: u8, storage: u8) -> DetailNumbers
     ensures { λ r. ⌜ (r .signed ∷ r .sign ∷ r .precision ∷ r .scale ∷ r .storage ∷ []) ≡ (signed ∷ sign ∷ precision ∷ scale ∷ storage ∷ []) ⌝ }
 {
     DetailNumbers {
-        signed,
-        sign,
-        precision,
-        scale,
-        storage,
+        signed: signed as u64,
+        sign: sign as u64,
+        precision: precision as u64,
+        scale: scale as u64,
+        storage: storage as u64,
     }
-}
-
-// A byte as a number of 64 bits.
-fn wide(b: u8) -> u64
-    ensures { λ r. ⌜ r ≡ b ⌝ }
-{
-    b as u64
 }
 
 // The numbers that a kind has.
@@ -206,10 +141,10 @@ fn details_of(kind: FieldKind) -> DetailNumbers
             return details(0, 0, 0, 0, 0);
         }
         FieldKind::Int { signed, sign } => {
-            return details(flag_number(signed), sign_number(sign), 0, 0, 0);
+            return details(listing::flag_of(signed), listing::sign_of(sign), 0, 0, 0);
         }
         FieldKind::Binary { signed } => {
-            return details(flag_number(signed), 0, 0, 0, 0);
+            return details(listing::flag_of(signed), 0, 0, 0, 0);
         }
         FieldKind::Decimal {
             precision,
@@ -219,10 +154,10 @@ fn details_of(kind: FieldKind) -> DetailNumbers
         } => {
             return details(
                 0,
-                sign_number(sign),
-                wide(precision),
-                wide(scale),
-                storage_number(repr),
+                listing::sign_of(sign),
+                precision,
+                scale,
+                listing::storage_of(repr),
             );
         }
         FieldKind::Edited {
@@ -230,7 +165,7 @@ fn details_of(kind: FieldKind) -> DetailNumbers
             scale,
             signed,
         } => {
-            return details(flag_number(signed), 0, wide(precision), wide(scale), 0);
+            return details(listing::flag_of(signed), 0, precision, scale, 0);
         }
         FieldKind::Group => {
             return details(0, 0, 0, 0, 0);
@@ -246,7 +181,12 @@ fn hand_on_picture(p: PicAnswer, answer: &mut [u64]) -> u32
     match p {
         PicAnswer::Accepted(p) => {
             let kind = p.kind;
-            put_seven(answer, kind_number(kind), p.width as u64, details_of(kind));
+            put_seven(
+                answer,
+                listing::kind_of(kind) as u64,
+                p.width as u64,
+                details_of(kind),
+            );
             return 0;
         }
         PicAnswer::Refused(r) => {

@@ -108,6 +108,7 @@ pub record After (A : Type 0) : Type 0 where
   pub output : List ℕ
   pub work : List ℕ
 
+-- an answer, and what the call left of output and work memory
 abbrev pub left : {A : Type 0} → Answer A → List ℕ → List ℕ → After A
 left a out work = record { answer = a; output = out; work = work }
 

@@ -99,7 +99,7 @@ fn put_occurs(out: &mut [u8], at: usize, o: Occurs) -> usize
 // ---------------------------------------------------------------- codes of a byte
 
 // 1 for true, 0 for false.
-fn flag_of(b: bool) -> u8
+pub fn flag_of(b: bool) -> u8
     ensures { λ r. ⌜ r ≡ flag b ⌝ }
 {
     if b {
@@ -109,7 +109,7 @@ fn flag_of(b: bool) -> u8
 }
 
 // The byte of a sign.
-fn sign_of(s: SignKind) -> u8
+pub fn sign_of(s: SignKind) -> u8
     ensures { λ r. ⌜ r ≡ signByte s ⌝ }
 {
     match s {
@@ -121,7 +121,7 @@ fn sign_of(s: SignKind) -> u8
 }
 
 // The byte of a decimal's storage.
-fn storage_of(r: NumRepr) -> u8
+pub fn storage_of(r: NumRepr) -> u8
     ensures { λ b. ⌜ b ≡ storageByte r ⌝ }
 {
     match r {
@@ -132,7 +132,7 @@ fn storage_of(r: NumRepr) -> u8
 }
 
 // The byte of a kind, which every entry begins with.
-fn kind_of(k: FieldKind) -> u8
+pub fn kind_of(k: FieldKind) -> u8
     ensures { λ r. ⌜ r ≡ kindByte k ⌝ }
 {
     match k {

@@ -12,7 +12,7 @@ use Rattle.definition.specs.declared.Token.{Token}
 use Rattle.definition.specs.Words.{tokens}
 use Rattle.text.specs.declared.Next.{Next}
 use Rattle.text.specs.Tokens.{between, tokensFrom, First}
-use Rattle.reader.specs.Reading.{left, standsAt, Takes}
+use Rattle.reader.specs.Reading.{ahead, standsAt, Takes}
 
 -- at the end of a text no tokens are left
 none-left : (f : Bool) (t : List ℕ) → tokensFrom t (between f) (length t) ≡ []
@@ -21,7 +21,7 @@ none-left true t = let h : length t ≤ length t = omega arith in rw (drop-of-le
 none-left false t = let h : length t ≤ length t = omega arith in rw (drop-of-length-le t h)
 
 -- the answer is taken, and the reader stands after it
-taken-at : (t : List ℕ) (at : ℕ) (r : Next) → First (left t at) t at r → Takes t at r (standsAt t r)
+taken-at : (t : List ℕ) (at : ℕ) (r : Next) → First (ahead t at) t at r → Takes t at r (standsAt t r)
 taken-at t at (Next.Word start len next) w = record {
   first = w;
   moves = refl;
@@ -41,5 +41,5 @@ taken-at t at Next.End n = record {
   rest = rw (n, none-left (eqb (length t) 0) t);
 }
 
-pub taken : (t : List ℕ) (at : ℕ) {r : Next} {n : ℕ} → First (left t at) t at r → n ≡ standsAt t r → Takes t at r n
+pub taken : (t : List ℕ) (at : ℕ) {r : Next} {n : ℕ} → First (ahead t at) t at r → n ≡ standsAt t r → Takes t at r n
 taken t at {r} f e = rw e (taken-at t at r f)

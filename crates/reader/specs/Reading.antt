@@ -10,8 +10,8 @@ use Rattle.text.specs.declared.Next.{Next}
 use Rattle.text.specs.Tokens.{between, tokensFrom, First}
 
 -- the tokens before a reader: at place 0 a line begins, and any other place stands after a token
-abbrev pub left : List ℕ → ℕ → List Token
-left text at = tokensFrom text (between (eqb at 0)) at
+abbrev pub ahead : List ℕ → ℕ → List Token
+ahead text at = tokensFrom text (between (eqb at 0)) at
 
 -- the tokens after the first
 abbrev pub afterFirst : List Token → List Token
@@ -26,7 +26,7 @@ standsAt text Next.End = length text
 
 -- a reader at a place answers t and moves to r: t is the first of the tokens before it, and the others are before it then
 pub record Takes (text : List ℕ) (at : ℕ) (t : Next) (r : ℕ) : Type 0 where
-  pub first : First (left text at) text at t
+  pub first : First (ahead text at) text at t
   pub moves : r ≡ standsAt text t
   pub within : r ≤ length text
-  pub rest : left text r ≡ afterFirst (left text at)
+  pub rest : ahead text r ≡ afterFirst (ahead text at)

@@ -320,6 +320,18 @@ pub fn read_list(name: &[u8], buf: &mut [u8]) -> usize
     n
 }
 
+// Whether work memory is zero.
+pub fn is_cleared(work: &[u32]) -> bool {
+    let mut i = 0;
+    while i < work.len() {
+        if work[i] != 0 {
+            return false;
+        }
+        i += 1;
+    }
+    true
+}
+
 // How many cases there were, and how many agreed.
 pub struct Tally {
     pub cases: u64,

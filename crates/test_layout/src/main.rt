@@ -43,18 +43,6 @@ fn is_untouched(out: &[u8], from: usize) -> bool {
     true
 }
 
-// Whether work memory is zero.
-fn is_cleared(work: &[u32]) -> bool {
-    let mut i = 0;
-    while i < work.len() {
-        if work[i] != 0 {
-            return false;
-        }
-        i += 1;
-    }
-    true
-}
-
 // ---------------------------------------------------------------- one answer
 
 // Goes on where the next words are the length and the bytes of the listing at the start of the output, which is else untouched.
@@ -104,7 +92,7 @@ fn is_answer(list: &[u8], p: Reached, text: &[u8], work: &mut [u32], room: usize
     let mut out = [0u8; 80000];
     write_pattern(&mut out);
     let p = answer(list, p, text, work, &mut out, room);
-    if is_cleared(work) {
+    if replay::is_cleared(work) {
         return replay::is_whole(list, p);
     }
     false
@@ -139,7 +127,7 @@ fn is_short(text: &[u8], out: &mut [u8], needed: usize) -> bool
             if r.needed != needed {
                 return false;
             }
-            if is_cleared(&work) {
+            if replay::is_cleared(&work) {
                 return is_untouched(out, 0);
             }
             return false;

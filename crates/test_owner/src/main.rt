@@ -14,18 +14,6 @@ use replay::Tally;
 // What stands in work memory before a call.
 const FILL: u32 = 4294967295;
 
-// Whether work memory is zero.
-fn is_cleared(work: &[u32]) -> bool {
-    let mut i = 0;
-    while i < work.len() {
-        if work[i] != 0 {
-            return false;
-        }
-        i += 1;
-    }
-    true
-}
-
 // ---------------------------------------------------------------- counting
 
 // One answer more, up to a million; the first that differs is named, counted from 1.
@@ -95,7 +83,7 @@ fn is_answer(list: &[u8], p: Reached, text: &[u8], position: usize, work: &mut [
     requires { ⌜ Inside (now list) p ⌝ }
 {
     let p = answer(list, p, text, position, work);
-    if is_cleared(work) {
+    if replay::is_cleared(work) {
         return replay::is_whole(list, p);
     }
     false
@@ -187,7 +175,7 @@ fn is_owned(text: &[u8], position: usize, run: Run, begin: usize) -> bool
 {
     let mut work = [FILL; 16384];
     let same = is_same(text, position, run, begin, &mut work);
-    if is_cleared(&work) {
+    if replay::is_cleared(&work) {
         return same;
     }
     false

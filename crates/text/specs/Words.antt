@@ -3,7 +3,7 @@
 use Prim.Native.Nat.{ℕ}
 use mathlib.Core.Bool.{Bool, true, false}
 use mathlib.Core.Option.{Option, none, some}
-use Rattle.definition.specs.Basic.{upper}
+use Rattle.definition.specs.Basic.{upper, Answer, give, refused}
 use Rattle.text.specs.declared.Number.{Number}
 use Rattle.text.specs.declared.Level.{Level}
 
@@ -21,3 +21,13 @@ valued Number.Bad = none
 abbrev pub levelled : Level → Option ℕ
 levelled (Level.Value n) = some n
 levelled Level.Bad = none
+
+-- whether there is such a place
+abbrev pub isFound : Option ℕ → Bool
+isFound none = false
+isFound (some p) = true
+
+-- 2 at the first byte over 127
+abbrev pub wideCheck : Option ℕ → Answer (Unit {0})
+wideCheck none = give tt
+wideCheck (some p) = refused 2 p

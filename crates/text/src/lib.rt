@@ -1,13 +1,15 @@
 // The copybook text: its bytes, words, numbers and tokens, and the checks of the text itself. A word is the part of the
 // text that it fills; `next_token` finds the words, `tokenize` and `split_statements` of the Rust in one walk.
 ghost use mathlib.Core.Path.{_≡_};
+ghost use mathlib.Core.Bool.{_||_};
 ghost use mathlib.Core.List.{map};
+ghost use lib.Dec.{ltb};
 ghost use Prim.Native.Nat.{_+_, _≤_, _<_};
 ghost use lib.ListN.{length, drop, getD};
 ghost use Rattle.definition.specs.Basic.{white, upper as upperOf, uppers, same, numeral, below, number, count};
-ghost use Rattle.definition.specs.Calls.{textChecks, checkOf};
+ghost use Rattle.definition.specs.Calls.{firstWide, textChecks, checkOf};
 ghost use Rattle.definition.specs.Words.{cutHere, ends, byteKind};
-ghost use Rattle.text.specs.Words.{folded as foldedOf, valued, levelled};
+ghost use Rattle.text.specs.Words.{folded as foldedOf, valued, levelled, isFound, wideCheck};
 ghost use Rattle.text.specs.Tokens.{between, tokensFrom, inWord, NextLine, WordEnd, First};
 use definition::ByteKind;
 use definition::Check;
@@ -159,6 +161,47 @@ pub fn level_of(word: &[u8]) -> Level
     }
 }
 
+// Whether there was a byte over 127 already, or this one is.
+fn wide_or(found: bool, b: u8) -> bool
+    ensures { λ r. ⌜ r ≡ (found || ltb 127 b) ⌝ }
+{
+    if found {
+        return true;
+    }
+    127 < b
+}
+
+// Whether a text has a byte over 127. Every byte is looked at, so that many can be at once.
+fn has_wide(text: &[u8]) -> bool
+    ensures { λ r. ⌜ r ≡ isFound (firstWide 0 (now (text .entry))) ⌝ }
+{
+    let mut found = false;
+    let mut i = 0;
+    while i < text.len() {
+        found = wide_or(found, text[i]);
+        i += 1;
+    }
+    found
+}
+
+// Refusal 2: the first byte over 127.
+fn wide_check(text: &[u8]) -> Check
+    ensures { λ r. ⌜ checkOf r ≡ wideCheck (firstWide 0 (now (text .entry))) ⌝ }
+{
+    let mut i = 0;
+    while i < text.len() {
+        if 127 < text[i] {
+            return Check::Refused(Refusal {
+                number: 2,
+                position: i,
+                needed: 0,
+            });
+        }
+        i += 1;
+    }
+    Check::Passed
+}
+
 // Refusals 1 and 2: text over 65,535 bytes, and the first byte over 127.
 pub fn text_checks(text: &[u8]) -> Check
     ensures { λ r. ⌜ checkOf r ≡ textChecks (now (text .entry)) ⌝ }
@@ -170,16 +213,8 @@ pub fn text_checks(text: &[u8]) -> Check
             needed: 0,
         });
     }
-    let mut i = 0;
-    while i < text.len() {
-        if 127 < text[i] {
-            return Check::Refused(Refusal {
-                number: 2,
-                position: i,
-                needed: 0,
-            });
-        }
-        i += 1;
+    if has_wide(text) {
+        return wide_check(text);
     }
     Check::Passed
 }
@@ -269,14 +304,16 @@ fn next_line(text: &[u8], at: usize) -> usize
     i
 }
 
-// The end of the word that goes on at a place.
+// The end of the word that goes on at a place. A byte over 46 is neither white space nor `*` nor `.`.
 fn word_end(text: &[u8], at: usize) -> usize
     requires { ⌜ at ≤ length (now text) ⌝ }
     ensures { λ r. ⌜ WordEnd (now (text .entry)) at r ⌝ }
 {
     let mut i = at;
     while i < text.len() {
-        if in_word(byte_kind(text, i)) {
+        if 46 < text[i] {
+            i += 1;
+        } else if in_word(byte_kind(text, i)) {
             i += 1;
         } else {
             return i;

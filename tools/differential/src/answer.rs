@@ -7,26 +7,6 @@ use crate::reading::{self, Reading, Refused, Shape, Span, Statement};
 use crate::Error;
 use std::panic;
 
-/// The errors by how their messages begin, with the numbers of the refusals.
-const REFUSALS: [(&str, u32); 12] = [
-    ("invalid level number", 10),
-    ("OCCURS requires a count", 11),
-    ("OCCURS … TO requires", 12),
-    ("DEPENDING ON requires", 13),
-    ("copybook nesting exceeds", 20),
-    ("elementary item", 21),
-    ("unbalanced parentheses", 22),
-    ("invalid PIC repeat count", 23),
-    ("unsupported PIC symbol", 25),
-    ("mixed text/numeric PIC", 26),
-    ("REDEFINES target", 28),
-    ("record too short", 42),
-];
-
-pub fn number_of(e: &Error) -> u32 {
-    REFUSALS.iter().find(|(begin, _)| e.0.starts_with(begin)).map_or(0, |&(_, n)| n)
-}
-
 /// What the Rust did: it answered, it panicked (it is built with overflow checks), or it was not asked.
 pub enum Original<T> {
     Gave(Result<T, u32>),
@@ -46,7 +26,7 @@ fn asked<T>(text: &[u8], ask: impl FnOnce(&str) -> crate::Result<T>) -> Original
         return Original::NotAsked;
     };
     match panic::catch_unwind(panic::AssertUnwindSafe(|| ask(text))) {
-        Ok(answer) => Original::Gave(answer.map_err(|e| number_of(&e))),
+        Ok(answer) => Original::Gave(answer.map_err(|e| e.number())),
         Err(_) => Original::Panicked,
     }
 }
@@ -267,5 +247,5 @@ pub fn picture(text: &[u8], usage: usize, sign: usize) -> Result<Pictured, Strin
 /// What `check_record_len` of the Rust says: 0, or the number of its refusal.
 pub fn record_check(record_len: usize, variable: bool, len: usize) -> u32 {
     let layout = Layout { record_len, fields: Vec::new(), variable };
-    layout.check_record_len(len).map_or_else(|e| number_of(&e), |()| 0)
+    layout.check_record_len(len).map_or_else(|e| e.number(), |()| 0)
 }

@@ -18,6 +18,8 @@
 //! The exit status is 1 if anything differs; the smallest input that does is printed in hex, with what differs.
 
 mod answer;
+#[path = "../../../bindings/rust/src/declared.rs"]
+mod declared;
 mod inputs;
 mod product;
 mod reading;

@@ -1,15 +1,8 @@
 //! The calls of `copybook_c`, each with lent buffers that stand between guards. What a call may not touch is checked here: the guards, the
 //! answer where it is too short, the output after a refusal and past what was written, and work memory, which must be zero.
 
+use crate::declared::{copybook_check_record, copybook_layout, copybook_mask, copybook_owner, copybook_picture};
 use crate::inputs::Random;
-
-extern "C" {
-    fn copybook_layout(text: *const u8, n: usize, work: *mut u32, w: usize, out: *mut u8, m: usize, answer: *mut u64, k: usize) -> u32;
-    fn copybook_picture(pic: *const u8, n: usize, usage: u8, sign: u8, answer: *mut u64, k: usize) -> u32;
-    fn copybook_mask(pic: *const u8, n: usize, usage: u8, out: *mut u8, m: usize, answer: *mut u64, k: usize) -> u32;
-    fn copybook_owner(text: *const u8, n: usize, position: u64, work: *mut u32, w: usize, answer: *mut u64, k: usize) -> u32;
-    fn copybook_check_record(record_len: u64, variable: u8, len: u64) -> u32;
-}
 
 pub const ENOUGH_WORK: usize = 16_384;
 const GUARD: usize = 8;

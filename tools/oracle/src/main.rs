@@ -37,24 +37,8 @@ const NOT_ASKED: u64 = 3;
 /// A picture's repeat counts are taken up to this sum.
 const MOST_SYMBOLS: u64 = 1_000_000;
 
-/// The errors by how their messages begin, with the numbers of the refusals.
-const REFUSALS: [(&str, u64); 11] = [
-    ("invalid level number", 10),
-    ("OCCURS requires a count", 11),
-    ("OCCURS … TO requires", 12),
-    ("DEPENDING ON requires", 13),
-    ("copybook nesting exceeds", 20),
-    ("elementary item", 21),
-    ("unbalanced parentheses", 22),
-    ("invalid PIC repeat count", 23),
-    ("unsupported PIC symbol", 25),
-    ("mixed text/numeric PIC", 26),
-    ("REDEFINES target", 28),
-];
-
 fn refused(e: &Error) -> Numbers {
-    let known = REFUSALS.iter().find(|(begin, _)| e.0.starts_with(begin));
-    vec![0, known.map_or(0, |&(_, number)| number)]
+    vec![0, u64::from(e.number())]
 }
 
 /// Whether the word, as a picture, expands to at most MOST_SYMBOLS symbols, or is refused before it has more.

@@ -8,8 +8,11 @@ use Rattle.copybook_c.proofs.hand_on_picture.Tie as tie
 enum-known-p : tie.Need-enum-known-p
 enum-known-p c = search needs
 
-kind-number-requires : tie.Need-kind-number-requires
-kind-number-requires c κs = search needs
+kind-of-requires : tie.Need-kind-of-requires
+kind-of-requires c κs = search needs
+
+cast-put-seven : tie.Need-cast-put-seven
+cast-put-seven c = search needs
 
 details-of-requires : tie.Need-details-of-requires
 details-of-requires c κs = search needs
@@ -21,7 +24,7 @@ same-length : tie.Need-same-length
 same-length c = search needs
 
 returns : tie.Need-returns
-returns c = pictured _ _ _ (c .before .before .before .before .before .before .before .p .given .1) (c .before .before .before .before .kind-number .ensures) (c .before .before .before .details-of .ensures) (c .before .before .put-seven .ensures)
+returns c = pictured _ _ _ (c .before .before .before .before .before .before .before .p .given .1) (c .before .before .before .before .kind-of .ensures) (c .before .before .before .details-of .ensures) (c .before .before .put-seven .ensures)
 
 enum-known-p-2 : tie.Need-enum-known-p-2
 enum-known-p-2 c = search needs
@@ -43,7 +46,8 @@ hand-on-picture-spec =
     tie.close
     (tie.spec
     enum-known-p
-    kind-number-requires
+    kind-of-requires
+    cast-put-seven
     details-of-requires
     put-seven-requires
     same-length

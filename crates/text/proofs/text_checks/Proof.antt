@@ -1,82 +1,55 @@
--- `text::text_checks` meets its contract. The loop's invariant: the first byte over 127 is the first of those that are left.
+-- `text::text_checks` meets its contract: the first byte over 127 is looked for only where there is one.
 -- Assumes nothing.
 use borrow.Author.Needs.{needs}
-use Prim.Native.Nat.{ℕ, _+_, _-_, _≤_, _<_}
-use mathlib.Core.Path.{_≡_, refl, _∙_}
+use Prim.Native.Nat.{ℕ, _≤_, _<_}
+use mathlib.Core.Path.{_≡_, refl, sym, _∙_}
+use mathlib.Core.Bool.{Bool, true, false}
 use mathlib.Core.List.{List}
-use lib.ListN.{length, getD, drop}
+use mathlib.Core.Option.{Option, none, some}
+use native.Mathlib.Omega.{arith}
+use lib.ListN.{length}
 use borrow.Author.Tests.{lt-ltb, le-ltb}
-use Rattle.definition.specs.Basic.{give, refused, _>>=_}
+use Rattle.definition.specs.Basic.{Answer, give, refused, _>>=_}
 use Rattle.definition.specs.Calls.{firstWide, textChecks}
-use Rattle.definition.proofs.CallsLaws.{wide-none, wide-hit, wide-next}
+use Rattle.text.specs.Words.{isFound, wideCheck}
 use Rattle.text.proofs.text_checks.Statement.{statement}
 use Rattle.text.proofs.text_checks.Tie as tie
-
--- the first byte over 127 is the first from i on
-record Left (t : List ℕ) (i : ℕ) : Type 0 where
-  short : length t ≤ 65535
-  rest : firstWide 0 t ≡ firstWide i (drop i t)
 
 long : (t : List ℕ) → 65535 < length t → refused 1 0 ≡ textChecks t
 unfolding textChecks _>>=_
 long t h = rw (lt-ltb 65535 (length t) h)
 
-start : {t : List ℕ} → length t ≤ 65535 → Left t 0
-start h = record { short = h; rest = refl }
+-- a text that is not too long
+short : (t : List ℕ) → length t ≤ 65535 → (o : Option ℕ) → o ≡ firstWide 0 t → wideCheck o ≡ textChecks t
+unfolding textChecks _>>=_
+short t h none e = rw (le-ltb 65535 (length t) h, ← e)
+short t h (some p) e = rw (le-ltb 65535 (length t) h, ← e)
 
-module _ {t : List ℕ} {i : ℕ} (inv : Left t i) where
-  wide : i < length t → 127 < getD t i 0 → refused 2 i ≡ textChecks t
-  unfolding textChecks _>>=_
-  wide h l = rw (le-ltb 65535 (length t) (inv .short), inv .rest, wide-hit t i h l)
+searched : (t : List ℕ) → length t ≤ 65535 → {a : Answer (Unit {0})} → a ≡ wideCheck (firstWide 0 t) → a ≡ textChecks t
+searched t h e = e ∙ short t h (firstWide 0 t) refl
 
-  next : i < length t → getD t i 0 ≤ 127 → Left t (i + 1)
-  next h l = record { short = inv .short; rest = inv .rest ∙ wide-next t i h l }
+-- what is not found is not there
+nowhere : (o : Option ℕ) → isFound o ≡ false → give tt ≡ wideCheck o
+nowhere none e = refl
+nowhere (some p) e = absurd (let z : _≡_ {A = ℕ} 0 1 = cc in omega arith)
 
-  done : length t ≤ i → give tt ≡ textChecks t
-  unfolding textChecks _>>=_
-  done h = rw (le-ltb 65535 (length t) (inv .short), inv .rest, wide-none t i h)
+passed : (t : List ℕ) → length t ≤ 65535 → {r : Bool} → r ≡ isFound (firstWide 0 t) → r ≡ false → give tt ≡ textChecks t
+passed t h e n = nowhere (firstWide 0 t) (sym e ∙ n) ∙ short t h (firstWide 0 t) refl
 
-abbrev Inv-loop : tie.InvT-loop
-Inv-loop text i₀ i = Left text i
-
-abbrev μ-loop : tie.MeasureT-loop
-μ-loop text i₀ i = length text - i
-
-returns : tie.Need-returns Inv-loop μ-loop
+returns : tie.Need-returns
 returns c = search long
 
-loop-holds : tie.Need-loop-holds Inv-loop μ-loop
-loop-holds c = search start
+has-wide-requires : tie.Need-has-wide-requires
+has-wide-requires c κs = search needs
 
-shared-slice-read-if2 : tie.Need-shared-slice-read-if2 Inv-loop μ-loop
-shared-slice-read-if2 c = search needs
+wide-check-requires : tie.Need-wide-check-requires
+wide-check-requires c κs = search needs
 
-returns-2 : tie.Need-returns-2 Inv-loop μ-loop
-returns-2 c = search wide
+returns-2 : tie.Need-returns-2
+returns-2 c = search searched
 
-add-i : tie.Need-add-i Inv-loop μ-loop
-add-i c = search needs
-
-loop-less : tie.Need-loop-less Inv-loop μ-loop
-loop-less c = search needs
-
-loop-again : tie.Need-loop-again Inv-loop μ-loop
-loop-again c = search next
-
-returns-3 : tie.Need-returns-3 Inv-loop μ-loop
-returns-3 c = search done
+returns-3 : tie.Need-returns-3
+returns-3 c = search passed
 
 pub text-checks-spec : {M : Type 1} → statement M
-text-checks-spec =
-    tie.close
-    (tie.spec
-    Inv-loop
-    μ-loop
-    returns
-    loop-holds
-    shared-slice-read-if2
-    returns-2
-    add-i
-    loop-less
-    loop-again
-    returns-3)
+text-checks-spec = tie.close (tie.spec returns has-wide-requires wide-check-requires returns-2 returns-3)

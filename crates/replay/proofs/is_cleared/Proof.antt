@@ -1,10 +1,10 @@
--- `test_layout::is_cleared` is safe and ends. Nothing has to hold from turn to turn.
+-- `replay::is_cleared` is safe and ends. Nothing has to hold from turn to turn.
 -- Assumes nothing.
 use borrow.Author.Needs.{needs}
 use Prim.Native.Nat.{_-_}
 use lib.ListN.{length}
-use Rattle.test_layout.proofs.is_cleared.Statement.{statement}
-use Rattle.test_layout.proofs.is_cleared.Tie as tie
+use Rattle.replay.proofs.is_cleared.Statement.{statement}
+use Rattle.replay.proofs.is_cleared.Tie as tie
 
 abbrev Inv-loop : tie.InvT-loop
 Inv-loop work i₀ i = Unit {0}

@@ -69,14 +69,3 @@ pub small : (l : List ℕ) → length l ≤ 65535 → Small (tallies l)
 small l h =
     small-tallied (length l) (tally "9Z*" (beforePoint l)) (λ s. tally s l) h (omega (arith, tally-sides "9Z*" l no-digit))
     (λ s. tally-le s l)
-
--- so short a run has small tallies
-times-le : (s : String) (b n : ℕ) → times s b n ≤ n
-times-le s b n = go (among s b)
-  where
-    go : (t : Bool) → (if t then n else 0) ≤ n
-    go true = omega arith
-    go false = omega arith
-
-pub small-run : (b n : ℕ) → n ≤ 65535 → Small (runOf b n)
-small-run b n h = small-tallied n (times "9Z*" b n) (λ s. times s b n) h (omega arith) (λ s. times-le s b n)

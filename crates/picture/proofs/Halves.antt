@@ -1,9 +1,10 @@
 -- Laws of what is awaited of CR or DB: no state changes after a byte's second copy, and a list is legal if nothing is awaited at its end.
 -- Assumes nothing.
 use Prim.Native.Nat.{ℕ, zero, suc}
-use mathlib.Core.Path.{_≡_, refl}
+use mathlib.Core.Path.{_≡_, refl, sym, _∙_}
 use mathlib.Core.Bool.{Bool, true, false}
 use mathlib.Core.List.{List, [], _∷_, _++_}
+use native.Mathlib.Omega.{arith}
 use lib.Dec.{eqb}
 use lib.ListN.{replicate}
 use borrow.Author.Tests.{eqb-true}
@@ -61,6 +62,18 @@ staying p b (suc n) e = rw (e, halves) (staying p b n e)
 pub halves-more : (p : Half) (b n : ℕ) → halves p (replicate (suc (suc n)) b) ≡ next (next p b) b
 unfolding halves
 halves-more p b n = staying (twice p b) b n (still p b)
+
+-- where nothing is awaited, a symbol changes nothing; C and D are none
+symbol-next : (b : ℕ) (c d : Bool) → is "C" b ≡ c → is "D" b ≡ d → symbol b ≡ true → next Half.Nothing b ≡ Half.Nothing
+symbol-next b true d ec ed h = absurd (let e = rw (eqb-true b 67 ec) at h in let z : _≡_ {A = ℕ} 0 1 = cc in omega arith)
+symbol-next b false true ec ed h = absurd (let e = rw (eqb-true b 68 ed) at h in let z : _≡_ {A = ℕ} 0 1 = cc in omega arith)
+symbol-next b false false ec ed h = rw (ec, ed, h)
+
+pub halves-symbol : (p : Half) (b n : ℕ) {x y : Bool} → x ≡ nothing p → x ≡ true → y ≡ symbol b → y ≡ true → p ≡ halves p (replicate n b)
+halves-symbol Half.Nothing b n l x s y = sym (staying Half.Nothing b n (symbol-next b (is "C" b) (is "D" b) refl refl (sym s ∙ y)))
+halves-symbol Half.C b n l x s y = absurd (let z : _≡_ {A = ℕ} 0 1 = cc in omega arith)
+halves-symbol Half.D b n l x s y = absurd (let z : _≡_ {A = ℕ} 0 1 = cc in omega arith)
+halves-symbol Half.Wrong b n l x s y = absurd (let z : _≡_ {A = ℕ} 0 1 = cc in omega arith)
 
 -- a byte that is no symbol is not forgotten
 wrong-stays : (l : List ℕ) → halves Half.Wrong l ≡ Half.Wrong

@@ -80,6 +80,11 @@ pub record Small (s : Tallies) : Type 0 where
   pub edits : s .edits ≤ 65535
   pub hidden : s .hidden ≤ s .symbols
 
+-- n symbols more can be added
+pub record Adds (s : Tallies) (n : ℕ) : Type 0 where
+  pub small : Small s
+  pub few : n ≤ 65535
+
 -- what of CR or DB is awaited after one more byte
 abbrev pub next : Half → ℕ → Half
 next Half.Nothing b =

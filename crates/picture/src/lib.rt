@@ -3,14 +3,14 @@
 ghost use Prim.Native.Nat.{ℕ, _+_, _-_, _≤_, max};
 ghost use mathlib.Core.Path.{_≡_};
 ghost use mathlib.Core.Bool.{_&&_};
-ghost use mathlib.Core.List.{[], reverse};
-ghost use lib.ListN.{length, replicate};
+ghost use mathlib.Core.List.{[], _∷_, reverse};
+ghost use lib.ListN.{length, replicate, drop};
 ghost use lib.Seq.{sets};
 ghost use Rattle.definition.specs.Picture.{trimStart, trim as trimmed, expand, symbol, isDisplay, resolveSign, isEmbedded, signBytes};
 ghost use Rattle.definition.specs.Picture.{compWidth, byteWidth, display as displayOf, numeric as numericOf, picture as pictureIn, mask as maskOf};
 ghost use Rattle.definition.specs.Calls.{left, pictureAnswer, pictureOf, afterWriting, maskCall, writingOf};
 ghost use Rattle.picture.specs.Repeats.{Closed, Repeated};
-ghost use Rattle.picture.specs.Shape.{runOf, unless, joined, Small, next, halves, nothing, Counts};
+ghost use Rattle.picture.specs.Shape.{tallies, runOf, unless, joined, Small, Adds, next, halves, nothing, Counts};
 ghost use Rattle.picture.specs.Kinds.{shapeOf, maskedBy, mixedBy, longBy, kindedBy, Fit, Judged, Reads};
 ghost use Rattle.picture.specs.Masks.{hidden, Room, put, Wrote, maskIn, after};
 use definition::Check;
@@ -84,40 +84,47 @@ pub enum Repeat {
     Refused(Refusal),
 }
 
-// How often a symbol stands, by the text after it: 22 for a `(` without its `)`, 23 for a count that is none, both at `at`.
-fn repeat_at(rest: &[u8], at: usize) -> Repeat
-    ensures { λ r. ⌜ Repeated at (now (rest .entry)) r ⌝ }
+// How often a symbol stands, by the text after its `(`: 22 if no `)` follows, 23 for a count that is none, both at `at`.
+fn repeat_in(inside: &[u8], at: usize) -> Repeat
+    ensures { λ r. ⌜ Repeated at (40 ∷ now (inside .entry)) r ⌝ }
 {
-    if rest.len() == 0 {
+    let k = close_at(inside);
+    if k < inside.len() {
+        let word = trim(&inside[0..k]);
+        match text::count_of(word) {
+            Number::Value(n) => {
+                return Repeat::Times {
+                    n: n as usize,
+                    skip: k + 2,
+                };
+            }
+            Number::Bad => {
+                return Repeat::Refused(Refusal {
+                    number: 23,
+                    position: at,
+                    needed: 0,
+                });
+            }
+        }
+    }
+    Repeat::Refused(Refusal {
+        number: 22,
+        position: at,
+        needed: 0,
+    })
+}
+
+// How often a symbol stands, by the text from the place after it on: once, if no `(` is there.
+fn repeat_at(picture: &[u8], next: usize, at: usize) -> Repeat
+    requires { ⌜ next ≤ length (now picture) ⌝ }
+    ensures { λ r. ⌜ Repeated at (drop next (now (picture .entry))) r ⌝ }
+{
+    if next == picture.len() {
         return Repeat::Times { n: 1, skip: 0 };
     }
-    if rest[0] == b'(' {
-        let inside = &rest[1..];
-        let k = close_at(inside);
-        if k < inside.len() {
-            let word = trim(&inside[0..k]);
-            match text::count_of(word) {
-                Number::Value(n) => {
-                    return Repeat::Times {
-                        n: n as usize,
-                        skip: k + 2,
-                    };
-                }
-                Number::Bad => {
-                    return Repeat::Refused(Refusal {
-                        number: 23,
-                        position: at,
-                        needed: 0,
-                    });
-                }
-            }
-        } else {
-            return Repeat::Refused(Refusal {
-                number: 22,
-                position: at,
-                needed: 0,
-            });
-        }
+    if picture[next] == b'(' {
+        let inside = next + 1;
+        return repeat_in(&picture[inside..], at);
     }
     Repeat::Times { n: 1, skip: 0 }
 }
@@ -141,13 +148,12 @@ pub struct Tallies {
     pub hidden: usize,
 }
 
-// The tallies of one symbol that stands n times. Neighbours, as `/` and `0`, have arms of their own here and in `is_symbol`:
-// in one arm they would be a range, of which its proof has two cases.
-fn run(b: u8, n: usize) -> Tallies
-    ensures { λ r. ⌜ r ≡ runOf b n ⌝ }
+// The tallies of no symbols.
+fn no_symbols() -> Tallies
+    ensures { λ r. ⌜ r ≡ tallies [] ⌝ }
 {
-    let mut r = Tallies {
-        symbols: n,
+    Tallies {
+        symbols: 0,
         text: 0,
         digits: 0,
         whole: 0,
@@ -159,81 +165,6 @@ fn run(b: u8, n: usize) -> Tallies
         signs: 0,
         edits: 0,
         hidden: 0,
-    };
-    match b {
-        b'X' | b'A' => {
-            r.text = n;
-            return r;
-        }
-        b'9' => {
-            r.digits = n;
-            r.whole = n;
-            return r;
-        }
-        b'Z' | b'*' => {
-            r.digits = n;
-            r.whole = n;
-            r.edits = n;
-            return r;
-        }
-        b'P' => {
-            r.scaled = n;
-            r.hidden = n;
-            return r;
-        }
-        b'V' => {
-            r.points = n;
-            r.hidden = n;
-            return r;
-        }
-        b'S' => {
-            r.signs = n;
-            r.hidden = n;
-            return r;
-        }
-        b'.' => {
-            r.points = n;
-            r.edits = n;
-            return r;
-        }
-        b',' | b'/' | b'B' => {
-            r.edits = n;
-            return r;
-        }
-        b'0' => {
-            r.edits = n;
-            return r;
-        }
-        b'$' => {
-            r.dollars = n;
-            r.edits = n;
-            return r;
-        }
-        b'+' => {
-            r.pluses = n;
-            r.signs = n;
-            r.edits = n;
-            return r;
-        }
-        b'-' => {
-            r.minuses = n;
-            r.signs = n;
-            r.edits = n;
-            return r;
-        }
-        b'C' => {
-            r.signs = n;
-            r.edits = n;
-            return r;
-        }
-        b'D' => {
-            r.signs = n;
-            r.edits = n;
-            return r;
-        }
-        _ => {
-            return r;
-        }
     }
 }
 
@@ -247,25 +178,88 @@ fn before_point(points: usize, n: usize) -> usize
     0
 }
 
-// The tallies of two lists of symbols, one after the other.
-fn join(s: Tallies, t: Tallies) -> Tallies
-    requires { ⌜ Small s × Small t ⌝ }
-    ensures { λ r. ⌜ r ≡ joined s t ⌝ }
+// The tallies of some symbols and of one more that stands n times: only those that it touches change. Neighbours, as `/` and `0`,
+// have arms of their own here and in `is_symbol`: in one arm they would be a range, of which its proof has two cases.
+fn add_run(s: Tallies, b: u8, n: usize) -> Tallies
+    requires { ⌜ Adds s n ⌝ }
+    ensures { λ r. ⌜ r ≡ joined s (runOf b n) ⌝ }
 {
-    let whole = before_point(s.points, t.whole);
-    Tallies {
-        symbols: s.symbols + t.symbols,
-        text: s.text + t.text,
-        digits: s.digits + t.digits,
-        whole: s.whole + whole,
-        scaled: s.scaled + t.scaled,
-        points: s.points + t.points,
-        dollars: s.dollars + t.dollars,
-        pluses: s.pluses + t.pluses,
-        minuses: s.minuses + t.minuses,
-        signs: s.signs + t.signs,
-        edits: s.edits + t.edits,
-        hidden: s.hidden + t.hidden,
+    let mut r = s;
+    r.symbols = s.symbols + n;
+    match b {
+        b'X' | b'A' => {
+            r.text = s.text + n;
+            return r;
+        }
+        b'9' => {
+            r.digits = s.digits + n;
+            r.whole = s.whole + before_point(s.points, n);
+            return r;
+        }
+        b'Z' | b'*' => {
+            r.digits = s.digits + n;
+            r.whole = s.whole + before_point(s.points, n);
+            r.edits = s.edits + n;
+            return r;
+        }
+        b'P' => {
+            r.scaled = s.scaled + n;
+            r.hidden = s.hidden + n;
+            return r;
+        }
+        b'V' => {
+            r.points = s.points + n;
+            r.hidden = s.hidden + n;
+            return r;
+        }
+        b'S' => {
+            r.signs = s.signs + n;
+            r.hidden = s.hidden + n;
+            return r;
+        }
+        b'.' => {
+            r.points = s.points + n;
+            r.edits = s.edits + n;
+            return r;
+        }
+        b',' | b'/' | b'B' => {
+            r.edits = s.edits + n;
+            return r;
+        }
+        b'0' => {
+            r.edits = s.edits + n;
+            return r;
+        }
+        b'$' => {
+            r.dollars = s.dollars + n;
+            r.edits = s.edits + n;
+            return r;
+        }
+        b'+' => {
+            r.pluses = s.pluses + n;
+            r.signs = s.signs + n;
+            r.edits = s.edits + n;
+            return r;
+        }
+        b'-' => {
+            r.minuses = s.minuses + n;
+            r.signs = s.signs + n;
+            r.edits = s.edits + n;
+            return r;
+        }
+        b'C' => {
+            r.signs = s.signs + n;
+            r.edits = s.edits + n;
+            return r;
+        }
+        b'D' => {
+            r.signs = s.signs + n;
+            r.edits = s.edits + n;
+            return r;
+        }
+        _ => {
+            return r;
+        }
     }
 }
 
@@ -275,6 +269,18 @@ pub enum Half {
     C,
     D,
     Wrong,
+}
+
+// Whether every byte was a symbol or half of a CR or DB.
+fn is_legal(half: Half) -> bool
+    ensures { λ r. ⌜ r ≡ nothing half ⌝ }
+{
+    match half {
+        Half::Nothing => true,
+        Half::C => false,
+        Half::D => false,
+        Half::Wrong => false,
+    }
 }
 
 // Whether a byte is a symbol by itself.
@@ -328,7 +334,7 @@ fn next_half(p: Half, b: u8) -> Half
 }
 
 // What is awaited after a symbol that stands n times: the third and later copies change nothing.
-fn half_after(p: Half, b: u8, n: usize) -> Half
+fn half_later(p: Half, b: u8, n: usize) -> Half
     ensures { λ r. ⌜ r ≡ halves p (replicate n b) ⌝ }
 {
     if n == 0 {
@@ -341,6 +347,18 @@ fn half_after(p: Half, b: u8, n: usize) -> Half
     next_half(q, b)
 }
 
+// The same; the most common case, a symbol by itself where nothing is awaited, comes first.
+fn half_after(p: Half, b: u8, n: usize) -> Half
+    ensures { λ r. ⌜ r ≡ halves p (replicate n b) ⌝ }
+{
+    if is_legal(p) {
+        if is_symbol(b) {
+            return p;
+        }
+    }
+    half_later(p, b, n)
+}
+
 // The symbols of a picture, counted, with what is awaited of CR or DB at its end; or why they cannot be read.
 pub enum Counted {
     Symbols { tallies: Tallies, half: Half },
@@ -351,13 +369,13 @@ pub enum Counted {
 fn count_symbols(picture: &[u8], at: usize) -> Counted
     ensures { λ r. ⌜ Counts at (now (picture .entry)) r ⌝ }
 {
-    let mut s = run(b'9', 0);
+    let mut s = no_symbols();
     let mut half = Half::Nothing;
     let mut i = 0;
     while i < picture.len() {
         let b = text::upper(picture[i]);
         let next = i + 1;
-        match repeat_at(&picture[next..], at) {
+        match repeat_at(picture, next, at) {
             Repeat::Times { n, skip } => {
                 if 65535 - s.symbols < n {
                     return Counted::Refused(Refusal {
@@ -368,7 +386,7 @@ fn count_symbols(picture: &[u8], at: usize) -> Counted
                 }
                 i = next + skip;
                 half = half_after(half, b, n);
-                s = join(s, run(b, n));
+                s = add_run(s, b, n);
             }
             Repeat::Refused(r) => {
                 return Counted::Refused(r);
@@ -417,18 +435,6 @@ fn shape_of(t: Tallies) -> PicShape
         signed: 0 < t.signs,
         edited: 0 < t.edits,
         width: t.symbols - t.hidden,
-    }
-}
-
-// Whether every byte was a symbol or half of a CR or DB.
-fn is_legal(half: Half) -> bool
-    ensures { λ r. ⌜ r ≡ nothing half ⌝ }
-{
-    match half {
-        Half::Nothing => true,
-        Half::C => false,
-        Half::D => false,
-        Half::Wrong => false,
     }
 }
 
@@ -772,7 +778,7 @@ fn write_mask(picture: &[u8], out: &mut [u8])
     while i < picture.len() {
         let b = text::upper(picture[i]);
         let next = i + 1;
-        match repeat_at(&picture[next..], 0) {
+        match repeat_at(picture, next, 0) {
             Repeat::Times { n, skip } => {
                 i = next + skip;
                 k = write_run(out, k, n, b);

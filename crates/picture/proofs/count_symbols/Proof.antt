@@ -5,20 +5,19 @@ use Prim.Native.Nat.{ℕ, _+_, _-_, _≤_, _<_}
 use mathlib.Core.Path.{_≡_, refl, sym, ap, _∙_}
 use mathlib.Core.List.{List, [], _++_, append-nil}
 use native.Mathlib.Omega.{arith}
-use lib.ListN.{length, getD, take, drop, replicate, length-drop}
+use lib.ListN.{length, getD, drop, replicate, length-drop}
 use Rattle.definition.specs.declared.Refusal.{Refusal}
 use Rattle.definition.specs.Basic.{upper, refuse, give, _>>=_}
-use Rattle.definition.specs.Picture.{repeat, expand, tally, beforePoint}
-use Rattle.definition.proofs.Lists.{rest-part}
+use Rattle.definition.specs.Picture.{repeat, expand}
 use Rattle.definition.proofs.PictureLaws.{onto, onto-nil, onto-onto, expand-end, expand-refused, expand-many, expand-more}
 use Rattle.picture.specs.declared.Tallies.{Tallies}
 use Rattle.picture.specs.declared.Half.{Half}
 use Rattle.picture.specs.declared.Repeat.{Repeat}
 use Rattle.picture.specs.declared.Counted.{Counted}
-use Rattle.picture.specs.Shape.{tallies, runOf, joined, Small, halves, Counts}
+use Rattle.picture.specs.Shape.{tallies, runOf, joined, Small, Adds, halves, Counts}
 use Rattle.picture.specs.Repeats.{Repeated, repeatOf}
 use Rattle.picture.proofs.Halves.{halves-append}
-use Rattle.picture.proofs.Counting.{tallies-more, small, small-run}
+use Rattle.picture.proofs.Counting.{tallies-more, small}
 use Rattle.picture.proofs.count_symbols.Statement.{statement}
 use Rattle.picture.proofs.count_symbols.Tie as tie
 
@@ -31,8 +30,8 @@ record Left (t : List ℕ) (at : ℕ) (s : Tallies) (half : Half) (i : ℕ) : Ty
   halved : half ≡ halves Half.Nothing seen
   same : expand at 0 0 t ≡ onto seen (expand at (s .symbols) 0 (drop i t))
 
-start : (t : List ℕ) (at : ℕ) {s : Tallies} → s ≡ runOf 57 0 → Left t at s Half.Nothing 0
-unfolding halves tally beforePoint
+start : (t : List ℕ) (at : ℕ) {s : Tallies} → s ≡ tallies [] → Left t at s Half.Nothing 0
+unfolding halves
 start t at {s} e =
     let none : s .symbols ≡ 0 = ap (λ (x : Tallies). x .symbols) e in
     record {
@@ -56,10 +55,7 @@ module _ {t : List ℕ} {at : ℕ} {s : Tallies} {half : Half} {i : ℕ} (inv : 
         small = small-s;
       }
 
-  module _ (h : i < length t) {r : Repeat} (q : Repeated at (take (length t - (i + 1)) (drop (i + 1) t)) r) where
-    read : Repeated at (drop (i + 1) t) r
-    read = rw (rest-part t (i + 1)) at q
-
+  module _ (h : i < length t) {r : Repeat} (read : Repeated at (drop (i + 1) t) r) where
     refused : {x : Refusal} → r ≡ Repeat.Refused x → Counts at t (Counted.Refused x)
     unfolding _>>=_
     refused {x} e =
@@ -80,19 +76,19 @@ module _ {t : List ℕ} {at : ℕ} {s : Tallies} {half : Half} {i : ℕ} (inv : 
       less : length t - (i + 1 + skip) < length t - i
       less = omega (arith, step)
 
-      module _ (m : n ≤ 65535 - s .symbols) (b : ℕ) {u : Tallies} (run : u ≡ runOf b n) where
-        smalls : Small s × Small u
-        smalls = (small-s, rw run (small-run b n (omega arith)))
+      module _ (m : n ≤ 65535 - s .symbols) where
+        adds : Adds s n
+        adds = record { small = small-s; few = omega arith }
 
         go-on :
+            {b : ℕ} →
             b ≡ upper (getD t i 0) →
             {half′ : Half} →
             half′ ≡ halves half (replicate n b) →
             {s′ : Tallies} →
-            s′ ≡ joined s u →
+            s′ ≡ joined s (runOf b n) →
             Left t at s′ half′ (i + 1 + skip)
-        go-on p {half′} hs {s′} j =
-            let grown : s′ ≡ joined s (runOf b n) = j ∙ ap (joined s) run in
+        go-on {b} p {half′} hs {s′} grown =
             let many : s′ .symbols ≡ s .symbols + n = ap (λ (x : Tallies). x .symbols) grown in
             record {
               within = omega (arith, step);
@@ -112,8 +108,8 @@ Inv-loop picture at s₀ half₀ i₀ s half i = Left picture at s half i
 abbrev μ-loop : tie.MeasureT-loop
 μ-loop picture at s₀ half₀ i₀ s half i = length picture - i
 
-run-requires : tie.Need-run-requires Inv-loop μ-loop
-run-requires c κs = search needs
+no-symbols-requires : tie.Need-no-symbols-requires Inv-loop μ-loop
+no-symbols-requires c κs = search needs
 
 loop-holds : tie.Need-loop-holds Inv-loop μ-loop
 loop-holds c = search start
@@ -126,15 +122,6 @@ upper-requires c κs = search needs
 
 add-next : tie.Need-add-next Inv-loop μ-loop
 add-next c = search needs
-
-sub-repeat-at : tie.Need-sub-repeat-at Inv-loop μ-loop
-sub-repeat-at c = search needs
-
-part-repeat-at-start : tie.Need-part-repeat-at-start Inv-loop μ-loop
-part-repeat-at-start c = search needs
-
-part-repeat-at-end : tie.Need-part-repeat-at-end Inv-loop μ-loop
-part-repeat-at-end c = search needs
 
 repeat-at-requires : tie.Need-repeat-at-requires Inv-loop μ-loop
 repeat-at-requires c κs = search needs
@@ -149,22 +136,19 @@ returns : tie.Need-returns Inv-loop μ-loop
 returns c = search many
 
 add-i : tie.Need-add-i Inv-loop μ-loop
-add-i c = omega (arith, step (c .before .before .before .before .before .before .before .before .before .before .loop .inv) (c .before .before .before .before .before .before .before .before .before .loop-test .taken) (c .before .before .before .before .before .repeat-at .ensures) (c .before .before .before .n .given .1))
+add-i c = omega (arith, step (c .before .before .before .before .before .before .before .before .before .loop .inv) (c .before .before .before .before .before .before .before .before .loop-test .taken) (c .before .before .before .before .before .repeat-at .ensures) (c .before .before .before .n .given .1))
 
 half-after-requires : tie.Need-half-after-requires Inv-loop μ-loop
 half-after-requires c κs = search needs
 
-run-requires-2 : tie.Need-run-requires-2 Inv-loop μ-loop
-run-requires-2 c κs = search needs
-
-join-requires : tie.Need-join-requires Inv-loop μ-loop
-join-requires c κs = smalls (c .before .before .before .before .before .before .before .before .before .before .before .before .loop .inv) (c .before .before .before .before .before .before .before .before .before .before .before .loop-test .taken) (c .before .before .before .before .before .before .before .repeat-at .ensures) (c .before .before .before .before .before .n .given .1) (c .before .before .if1 .left) (c .before .before .before .before .before .before .before .before .before .upper .result) (c .run2 .ensures)
+add-run-requires : tie.Need-add-run-requires Inv-loop μ-loop
+add-run-requires c κs = adds (c .before .before .before .before .before .before .before .before .before .before .loop .inv) (c .before .before .before .before .before .before .before .before .before .loop-test .taken) (c .before .before .before .before .before .before .repeat-at .ensures) (c .before .before .before .before .n .given .1) (c .before .if1 .left)
 
 loop-less : tie.Need-loop-less Inv-loop μ-loop
-loop-less c = less (c .before .before .before .before .before .before .before .before .before .before .before .before .before .loop .inv) (c .before .before .before .before .before .before .before .before .before .before .before .before .loop-test .taken) (c .before .before .before .before .before .before .before .before .repeat-at .ensures) (c .before .before .before .before .before .before .n .given .1)
+loop-less c = less (c .before .before .before .before .before .before .before .before .before .before .before .loop .inv) (c .before .before .before .before .before .before .before .before .before .before .loop-test .taken) (c .before .before .before .before .before .before .before .repeat-at .ensures) (c .before .before .before .before .before .n .given .1)
 
 loop-again : tie.Need-loop-again Inv-loop μ-loop
-loop-again c = search (go-on (c .before .before .before .before .before .before .before .before .before .before .before .before .before .loop .inv) (c .before .before .before .before .before .before .before .before .before .before .before .before .loop-test .taken) (c .before .before .before .before .before .before .before .before .repeat-at .ensures) (c .before .before .before .before .before .before .n .given .1))
+loop-again c = search (go-on (c .before .before .before .before .before .before .before .before .before .before .before .loop .inv) (c .before .before .before .before .before .before .before .before .before .before .loop-test .taken) (c .before .before .before .before .before .before .before .repeat-at .ensures) (c .before .before .before .before .before .n .given .1))
 
 enum-known-r : tie.Need-enum-known-r Inv-loop μ-loop
 enum-known-r c = search needs
@@ -181,22 +165,18 @@ count-symbols-spec =
     (tie.spec
     Inv-loop
     μ-loop
-    run-requires
+    no-symbols-requires
     loop-holds
     shared-slice-read-upper
     upper-requires
     add-next
-    sub-repeat-at
-    part-repeat-at-start
-    part-repeat-at-end
     repeat-at-requires
     enum-known-n
     sub-if1
     returns
     add-i
     half-after-requires
-    run-requires-2
-    join-requires
+    add-run-requires
     loop-less
     loop-again
     enum-known-r

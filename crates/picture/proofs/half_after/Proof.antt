@@ -1,44 +1,25 @@
--- `picture::half_after` meets its contract.
+-- `picture::half_after` meets its contract: where nothing is awaited, a symbol changes nothing.
 -- Assumes nothing.
-use Prim.Native.Nat.{ℕ, zero, suc}
-use mathlib.Core.Path.{_≡_, refl, sym}
-use lib.ListN.{replicate}
 use borrow.Author.Needs.{needs}
-use Rattle.picture.specs.declared.Half.{Half}
-use Rattle.picture.specs.Shape.{next, halves}
-use Rattle.picture.proofs.Halves.{halves-more}
+use Rattle.picture.proofs.Halves.{halves-symbol}
 use Rattle.picture.proofs.half_after.Statement.{statement}
 use Rattle.picture.proofs.half_after.Tie as tie
 
-module _ (p : Half) (b n : ℕ) where
-  zero-times : n ≡ 0 → p ≡ halves p (replicate n b)
-  unfolding halves
-  zero-times e = rw e
+is-legal-requires : tie.Need-is-legal-requires
+is-legal-requires c κs = search needs
 
-  once : {q : Half} → q ≡ next p b → n ≡ 1 → q ≡ halves p (replicate n b)
-  unfolding halves
-  once h e = rw (e, h)
-
-more : (p : Half) (b n : ℕ) {q r : Half} → (n ≡ 0 → ⊥) → (n ≡ 1 → ⊥) → q ≡ next p b → r ≡ next q b → r ≡ halves p (replicate n b)
-more p b zero z o h g = absurd (z refl)
-more p b (suc zero) z o h g = absurd (o refl)
-more p b (suc (suc n)) z o h g = rw (g, h) (sym (halves-more p b n))
+is-symbol-requires : tie.Need-is-symbol-requires
+is-symbol-requires c κs = search needs
 
 returns : tie.Need-returns
-returns c = search zero-times
+returns c = search halves-symbol
 
-next-half-requires : tie.Need-next-half-requires
-next-half-requires c κs = search needs
+half-later-requires : tie.Need-half-later-requires
+half-later-requires c κs = search needs
 
 returns-2 : tie.Need-returns-2
-returns-2 c = search once
-
-next-half-requires-2 : tie.Need-next-half-requires-2
-next-half-requires-2 c κs = search needs
-
-returns-3 : tie.Need-returns-3
-returns-3 c = search more
+returns-2 c = search needs
 
 pub half-after-spec : {M : Type 1} → statement M
 half-after-spec =
-    tie.close (tie.spec returns next-half-requires returns-2 next-half-requires-2 returns-3)
+    tie.close (tie.spec is-legal-requires is-symbol-requires returns half-later-requires returns-2)

@@ -2,65 +2,32 @@
 -- Assumes nothing.
 use Prim.Native.Nat.{ℕ, _+_, _-_, _≤_, _<_}
 use mathlib.Core.Path.{_≡_, sym, ap, _∙_}
-use mathlib.Core.List.{List}
-use mathlib.Core.Option.{none, some}
-use native.Mathlib.Nat.{sub-zero}
+use mathlib.Core.List.{List, _∷_}
 use native.Mathlib.Omega.{arith}
 use lib.ListN.{length, getD, take, drop, length-drop}
-use lib.Seq.{length-take-le}
 use borrow.Author.Needs.{needs}
-use Rattle.definition.specs.Basic.{count, _>>=_}
-use Rattle.definition.specs.Picture.{trim, beforeClose}
-use Rattle.definition.proofs.Lists.{rest-part}
-use Rattle.definition.proofs.PictureLaws.{repeat-none, repeat-plain, repeat-open}
-use Rattle.text.specs.declared.Number.{Number}
-use Rattle.text.specs.Words.{valued}
+use Rattle.definition.proofs.Lists.{drop-next, rest-part}
+use Rattle.definition.proofs.PictureLaws.{repeat-none, repeat-plain}
 use Rattle.picture.specs.declared.Repeat.{Repeat}
-use Rattle.picture.specs.Repeats.{Closed, Repeated}
+use Rattle.picture.specs.Repeats.{Repeated}
 use Rattle.picture.proofs.repeat_at.Statement.{statement}
 use Rattle.picture.proofs.repeat_at.Tie as tie
 
-module _ (at : ℕ) (rest : List ℕ) where
-  none-after : length rest ≡ 0 → Repeated at rest (Repeat.Times 1 0)
-  none-after h = record { same = sym (repeat-none at rest h); within = omega arith }
+module _ (at : ℕ) (t : List ℕ) (i : ℕ) (h : i ≤ length t) where
+  none-after : i ≡ length t → Repeated at (drop i t) (Repeat.Times 1 0)
+  none-after e = record { same = sym (repeat-none at (drop i t) (omega (arith, length-drop i t))); within = omega arith }
 
-  module _ (z : length rest ≡ 0 → ⊥) where
-    some-after : 0 < length rest
+  module _ (z : i ≡ length t → ⊥) where
+    some-after : i < length t
     some-after = omega arith
 
-    plain : (getD rest 0 0 ≡ 40 → ⊥) → Repeated at rest (Repeat.Times 1 0)
-    plain e = record { same = sym (repeat-plain at rest some-after e); within = omega arith }
+    plain : (getD t i 0 ≡ 40 → ⊥) → Repeated at (drop i t) (Repeat.Times 1 0)
+    plain e =
+        rw (drop-next t i some-after)
+        (record { same = sym (repeat-plain at (getD t i 0 ∷ drop (i + 1) t) (omega arith) e); within = omega arith })
 
-    module _ (p : getD rest 0 0 ≡ 40) {k : ℕ} (q : Closed (take (length rest - 1) (drop 1 rest)) k) where
-      inside : length (take (length rest - 1) (drop 1 rest)) ≡ length rest - 1
-      inside = ap length (rest-part rest 1) ∙ length-drop 1 rest
-
-      closed : Closed (drop 1 rest) k
-      closed = rw (rest-part rest 1) at q
-
-      unclosed : length (take (length rest - 1) (drop 1 rest)) ≤ k → Repeated at rest (Repeat.Refused (record { number = 22; position = at; needed = 0 }))
-      unfolding _>>=_
-      unclosed h =
-          let f : beforeClose (drop 1 rest) ≡ none = closed .missing (omega (arith, inside, length-drop 1 rest)) in
-          record { same = rw (repeat-open at rest some-after p, f); within = omega arith }
-
-      module _ (h : k < length (take (length rest - 1) (drop 1 rest))) where
-        found : beforeClose (drop 1 rest) ≡ some (take k (drop 1 rest))
-        found = closed .found (omega (arith, inside, length-drop 1 rest))
-
-        module _ {w : List ℕ} (e : w ≡ trim (take (k - 0) (take (length rest - 1) (drop 1 rest)))) (r : Number) (v : valued r ≡ count w) where
-          counting : count (trim (take k (drop 1 rest))) ≡ valued r
-          counting = sym (v ∙ ap count (rw (e, sub-zero, rest-part rest 1)))
-
-          bad : r ≡ Number.Bad → Repeated at rest (Repeat.Refused (record { number = 23; position = at; needed = 0 }))
-          unfolding _>>=_
-          bad y = record { same = rw (repeat-open at rest some-after p, found, counting, y); within = omega arith }
-
-          counted : {n : ℕ} → r ≡ Number.Value n → Repeated at rest (Repeat.Times n (k + 2))
-          unfolding _>>=_
-          counted y =
-              let len : length (take k (drop 1 rest)) ≡ k = length-take-le k (drop 1 rest) (omega (arith, inside, length-drop 1 rest)) in
-              record { same = rw (repeat-open at rest some-after p, found, counting, y, len); within = omega (arith, inside) }
+    opened : getD t i 0 ≡ 40 → {r : Repeat} → Repeated at (40 ∷ take (length t - (i + 1)) (drop (i + 1) t)) r → Repeated at (drop i t) r
+    opened e q = rw (drop-next t i some-after, e) (rw (rest-part t (i + 1)) at q)
 
 returns : tie.Need-returns
 returns c = search none-after
@@ -68,53 +35,26 @@ returns c = search none-after
 shared-slice-read-if2 : tie.Need-shared-slice-read-if2
 shared-slice-read-if2 c = search needs
 
-sub-inside : tie.Need-sub-inside
-sub-inside c = search needs
+add-inside : tie.Need-add-inside
+add-inside c = search needs
 
-part-inside-start : tie.Need-part-inside-start
-part-inside-start c = search needs
+sub-repeat-in : tie.Need-sub-repeat-in
+sub-repeat-in c = search needs
 
-part-inside-end : tie.Need-part-inside-end
-part-inside-end c = search needs
+part-repeat-in-start : tie.Need-part-repeat-in-start
+part-repeat-in-start c = search needs
 
-close-at-requires : tie.Need-close-at-requires
-close-at-requires c κs = search needs
+part-repeat-in-end : tie.Need-part-repeat-in-end
+part-repeat-in-end c = search needs
 
-sub-trim : tie.Need-sub-trim
-sub-trim c = search needs
-
-part-trim-start : tie.Need-part-trim-start
-part-trim-start c = search needs
-
-part-trim-end : tie.Need-part-trim-end
-part-trim-end c = search needs
-
-trim-requires : tie.Need-trim-requires
-trim-requires c κs = search needs
-
-count-of-requires : tie.Need-count-of-requires
-count-of-requires c κs = search needs
-
-enum-known-n : tie.Need-enum-known-n
-enum-known-n c = search needs
-
-add-t21 : tie.Need-add-t21
-add-t21 c = search needs
+repeat-in-requires : tie.Need-repeat-in-requires
+repeat-in-requires c κs = search needs
 
 returns-2 : tie.Need-returns-2
-returns-2 c = search counted
-
-enum-told : tie.Need-enum-told
-enum-told c = search needs
+returns-2 c = search opened
 
 returns-3 : tie.Need-returns-3
-returns-3 c = search bad
-
-returns-4 : tie.Need-returns-4
-returns-4 c = search unclosed
-
-returns-5 : tie.Need-returns-5
-returns-5 c = search plain
+returns-3 c = search plain
 
 pub repeat-at-spec : {M : Type 1} → statement M
 repeat-at-spec =
@@ -122,19 +62,10 @@ repeat-at-spec =
     (tie.spec
     returns
     shared-slice-read-if2
-    sub-inside
-    part-inside-start
-    part-inside-end
-    close-at-requires
-    sub-trim
-    part-trim-start
-    part-trim-end
-    trim-requires
-    count-of-requires
-    enum-known-n
-    add-t21
+    add-inside
+    sub-repeat-in
+    part-repeat-in-start
+    part-repeat-in-end
+    repeat-in-requires
     returns-2
-    enum-told
-    returns-3
-    returns-4
-    returns-5)
+    returns-3)

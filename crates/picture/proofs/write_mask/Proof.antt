@@ -12,8 +12,8 @@ use Rattle.definition.specs.Basic.{upper, Answer, give}
 use Rattle.definition.specs.Picture.{repeat, expand, mask}
 use Rattle.definition.proofs.Lists.{order}
 use Rattle.definition.proofs.PictureLaws.{onto, expand-end, expand-refused, expand-many, expand-more}
-use Rattle.picture.specs.declared.Repeat.{Repeat}
-use Rattle.picture.specs.Repeats.{Repeated, repeatOf}
+use Rattle.symbols.specs.declared.Repeat.{Repeat}
+use Rattle.symbols.specs.Repeats.{Repeated, repeatOf}
 use Rattle.picture.specs.Masks.{Room, put, Wrote}
 use Rattle.picture.proofs.Masking.{room-run, room-rest, put-run}
 use borrow.Author.Needs.{needs}

@@ -1,5 +1,2 @@
-pub mod Keys
-pub mod Halves
-pub mod Counting
 pub mod Shapes
 pub mod Masking

@@ -12,14 +12,14 @@ use Rattle.definition.specs.Basic.{Answer, refuse, give, _>>=_, refuseIf}
 use Rattle.definition.specs.Picture.{trim, expand, tally, beforePoint, fraction, mask, mixed, tooLong, symbols}
 use Rattle.definition.proofs.Answers.{bound, through, given-same, map-refused}
 use Rattle.definition.proofs.PictureLaws.{tally-sides, mask-length}
-use Rattle.picture.specs.declared.Tallies.{Tallies}
-use Rattle.picture.specs.declared.Half.{Half}
+use Rattle.symbols.specs.declared.Tallies.{Tallies}
+use Rattle.symbols.specs.declared.Half.{Half}
 use Rattle.picture.specs.declared.PicShape.{PicShape}
 use Rattle.picture.specs.declared.Shaped.{Shaped}
-use Rattle.picture.specs.Shape.{tallies, halves, nothing, counts}
+use Rattle.symbols.specs.Shape.{tallies, halves, nothing, counts}
 use Rattle.picture.specs.Kinds.{scaleOf, shapeOf, shapeFor, judged, Reads}
-use Rattle.picture.proofs.Halves.{legal-halves}
-use Rattle.picture.proofs.Counting.{no-digit}
+use Rattle.symbols.proofs.Halves.{legal-halves}
+use Rattle.symbols.proofs.Counting.{no-digit}
 
 -- the shape by the tallies
 module _ (l : List ℕ) where

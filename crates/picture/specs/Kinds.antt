@@ -12,11 +12,11 @@ use Rattle.definition.specs.declared.FieldKind.{FieldKind}
 use Rattle.definition.specs.declared.Pictured.{Pictured}
 use Rattle.definition.specs.Basic.{if_then_else_, Answer, refuse, give, _>>=_, refuseIf}
 use Rattle.definition.specs.Picture.{tally, mask, fraction, allDigits, isSigned, isEdited, pictured, isDisplay, numeric, symbols}
-use Rattle.picture.specs.declared.Tallies.{Tallies}
-use Rattle.picture.specs.declared.Half.{Half}
+use Rattle.symbols.specs.declared.Tallies.{Tallies}
+use Rattle.symbols.specs.declared.Half.{Half}
 use Rattle.picture.specs.declared.PicShape.{PicShape}
 use Rattle.picture.specs.declared.Shaped.{Shaped}
-use Rattle.picture.specs.Shape.{nothing}
+use Rattle.symbols.specs.Shape.{nothing}
 
 -- the shape of a list of symbols
 abbrev pub shapeFor : List ℕ → PicShape

@@ -1,4 +1,2 @@
-pub mod Shape
-pub mod Repeats
 pub mod Kinds
 pub mod Masks

@@ -1,16 +1,15 @@
 // The picture reader: kind and width of a picture with a usage and a sign, and the mask of an edited one; `parse_pic` of the
-// Rust. A picture is read run by run: a symbol with its `(n)` is one step, whatever n is. Leans on `definition` and `text`.
+// Rust. Leans on `definition`, `text` and `symbols`.
 ghost use Prim.Native.Nat.{ℕ, _+_, _-_, _≤_, max};
 ghost use mathlib.Core.Path.{_≡_};
 ghost use mathlib.Core.Bool.{_&&_};
-ghost use mathlib.Core.List.{[], reverse};
+ghost use mathlib.Core.List.{[]};
 ghost use lib.ListN.{length, replicate};
 ghost use lib.Seq.{sets};
-ghost use Rattle.definition.specs.Picture.{trimStart, trim as trimmed, expand, symbol, isDisplay, resolveSign, isEmbedded, signBytes};
+ghost use Rattle.definition.specs.Picture.{expand, isDisplay, resolveSign, isEmbedded, signBytes};
 ghost use Rattle.definition.specs.Picture.{compWidth, byteWidth, display as displayOf, numeric as numericOf, picture as pictureIn, mask as maskOf};
 ghost use Rattle.definition.specs.Calls.{left, pictureAnswer, pictureOf, afterWriting, maskCall, writingOf};
-ghost use Rattle.picture.specs.Repeats.{Closed, Repeated};
-ghost use Rattle.picture.specs.Shape.{runOf, unless, joined, Small, next, halves, nothing, Counts};
+ghost use Rattle.symbols.specs.Shape.{Small};
 ghost use Rattle.picture.specs.Kinds.{shapeOf, maskedBy, mixedBy, longBy, kindedBy, Fit, Judged, Reads};
 ghost use Rattle.picture.specs.Masks.{hidden, Room, put, Wrote, maskIn, after};
 use definition::Check;
@@ -23,360 +22,10 @@ use definition::SignClause;
 use definition::SignKind;
 use definition::Usage;
 use definition::Writing;
-use text::Number;
-
-// ---------------------------------------------------------------- the repeat of a symbol
-
-// A text without the white space in front of it.
-fn trim_start(s: &[u8]) -> &[u8]
-    ensures { λ r. ⌜ now r ≡ trimStart (now (s .entry)) ⌝ }
-{
-    let mut i = 0;
-    while i < s.len() {
-        if text::is_white(s[i]) {
-            i += 1;
-        } else {
-            return &s[i..];
-        }
-    }
-    &s[i..]
-}
-
-// A text without the white space after it.
-fn trim_end(s: &[u8]) -> &[u8]
-    ensures { λ r. ⌜ now r ≡ reverse (trimStart (reverse (now (s .entry)))) ⌝ }
-{
-    let mut e = s.len();
-    while 0 < e {
-        if text::is_white(s[e - 1]) {
-            e -= 1;
-        } else {
-            return &s[0..e];
-        }
-    }
-    &s[0..e]
-}
-
-// A text without the white space around it.
-fn trim(s: &[u8]) -> &[u8]
-    ensures { λ r. ⌜ now r ≡ trimmed (now (s .entry)) ⌝ }
-{
-    trim_end(trim_start(s))
-}
-
-// Where the first `)` of a text stands, or the length of a text that has none.
-fn close_at(s: &[u8]) -> usize
-    ensures { λ r. ⌜ Closed (now (s .entry)) r ⌝ }
-{
-    let mut i = 0;
-    while i < s.len() {
-        if s[i] == b')' {
-            return i;
-        }
-        i += 1;
-    }
-    i
-}
-
-// How often a symbol stands, and how many bytes after it say so; or why that cannot be read.
-pub enum Repeat {
-    Times { n: usize, skip: usize },
-    Refused(Refusal),
-}
-
-// How often a symbol stands, by the text after it: 22 for a `(` without its `)`, 23 for a count that is none, both at `at`.
-fn repeat_at(rest: &[u8], at: usize) -> Repeat
-    ensures { λ r. ⌜ Repeated at (now (rest .entry)) r ⌝ }
-{
-    if rest.len() == 0 {
-        return Repeat::Times { n: 1, skip: 0 };
-    }
-    if rest[0] == b'(' {
-        let inside = &rest[1..];
-        let k = close_at(inside);
-        if k < inside.len() {
-            let word = trim(&inside[0..k]);
-            match text::count_of(word) {
-                Number::Value(n) => {
-                    return Repeat::Times {
-                        n: n as usize,
-                        skip: k + 2,
-                    };
-                }
-                Number::Bad => {
-                    return Repeat::Refused(Refusal {
-                        number: 23,
-                        position: at,
-                        needed: 0,
-                    });
-                }
-            }
-        } else {
-            return Repeat::Refused(Refusal {
-                number: 22,
-                position: at,
-                needed: 0,
-            });
-        }
-    }
-    Repeat::Times { n: 1, skip: 0 }
-}
-
-// ---------------------------------------------------------------- symbols, judged run by run
-
-// How often the symbols of each set stand in a list of symbols: all symbols; X A; 9 Z *; those of 9 Z * before the point; P;
-// V and `.`; `$`; `+`; `-`; the signs S + - C D; the editing symbols; and S V P, which take no byte of a mask.
-pub struct Tallies {
-    pub symbols: usize,
-    pub text: usize,
-    pub digits: usize,
-    pub whole: usize,
-    pub scaled: usize,
-    pub points: usize,
-    pub dollars: usize,
-    pub pluses: usize,
-    pub minuses: usize,
-    pub signs: usize,
-    pub edits: usize,
-    pub hidden: usize,
-}
-
-// The tallies of one symbol that stands n times. Neighbours, as `/` and `0`, have arms of their own here and in `is_symbol`:
-// in one arm they would be a range, of which its proof has two cases.
-fn run(b: u8, n: usize) -> Tallies
-    ensures { λ r. ⌜ r ≡ runOf b n ⌝ }
-{
-    let mut r = Tallies {
-        symbols: n,
-        text: 0,
-        digits: 0,
-        whole: 0,
-        scaled: 0,
-        points: 0,
-        dollars: 0,
-        pluses: 0,
-        minuses: 0,
-        signs: 0,
-        edits: 0,
-        hidden: 0,
-    };
-    match b {
-        b'X' | b'A' => {
-            r.text = n;
-            return r;
-        }
-        b'9' => {
-            r.digits = n;
-            r.whole = n;
-            return r;
-        }
-        b'Z' | b'*' => {
-            r.digits = n;
-            r.whole = n;
-            r.edits = n;
-            return r;
-        }
-        b'P' => {
-            r.scaled = n;
-            r.hidden = n;
-            return r;
-        }
-        b'V' => {
-            r.points = n;
-            r.hidden = n;
-            return r;
-        }
-        b'S' => {
-            r.signs = n;
-            r.hidden = n;
-            return r;
-        }
-        b'.' => {
-            r.points = n;
-            r.edits = n;
-            return r;
-        }
-        b',' | b'/' | b'B' => {
-            r.edits = n;
-            return r;
-        }
-        b'0' => {
-            r.edits = n;
-            return r;
-        }
-        b'$' => {
-            r.dollars = n;
-            r.edits = n;
-            return r;
-        }
-        b'+' => {
-            r.pluses = n;
-            r.signs = n;
-            r.edits = n;
-            return r;
-        }
-        b'-' => {
-            r.minuses = n;
-            r.signs = n;
-            r.edits = n;
-            return r;
-        }
-        b'C' => {
-            r.signs = n;
-            r.edits = n;
-            return r;
-        }
-        b'D' => {
-            r.signs = n;
-            r.edits = n;
-            return r;
-        }
-        _ => {
-            return r;
-        }
-    }
-}
-
-// A count of what stands before the point, where so many points stand already.
-fn before_point(points: usize, n: usize) -> usize
-    ensures { λ r. ⌜ r ≡ unless points n ⌝ }
-{
-    if points == 0 {
-        return n;
-    }
-    0
-}
-
-// The tallies of two lists of symbols, one after the other.
-fn join(s: Tallies, t: Tallies) -> Tallies
-    requires { ⌜ Small s × Small t ⌝ }
-    ensures { λ r. ⌜ r ≡ joined s t ⌝ }
-{
-    let whole = before_point(s.points, t.whole);
-    Tallies {
-        symbols: s.symbols + t.symbols,
-        text: s.text + t.text,
-        digits: s.digits + t.digits,
-        whole: s.whole + whole,
-        scaled: s.scaled + t.scaled,
-        points: s.points + t.points,
-        dollars: s.dollars + t.dollars,
-        pluses: s.pluses + t.pluses,
-        minuses: s.minuses + t.minuses,
-        signs: s.signs + t.signs,
-        edits: s.edits + t.edits,
-        hidden: s.hidden + t.hidden,
-    }
-}
-
-// What is awaited of CR or DB: nothing, an R after the C, a B after the D; or a byte that is no symbol was seen.
-pub enum Half {
-    Nothing,
-    C,
-    D,
-    Wrong,
-}
-
-// Whether a byte is a symbol by itself.
-fn is_symbol(b: u8) -> bool
-    ensures { λ r. ⌜ r ≡ symbol b ⌝ }
-{
-    match b {
-        b'X' | b'A' | b'9' | b'P' | b'V' | b'S' | b'Z' | b'0' => true,
-        b'*' | b'.' | b',' | b'$' | b'B' => true,
-        b'/' | b'+' | b'-' => true,
-        _ => false,
-    }
-}
-
-// What is awaited after a symbol, where nothing was.
-fn first_half(b: u8) -> Half
-    ensures { λ r. ⌜ r ≡ next Half.Nothing b ⌝ }
-{
-    if b == b'C' {
-        return Half::C;
-    }
-    if b == b'D' {
-        return Half::D;
-    }
-    if is_symbol(b) {
-        return Half::Nothing;
-    }
-    Half::Wrong
-}
-
-// What is awaited after one more symbol.
-fn next_half(p: Half, b: u8) -> Half
-    ensures { λ r. ⌜ r ≡ next p b ⌝ }
-{
-    match p {
-        Half::Nothing => first_half(b),
-        Half::C => {
-            if b == b'R' {
-                return Half::Nothing;
-            }
-            Half::Wrong
-        }
-        Half::D => {
-            if b == b'B' {
-                return Half::Nothing;
-            }
-            Half::Wrong
-        }
-        Half::Wrong => Half::Wrong,
-    }
-}
-
-// What is awaited after a symbol that stands n times: the third and later copies change nothing.
-fn half_after(p: Half, b: u8, n: usize) -> Half
-    ensures { λ r. ⌜ r ≡ halves p (replicate n b) ⌝ }
-{
-    if n == 0 {
-        return p;
-    }
-    let q = next_half(p, b);
-    if n == 1 {
-        return q;
-    }
-    next_half(q, b)
-}
-
-// The symbols of a picture, counted, with what is awaited of CR or DB at its end; or why they cannot be read.
-pub enum Counted {
-    Symbols { tallies: Tallies, half: Half },
-    Refused(Refusal),
-}
-
-// The symbols of a trimmed picture, counted run by run: 22, 23, and 24 for more than 65,535 symbols, as they are met.
-fn count_symbols(picture: &[u8], at: usize) -> Counted
-    ensures { λ r. ⌜ Counts at (now (picture .entry)) r ⌝ }
-{
-    let mut s = run(b'9', 0);
-    let mut half = Half::Nothing;
-    let mut i = 0;
-    while i < picture.len() {
-        let b = text::upper(picture[i]);
-        let next = i + 1;
-        match repeat_at(&picture[next..], at) {
-            Repeat::Times { n, skip } => {
-                if 65535 - s.symbols < n {
-                    return Counted::Refused(Refusal {
-                        number: 24,
-                        position: at,
-                        needed: 0,
-                    });
-                }
-                i = next + skip;
-                half = half_after(half, b, n);
-                s = join(s, run(b, n));
-            }
-            Repeat::Refused(r) => {
-                return Counted::Refused(r);
-            }
-        }
-    }
-    Counted::Symbols { tallies: s, half }
-}
+use symbols::Counted;
+use symbols::Half;
+use symbols::Repeat;
+use symbols::Tallies;
 
 // ---------------------------------------------------------------- the shape, and the last checks
 
@@ -417,18 +66,6 @@ fn shape_of(t: Tallies) -> PicShape
         signed: 0 < t.signs,
         edited: 0 < t.edits,
         width: t.symbols - t.hidden,
-    }
-}
-
-// Whether every byte was a symbol or half of a CR or DB.
-fn is_legal(half: Half) -> bool
-    ensures { λ r. ⌜ r ≡ nothing half ⌝ }
-{
-    match half {
-        Half::Nothing => true,
-        Half::C => false,
-        Half::D => false,
-        Half::Wrong => false,
     }
 }
 
@@ -504,7 +141,7 @@ fn check_shape(s: PicShape, half: Half, usage: Usage, at: usize) -> Shaped
     requires { ⌜ s .scale ≤ s .digits ⌝ }
     ensures { λ r. ⌜ Judged at usage s half r ⌝ }
 {
-    if is_legal(half) {
+    if symbols::is_legal(half) {
         if is_mixed(s) {
             return refusal(26, at);
         }
@@ -520,8 +157,8 @@ fn check_shape(s: PicShape, half: Half, usage: Usage, at: usize) -> Shaped
 fn read_shape(picture: &[u8], at: usize, usage: Usage) -> Shaped
     ensures { λ r. ⌜ Reads at usage (now (picture .entry)) r ⌝ }
 {
-    let word = trim(picture);
-    match count_symbols(word, at) {
+    let word = symbols::trim(picture);
+    match symbols::count_symbols(word, at) {
         Counted::Symbols { tallies, half } => {
             let s = shape_of(tallies);
             return check_shape(s, half, usage, at);
@@ -772,7 +409,7 @@ fn write_mask(picture: &[u8], out: &mut [u8])
     while i < picture.len() {
         let b = text::upper(picture[i]);
         let next = i + 1;
-        match repeat_at(&picture[next..], 0) {
+        match symbols::repeat_at(picture, next, 0) {
             Repeat::Times { n, skip } => {
                 i = next + skip;
                 k = write_run(out, k, n, b);
@@ -799,7 +436,7 @@ fn mask_of(picture: &[u8], usage: Usage, out: &mut [u8]) -> Writing
                         needed: width,
                     });
                 }
-                let word = trim(picture);
+                let word = symbols::trim(picture);
                 write_mask(word, out);
                 return Writing::Written(width);
             }

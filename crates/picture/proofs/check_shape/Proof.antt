@@ -5,10 +5,10 @@ use mathlib.Core.Path.{_≡_, sym, _∙_}
 use mathlib.Core.Bool.{Bool, true, false}
 use Rattle.definition.specs.declared.Usage.{Usage}
 use Rattle.definition.specs.Basic.{_>>=_}
-use Rattle.picture.specs.declared.Half.{Half}
+use Rattle.symbols.specs.declared.Half.{Half}
 use Rattle.picture.specs.declared.PicShape.{PicShape}
 use Rattle.picture.specs.declared.Shaped.{Shaped}
-use Rattle.picture.specs.Shape.{nothing}
+use Rattle.symbols.specs.Shape.{nothing}
 use Rattle.picture.specs.Kinds.{mixedBy, longBy, Judged}
 use borrow.Author.Needs.{needs}
 use Rattle.picture.proofs.check_shape.Statement.{statement}

@@ -4,7 +4,7 @@ use mathlib.Core.Path.{refl, sym}
 use mathlib.Core.Bool.{true}
 use mathlib.Core.List.{[], _∷_}
 use Rattle.picture.specs.Masks.{hidden}
-use Rattle.picture.proofs.Keys.{one-of, missed}
+use Rattle.symbols.proofs.Keys.{one-of, missed}
 use borrow.Author.Needs.{needs}
 use Rattle.picture.proofs.is_hidden.Statement.{statement}
 use Rattle.picture.proofs.is_hidden.Tie as tie

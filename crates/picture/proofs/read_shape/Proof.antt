@@ -8,12 +8,12 @@ use Rattle.definition.specs.declared.Refusal.{Refusal}
 use Rattle.definition.specs.declared.Usage.{Usage}
 use Rattle.definition.specs.Basic.{_>>=_, refuse, give}
 use Rattle.definition.specs.Picture.{trim, expand}
-use Rattle.picture.specs.declared.Tallies.{Tallies}
-use Rattle.picture.specs.declared.Half.{Half}
-use Rattle.picture.specs.declared.Counted.{Counted}
+use Rattle.symbols.specs.declared.Tallies.{Tallies}
+use Rattle.symbols.specs.declared.Half.{Half}
+use Rattle.symbols.specs.declared.Counted.{Counted}
 use Rattle.picture.specs.declared.PicShape.{PicShape}
 use Rattle.picture.specs.declared.Shaped.{Shaped}
-use Rattle.picture.specs.Shape.{Small, countedOf, counts, Counts}
+use Rattle.symbols.specs.Shape.{Small, countedOf, counts, Counts}
 use Rattle.picture.specs.Kinds.{shapeOf, Judged, Reads}
 use Rattle.picture.proofs.Shapes.{symbols-shape, counts-refused, counts-given}
 use borrow.Author.Needs.{needs}

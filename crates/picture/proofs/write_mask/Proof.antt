@@ -5,15 +5,15 @@ use mathlib.Core.Path.{_≡_, refl, sym, ap, _∙_}
 use mathlib.Core.List.{List}
 use mathlib.Core.Logic.{⊎-elim}
 use native.Mathlib.Omega.{arith}
-use lib.ListN.{length, getD, take, drop, replicate, length-drop}
+use lib.ListN.{length, getD, drop, replicate, length-drop}
 use lib.Seq.{length-sets}
 use Rattle.definition.specs.declared.Refusal.{Refusal}
 use Rattle.definition.specs.Basic.{upper, Answer, give}
 use Rattle.definition.specs.Picture.{repeat, expand, mask}
-use Rattle.definition.proofs.Lists.{order, rest-part}
+use Rattle.definition.proofs.Lists.{order}
 use Rattle.definition.proofs.PictureLaws.{onto, expand-end, expand-refused, expand-many, expand-more}
-use Rattle.picture.specs.declared.Repeat.{Repeat}
-use Rattle.picture.specs.Repeats.{Repeated, repeatOf}
+use Rattle.symbols.specs.declared.Repeat.{Repeat}
+use Rattle.symbols.specs.Repeats.{Repeated, repeatOf}
 use Rattle.picture.specs.Masks.{Room, put, Wrote}
 use Rattle.picture.proofs.Masking.{room-run, room-rest, put-run}
 use borrow.Author.Needs.{needs}
@@ -36,10 +36,7 @@ module _ {t out₀ out : List ℕ} {k i : ℕ} (inv : Left t out₀ out k i) whe
   unfolding mask
   done h = rw (inv .same, expand-end 0 (inv .seen) t i h)
 
-  module _ (h : i < length t) {r : Repeat} (q : Repeated 0 (take (length t - (i + 1)) (drop (i + 1) t)) r) where
-    read : Repeated 0 (drop (i + 1) t) r
-    read = rw (rest-part t (i + 1)) at q
-
+  module _ (h : i < length t) {r : Repeat} (read : Repeated 0 (drop (i + 1) t) r) where
     refused : {x : Refusal} → r ≡ Repeat.Refused x → ⊥
     refused e = rw (expand-refused 0 (inv .seen) t i h (sym (read .same) ∙ ap repeatOf e)) at (inv .room)
 
@@ -101,15 +98,6 @@ upper-requires c κs = search needs
 add-next : tie.Need-add-next Inv-loop μ-loop
 add-next c = search needs
 
-sub-repeat-at : tie.Need-sub-repeat-at Inv-loop μ-loop
-sub-repeat-at c = search needs
-
-part-repeat-at-start : tie.Need-part-repeat-at-start Inv-loop μ-loop
-part-repeat-at-start c = search needs
-
-part-repeat-at-end : tie.Need-part-repeat-at-end Inv-loop μ-loop
-part-repeat-at-end c = search needs
-
 repeat-at-requires : tie.Need-repeat-at-requires Inv-loop μ-loop
 repeat-at-requires c κs = search needs
 
@@ -117,25 +105,25 @@ enum-known-n : tie.Need-enum-known-n Inv-loop μ-loop
 enum-known-n c = search needs
 
 add-i : tie.Need-add-i Inv-loop μ-loop
-add-i c = omega (arith, step (c .before .before .before .before .before .before .before .before .loop .inv) (c .before .before .before .before .before .before .before .loop-test .taken) (c .before .before .before .repeat-at .ensures) (c .before .n .given .1))
+add-i c = omega (arith, step (c .before .before .before .before .before .before .before .loop .inv) (c .before .before .before .before .before .before .loop-test .taken) (c .before .before .before .repeat-at .ensures) (c .before .n .given .1))
 
 write-run-requires : tie.Need-write-run-requires Inv-loop μ-loop
-write-run-requires c κs = has-room (c .before .before .before .before .before .before .before .before .before .loop .inv) (c .before .before .before .before .before .before .before .before .loop-test .taken) (c .before .before .before .before .repeat-at .ensures) (c .before .before .n .given .1) (c .before .before .before .before .before .before .upper .ensures)
+write-run-requires c κs = has-room (c .before .before .before .before .before .before .before .before .loop .inv) (c .before .before .before .before .before .before .before .loop-test .taken) (c .before .before .before .before .repeat-at .ensures) (c .before .before .n .given .1) (c .before .before .before .before .before .upper .ensures)
 
 loop-less : tie.Need-loop-less Inv-loop μ-loop
-loop-less c = less (c .before .before .before .before .before .before .before .before .before .before .before .before .loop .inv) (c .before .before .before .before .before .before .before .before .before .before .before .loop-test .taken) (c .before .before .before .before .before .before .before .repeat-at .ensures) (c .before .before .before .before .before .n .given .1)
+loop-less c = less (c .before .before .before .before .before .before .before .before .before .before .before .loop .inv) (c .before .before .before .before .before .before .before .before .before .before .loop-test .taken) (c .before .before .before .before .before .before .before .repeat-at .ensures) (c .before .before .before .before .before .n .given .1)
 
 loop-again : tie.Need-loop-again Inv-loop μ-loop
-loop-again c = go-on (c .before .before .before .before .before .before .before .before .before .before .before .before .loop .inv) (c .before .before .before .before .before .before .before .before .before .before .before .loop-test .taken) (c .before .before .before .before .before .before .before .repeat-at .ensures) (c .before .before .before .before .before .n .given .1) (c .before .before .before .before .before .before .before .before .before .upper .ensures) (c .before .before .write-run .ensures)
+loop-again c = go-on (c .before .before .before .before .before .before .before .before .before .before .before .loop .inv) (c .before .before .before .before .before .before .before .before .before .before .loop-test .taken) (c .before .before .before .before .before .before .before .repeat-at .ensures) (c .before .before .before .before .before .n .given .1) (c .before .before .before .before .before .before .before .before .upper .ensures) (c .before .before .write-run .ensures)
 
 enum-told : tie.Need-enum-told Inv-loop μ-loop
 enum-told c = search needs
 
 same-length : tie.Need-same-length Inv-loop μ-loop
-same-length c = c .before .before .before .before .before .before .before .loop .inv .kept
+same-length c = c .before .before .before .before .before .before .loop .inv .kept
 
 returns : tie.Need-returns Inv-loop μ-loop
-returns c = absurd (refused (c .before .before .before .before .before .before .before .loop .inv) (c .before .before .before .before .before .before .loop-test .taken) (c .before .before .repeat-at .ensures) (c .enum-told .given .1))
+returns c = absurd (refused (c .before .before .before .before .before .before .loop .inv) (c .before .before .before .before .before .loop-test .taken) (c .before .before .repeat-at .ensures) (c .enum-told .given .1))
 
 same-length-2 : tie.Need-same-length-2 Inv-loop μ-loop
 same-length-2 c = c .before .loop .inv .kept
@@ -153,9 +141,6 @@ write-mask-spec =
     shared-slice-read-upper
     upper-requires
     add-next
-    sub-repeat-at
-    part-repeat-at-start
-    part-repeat-at-end
     repeat-at-requires
     enum-known-n
     add-i

@@ -1,0 +1,4 @@
+pub mod Keys
+pub mod Halves
+pub mod Counting
+pub mod Repeating

@@ -304,16 +304,14 @@ fn next_line(text: &[u8], at: usize) -> usize
     i
 }
 
-// The end of the word that goes on at a place. A byte over 46 is neither white space nor `*` nor `.`.
+// The end of the word that goes on at a place.
 fn word_end(text: &[u8], at: usize) -> usize
     requires { ⌜ at ≤ length (now text) ⌝ }
     ensures { λ r. ⌜ WordEnd (now (text .entry)) at r ⌝ }
 {
     let mut i = at;
     while i < text.len() {
-        if 46 < text[i] {
-            i += 1;
-        } else if in_word(byte_kind(text, i)) {
+        if in_word(byte_kind(text, i)) {
             i += 1;
         } else {
             return i;

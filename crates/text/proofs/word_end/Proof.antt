@@ -6,14 +6,13 @@ use mathlib.Core.Path.{_≡_, refl, sym, _∙_, ap}
 use mathlib.Core.Bool.{Bool, true, false}
 use mathlib.Core.List.{List, _∷_, _++_}
 use native.Mathlib.Omega.{arith}
-use lib.ListN.{length, getD, drop}
-use borrow.Author.Tests.{ne-eqb, le-leb, lt-leb}
+use lib.ListN.{length}
 use Rattle.definition.specs.declared.ByteKind.{ByteKind}
 use Rattle.definition.specs.declared.ByteKind.the-variants.{Newline, Blank, Cut, Star, Period, Other}
 use Rattle.definition.specs.declared.Mode.{Mode}
 use Rattle.definition.specs.declared.Mode.the-variants.{Between, Within}
 use Rattle.definition.specs.declared.Token.{Token}
-use Rattle.definition.specs.Words.{byteKind, next as modeAfter, completed, upTo}
+use Rattle.definition.specs.Words.{next as modeAfter, completed, upTo}
 use Rattle.definition.proofs.WordLaws.{kindAt, tokens-next, tokens-end}
 use Rattle.text.specs.Tokens.{tokensFrom, inWord, WordEnd}
 use Rattle.text.proofs.word_end.Statement.{statement}
@@ -43,19 +42,6 @@ ends-here Cut y s p more = refl
 ends-here Star y s p more = never (sym y)
 ends-here Period y s p more = refl
 ends-here Other y s p more = never (sym y)
-
--- a byte over 46 is plain
-high : (b : ℕ) (bs : List ℕ) → 46 < b → byteKind b bs ≡ Other
-unfolding byteKind
-high b bs h =
-    rw (
-      ne-eqb b 10 (λ e. omega arith),
-      ne-eqb b 32 (λ e. omega arith),
-      le-leb 9 b (omega arith),
-      lt-leb b 13 (omega arith),
-      ne-eqb b 42 (λ e. omega arith),
-      ne-eqb b 46 (λ e. omega arith),
-    )
 
 -- the word goes on at i
 record Left (t : List ℕ) (at i : ℕ) : Type 0 where
@@ -102,9 +88,6 @@ module _ {t : List ℕ} {at i : ℕ} (inv : Left t at i) where
               ∙ ap (λ (ts : List Token). upTo s i ∷ ts) (sym (step Between));
         }
 
-  next-high : i < length t → 46 < getD t i 0 → Left t at (i + 1)
-  next-high h l = let e : kindAt t i ≡ Other = high (getD t i 0) (drop (i + 1) t) l in next h {k = kindAt t i} {r = true} refl (rw e) refl
-
 abbrev Inv-loop : tie.InvT-loop
 Inv-loop text at i₀ i = Left text at i
 
@@ -114,8 +97,11 @@ abbrev μ-loop : tie.MeasureT-loop
 loop-holds : tie.Need-loop-holds Inv-loop μ-loop
 loop-holds c = search start
 
-shared-slice-read-if1 : tie.Need-shared-slice-read-if1 Inv-loop μ-loop
-shared-slice-read-if1 c = search needs
+byte-kind-requires : tie.Need-byte-kind-requires Inv-loop μ-loop
+byte-kind-requires c κs = search needs
+
+in-word-requires : tie.Need-in-word-requires Inv-loop μ-loop
+in-word-requires c κs = search needs
 
 add-i : tie.Need-add-i Inv-loop μ-loop
 add-i c = search needs
@@ -124,25 +110,10 @@ loop-less : tie.Need-loop-less Inv-loop μ-loop
 loop-less c = search needs
 
 loop-again : tie.Need-loop-again Inv-loop μ-loop
-loop-again c = search next-high
-
-byte-kind-requires : tie.Need-byte-kind-requires Inv-loop μ-loop
-byte-kind-requires c κs = search needs
-
-in-word-requires : tie.Need-in-word-requires Inv-loop μ-loop
-in-word-requires c κs = search needs
-
-add-i-2 : tie.Need-add-i-2 Inv-loop μ-loop
-add-i-2 c = search needs
-
-loop-less-2 : tie.Need-loop-less-2 Inv-loop μ-loop
-loop-less-2 c = search needs
-
-loop-again-2 : tie.Need-loop-again-2 Inv-loop μ-loop
-loop-again-2 c = search (next (c .before .before .before .before .before .before .loop .inv))
+loop-again c = search next
 
 returns : tie.Need-returns Inv-loop μ-loop
-returns c = search (found (c .before .before .before .before .before .before .loop .inv))
+returns c = search found
 
 returns-2 : tie.Need-returns-2 Inv-loop μ-loop
 returns-2 c = search done
@@ -154,14 +125,10 @@ word-end-spec =
     Inv-loop
     μ-loop
     loop-holds
-    shared-slice-read-if1
+    byte-kind-requires
+    in-word-requires
     add-i
     loop-less
     loop-again
-    byte-kind-requires
-    in-word-requires
-    add-i-2
-    loop-less-2
-    loop-again-2
     returns
     returns-2)

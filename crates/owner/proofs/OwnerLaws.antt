@@ -34,9 +34,10 @@ use Rattle.layout.specs.Places.{entryIn, entriesIn, rowsForest}
 use Rattle.layout.proofs.BareLaws.{fold-is, layout-is}
 use Rattle.layout.proofs.EntriesLaws.{size-stretch, Rows, rows-forest}
 use Rattle.layout.proofs.RowLaws.{stretch-cons, stretch-none}
-use Rattle.record.proofs.LaidLaws.{entries-size}
+use Rattle.folded.proofs.ShownLaws.{entries-size}
 use Rattle.record.specs.Laying.{laidOf, Listed}
-use Rattle.record.specs.Shown.{listIn, Counted, SizedRow, Measured}
+use Rattle.folded.specs.Shown.{listIn, SizedRow, Measured}
+use Rattle.record.specs.Marks.{Counted}
 use Rattle.owner.specs.Walked.{overlays, rowAt, tableRows, Walkable}
 
 -- ---------------------------------------------------------------- a REDEFINES or a DEPENDING ON

@@ -23,8 +23,8 @@ use Rattle.rows.specs.Table.{cell, spanAt, statementAt, statementsFrom}
 use Rattle.rows.proofs.TableLaws.{statement-same}
 use Rattle.layout.specs.Places.{isTarget, entryIn, entriesIn, rowsForest}
 use Rattle.layout.proofs.EntriesLaws.{size-stretch, entry-same, entries-same}
-use Rattle.record.specs.Marks.{baseFrom, baseOf, hit, hits, Kept, Countable, RowTallied, Tallied}
-use Rattle.record.specs.Shown.{listIn, Column, Chained, Counted, Sized, Marked, Tree}
+use Rattle.record.specs.Marks.{Column, Chained, Counted, baseOf, hit, hits, Kept, Countable, RowTallied, Tallied}
+use Rattle.folded.specs.Shown.{baseFrom, listIn, Sized, Tree}
 use Rattle.record.proofs.MarkLaws.{base-within, hits-most, hits-append, hits-low, marked-all}
 
 -- a column that is the same in two tables

@@ -36,17 +36,11 @@ use Rattle.layout.proofs.ListLaws.{Of, of-size, bare-split, item-is, bare-is}
 use Rattle.layout.proofs.LayLaws.{LaidRows, laid-rows, stopped-was}
 use Rattle.layout.proofs.RowLaws.{children-end, forest-split, forest-empty}
 use Rattle.layout.proofs.PlaceLaws.{length-place, length-places, before-places, statements-places, first-last, first-below}
-use Rattle.record.specs.Shown.{listIn, Column, Chained, Counted}
-use Rattle.record.specs.Marks.{Tallied}
+use Rattle.folded.specs.Shown.{listIn}
+use Rattle.record.specs.Marks.{Column, Chained, Counted, Tallied}
 use Rattle.record.proofs.KeptLaws.{column-same, forest-kept, list-kept, Ready, marked-counted, marked-tree}
 use Rattle.record.specs.declared.RecordLaid.{RecordLaid}
 use Rattle.record.specs.Laying.{FieldsFrom, fieldsOf, laidOf, Listed, RecordIs, recordOf}
-
--- a list has an entry for each row
-pub entries-size : (w : List ℕ) (f : Forest) (k : ℕ) → entries# (entriesIn w k f) ≡ size f
-unfolding entriesIn
-entries-size w leaf k = refl
-entries-size w (item s kids later) k = omega (arith, entries-size w kids (suc k), entries-size w later (suc k + size kids))
 
 -- ---------------------------------------------------------------- no entry is too large
 

@@ -12,7 +12,8 @@ use Rattle.definition.specs.Record.{recordLength}
 use Rattle.layout.specs.Bare.{bareRecord, foldedAll}
 use Rattle.layout.specs.Places.{rowsForest}
 use Rattle.record.specs.declared.RecordLaid.{RecordLaid}
-use Rattle.record.specs.Shown.{listIn, Counted, Tree}
+use Rattle.folded.specs.Shown.{listIn, Tree}
+use Rattle.record.specs.Marks.{Counted}
 
 -- the fields of a record that has n rows are the rows from r on
 pub record FieldsFrom (w : List ℕ) (n r : ℕ) : Type 0 where

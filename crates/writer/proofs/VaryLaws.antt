@@ -15,11 +15,11 @@ use Rattle.rows.specs.Table.{cell, spanAt}
 use Rattle.layout.specs.Bare.{foldedBelow, foldedAll}
 use Rattle.layout.specs.Places.{basesAt, placeAt, entryIn}
 use Rattle.layout.specs.Steps.{ChildrenEnd}
-use Rattle.record.specs.declared.Standing.{Standing}
-use Rattle.record.specs.declared.Relation.{Relation}
-use Rattle.record.specs.Shown.{standing, relation, listIn, redefinersIn, foldedRest, shownAt, Tree, Base}
-use Rattle.record.proofs.ShownLaws.{redefined-by, walking-here, walking-ends}
-use Rattle.record.proofs.WidthLaws.{Along, along-starts, along-on, Counting, counting-starts, counting-none, counting-hit, counting-miss}
+use Rattle.folded.specs.declared.Standing.{Standing}
+use Rattle.folded.specs.declared.Relation.{Relation}
+use Rattle.folded.specs.Shown.{standing, relation, listIn, redefinersIn, foldedRest, shownAt, Tree, Base}
+use Rattle.folded.proofs.ShownLaws.{redefined-by, walking-here, walking-ends}
+use Rattle.folded.proofs.WidthLaws.{Along, along-starts, along-on, Counting, counting-starts, counting-none, counting-hit, counting-miss}
 use Rattle.writer.specs.Written.{unionIn, ownMember, listVaries, itemVaries}
 use Rattle.writer.proofs.WriteLaws.{shown-is, base-alone, base-union, union-is}
 

@@ -17,10 +17,10 @@ use Rattle.layout.specs.Places.{entryIn}
 use Rattle.layout.specs.Steps.{ChildrenEnd}
 use Rattle.listing.specs.Puts.{Put}
 use Rattle.listing.proofs.PutLaws.{put-none, _and_}
-use Rattle.record.specs.declared.Relation.{Relation}
-use Rattle.record.specs.Shown.{relation, redefinersIn, foldedRest, shownAt, Tree, Base}
-use Rattle.record.proofs.ShownLaws.{walking-here, walking-ends}
-use Rattle.record.proofs.WidthLaws.{Along, along-starts, along-on, Counting, counting-starts, counting-none, counting-hit, counting-miss}
+use Rattle.folded.specs.declared.Relation.{Relation}
+use Rattle.folded.specs.Shown.{relation, redefinersIn, foldedRest, shownAt, Tree, Base}
+use Rattle.folded.proofs.ShownLaws.{walking-here, walking-ends}
+use Rattle.folded.proofs.WidthLaws.{Along, along-starts, along-on, Counting, counting-starts, counting-none, counting-hit, counting-miss}
 use Rattle.writer.specs.Written.{Fits, listBytes, itemBytes, shownBytes, unionIn, ownMember, unionBytes, redefinersBytes}
 use Rattle.writer.proofs.WriteLaws.{bytes-append, members-few, put-as, fits-as, fits-first, fits-second, members-folded, members-based, redefined-end, redefined-hit, redefined-miss, redefined-stop}
 

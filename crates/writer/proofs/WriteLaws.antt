@@ -19,11 +19,11 @@ use Rattle.layout.specs.Places.{basesAt, placeAt, entryIn, rowsForest}
 use Rattle.layout.specs.Steps.{ChildrenEnd}
 use Rattle.listing.specs.Puts.{Countable, Put}
 use Rattle.listing.proofs.PutLaws.{put-none, _and_, entry-countable}
-use Rattle.record.specs.declared.Standing.{Standing}
-use Rattle.record.specs.declared.Relation.{Relation}
-use Rattle.record.specs.Shown.{standing, relation, shownAs, listIn, redefinersIn, foldedRest, shownAt}
-use Rattle.record.proofs.FoldedLaws.{count-append, redefiners-below, count-below}
-use Rattle.record.proofs.ShownLaws.{redefined-by}
+use Rattle.folded.specs.declared.Standing.{Standing}
+use Rattle.folded.specs.declared.Relation.{Relation}
+use Rattle.folded.specs.Shown.{standing, relation, shownAs, listIn, redefinersIn, foldedRest, shownAt}
+use Rattle.folded.proofs.FoldedLaws.{count-append, redefiners-below, count-below}
+use Rattle.folded.proofs.ShownLaws.{redefined-by}
 use Rattle.writer.specs.Written.{Fits, listBytes, itemBytes, shownBytes, unionIn, ownMember, unionEntry, unionBytes, redefinersBytes}
 
 -- ---------------------------------------------------------------- bytes

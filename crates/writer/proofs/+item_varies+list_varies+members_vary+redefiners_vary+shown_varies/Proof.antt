@@ -8,8 +8,8 @@ use Rattle.definition.specs.Basic.{given}
 use Rattle.definition.specs.Record.{variable}
 use Rattle.layout.specs.Bare.{foldedBelow}
 use Rattle.layout.specs.Places.{basesAt, entryIn}
-use Rattle.record.specs.Shown.{redefinersIn}
-use Rattle.record.proofs.WidthLaws.{branch-tree, branch-base, along-numbered, along-known, along-branch, counting-numbered, counting-kin, counting-tree}
+use Rattle.folded.specs.Shown.{redefinersIn}
+use Rattle.folded.proofs.WidthLaws.{branch-tree, branch-base, along-numbered, along-known, along-branch, counting-numbered, counting-kin, counting-tree}
 use Rattle.writer.specs.Written.{listVaries, itemVaries}
 use Rattle.writer.proofs.VaryLaws.{first-yes, first-not, under-varies, alone-varies, base-varies, union-varies, folded-varies, based-varies, Looking, looking-starts, looking-ends, looking-finds, looking-on, Seeking, seeking-starts, seeking-ends, seeking-stops, seeking-passes, seeking-finds, seeking-on}
 use borrow.Fn.Kinds.{In}
@@ -29,10 +29,10 @@ use Rattle.writer.proofs.+item_varies+list_varies+members_vary+redefine
 use Rattle.writer.proofs.shown_varies.Reads as shown-varies
 use Rattle.writer.proofs.shown_varies.Kinds as shown-varies-kinds
 use Rattle.writer.proofs.+item_varies+list_varies+members_vary+redefiners_vary+shown_varies.Lts-shown_varies as shown-varies-lts
-use Rattle.record.proofs.next_of.Reads as next-of-reads
-use Rattle.record.proofs.redefiner_count.Reads as redefiner-count-reads
-use Rattle.record.proofs.relation_to.Reads as relation-to-reads
-use Rattle.record.proofs.standing_of.Reads as standing-of-reads
+use Rattle.folded.proofs.next_of.Reads as next-of-reads
+use Rattle.folded.proofs.redefiner_count.Reads as redefiner-count-reads
+use Rattle.folded.proofs.relation_to.Reads as relation-to-reads
+use Rattle.folded.proofs.standing_of.Reads as standing-of-reads
 use Rattle.writer.proofs.depends.Reads as depends-reads
 use Rattle.writer.proofs.has_own.Reads as has-own-reads
 use Rattle.writer.proofs.+item_varies+list_varies+members_vary+redefiners_vary+shown_varies.{

@@ -7,7 +7,7 @@ use native.Mathlib.Omega.{arith}
 use Rattle.definition.specs.Listing.{members#, entryBytes, entriesBytes}
 use Rattle.listing.proofs.PutLaws.{put-none, put-length}
 use Rattle.layout.specs.Places.{basesAt}
-use Rattle.record.proofs.WidthLaws.{branch-tree, branch-base, along-numbered, along-known, along-branch, counting-numbered, counting-row, counting-kin, counting-tree}
+use Rattle.folded.proofs.WidthLaws.{branch-tree, branch-base, along-numbered, along-known, along-branch, counting-numbered, counting-row, counting-kin, counting-tree}
 use Rattle.writer.specs.Written.{listBytes, itemBytes, unionIn, unionEntry, unionBytes}
 use Rattle.writer.proofs.WriteLaws.{put-as, fits-as, fits-entry, shown-under, shown-alone, shown-base, shown-union}
 use Rattle.writer.proofs.WalkLaws.{head-rest, head-then, union-few, folded-first, folded-rest, folded-then, based-first, based-rest, based-then, Writing, writing-starts, writing-ends, writing-fits, writing-on, Redefining, redefining-starts, redefining-ends, redefining-stops, redefining-passes, redefining-fits, redefining-on}
@@ -33,11 +33,11 @@ use Rattle.writer.proofs.write_union.Kinds as write-union-kinds
 use Rattle.writer.proofs.+write_item+write_list+write_members+write_redefiners+write_shown+write_union.Lts-write_union as write-union-lts
 use Rattle.layout.proofs.entry_at.Reads as entry-at-reads
 use Rattle.listing.proofs.put_entry.Reads as put-entry-reads
-use Rattle.record.proofs.folded_count.Reads as folded-count-reads
-use Rattle.record.proofs.next_of.Reads as next-of-reads
-use Rattle.record.proofs.redefiner_count.Reads as redefiner-count-reads
-use Rattle.record.proofs.relation_to.Reads as relation-to-reads
-use Rattle.record.proofs.standing_of.Reads as standing-of-reads
+use Rattle.folded.proofs.folded_count.Reads as folded-count-reads
+use Rattle.folded.proofs.next_of.Reads as next-of-reads
+use Rattle.folded.proofs.redefiner_count.Reads as redefiner-count-reads
+use Rattle.folded.proofs.relation_to.Reads as relation-to-reads
+use Rattle.folded.proofs.standing_of.Reads as standing-of-reads
 use Rattle.writer.proofs.has_own.Reads as has-own-reads
 use Rattle.writer.proofs.member_at.Reads as member-at-reads
 use Rattle.writer.proofs.union_count.Reads as union-count-reads

@@ -38,7 +38,7 @@ use Rattle.layout.proofs.RowLaws.{children-end, forest-split, forest-empty}
 use Rattle.layout.proofs.PlaceLaws.{length-place, length-places, before-places, statements-places, first-last, first-below}
 use Rattle.folded.specs.Shown.{listIn}
 use Rattle.record.specs.Marks.{Column, Chained, Counted, Tallied}
-use Rattle.record.proofs.KeptLaws.{column-same, forest-kept, list-kept, Ready, marked-counted, marked-tree}
+use Rattle.record.proofs.KeptLaws.{column-same, forest-kept, list-kept, Ready, marked-tree}
 use Rattle.record.specs.declared.RecordLaid.{RecordLaid}
 use Rattle.record.specs.Laying.{FieldsFrom, fieldsOf, laidOf, Listed, RecordIs, recordOf}
 
@@ -277,7 +277,6 @@ module _ (text w : List ℕ) (a b : ℕ) where
               fields = ap give (same-fields text w a b 0 h fits n ∙ forest-kept (m .kept) a b);
               is = passed Check.Passed f;
               tree = marked-tree text a b h ready m;
-              counted = marked-counted text a b h ready m;
               few = few;
               long = long;
             }

@@ -257,3 +257,9 @@ module _ (t w : List ℕ) where
       ((i : ℕ) → k ≤ i → i < k + size f → cell w i 18 ≡ baseOf t w i + hits t w i k (size f)) →
       Marked t w k 0 f
   marked-all f k ch co h = marked-forest f k 0 ch co (omega arith) (λ i a b. h i a b ∙ ap (λ (n : ℕ). baseOf t w i + n) (hits-forest f i k))
+
+  -- and each counts the rows below it
+  pub marked-counted : (f : Forest) (k last : ℕ) → Marked t w k last f → Counted w k last f
+  marked-counted leaf k last m = tt
+  marked-counted (item s kids later) k last m =
+      (m .0 .below, marked-counted kids (suc k) 0 (m .1), marked-counted later (suc k + size kids) (suc k) (m .2))

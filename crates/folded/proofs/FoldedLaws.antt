@@ -14,7 +14,7 @@ use Rattle.definition.specs.Basic.{if_then_else_, given, Answer, give, _>>=_, r
 use Rattle.definition.specs.Fold.{Entries, end, entry, append, total, entryEnd, largest, sameName, sameSpelling, Place, placeOf, find, hasMember, rebased, redefiners, widest, union, unionMembers, withRedefiners}
 use Rattle.definition.specs.Record.{recordLength, endsFit}
 use Rattle.definition.specs.Listing.{members#}
-use Rattle.definition.proofs.LayoutLaws.{redefiners-hit, redefiners-miss, redefiners-ends, redefiners-next, fits-entry, fits-refused, fits-none}
+use Rattle.definition.proofs.LayoutLaws.{redefiners-hit, redefiners-miss, redefiners-next, fits-entry, fits-refused, fits-none}
 use Rattle.layout.specs.Bare.{basesAfter, foldedList, foldedBelow, foldedAll}
 use Rattle.layout.proofs.BareLaws.{list-base, list-alone, list-under, bind-bind}
 use Rattle.folded.specs.declared.Standing.{Standing}
@@ -76,7 +76,6 @@ or-false false = refl
 -- the redefiners of a base in a list, by what its first entry is to the base and the redefiners in the rest
 abbrev pub byRelation : Relation → Place → Entry → Entries → Entries → Entries
 byRelation Relation.Redefiner base e members more = entry (rebased (base .offset) e) members more
-byRelation Relation.Next base e members more = end
 byRelation Relation.Other base e members more = more
 
 module _ (text : List ℕ) where
@@ -197,41 +196,43 @@ module _ (text : List ℕ) where
   -- ---------------------------------------------------------------- redefiners
 
   module _ (base : Place) (e : Entry) (members later : Entries) where
-    -- the redefiners in a list, by what its first entry is to the base
-    pub redefiners-step : redefiners text base (entry e members later) ≡ byRelation (relation text (base .name) e) base e members (redefiners text base later)
-    redefiners-step = go (given (e .redefines)) refl (sameName text (base .name) (e .redefines)) refl (sameName text (base .name) (e .name)) refl
+    -- the redefiners in a list, by what its first entry is to the base, where it is no base of the same name
+    pub redefiners-step :
+        (given (e .redefines) ≡ false → sameName text (base .name) (e .name) ≡ false) →
+        redefiners text base (entry e members later) ≡ byRelation (relation text (base .name) e) base e members (redefiners text base later)
+    redefiners-step apart = go (given (e .redefines)) refl (sameName text (base .name) (e .redefines)) refl
       where
         go :
             (g : Bool) →
             given (e .redefines) ≡ g →
             (a : Bool) →
             sameName text (base .name) (e .redefines) ≡ a →
-            (b : Bool) →
-            sameName text (base .name) (e .name) ≡ b →
             redefiners text base (entry e members later) ≡ byRelation (relation text (base .name) e) base e members (redefiners text base later)
-        go true g true h b k = redefiners-hit text base e members later g h ∙ rw (h, g)
-        go true g false h b k = redefiners-miss text base e members later g h ∙ rw (h, g)
-        go false g a h true k = redefiners-ends text base e members later g k ∙ rw (k, g)
-        go false g a h false k = redefiners-next text base e members later g k ∙ rw (k, g)
-
-  below-relation :
-      (r : Relation) (base : Place) (e : Entry) (members more : Entries) →
-      byRelation r base e (foldedAll text members) (foldedBelow text more) ≡ foldedBelow text (byRelation r base e members more)
-  unfolding foldedBelow
-  below-relation Relation.Redefiner base e members more = refl
-  below-relation Relation.Next base e members more = refl
-  below-relation Relation.Other base e members more = refl
+        go true g true h = redefiners-hit text base e members later g h ∙ rw (h, g)
+        go true g false h = redefiners-miss text base e members later g h ∙ rw (h, g)
+        go false g a h = redefiners-next text base e members later g (apart g) ∙ rw g
 
   -- the redefiners among entries whose members are folded
   pub redefiners-below : (base : Place) (es : Entries) → redefiners text base (foldedBelow text es) ≡ foldedBelow text (redefiners text base es)
   unfolding foldedBelow redefiners
   redefiners-below base end = refl
   redefiners-below base (entry e members later) =
-      let r = relation text (base .name) e in
-      redefiners-step base e (foldedAll text members) (foldedBelow text later)
-      ∙ ap (byRelation r base e (foldedAll text members)) (redefiners-below base later)
-      ∙ below-relation r base e members (redefiners text base later)
-      ∙ ap (foldedBelow text) (sym (redefiners-step base e members later))
+      go (given (e .redefines)) (sameName text (base .name) (e .redefines)) (sameName text (base .name) (e .name)) (redefiners-below base later)
+    where
+      go :
+          (g a b : Bool) →
+          redefiners text base (foldedBelow text later) ≡ foldedBelow text (redefiners text base later) →
+          (if g then (if a then entry (rebased (base .offset) e) (foldedAll text members) (redefiners text base (foldedBelow text later)) else redefiners text base (foldedBelow text later))
+          else if b then end
+          else redefiners text base (foldedBelow text later))
+          ≡ foldedBelow text
+          (if g then (if a then entry (rebased (base .offset) e) members (redefiners text base later) else redefiners text base later)
+          else if b then end
+          else redefiners text base later)
+      go true true b ih = ap (entry (rebased (base .offset) e) (foldedAll text members)) ih
+      go true false b ih = ih
+      go false a true ih = refl
+      go false a false ih = ih
 
   pub count-below : (es : Entries) → members# (foldedBelow text es) ≡ members# es
   unfolding foldedBelow

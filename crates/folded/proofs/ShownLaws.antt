@@ -2,28 +2,27 @@
 -- Assumes nothing.
 use Prim.Native.Nat.{ℕ, suc, _+_, _*_, _-_, _≤_, _<_}
 use mathlib.Core.Path.{_≡_, refl, sym, ap, subst, _∙_}
-use mathlib.Core.Bool.{Bool, true, false}
-use mathlib.Core.List.{List, _∷_}
+use mathlib.Core.Bool.{true}
+use mathlib.Core.List.{List}
 use native.Mathlib.Numerals.{add-one}
 use native.Mathlib.Omega.{arith}
-use Rattle.definition.specs.declared.Span.{Span}
-use Rattle.definition.specs.Basic.{if_then_else_, given}
+use Rattle.definition.specs.Basic.{given}
 use lib.Dec.{ltb}
 use lib.ListN.{length}
 use Rattle.definition.specs.Tree.{Forest, leaf, item, higher}
 use Rattle.definition.specs.Listing.{members#}
-use Rattle.definition.specs.Fold.{Entries, end, entry, append, Place, placeOf, redefiners}
+use Rattle.definition.specs.Fold.{Entries, end, entry, append, Place, sameName, redefiners}
 use Rattle.definition.specs.Owner.{size}
 use Rattle.definition.specs.Search.{entries#}
+use Rattle.definition.proofs.LayoutLaws.{redefiners-ends}
 use Rattle.rows.specs.Table.{cell, spanAt, statementAt, statementsFrom}
 use Rattle.layout.specs.Bare.{foldedList, foldedBelow, foldedAll}
 use Rattle.layout.specs.Places.{seenFrom, basesAt, placeAt, entryIn, entriesIn, Linked, rowsForest}
 use Rattle.layout.specs.Steps.{ChildrenEnd}
 use Rattle.layout.proofs.FoldLaws.{next-row, bases-after, entries-step, linked-step}
-use Rattle.layout.proofs.PlaceLaws.{seen-low, seen-out, seen-in}
 use Rattle.layout.proofs.RowLaws.{children-end, forest-split, forest-empty}
 use Rattle.folded.specs.declared.Relation.{Relation}
-use Rattle.folded.specs.Shown.{relation, listIn, redefinersIn, foldedRest, shownAt, baseFrom, IsBase, Numbered, Known, Marked}
+use Rattle.folded.specs.Shown.{relation, listIn, redefinersIn, foldedRest, shownAt, baseFrom, IsBase, Numbered, Known, Marked, Kin}
 use Rattle.folded.proofs.BaseLaws.{base-found}
 use Rattle.folded.proofs.FoldedLaws.{append-end, append-append, byRelation, list-step, redefiners-step}
 
@@ -92,26 +91,26 @@ marked-known t w i to last fits back h m =
 -- ---------------------------------------------------------------- redefiners
 
 module _ (t w : List ℕ) (i k to : ℕ) where
-  -- the redefiners of row i from row k on, by what row k is to it
-  pub redefined-step :
-      {n : ℕ} →
-      ChildrenEnd w k to n →
-      redefinersIn t w i k to
-      ≡ byRelation (relation t (spanAt (cell w i 3)) (entryIn w k)) (placeAt w i) (entryIn w k) (listIn w (suc k) n) (redefinersIn t w i n to)
-  redefined-step {n} h = ap (redefiners t (placeAt w i)) (list-split w k to n h) ∙ redefiners-step t (placeAt w i) (entryIn w k) (listIn w (suc k) n) (listIn w n to)
-
-  -- the same, where the code found out what it is
+  -- the redefiners of row i from row k on, by what the code found row k to be to it
   pub redefined-by :
+      Kin t w i k →
       {n : ℕ} →
       ChildrenEnd w k to n →
-      {name : Span} {r x : Relation} →
-      name ≡ spanAt (cell w i 3) →
-      r ≡ relation t name (entryIn w k) →
+      {r x : Relation} →
+      r ≡ relation t (spanAt (cell w i 3)) (entryIn w k) →
       r ≡ x →
       redefinersIn t w i k to ≡ byRelation x (placeAt w i) (entryIn w k) (listIn w (suc k) n) (redefinersIn t w i n to)
-  redefined-by {n} h {name} {r} {x} q p e =
-      let is : relation t (spanAt (cell w i 3)) (entryIn w k) ≡ x = ap (λ (s : Span). relation t s (entryIn w k)) (sym q) ∙ sym p ∙ e in
-      redefined-step h ∙ ap (λ (y : Relation). byRelation y (placeAt w i) (entryIn w k) (listIn w (suc k) n) (redefinersIn t w i n to)) is
+  redefined-by a {n} h {r} {x} p e =
+      ap (redefiners t (placeAt w i)) (list-split w k to n h)
+      ∙ redefiners-step t (placeAt w i) (entryIn w k) (listIn w (suc k) n) (listIn w n to) (a .apart)
+      ∙ ap (λ (y : Relation). byRelation y (placeAt w i) (entryIn w k) (listIn w (suc k) n) (redefinersIn t w i n to)) (sym p ∙ e)
+
+  -- there is none from the next base of its name on
+  pub redefined-stop :
+      {n : ℕ} → ChildrenEnd w k to n → IsBase w k → sameName t (spanAt (cell w i 3)) (spanAt (cell w k 3)) ≡ true → redefinersIn t w i k to ≡ end
+  redefined-stop {n} h g q =
+      ap (redefiners t (placeAt w i)) (list-split w k to n h)
+      ∙ redefiners-ends t (placeAt w i) (entryIn w k) (listIn w (suc k) n) (listIn w n to) g q
 
   pub redefined-none : to ≤ k → redefinersIn t w i k to ≡ end
   unfolding redefiners

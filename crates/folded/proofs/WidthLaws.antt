@@ -1,7 +1,7 @@
 -- How wide the rows are in the folded list, and where they end: a row alone, a base with its redefiners; and the parts of a table of rows.
 -- Assumes nothing.
 use Prim.Native.Nat.{ℕ, suc, _+_, _-_, _*_, max, _≤_, _<_}
-use mathlib.Core.Path.{_≡_, refl, sym, ap, ap₂, subst, _∙_}
+use mathlib.Core.Path.{_≡_, refl, sym, ap, subst, _∙_}
 use lib.Dec.{eqb}
 use mathlib.Core.Bool.{Bool, true, false}
 use mathlib.Core.List.{List}
@@ -26,7 +26,7 @@ use Rattle.folded.specs.declared.Relation.{Relation}
 use Rattle.folded.specs.Shown.{standing, shownAs, relation, listIn, redefinersIn, shownAt, unionWidth, Open, IsBase, Numbered, Known, Marked, Sized, Tree, Branch, Base, Kin, SizedRow, Measured}
 use Rattle.folded.proofs.BaseLaws.{opens, passes, differs, swapped}
 use Rattle.folded.proofs.FoldedLaws.{width-alone, width-union, end-alone, end-union, union-inner, union-outer, redefiners-below, count-below, widest-below}
-use Rattle.folded.proofs.ShownLaws.{RowIs, marked-step, marked-linked, marked-numbered, marked-known, redefined-by, redefined-none, Walking, walking-starts, walking-on}
+use Rattle.folded.proofs.ShownLaws.{RowIs, marked-step, marked-linked, marked-numbered, marked-known, redefined-by, redefined-stop, redefined-none, Walking, walking-starts, walking-on}
 
 -- ---------------------------------------------------------------- parts of a table
 
@@ -246,10 +246,7 @@ module _ {t w : List ℕ} {i j to left k : ℕ} (inv : Counting t w i j to left 
         go : (b : Bool) → sameName t (spanAt (cell w i 3)) (spanAt (cell w k 3)) ≡ b → sameName t (spanAt (cell w i 3)) (spanAt (cell w k 3)) ≡ false
         go false q = q
         go true q =
-            let redefined = if sameName t (spanAt (cell w i 3)) (spanAt (cell w k 6)) then Relation.Redefiner else Relation.Other in
-            let next : relation t (spanAt (cell w i 3)) (entryIn w k) ≡ Relation.Next =
-            ap₂ (λ (a b : Bool). if a then redefined else if b then Relation.Next else Relation.Other) g q in
-            let none : members# (redefinersIn t w i k to) ≡ 0 = ap members# (redefined-by t w i k to here refl refl next) in
+            let none : members# (redefinersIn t w i k to) ≡ 0 = ap members# (redefined-stop t w i k to here g q) in
             absurd (omega (arith, inv .is, none))
 
     pub counting-kin : Kin t w i k
@@ -294,8 +291,8 @@ module _ {t w : List ℕ} {i j to left k : ℕ} (inv : Counting t w i j to left 
     module _ (l : 0 < left) {r : Relation} (p : r ≡ relation t (spanAt (cell w i 3)) (entryIn w k)) where
       pub counting-hit : r ≡ Relation.Redefiner → Counting t w i j to (left - 1) m
       counting-hit e =
-          let one : members# (redefinersIn t w i k to) ≡ suc (members# (redefinersIn t w i m to)) = ap members# (redefined-by t w i k to h refl p e) in
+          let one : members# (redefinersIn t w i k to) ≡ suc (members# (redefinersIn t w i m to)) = ap members# (redefined-by t w i k to (counting-kin l) h p e) in
           counting-next l (omega (arith, inv .is, one))
 
       pub counting-miss : r ≡ Relation.Other → Counting t w i j to left m
-      counting-miss e = counting-next l (inv .is ∙ ap members# (redefined-by t w i k to h refl p e))
+      counting-miss e = counting-next l (inv .is ∙ ap members# (redefined-by t w i k to (counting-kin l) h p e))

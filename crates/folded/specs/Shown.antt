@@ -46,11 +46,10 @@ shownNamed text name Standing.Under e = false
 shownNamed text name Standing.Alone e = sameSpelling text name (e .name)
 shownNamed text name Standing.Base e = sameSpelling text name (e .name)
 
--- what a later entry is to a base of that name: one of its redefiners, the next base of that name, or neither
+-- what a later entry, up to the next base of that name, is to a base: one of its redefiners, or not
 abbrev pub relation : List ℕ → Span → Entry → Relation
 relation text name e =
     if given (e .redefines) then (if sameName text name (e .redefines) then Relation.Redefiner else Relation.Other)
-    else if sameName text name (e .name) then Relation.Next
     else Relation.Other
 
 -- ---------------------------------------------------------------- rows

@@ -25,7 +25,6 @@ pub enum Standing {
 // What a later entry is to a base.
 pub enum Relation {
     Redefiner,
-    Next,
     Other,
 }
 
@@ -101,9 +100,6 @@ pub fn redefiner_width(text: &[u8], work: &[u32], i: usize, j: usize, to: usize)
                 width = layout::most(width, row_total(work, k));
                 left -= 1;
                 k = m;
-            }
-            Relation::Next => {
-                return width;
             }
             Relation::Other => {
                 k = m;

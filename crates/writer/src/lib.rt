@@ -141,9 +141,6 @@ fn write_redefiners(
                 left -= 1;
                 k = m;
             }
-            Relation::Next => {
-                return place;
-            }
             Relation::Other => {
                 k = m;
             }
@@ -288,9 +285,6 @@ fn redefiners_vary(text: &[u8], work: &[u32], i: usize, j: usize, to: usize) -> 
                 }
                 left -= 1;
                 k = m;
-            }
-            Relation::Next => {
-                return false;
             }
             Relation::Other => {
                 k = m;

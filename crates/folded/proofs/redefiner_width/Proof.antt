@@ -2,7 +2,7 @@
 -- Assumes nothing.
 use borrow.Author.Needs.{needs}
 use Prim.Native.Nat.{ℕ, _-_, _≤_, _<_, max}
-use mathlib.Core.Path.{_≡_, refl, sym, ap, _∙_}
+use mathlib.Core.Path.{_≡_, sym, ap, _∙_}
 use mathlib.Core.List.{List}
 use native.Mathlib.Omega.{arith}
 use Rattle.definition.specs.Fold.{Entries, total, widest}
@@ -13,7 +13,7 @@ use Rattle.layout.specs.Steps.{ChildrenEnd}
 use Rattle.folded.specs.declared.Relation.{Relation}
 use Rattle.folded.specs.Shown.{relation, redefinersIn, Base, Measured}
 use Rattle.folded.proofs.ShownLaws.{redefined-by}
-use Rattle.folded.proofs.WidthLaws.{Counting, counting-starts, counting-none, counting-more, counting-numbered, counting-row, counting-kin, counting-hit, counting-miss}
+use Rattle.folded.proofs.WidthLaws.{Counting, counting-starts, counting-none, counting-numbered, counting-row, counting-kin, counting-hit, counting-miss}
 use Rattle.folded.proofs.redefiner_width.Statement.{statement}
 use Rattle.folded.proofs.redefiner_width.Tie as tie
 
@@ -41,7 +41,7 @@ module _ {t w : List ℕ} {i j to left n k : ℕ} (inv : Left t w i j to left n 
     unfolding widest
     hit e {a} {b} x y =
         let more : widest (redefinersIn t w i k to) ≡ max a (widest (redefinersIn t w i m to)) =
-        ap widest (redefined-by t w i k to h refl p e) ∙ ap (λ (z : ℕ). max z (widest (redefinersIn t w i m to))) (sym (x .is)) in
+        ap widest (redefined-by t w i k to (counting-kin (inv .counting) l) h p e) ∙ ap (λ (z : ℕ). max z (widest (redefinersIn t w i m to))) (sym (x .is)) in
         record {
           counting = counting-hit (inv .counting) h l p e;
           small = omega (arith, inv .small, x .small);
@@ -55,15 +55,7 @@ module _ {t w : List ℕ} {i j to left n k : ℕ} (inv : Left t w i j to left n 
           counting = counting-miss (inv .counting) h l p e;
           small = inv .small;
           high = h .high;
-          same = inv .same ∙ ap (λ (es : Entries). max n (widest es)) (redefined-by t w i k to h refl p e);
-        }
-
-    stop : r ≡ Relation.Next → Measured (widest (redefinersIn t w i j to)) n
-    unfolding widest
-    stop e =
-        record {
-          is = sym (inv .same ∙ ap (λ (es : Entries). max n (widest es)) (redefined-by t w i k to h refl p e) ∙ omega arith);
-          small = inv .small;
+          same = inv .same ∙ ap (λ (es : Entries). max n (widest es)) (redefined-by t w i k to (counting-kin (inv .counting) l) h p e);
         }
 
 abbrev Inv-loop : tie.InvT-loop
@@ -89,14 +81,11 @@ row-total-requires c κs = counting-row (c .before .before .before .before .befo
 loop-again : tie.Need-loop-again Inv-loop μ-loop
 loop-again c = search hit
 
-returns : tie.Need-returns Inv-loop μ-loop
-returns c = search stop
-
 loop-again-2 : tie.Need-loop-again-2 Inv-loop μ-loop
 loop-again-2 c = search miss
 
-returns-2 : tie.Need-returns-2 Inv-loop μ-loop
-returns-2 c = search done
+returns : tie.Need-returns Inv-loop μ-loop
+returns c = search done
 
 pub redefiner-width-spec : {M : Type 1} → statement M
 redefiner-width-spec =
@@ -115,8 +104,6 @@ redefiner-width-spec =
     (λ c. search needs)
     loop-again
     (λ c. search needs)
-    returns
-    (λ c. search needs)
     (λ c. search needs)
     loop-again-2
-    returns-2)
+    returns)

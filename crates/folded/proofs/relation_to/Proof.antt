@@ -18,8 +18,8 @@ use Rattle.folded.proofs.relation_to.Statement.{statement}
 use Rattle.folded.proofs.relation_to.Tie as tie
 
 -- what the tests say
-abbrev told : Bool → Bool → Bool → Relation
-told g a b = if g then (if a then Relation.Redefiner else Relation.Other) else if b then Relation.Next else Relation.Other
+abbrev told : Bool → Bool → Relation
+told g a = if g then (if a then Relation.Redefiner else Relation.Other) else Relation.Other
 
 module _ (t w : List ℕ) (i k : ℕ) (n : Kin t w i k) {s : Span} (p : s ≡ spanAt (cell w k 6)) where
   module _ (h : 0 < s .len) {v : ℕ} (q : v ≡ cell w k 18) where
@@ -28,20 +28,16 @@ module _ (t w : List ℕ) (i k : ℕ) (n : Kin t w i k) {s : Span} (p : s ≡ sp
 
     redefiner : v ≡ i + 1 → Relation.Redefiner ≡ relation t (spanAt (cell w i 3)) (entryIn w k)
     redefiner e =
-        sym
-        (ap₂ (λ (g a : Bool). told g a (sameName t (spanAt (cell w i 3)) (spanAt (cell w k 3)))) redefines
-        (n .named redefines ∙ eq-eqb (cell w k 18) (suc i) (omega arith)))
+        sym (ap₂ told redefines (n .named redefines ∙ eq-eqb (cell w k 18) (suc i) (omega arith)))
 
     other : (v ≡ i + 1 → ⊥) → Relation.Other ≡ relation t (spanAt (cell w i 3)) (entryIn w k)
     other e =
-        sym
-        (ap₂ (λ (g a : Bool). told g a (sameName t (spanAt (cell w i 3)) (spanAt (cell w k 3)))) redefines
-        (n .named redefines ∙ ne-eqb (cell w k 18) (suc i) (λ x. e (omega arith))))
+        sym (ap₂ told redefines (n .named redefines ∙ ne-eqb (cell w k 18) (suc i) (λ x. e (omega arith))))
 
   base : s .len ≤ 0 → Relation.Other ≡ relation t (spanAt (cell w i 3)) (entryIn w k)
   base h =
       let g : given (spanAt (cell w k 6)) ≡ false = ap given (sym p) ∙ le-ltb 0 (s .len) h in
-      sym (ap₂ (λ (g b : Bool). told g (sameName t (spanAt (cell w i 3)) (spanAt (cell w k 6))) b) g (n .apart g))
+      sym (ap (λ (g : Bool). told g (sameName t (spanAt (cell w i 3)) (spanAt (cell w k 6)))) g)
 
 returns : tie.Need-returns
 returns c = search redefiner

@@ -34,9 +34,11 @@ use Rattle.places.specs.Places.{entryIn, entriesIn, rowsForest}
 use Rattle.layout.proofs.BareLaws.{fold-is, layout-is}
 use Rattle.places.proofs.EntriesLaws.{size-stretch, Rows, rows-forest}
 use Rattle.places.proofs.RowLaws.{stretch-cons, stretch-none}
-use Rattle.record.proofs.LaidLaws.{entries-size}
+use Rattle.folded.proofs.ShownLaws.{entries-size}
 use Rattle.record.specs.Laying.{laidOf, Listed}
-use Rattle.record.specs.Shown.{listIn, Counted, SizedRow, Measured}
+use Rattle.folded.specs.Shown.{listIn, SizedRow, Measured}
+use Rattle.record.specs.Marks.{Counted}
+use Rattle.record.proofs.MarkLaws.{marked-counted}
 use Rattle.owner.specs.Walked.{overlays, rowAt, tableRows, Walkable}
 
 -- ---------------------------------------------------------------- a REDEFINES or a DEPENDING ON
@@ -312,7 +314,8 @@ module _ (text : List ℕ) where
 
 -- rows that hold a record can be walked
 pub listed-walkable : {text : List ℕ} {read : Answer Forest} {w : List ℕ} {from to length : ℕ} → Listed text read w from to length → Walkable w from to
-listed-walkable l = record { fits = l .tree .fits; sized = l .tree .sized; counted = l .counted }
+listed-walkable {text} {w = w} {from} {to} l =
+    record { fits = l .tree .fits; sized = l .tree .sized; counted = marked-counted text w (rowsForest w from to) from 0 (l .tree .marked) }
 
 module _ {text w : List ℕ} {from to length : ℕ} (l : Listed text (give (rowsForest w from to)) w from to length) where
   -- the record's layout

@@ -9,7 +9,8 @@ use Rattle.definition.specs.Basic.{given}
 use Rattle.definition.specs.Search.{Row, rowOf}
 use Rattle.rows.specs.Table.{cell}
 use Rattle.places.specs.Places.{entryIn, rowsForest}
-use Rattle.record.specs.Shown.{Counted, Sized}
+use Rattle.folded.specs.Shown.{Sized}
+use Rattle.record.specs.Marks.{Counted}
 
 -- a statement has a REDEFINES or a DEPENDING ON
 abbrev pub overlays : Statement → Bool

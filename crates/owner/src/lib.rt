@@ -9,7 +9,7 @@ ghost use Rattle.definition.specs.Search.{rows, walk};
 ghost use Rattle.rows.specs.Table.{statementAt};
 ghost use Rattle.places.specs.Places.{rowsForest};
 ghost use Rattle.record.specs.Laying.{Listed};
-ghost use Rattle.record.specs.Shown.{listIn};
+ghost use Rattle.folded.specs.Shown.{listIn};
 ghost use Rattle.owner.specs.Walked.{overlays, Walkable};
 use definition::Owner;
 use definition::OwnerAnswer;
@@ -62,7 +62,7 @@ pub fn walk_rows(work: &[u32], from: usize, to: usize, position: usize) -> Owner
         }
         let width = places::wide(work[20 * k + 14]);
         let below = places::wide(work[20 * k + 17]);
-        let total = record::row_total(work, k);
+        let total = folded::row_total(work, k);
         let r = q - offset;
         if r < total {
             let start = first + offset + r / width * width;

@@ -23,8 +23,8 @@ use Rattle.rows.specs.Table.{cell, spanAt, statementAt, statementsFrom}
 use Rattle.rows.proofs.TableLaws.{statement-same}
 use Rattle.places.specs.Places.{isTarget, entryIn, entriesIn, rowsForest}
 use Rattle.places.proofs.EntriesLaws.{size-stretch, entry-same, entries-same}
-use Rattle.record.specs.Marks.{baseFrom, baseOf, hit, hits, Kept, Countable, RowTallied, Tallied}
-use Rattle.record.specs.Shown.{listIn, Column, Chained, Counted, Sized, Marked, Tree}
+use Rattle.record.specs.Marks.{Column, Chained, Counted, baseOf, hit, hits, Kept, Countable, RowTallied, Tallied}
+use Rattle.folded.specs.Shown.{baseFrom, listIn, Sized, Tree}
 use Rattle.record.proofs.MarkLaws.{base-within, hits-most, hits-append, hits-low, marked-all}
 
 -- a column that is the same in two tables
@@ -220,9 +220,6 @@ pub record Ready (w : List ℕ) (a b : ℕ) : Type 0 where
   pub sized : Sized w a b
 
 module _ (text : List ℕ) {w w′ : List ℕ} (a b : ℕ) (low : a ≤ b) (r : Ready w a b) (m : Tallied text w a b w′) where
-  pub marked-counted : Counted w′ a 0 (rowsForest w′ a b)
-  marked-counted = column-kept (m .kept) 17 (λ before kids. size kids) a b (lit< tt) (r .counted)
-
   pub marked-tree : Tree text w′ a b
   marked-tree =
       let f = rowsForest w′ a b in
@@ -230,7 +227,8 @@ module _ (text : List ℕ) {w w′ : List ℕ} (a b : ℕ) (low : a ≤ b) (r : 
       record {
         fits = omega (arith, r .fits, m .kept .long);
         marked =
-            marked-all text w′ f a (column-kept (m .kept) 16 (λ before kids. before) a b (lit< tt) (r .chained)) marked-counted
+            marked-all text w′ f a (column-kept (m .kept) 16 (λ before kids. before) a b (lit< tt) (r .chained))
+            (column-kept (m .kept) 17 (λ before kids. size kids) a b (lit< tt) (r .counted))
             (λ i l u. omega (arith, m .counts i l (omega (arith, many)), base-of-kept (m .kept) text i, hits-kept (m .kept) text i a (b - a), ap (hits text w′ i a) many));
         sized = sized-kept (m .kept) a b (r .sized);
       }

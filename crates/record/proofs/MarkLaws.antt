@@ -4,121 +4,37 @@
 use Prim.Native.Nat.{ℕ, zero, suc, _+_, _-_, _≤_, _<_}
 use mathlib.Core.Path.{_≡_, refl, sym, ap, ap₂, subst, _∙_}
 use mathlib.Core.Bool.{Bool, true, false}
-use mathlib.Core.List.{List, _∷_}
-use mathlib.Core.Logic.{⊎-elim}
-use mathlib.Core.Option.{some}
+use mathlib.Core.List.{List}
 use native.Mathlib.Omega.{arith}
-use lib.Dec.{eqb, ltb}
-use borrow.Author.Tests.{lt-ltb, eq-eqb, ne-eqb}
+use lib.Dec.{eqb}
+use borrow.Author.Tests.{ne-eqb}
 use Rattle.definition.specs.declared.Span.{Span}
-use Rattle.definition.specs.declared.Entry.{Entry}
 use Rattle.definition.specs.Basic.{if_then_else_, given}
 use Rattle.definition.specs.Tree.{Forest, leaf, item}
-use Rattle.definition.specs.Fold.{Entries, Place, find, sameName, nameOf, redefiners}
-use Rattle.definition.specs.Basic.{uppers}
+use Rattle.definition.specs.Fold.{sameName, redefiners}
 use Rattle.definition.specs.Listing.{members#}
 use Rattle.definition.specs.Owner.{size}
-use Rattle.definition.proofs.Lists.{order}
 use Rattle.definition.proofs.LayoutLaws.{redefiners-hit, redefiners-miss, redefiners-ends, redefiners-next}
 use Rattle.rows.specs.Table.{cell, spanAt}
-use Rattle.places.specs.Places.{isTarget, seenFrom, placeAt, entryIn, entriesIn}
-use Rattle.layout.specs.Bare.{hasBase}
-use Rattle.layout.proofs.SizeLaws.{never, same-sym, same-first}
-use Rattle.record.specs.Marks.{baseFrom, baseOf, hit, hits}
-use Rattle.record.specs.Shown.{Chained, Counted, Marked}
-
-if-most : (b : Bool) {x y n : ℕ} → x ≤ n → y ≤ n → (if b then x else y) ≤ n
-if-most true p q = p
-if-most false p q = q
-
-if-not : (b : Bool) {x y z : ℕ} → (x ≡ z → ⊥) → (b ≡ false → y ≡ z → ⊥) → (if b then x else y) ≡ z → ⊥
-if-not true p q e = p e
-if-not false p q e = q refl e
+use Rattle.places.specs.Places.{isTarget, placeAt, entryIn, entriesIn}
+use Rattle.layout.proofs.SizeLaws.{never}
+use Rattle.folded.specs.Shown.{baseFrom, Open, Marked}
+use Rattle.folded.proofs.BaseLaws.{if-most, if-not, base-low, base-most, back, back-none, back-step, swapped, opens, passes, differs, closes}
+use Rattle.record.specs.Marks.{Chained, Counted, baseOf, hit, hits}
 
 if-neither : (b : Bool) {x y z : ℕ} → (b ≡ true → x ≡ z → ⊥) → (y ≡ z → ⊥) → (if b then x else y) ≡ z → ⊥
 if-neither true p q e = p refl e
 if-neither false p q e = q e
 
 module _ (t w : List ℕ) where
-  -- ---------------------------------------------------------------- the search
-
-  module _ (target : Span) where
-    base-skip : (k last : ℕ) → (last ≡ suc k → ⊥) → baseFrom t target w (suc k) last ≡ baseFrom t target w k last
-    unfolding baseFrom
-    base-skip k last h = rw (ne-eqb last (suc k) h, baseFrom)
-
-    -- rows after the last sibling do not count, and there is no sibling past the rows
-    pub base-low : (n last : ℕ) → last ≤ n → baseFrom t target w n last ≡ baseFrom t target w last last
-    base-low zero last h = ap (λ (m : ℕ). baseFrom t target w m last) (let e : 0 ≡ last = omega arith in e)
-    base-low (suc k) last h =
-        let ih = base-low k last in
-        ⊎-elim
-        (λ (l : last < suc k). base-skip k last (λ e. omega arith) ∙ ih (omega arith))
-        (λ (l : suc k ≤ last). ap (λ (m : ℕ). baseFrom t target w m last) (let e : suc k ≡ last = omega arith in e))
-        (order last (suc k))
-
-    pub base-over : (n last : ℕ) → n < last → baseFrom t target w n last ≡ 0
-    unfolding baseFrom
-    base-over zero last h = refl
-    base-over (suc k) last h = base-skip k last (λ e. omega arith) ∙ base-over k last (omega arith)
-
-    -- the latest sibling, or those before it
-    pub base-here : (k : ℕ) → baseFrom t target w (suc k) (suc k) ≡ (if isTarget t target true w k then suc k else baseFrom t target w k (cell w k 16))
-    unfolding baseFrom
-    base-here k = rw (eq-eqb (suc k) (suc k) refl, baseFrom)
-
-    pub base-most : (n last : ℕ) → baseFrom t target w n last ≤ n
-    unfolding baseFrom
-    base-most zero last = omega arith
-    base-most (suc k) last =
-        let back = base-most k (cell w k 16) in
-        let on = base-most k last in
-        if-most (eqb last (suc k)) (if-most (isTarget t target true w k) (omega arith) (omega (arith, back))) (omega (arith, on))
-
-    -- it finds a base where the definition finds one
-    pub base-found : (n last : ℕ) → hasBase (find t target (seenFrom true w n last)) ≡ ltb 0 (baseFrom t target w n last)
-    unfolding baseFrom seenFrom find
-    base-found zero last = refl
-    base-found (suc k) last = go (eqb last (suc k)) (given (spanAt (cell w k 6))) (base-found k (cell w k 16)) (base-found k last)
-      where
-        named :
-            (c : Bool) →
-            hasBase (find t target (seenFrom true w k (cell w k 16))) ≡ ltb 0 (baseFrom t target w k (cell w k 16)) →
-            hasBase (if c then some (cell w k 13) else find t target (seenFrom true w k (cell w k 16))) ≡ ltb 0 (if c then suc k else baseFrom t target w k (cell w k 16))
-        named true p = sym (lt-ltb 0 (suc k) (omega arith))
-        named false p = p
-
-        go :
-            (a b : Bool) →
-            hasBase (find t target (seenFrom true w k (cell w k 16))) ≡ ltb 0 (baseFrom t target w k (cell w k 16)) →
-            hasBase (find t target (seenFrom true w k last)) ≡ ltb 0 (baseFrom t target w k last) →
-            hasBase (find t target (if a then (if b then seenFrom true w k (cell w k 16) else placeAt w k ∷ seenFrom true w k (cell w k 16)) else seenFrom true w k last))
-            ≡ ltb 0 (if a then (if (if b then false else sameName t target (spanAt (cell w k 3))) then suc k else baseFrom t target w k (cell w k 16)) else baseFrom t target w k last)
-        go true true p q = p
-        go true false p q = named (sameName t target (spanAt (cell w k 3))) p
-        go false b p q = q
-
-    -- what is found from the sibling `last` back
-    abbrev back : ℕ → ℕ
-    back last = baseFrom t target w last last
-
-    back-none : back 0 ≡ 0
-    unfolding baseFrom
-    back-none = refl
-
-    back-step : (k last : ℕ) → cell w k 16 ≡ last → last ≤ k → back (suc k) ≡ (if isTarget t target true w k then suc k else back last)
-    back-step k last e l =
-        base-here k
-        ∙ ap (λ (x : ℕ). if isTarget t target true w k then suc k else x) (ap (baseFrom t target w k) e ∙ base-low k last l)
-
   -- the base of a row, after the sibling `last`
-  base-own : (k last : ℕ) → cell w k 16 ≡ last → last ≤ k → baseOf t w k ≡ (if given (spanAt (cell w k 6)) then back (spanAt (cell w k 6)) last else 0)
+  base-own : (k last : ℕ) → cell w k 16 ≡ last → last ≤ k → baseOf t w k ≡ (if given (spanAt (cell w k 6)) then back t w (spanAt (cell w k 6)) last else 0)
   base-own k last e l =
       let r = spanAt (cell w k 6) in
-      ap (λ (x : ℕ). if given r then x else 0) (ap (baseFrom t r w k) e ∙ base-low r k last l)
+      ap (λ (x : ℕ). if given r then x else 0) (ap (baseFrom t r w k) e ∙ base-low t w r k last l)
 
   pub base-within : (k : ℕ) → baseOf t w k ≤ k
-  base-within k = let r = spanAt (cell w k 6) in if-most (given r) (base-most r k (cell w k 16)) (omega arith)
+  base-within k = let r = spanAt (cell w k 6) in if-most (given r) (base-most t w r k (cell w k 16)) (omega arith)
 
   -- ---------------------------------------------------------------- rows that redefine another
 
@@ -175,16 +91,16 @@ module _ (t w : List ℕ) where
       Chained w k last f →
       last ≤ k →
       i < k →
-      ((target : Span) → back target last ≡ suc i → ⊥) →
+      ((target : Span) → back t w target last ≡ suc i → ⊥) →
       hitsIn i k f ≡ 0
   none-forest leaf i k last ch l h apart = refl
   none-forest (item s kids later) i k last ch l h apart =
       let r = spanAt (cell w k 6) in
       let own = no-hit i k (λ e. if-not′ (given r) (apart r) (sym (base-own k last (ch .0) l) ∙ e)) in
-      let inner = none-forest kids i (suc k) 0 (ch .1) (omega arith) (omega arith) (λ target e. zero-suc i (sym (back-none target) ∙ e)) in
+      let inner = none-forest kids i (suc k) 0 (ch .1) (omega arith) (omega arith) (λ target e. zero-suc i (sym (back-none t w target) ∙ e)) in
       let rest =
       none-forest later i (suc k + size kids) (suc k) (ch .2) (omega arith) (omega arith)
-      (λ target e. if-not (isTarget t target true w k) (λ q. omega arith) (λ _. apart target) (sym (back-step target k last (ch .0) l) ∙ e)) in
+      (λ target e. if-not (isTarget t target true w k) (λ q. omega arith) (λ _. apart target) (sym (back-step t w target k last (ch .0) l) ∙ e)) in
       omega (arith, own, inner, rest)
     where
       zero-suc : (i : ℕ) → 0 ≡ suc i → ⊥
@@ -222,82 +138,27 @@ module _ (t w : List ℕ) where
 
   -- ---------------------------------------------------------------- the definition's count
 
-  -- the search for a name, from `last` back, finds row i where it has that name
-  abbrev Open : ℕ → ℕ → Type 0
-  Open i last = (target : Span) → eqb (back target last) (suc i) ≡ sameName t target (spanAt (cell w i 3))
-
-  pub swapped : (a b : Span) → sameName t a b ≡ sameName t b a
-  swapped a b = same-sym (uppers (nameOf t a)) (uppers (nameOf t b))
-
-  module _ (i k last : ℕ) (e : cell w k 16 ≡ last) (l : last ≤ k) where
-    -- the base's own row
-    pub opens : i ≡ k → given (spanAt (cell w k 6)) ≡ false → Open k (suc k)
-    opens q g target =
-        ap (λ (n : ℕ). eqb n (suc k)) (back-step target k last e l)
-        ∙ ap (λ (b : Bool). eqb (if (if b then false else sameName t target (spanAt (cell w k 3))) then suc k else back target last) (suc k)) g
-        ∙ go (sameName t target (spanAt (cell w k 3)))
-      where
-        go : (b : Bool) → eqb (if b then suc k else back target last) (suc k) ≡ b
-        go true = eq-eqb (suc k) (suc k) refl
-        go false = ne-eqb (back target last) (suc k) (λ x. omega (arith, base-most target last last))
-
-    -- a redefiner leaves it open
-    pub passes : Open i last → given (spanAt (cell w k 6)) ≡ true → Open i (suc k)
-    passes o g target =
-        ap (λ (n : ℕ). eqb n (suc i)) (back-step target k last e l)
-        ∙ ap (λ (b : Bool). eqb (if (if b then false else sameName t target (spanAt (cell w k 3))) then suc k else back target last) (suc i)) g
-        ∙ o target
-
-    module _ (h : i < k) (o : Open i last) (g : given (spanAt (cell w k 6)) ≡ false) where
-      here : (target : Span) → back target (suc k) ≡ (if sameName t target (spanAt (cell w k 3)) then suc k else back target last)
-      here target =
-          back-step target k last e l
-          ∙ ap (λ (b : Bool). if (if b then false else sameName t target (spanAt (cell w k 3))) then suc k else back target last) g
-
-      -- and so does a base of another name
-      pub differs : sameName t (spanAt (cell w i 3)) (spanAt (cell w k 3)) ≡ false → Open i (suc k)
-      differs d target = ap (λ (n : ℕ). eqb n (suc i)) (here target) ∙ go (sameName t target (spanAt (cell w k 3))) refl
-        where
-          go :
-              (b : Bool) →
-              sameName t target (spanAt (cell w k 3)) ≡ b →
-              eqb (if b then suc k else back target last) (suc i) ≡ sameName t target (spanAt (cell w i 3))
-          go true q =
-              ne-eqb (suc k) (suc i) (λ x. omega arith)
-              ∙ sym (same-first t target (spanAt (cell w k 3)) (spanAt (cell w i 3)) q ∙ swapped (spanAt (cell w k 3)) (spanAt (cell w i 3)) ∙ d)
-          go false q = o target
-
-      -- a base of its name closes it
-      closes : sameName t (spanAt (cell w i 3)) (spanAt (cell w k 3)) ≡ true → (target : Span) → back target (suc k) ≡ suc i → ⊥
-      closes d target x =
-          if-not (sameName t target (spanAt (cell w k 3)))
-          (λ q. omega arith)
-          (λ b q.
-          let same : sameName t target (spanAt (cell w i 3)) ≡ true = sym (o target) ∙ eq-eqb (back target last) (suc i) q in
-          never (sym b ∙ same-first t target (spanAt (cell w i 3)) (spanAt (cell w k 3)) same ∙ d))
-          (sym (here target) ∙ x)
-
   -- the rows of a list that redefine row i are its redefiners
   count-forest :
       (f : Forest) (i k last : ℕ) →
       Chained w k last f →
       last ≤ k →
       i < k →
-      Open i last →
+      Open t w i last →
       hitsIn i k f ≡ members# (redefiners t (placeAt w i) (entriesIn w k f))
   unfolding entriesIn redefiners
   count-forest leaf i k last ch l h o = refl
   count-forest (item s kids later) i k last ch l h o =
       let r = spanAt (cell w k 6) in
       let n = suc k + size kids in
-      let inner = none-forest kids i (suc k) 0 (ch .1) (omega arith) (omega arith) (λ target e. zero-suc i (sym (back-none target) ∙ e)) in
+      let inner = none-forest kids i (suc k) 0 (ch .1) (omega arith) (omega arith) (λ target e. zero-suc i (sym (back-none t w target) ∙ e)) in
       let rest = count-forest later i n (suc k) (ch .2) (omega arith) (omega arith) in
       let none = none-forest later i n (suc k) (ch .2) (omega arith) (omega arith) in
       let base = placeAt w i in
       let e = entryIn w k in
       let es = entriesIn w (suc k) kids in
       let more = entriesIn w n later in
-      let own : eqb (baseOf t w k) (suc i) ≡ eqb (if given r then back r last else 0) (suc i) = ap (λ (x : ℕ). eqb x (suc i)) (base-own k last (ch .0) l) in
+      let own : eqb (baseOf t w k) (suc i) ≡ eqb (if given r then back t w r last else 0) (suc i) = ap (λ (x : ℕ). eqb x (suc i)) (base-own k last (ch .0) l) in
       go (given r) refl (sameName t (spanAt (cell w i 3)) r) refl (sameName t (spanAt (cell w i 3)) (spanAt (cell w k 3))) refl inner rest none own
     where
       zero-suc : (i : ℕ) → 0 ≡ suc i → ⊥
@@ -311,15 +172,15 @@ module _ (t w : List ℕ) where
           (b : Bool) →
           sameName t (spanAt (cell w i 3)) (spanAt (cell w k 3)) ≡ b →
           hitsIn i (suc k) kids ≡ 0 →
-          (Open i (suc k) → hitsIn i (suc k + size kids) later ≡ members# (redefiners t (placeAt w i) (entriesIn w (suc k + size kids) later))) →
-          (((target : Span) → back target (suc k) ≡ suc i → ⊥) → hitsIn i (suc k + size kids) later ≡ 0) →
-          eqb (baseOf t w k) (suc i) ≡ eqb (if given (spanAt (cell w k 6)) then back (spanAt (cell w k 6)) last else 0) (suc i) →
+          (Open t w i (suc k) → hitsIn i (suc k + size kids) later ≡ members# (redefiners t (placeAt w i) (entriesIn w (suc k + size kids) later))) →
+          (((target : Span) → back t w target (suc k) ≡ suc i → ⊥) → hitsIn i (suc k + size kids) later ≡ 0) →
+          eqb (baseOf t w k) (suc i) ≡ eqb (if given (spanAt (cell w k 6)) then back t w (spanAt (cell w k 6)) last else 0) (suc i) →
           hit t w i k + (hitsIn i (suc k) kids + hitsIn i (suc k + size kids) later)
           ≡ members# (redefiners t (placeAt w i) (entriesIn w k (item s kids later)))
       go true g a p b q inner rest none own =
           let found : eqb (baseOf t w k) (suc i) ≡ a =
-          own ∙ ap (λ (x : Bool). eqb (if x then back (spanAt (cell w k 6)) last else 0) (suc i)) g ∙ o (spanAt (cell w k 6)) ∙ swapped (spanAt (cell w k 6)) (spanAt (cell w i 3)) ∙ p in
-          redefined a p g found inner (rest (passes i k last (ch .0) l o g))
+          own ∙ ap (λ (x : Bool). eqb (if x then back t w (spanAt (cell w k 6)) last else 0) (suc i)) g ∙ o (spanAt (cell w k 6)) ∙ swapped t w (spanAt (cell w k 6)) (spanAt (cell w i 3)) ∙ p in
+          redefined a p g found inner (rest (passes t w i k last (ch .0) l o g))
         where
           redefined :
               (a : Bool) →
@@ -339,13 +200,13 @@ module _ (t w : List ℕ) where
               let whole = ap members# (redefiners-miss t (placeAt w i) (entryIn w k) (entriesIn w (suc k) kids) (entriesIn w (suc k + size kids) later) g p) in
               omega (arith, zero, inner, rest, whole)
       go false g a p true q inner rest none own =
-          let zero : hit t w i k ≡ 0 = ap (λ (x : Bool). if x then 1 else 0) (own ∙ ap (λ (x : Bool). eqb (if x then back (spanAt (cell w k 6)) last else 0) (suc i)) g ∙ ne-eqb 0 (suc i) (λ x. omega arith)) in
+          let zero : hit t w i k ≡ 0 = ap (λ (x : Bool). if x then 1 else 0) (own ∙ ap (λ (x : Bool). eqb (if x then back t w (spanAt (cell w k 6)) last else 0) (suc i)) g ∙ ne-eqb 0 (suc i) (λ x. omega arith)) in
           let whole = ap members# (redefiners-ends t (placeAt w i) (entryIn w k) (entriesIn w (suc k) kids) (entriesIn w (suc k + size kids) later) g q) in
-          omega (arith, zero, inner, none (closes i k last (ch .0) l h o g q), whole)
+          omega (arith, zero, inner, none (closes t w i k last (ch .0) l h o g q), whole)
       go false g a p false q inner rest none own =
-          let zero : hit t w i k ≡ 0 = ap (λ (x : Bool). if x then 1 else 0) (own ∙ ap (λ (x : Bool). eqb (if x then back (spanAt (cell w k 6)) last else 0) (suc i)) g ∙ ne-eqb 0 (suc i) (λ x. omega arith)) in
+          let zero : hit t w i k ≡ 0 = ap (λ (x : Bool). if x then 1 else 0) (own ∙ ap (λ (x : Bool). eqb (if x then back t w (spanAt (cell w k 6)) last else 0) (suc i)) g ∙ ne-eqb 0 (suc i) (λ x. omega arith)) in
           let whole = ap members# (redefiners-next t (placeAt w i) (entryIn w k) (entriesIn w (suc k) kids) (entriesIn w (suc k + size kids) later) g q) in
-          omega (arith, zero, inner, rest (differs i k last (ch .0) l h o g q), whole)
+          omega (arith, zero, inner, rest (differs t w i k last (ch .0) l h o g q), whole)
 
   -- ---------------------------------------------------------------- every row
 
@@ -364,15 +225,15 @@ module _ (t w : List ℕ) where
       let rest = marked-forest later n (suc k) (ch .2) (co .2) (omega arith) in
       let row = h k (omega arith) (omega arith) in
       let own = low-hit k k (omega arith) in
-      let below = none-forest kids k (suc k) 0 (ch .1) (omega arith) (omega arith) (λ target e. zero-suc k (sym (back-none target) ∙ e)) in
+      let below = none-forest kids k (suc k) 0 (ch .1) (omega arith) (omega arith) (λ target e. zero-suc k (sym (back-none t w target) ∙ e)) in
       let after = count-forest later k n (suc k) (ch .2) (omega arith) (omega arith) in (
         record {
           before = ch .0;
           below = co .0;
-          count = λ g. (let none : baseOf t w k ≡ 0 = ap (λ (b : Bool). if b then baseFrom t (spanAt (cell w k 6)) w k (cell w k 16) else 0) g in omega (arith, row, none, own, below, after (opens k k last (ch .0) l refl g)));
+          count = λ g. (let none : baseOf t w k ≡ 0 = ap (λ (b : Bool). if b then baseFrom t (spanAt (cell w k 6)) w k (cell w k 16) else 0) g in omega (arith, row, none, own, below, after (opens t w k k last (ch .0) l refl g)));
           under =
               λ g.
-              (let some = base-own k last (ch .0) l ∙ ap (λ (b : Bool). if b then back (spanAt (cell w k 6)) last else 0) g in
+              (let some = base-own k last (ch .0) l ∙ ap (λ (b : Bool). if b then back t w (spanAt (cell w k 6)) last else 0) g in
               omega (arith, row, some, redefiner-forest (item s kids later) k k g));
         },
         inner
@@ -381,7 +242,7 @@ module _ (t w : List ℕ) where
               arith,
               h i (omega arith) (omega arith),
               low-hit i k (omega arith),
-              none-forest later i n (suc k) (ch .2) (omega arith) (omega arith) (λ target e. omega (arith, base-most target (suc k) (suc k))),
+              none-forest later i n (suc k) (ch .2) (omega arith) (omega arith) (λ target e. omega (arith, base-most t w target (suc k) (suc k))),
             )),
         rest (λ i a b. omega (arith, h i (omega arith) (omega arith), low-hit i k (omega arith), high-forest kids i (suc k) (omega arith))),
       )
@@ -396,3 +257,9 @@ module _ (t w : List ℕ) where
       ((i : ℕ) → k ≤ i → i < k + size f → cell w i 18 ≡ baseOf t w i + hits t w i k (size f)) →
       Marked t w k 0 f
   marked-all f k ch co h = marked-forest f k 0 ch co (omega arith) (λ i a b. h i a b ∙ ap (λ (n : ℕ). baseOf t w i + n) (hits-forest f i k))
+
+  -- and each counts the rows below it
+  pub marked-counted : (f : Forest) (k last : ℕ) → Marked t w k last f → Counted w k last f
+  marked-counted leaf k last m = tt
+  marked-counted (item s kids later) k last m =
+      (m .0 .below, marked-counted kids (suc k) 0 (m .1), marked-counted later (suc k + size kids) (suc k) (m .2))

@@ -12,7 +12,7 @@ use Rattle.definition.specs.Record.{recordLength}
 use Rattle.layout.specs.Bare.{bareRecord, foldedAll}
 use Rattle.places.specs.Places.{rowsForest}
 use Rattle.record.specs.declared.RecordLaid.{RecordLaid}
-use Rattle.record.specs.Shown.{listIn, Counted, Tree}
+use Rattle.folded.specs.Shown.{listIn, Tree}
 
 -- the fields of a record that has n rows are the rows from r on
 pub record FieldsFrom (w : List ℕ) (n r : ℕ) : Type 0 where
@@ -34,7 +34,6 @@ pub record Listed (text : List ℕ) (read : Answer Forest) (w : List ℕ) (from 
   pub fields : read ≡ give (rowsForest w from to)
   pub is : laidOf text read ≡ give (listIn w from to)
   pub tree : Tree text w from to
-  pub counted : Counted w from 0 (rowsForest w from to)
   pub few : to ≤ 800
   pub long : length ≡ recordLength (foldedAll text (listIn w from to))
 

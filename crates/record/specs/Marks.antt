@@ -1,22 +1,30 @@
--- What column 18 of the table holds: a redefiner names its base there (its row and 1, or 0 for none), and a base counts its redefiners.
+-- What columns 16 to 18 of the table hold: a row names the sibling before it and counts the rows below it; a redefiner names its base (its row
+-- and 1, or 0 for none), and a base counts its redefiners.
 -- Assumes nothing.
 use Prim.Native.Nat.{ℕ, zero, suc, _+_, _-_, _≤_, _<_}
 use mathlib.Core.Path.{_≡_}
-use mathlib.Core.Bool.{true}
 use mathlib.Core.List.{List}
 use lib.Dec.{eqb}
 use lib.ListN.{length}
-use Rattle.definition.specs.declared.Span.{Span}
 use Rattle.definition.specs.Basic.{if_then_else_, given}
+use Rattle.definition.specs.Tree.{Forest, leaf, item}
+use Rattle.definition.specs.Owner.{size}
 use Rattle.rows.specs.Table.{cell, spanAt}
-use Rattle.places.specs.Places.{isTarget}
+use Rattle.folded.specs.Shown.{baseFrom}
 
--- among the first n rows, the latest base of that name from the sibling `last` back: its row and 1, or 0 for none
-unfoldable pub baseFrom : List ℕ → Span → List ℕ → ℕ → ℕ → ℕ
-baseFrom text target w zero last = 0
-baseFrom text target w (suc k) last =
-    if eqb last (suc k) then (if isTarget text target true w k then suc k else baseFrom text target w k (cell w k 16))
-    else baseFrom text target w k last
+-- column c of each row of a list, and of the lists below it, holds what `value` says of the sibling before the row and of the forest below it
+abbrev pub Column : ℕ → (ℕ → Forest → ℕ) → List ℕ → ℕ → ℕ → Forest → Type 0
+Column c value w k last leaf = Unit {0}
+Column c value w k last (item s kids later) =
+    (cell w k c ≡ value last kids) × Column c value w (suc k) 0 kids × Column c value w (suc k + size kids) (suc k) later
+
+-- each row names the sibling before it
+abbrev pub Chained : List ℕ → ℕ → ℕ → Forest → Type 0
+Chained w k last f = Column 16 (λ before kids. before) w k last f
+
+-- each row counts the rows below it
+abbrev pub Counted : List ℕ → ℕ → ℕ → Forest → Type 0
+Counted w k last f = Column 17 (λ before kids. size kids) w k last f
 
 -- the base that row k redefines: its row and 1, or 0 for none
 abbrev pub baseOf : List ℕ → List ℕ → ℕ → ℕ

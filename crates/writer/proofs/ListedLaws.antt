@@ -18,8 +18,8 @@ use Rattle.places.proofs.EntriesLaws.{size-stretch}
 use Rattle.layout.proofs.SizeLaws.{listing-few}
 use Rattle.listing.specs.Puts.{Put, headBytes}
 use Rattle.listing.proofs.PutLaws.{_and_, put-first, listing-parts}
-use Rattle.record.specs.Shown.{listIn}
-use Rattle.record.proofs.LaidLaws.{entries-size}
+use Rattle.folded.specs.Shown.{listIn}
+use Rattle.folded.proofs.ShownLaws.{entries-size}
 use Rattle.writer.specs.Written.{Fits, listBytes}
 use Rattle.writer.specs.Listed.{entriesOf, listingOf}
 

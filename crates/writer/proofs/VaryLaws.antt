@@ -15,11 +15,11 @@ use Rattle.rows.specs.Table.{cell, spanAt}
 use Rattle.layout.specs.Bare.{foldedBelow, foldedAll}
 use Rattle.places.specs.Places.{basesAt, placeAt, entryIn}
 use Rattle.places.specs.Ends.{ChildrenEnd}
-use Rattle.record.specs.declared.Standing.{Standing}
-use Rattle.record.specs.declared.Relation.{Relation}
-use Rattle.record.specs.Shown.{standing, relation, listIn, redefinersIn, foldedRest, shownAt, Tree, Base}
-use Rattle.record.proofs.ShownLaws.{redefined-by, walking-here, walking-ends}
-use Rattle.record.proofs.WidthLaws.{Along, along-starts, along-on, Counting, counting-starts, counting-none, counting-hit, counting-miss}
+use Rattle.folded.specs.declared.Standing.{Standing}
+use Rattle.folded.specs.declared.Relation.{Relation}
+use Rattle.folded.specs.Shown.{standing, relation, listIn, redefinersIn, foldedRest, shownAt, Tree, Base}
+use Rattle.folded.proofs.ShownLaws.{redefined-by, walking-here, walking-ends}
+use Rattle.folded.proofs.WidthLaws.{Along, along-starts, along-on, Counting, counting-starts, counting-none, counting-kin, counting-hit, counting-miss}
 use Rattle.writer.specs.Written.{unionIn, ownMember, listVaries, itemVaries}
 use Rattle.writer.proofs.WriteLaws.{shown-is, base-alone, base-union, union-is}
 
@@ -159,22 +159,18 @@ module _ {t w : List ℕ} {i j to left k : ℕ} (inv : Seeking t w i j to left k
   seeking-ends h = sym (inv .same ∙ ap (λ (es : Entries). variable (foldedBelow t es)) (counting-none (inv .counting) h))
 
   module _ {m : ℕ} (h : ChildrenEnd w k to m) (l : 0 < left) {r : Relation} (p : r ≡ relation t (spanAt (cell w i 3)) (entryIn w k)) where
-    pub seeking-stops : r ≡ Relation.Next → false ≡ variable (foldedBelow t (redefinersIn t w i j to))
-    unfolding foldedBelow variable
-    seeking-stops e = sym (inv .same ∙ ap (λ (es : Entries). variable (foldedBelow t es)) (redefined-by t w i k to h refl p e))
-
     pub seeking-passes : r ≡ Relation.Other → Seeking t w i j to left m
     seeking-passes e =
         record {
           counting = counting-miss (inv .counting) h l p e;
-          same = inv .same ∙ ap (λ (es : Entries). variable (foldedBelow t es)) (redefined-by t w i k to h refl p e);
+          same = inv .same ∙ ap (λ (es : Entries). variable (foldedBelow t es)) (redefined-by t w i k to (counting-kin (inv .counting) l) h p e);
         }
 
     module _ (e : r ≡ Relation.Redefiner) {o : Bool} (z : o ≡ itemVaries t w k m) where
       here : variable (foldedBelow t (redefinersIn t w i k to)) ≡ (if itemVaries t w k m then true else variable (foldedBelow t (redefinersIn t w i m to)))
       unfolding foldedBelow
       here =
-          ap (λ (es : Entries). variable (foldedBelow t es)) (redefined-by t w i k to h refl p e)
+          ap (λ (es : Entries). variable (foldedBelow t es)) (redefined-by t w i k to (counting-kin (inv .counting) l) h p e)
           ∙ item-then t w k m (rebased (cell w i 13) (entryIn w k)) (foldedBelow t (redefinersIn t w i m to)) refl
 
       pub seeking-finds : o ≡ true → true ≡ variable (foldedBelow t (redefinersIn t w i j to))

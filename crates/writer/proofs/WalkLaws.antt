@@ -17,12 +17,12 @@ use Rattle.places.specs.Places.{entryIn}
 use Rattle.places.specs.Ends.{ChildrenEnd}
 use Rattle.listing.specs.Puts.{Put}
 use Rattle.listing.proofs.PutLaws.{put-none, _and_}
-use Rattle.record.specs.declared.Relation.{Relation}
-use Rattle.record.specs.Shown.{relation, redefinersIn, foldedRest, shownAt, Tree, Base}
-use Rattle.record.proofs.ShownLaws.{walking-here, walking-ends}
-use Rattle.record.proofs.WidthLaws.{Along, along-starts, along-on, Counting, counting-starts, counting-none, counting-hit, counting-miss}
+use Rattle.folded.specs.declared.Relation.{Relation}
+use Rattle.folded.specs.Shown.{relation, redefinersIn, foldedRest, shownAt, Tree, Base}
+use Rattle.folded.proofs.ShownLaws.{walking-here, walking-ends}
+use Rattle.folded.proofs.WidthLaws.{Along, along-starts, along-on, Counting, counting-starts, counting-none, counting-kin, counting-hit, counting-miss}
 use Rattle.writer.specs.Written.{Fits, listBytes, itemBytes, shownBytes, unionIn, ownMember, unionBytes, redefinersBytes}
-use Rattle.writer.proofs.WriteLaws.{bytes-append, members-few, put-as, fits-as, fits-first, fits-second, members-folded, members-based, redefined-end, redefined-hit, redefined-miss, redefined-stop}
+use Rattle.writer.proofs.WriteLaws.{bytes-append, members-few, put-as, fits-as, fits-first, fits-second, members-folded, members-based, redefined-end, redefined-hit, redefined-miss}
 
 -- ---------------------------------------------------------------- an entry, then its members
 
@@ -134,9 +134,6 @@ module _ {t w out₀ out : List ℕ} {i j to at left place k : ℕ} (inv : Redef
   redefining-ends h = rest-none (redefined-end t w i k to (counting-none (inv .counting) h))
 
   module _ {m : ℕ} (h : ChildrenEnd w k to m) (l : 0 < left) {r : Relation} (p : r ≡ relation t (spanAt (cell w i 3)) (entryIn w k)) where
-    pub redefining-stops : r ≡ Relation.Next → Put out₀ at (redefinersBytes t w i j to) place out
-    redefining-stops e = rest-none (redefined-stop t w i k to h refl p e)
-
     pub redefining-passes : r ≡ Relation.Other → Redefining t w out₀ out i j to at left place m
     redefining-passes e =
         record {
@@ -144,7 +141,7 @@ module _ {t w out₀ out : List ℕ} {i j to at left place k : ℕ} (inv : Redef
           small = inv .small;
           done = inv .done;
           put = inv .put;
-          same = inv .same ∙ ap (λ (l : List ℕ). inv .done ++ l) (redefined-miss t w i k to h refl p e);
+          same = inv .same ∙ ap (λ (l : List ℕ). inv .done ++ l) (redefined-miss t w i k to (counting-kin (inv .counting) l) h p e);
         }
 
     module _ (e : r ≡ Relation.Redefiner) {x : Entry} (z : x ≡ rebased (cell w i 13) (entryIn w k)) where
@@ -156,7 +153,7 @@ module _ {t w out₀ out : List ℕ} {i j to at left place k : ℕ} (inv : Redef
             inv .put .next,
             ap length (inv .same),
             length-append (inv .done) (redefinersBytes t w i k to),
-            ap length (redefined-hit t w i k to h refl p e z),
+            ap length (redefined-hit t w i k to (counting-kin (inv .counting) l) h p e z),
             length-append (itemBytes t w x k m) (redefinersBytes t w i m to),
           )
 
@@ -169,6 +166,6 @@ module _ {t w out₀ out : List ℕ} {i j to at left place k : ℕ} (inv : Redef
             put = inv .put and d;
             same =
                 inv .same
-                ∙ ap (λ (l : List ℕ). inv .done ++ l) (redefined-hit t w i k to h refl p e z)
+                ∙ ap (λ (l : List ℕ). inv .done ++ l) (redefined-hit t w i k to (counting-kin (inv .counting) l) h p e z)
                 ∙ sym (append-assoc (inv .done) (itemBytes t w x k m) (redefinersBytes t w i m to));
           }

@@ -7,7 +7,6 @@ use mathlib.Core.List.{List, [], _∷_, _++_, append-assoc, append-nil}
 use native.Mathlib.Numerals.{add-one}
 use native.Mathlib.Omega.{arith}
 use lib.ListN.{length, length-append}
-use Rattle.definition.specs.declared.Span.{Span}
 use Rattle.definition.specs.declared.Entry.{Entry}
 use Rattle.definition.specs.Basic.{if_then_else_}
 use Rattle.definition.specs.Fold.{Entries, end, entry, append, hasMember, rebased, redefiners, widest, union, unionMembers, withRedefiners}
@@ -19,11 +18,11 @@ use Rattle.places.specs.Places.{basesAt, placeAt, entryIn, rowsForest}
 use Rattle.places.specs.Ends.{ChildrenEnd}
 use Rattle.listing.specs.Puts.{Countable, Put}
 use Rattle.listing.proofs.PutLaws.{put-none, _and_, entry-countable}
-use Rattle.record.specs.declared.Standing.{Standing}
-use Rattle.record.specs.declared.Relation.{Relation}
-use Rattle.record.specs.Shown.{standing, relation, shownAs, listIn, redefinersIn, foldedRest, shownAt}
-use Rattle.record.proofs.FoldedLaws.{count-append, redefiners-below, count-below}
-use Rattle.record.proofs.ShownLaws.{redefined-by}
+use Rattle.folded.specs.declared.Standing.{Standing}
+use Rattle.folded.specs.declared.Relation.{Relation}
+use Rattle.folded.specs.Shown.{standing, relation, shownAs, listIn, redefinersIn, foldedRest, shownAt, Kin}
+use Rattle.folded.proofs.FoldedLaws.{count-append, redefiners-below, count-below}
+use Rattle.folded.proofs.ShownLaws.{redefined-by}
 use Rattle.writer.specs.Written.{Fits, listBytes, itemBytes, shownBytes, unionIn, ownMember, unionEntry, unionBytes, redefinersBytes}
 
 -- ---------------------------------------------------------------- bytes
@@ -178,17 +177,13 @@ module _ (t w : List ℕ) (i k to : ℕ) where
   unfolding foldedBelow entriesBytes
   redefined-end h = ap (λ (es : Entries). entriesBytes (foldedBelow t es)) h
 
-  module _ {m : ℕ} (h : ChildrenEnd w k to m) {name : Span} {r : Relation} (q : name ≡ spanAt (cell w i 3)) (p : r ≡ relation t name (entryIn w k)) where
+  module _ (a : Kin t w i k) {m : ℕ} (h : ChildrenEnd w k to m) {r : Relation} (p : r ≡ relation t (spanAt (cell w i 3)) (entryIn w k)) where
     pub redefined-hit : r ≡ Relation.Redefiner → {x : Entry} → x ≡ rebased (cell w i 13) (entryIn w k) → redefinersBytes t w i k to ≡ itemBytes t w x k m ++ redefinersBytes t w i m to
     unfolding foldedBelow
     redefined-hit e z =
-        ap (λ (es : Entries). entriesBytes (foldedBelow t es)) (redefined-by t w i k to h q p e)
+        ap (λ (es : Entries). entriesBytes (foldedBelow t es)) (redefined-by t w i k to a h p e)
         ∙ entry-then t w k m (rebased (cell w i 13) (entryIn w k)) (foldedBelow t (redefinersIn t w i m to))
         ∙ ap (λ (x : Entry). itemBytes t w x k m ++ redefinersBytes t w i m to) (sym z)
 
     pub redefined-miss : r ≡ Relation.Other → redefinersBytes t w i k to ≡ redefinersBytes t w i m to
-    redefined-miss e = ap (λ (es : Entries). entriesBytes (foldedBelow t es)) (redefined-by t w i k to h q p e)
-
-    pub redefined-stop : r ≡ Relation.Next → redefinersBytes t w i k to ≡ []
-    unfolding foldedBelow entriesBytes
-    redefined-stop e = ap (λ (es : Entries). entriesBytes (foldedBelow t es)) (redefined-by t w i k to h q p e)
+    redefined-miss e = ap (λ (es : Entries). entriesBytes (foldedBelow t es)) (redefined-by t w i k to a h p e)

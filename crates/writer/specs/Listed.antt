@@ -5,7 +5,7 @@ use mathlib.Core.List.{List}
 use Rattle.definition.specs.Fold.{Entries}
 use Rattle.definition.specs.Listing.{listing}
 use Rattle.layout.specs.Bare.{foldedAll}
-use Rattle.record.specs.Shown.{listIn}
+use Rattle.folded.specs.Shown.{listIn}
 
 -- the entries of the folded list in the rows from `from` up to `to`
 abbrev pub entriesOf : List ℕ → List ℕ → ℕ → ℕ → Entries

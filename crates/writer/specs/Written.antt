@@ -12,7 +12,7 @@ use Rattle.definition.specs.Listing.{members#, entryBytes, entriesBytes}
 use Rattle.rows.specs.Table.{cell, spanAt}
 use Rattle.layout.specs.Bare.{foldedBelow, foldedAll}
 use Rattle.places.specs.Places.{placeAt, entryIn}
-use Rattle.record.specs.Shown.{listIn, redefinersIn, shownAt}
+use Rattle.folded.specs.Shown.{listIn, redefinersIn, shownAt}
 
 -- the place after the bytes fits in four bytes
 abbrev pub Fits : ℕ → List ℕ → Type 0

@@ -13,15 +13,15 @@ ghost use Rattle.rows.specs.Table.{cell};
 ghost use Rattle.layout.specs.Bare.{foldedBelow};
 ghost use Rattle.places.specs.Places.{entryIn};
 ghost use Rattle.listing.specs.Puts.{Put};
-ghost use Rattle.record.specs.Shown.{redefinersIn, shownAt, Known, Tree, Branch, Base};
+ghost use Rattle.folded.specs.Shown.{redefinersIn, shownAt, Known, Tree, Branch, Base};
 ghost use Rattle.writer.specs.Written.{Fits, listBytes, itemBytes, shownBytes, ownMember, unionIn, unionEntry, unionBytes, redefinersBytes, listVaries, itemVaries};
 ghost use Rattle.writer.specs.Listed.{entriesOf, listingOf};
 use definition::Entry;
 use definition::Refusal;
 use definition::Span;
 use definition::Writing;
-use record::Relation;
-use record::Standing;
+use folded::Relation;
+use folded::Standing;
 
 // The difference, and 0 where it would be below.
 fn less(a: usize, b: usize) -> usize
@@ -73,7 +73,7 @@ fn has_own(text: &[u8], work: &[u32], i: usize, j: usize, to: usize) -> bool
     ensures { λ r. ⌜ r ≡ ownMember (now (text .entry)) (now (work .entry)) i j ⌝ }
 {
     let name = rows::span_at(work[20 * i + 3]);
-    record::has_member(text, work, i + 1, j, name)
+    folded::has_member(text, work, i + 1, j, name)
 }
 
 // How many members the union of row i with its redefiners has.
@@ -81,9 +81,9 @@ fn union_count(text: &[u8], work: &[u32], i: usize, j: usize, to: usize) -> usiz
     requires { ⌜ Base (now text) (now work) i j to × (members# (unionIn (now text) (now work) i j to) < 4294967296) ⌝ }
     ensures { λ r. ⌜ r ≡ members# (unionIn (now (text .entry)) (now (work .entry)) i j to) ⌝ }
 {
-    let n = record::redefiner_count(text, work, i, j, to);
+    let n = folded::redefiner_count(text, work, i, j, to);
     if has_own(text, work, i, j, to) {
-        return record::folded_count(text, work, i + 1, j) + n;
+        return folded::folded_count(text, work, i + 1, j) + n;
     }
     n + 1
 }
@@ -93,7 +93,7 @@ fn union_entry(text: &[u8], work: &[u32], i: usize, j: usize, to: usize) -> Entr
     requires { ⌜ Base (now text) (now work) i j to ⌝ }
     ensures { λ r. ⌜ r ≡ unionEntry (now (text .entry)) (now (work .entry)) i j to ⌝ }
 {
-    let width = record::union_width(text, work, i, j, to);
+    let width = folded::union_width(text, work, i, j, to);
     listing::union_of(places::entry_at(work, i), width)
 }
 
@@ -112,7 +112,7 @@ fn write_item(
     requires { ⌜ (i < j) × Tree (now text) (now work) (i + 1) j × Fits at (itemBytes (now text) (now work) e i j) ⌝ }
     ensures { λ r. ⌜ Put (now (out .entry)) at (itemBytes (now (text .entry)) (now (work .entry)) e i j) r (now (out .exit)) ⌝ }
 {
-    let n = record::folded_count(text, work, i + 1, j);
+    let n = folded::folded_count(text, work, i + 1, j);
     let next = listing::put_entry(out, at, e, n);
     write_list(text, work, i + 1, j, out, next)
 }
@@ -130,19 +130,16 @@ fn write_redefiners(
     requires { ⌜ Base (now text) (now work) i j to × Fits at (redefinersBytes (now text) (now work) i j to) ⌝ }
     ensures { λ r. ⌜ Put (now (out .entry)) at (redefinersBytes (now (text .entry)) (now (work .entry)) i j to) r (now (out .exit)) ⌝ }
 {
-    let mut left = record::redefiner_count(text, work, i, j, to);
+    let mut left = folded::redefiner_count(text, work, i, j, to);
     let mut place = at;
     let mut k = j;
     while 0 < left {
-        let m = record::next_of(work, k, to);
-        match record::relation_to(text, work, i, k) {
+        let m = folded::next_of(work, k, to);
+        match folded::relation_to(text, work, i, k) {
             Relation::Redefiner => {
                 place = write_item(text, work, k, m, member_at(work, k, i), out, place);
                 left -= 1;
                 k = m;
-            }
-            Relation::Next => {
-                return place;
             }
             Relation::Other => {
                 k = m;
@@ -207,7 +204,7 @@ fn write_shown(
     requires { ⌜ Branch (now text) (now work) i j to × Known (now text) (now work) i last × Fits at (shownBytes (now text) (now work) i j to last) ⌝ }
     ensures { λ r. ⌜ Put (now (out .entry)) at (shownBytes (now (text .entry)) (now (work .entry)) i j to last) r (now (out .exit)) ⌝ }
 {
-    match record::standing_of(text, work, i, last) {
+    match folded::standing_of(text, work, i, last) {
         Standing::Under => {
             return at;
         }
@@ -215,7 +212,7 @@ fn write_shown(
             return write_item(text, work, i, j, places::entry_at(work, i), out, at);
         }
         Standing::Base => {
-            if 0 < record::redefiner_count(text, work, i, j, to) {
+            if 0 < folded::redefiner_count(text, work, i, j, to) {
                 return write_union(text, work, i, j, to, out, at);
             }
             return write_item(text, work, i, j, places::entry_at(work, i), out, at);
@@ -239,7 +236,7 @@ pub fn write_list(
     let mut i = from;
     let mut last = 0;
     while i < to {
-        let j = record::next_of(work, i, to);
+        let j = folded::next_of(work, i, to);
         place = write_shown(text, work, i, j, to, last, out, place);
         last = i + 1;
         i = j;
@@ -277,20 +274,17 @@ fn redefiners_vary(text: &[u8], work: &[u32], i: usize, j: usize, to: usize) -> 
     requires { ⌜ Base (now text) (now work) i j to ⌝ }
     ensures { λ r. ⌜ r ≡ variable (foldedBelow (now (text .entry)) (redefinersIn (now (text .entry)) (now (work .entry)) i j to)) ⌝ }
 {
-    let mut left = record::redefiner_count(text, work, i, j, to);
+    let mut left = folded::redefiner_count(text, work, i, j, to);
     let mut k = j;
     while 0 < left {
-        let m = record::next_of(work, k, to);
-        match record::relation_to(text, work, i, k) {
+        let m = folded::next_of(work, k, to);
+        match folded::relation_to(text, work, i, k) {
             Relation::Redefiner => {
                 if item_varies(text, work, k, m) {
                     return true;
                 }
                 left -= 1;
                 k = m;
-            }
-            Relation::Next => {
-                return false;
             }
             Relation::Other => {
                 k = m;
@@ -322,7 +316,7 @@ fn shown_varies(text: &[u8], work: &[u32], i: usize, j: usize, to: usize, last: 
     requires { ⌜ Branch (now text) (now work) i j to × Known (now text) (now work) i last ⌝ }
     ensures { λ r. ⌜ r ≡ variable (shownAt (now (text .entry)) (now (work .entry)) i j to last) ⌝ }
 {
-    match record::standing_of(text, work, i, last) {
+    match folded::standing_of(text, work, i, last) {
         Standing::Under => {
             return false;
         }
@@ -330,7 +324,7 @@ fn shown_varies(text: &[u8], work: &[u32], i: usize, j: usize, to: usize, last: 
             return item_varies(text, work, i, j);
         }
         Standing::Base => {
-            if 0 < record::redefiner_count(text, work, i, j, to) {
+            if 0 < folded::redefiner_count(text, work, i, j, to) {
                 return members_vary(text, work, i, j, to);
             }
             return item_varies(text, work, i, j);
@@ -346,7 +340,7 @@ pub fn list_varies(text: &[u8], work: &[u32], from: usize, to: usize) -> bool
     let mut i = from;
     let mut last = 0;
     while i < to {
-        let j = record::next_of(work, i, to);
+        let j = folded::next_of(work, i, to);
         if shown_varies(text, work, i, j, to, last) {
             return true;
         }
@@ -369,7 +363,7 @@ fn put_listing(
     ensures { λ r. ⌜ Put (now (out .entry)) 0 (listingOf (now (text .entry)) (now (work .entry)) from to) r (now (out .exit)) ⌝ }
 {
     let variable = list_varies(text, work, from, to);
-    let top = record::folded_count(text, work, from, to);
+    let top = folded::folded_count(text, work, from, to);
     let at = listing::put_head(out, 0, long, variable, top);
     write_list(text, work, from, to, out, at)
 }

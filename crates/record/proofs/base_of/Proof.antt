@@ -10,8 +10,9 @@ use borrow.Author.Tests.{lt-ltb, le-ltb}
 use Rattle.definition.specs.declared.Span.{Span}
 use Rattle.definition.specs.Basic.{if_then_else_, given}
 use Rattle.rows.specs.Table.{spanAt, cell}
-use Rattle.record.specs.Marks.{baseFrom, baseOf}
-use Rattle.record.proofs.MarkLaws.{base-low, base-over}
+use Rattle.folded.specs.Shown.{baseFrom}
+use Rattle.record.specs.Marks.{baseOf}
+use Rattle.folded.proofs.BaseLaws.{base-low, base-over}
 use Rattle.record.proofs.base_of.Statement.{statement}
 use Rattle.record.proofs.base_of.Tie as tie
 

@@ -11,8 +11,8 @@ use Rattle.definition.specs.declared.Span.{Span}
 use Rattle.definition.specs.Basic.{if_then_else_}
 use Rattle.rows.specs.Table.{cell}
 use Rattle.places.specs.Places.{isTarget}
-use Rattle.record.specs.Marks.{baseFrom}
-use Rattle.record.proofs.MarkLaws.{base-low, base-over, base-here}
+use Rattle.folded.specs.Shown.{baseFrom}
+use Rattle.folded.proofs.BaseLaws.{base-low, base-over, base-here}
 use Rattle.record.proofs.find_base.Statement.{statement}
 use Rattle.record.proofs.find_base.Tie as tie
 

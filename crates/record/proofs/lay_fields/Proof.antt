@@ -2,7 +2,7 @@
 -- Assumes nothing.
 use borrow.Author.Needs.{needs}
 use Rattle.layout.proofs.LayLaws.{LaidRows}
-use Rattle.record.specs.Shown.{Tree}
+use Rattle.folded.specs.Shown.{Tree}
 use Rattle.record.proofs.KeptLaws.{Ready, marked-tree}
 use Rattle.record.proofs.LaidLaws.{laid-ready, list-laid, list-refused, fold-refused, end-refused, laid-listed}
 use Rattle.record.proofs.lay_fields.Statement.{statement}

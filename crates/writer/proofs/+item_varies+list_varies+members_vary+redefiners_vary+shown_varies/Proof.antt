@@ -8,10 +8,10 @@ use Rattle.definition.specs.Basic.{given}
 use Rattle.definition.specs.Record.{variable}
 use Rattle.layout.specs.Bare.{foldedBelow}
 use Rattle.places.specs.Places.{basesAt, entryIn}
-use Rattle.record.specs.Shown.{redefinersIn}
-use Rattle.record.proofs.WidthLaws.{branch-tree, branch-base, along-numbered, along-known, along-branch, counting-numbered, counting-kin, counting-tree}
+use Rattle.folded.specs.Shown.{redefinersIn}
+use Rattle.folded.proofs.WidthLaws.{branch-tree, branch-base, along-numbered, along-known, along-branch, counting-numbered, counting-kin, counting-tree}
 use Rattle.writer.specs.Written.{listVaries, itemVaries}
-use Rattle.writer.proofs.VaryLaws.{first-yes, first-not, under-varies, alone-varies, base-varies, union-varies, folded-varies, based-varies, Looking, looking-starts, looking-ends, looking-finds, looking-on, Seeking, seeking-starts, seeking-ends, seeking-stops, seeking-passes, seeking-finds, seeking-on}
+use Rattle.writer.proofs.VaryLaws.{first-yes, first-not, under-varies, alone-varies, base-varies, union-varies, folded-varies, based-varies, Looking, looking-starts, looking-ends, looking-finds, looking-on, Seeking, seeking-starts, seeking-ends, seeking-passes, seeking-finds, seeking-on}
 use borrow.Fn.Kinds.{In}
 use borrow.Fn.PlainCycle.{Measures, is, falls, and}
 use Rattle.writer.proofs.item_varies.Reads as item-varies
@@ -29,10 +29,10 @@ use Rattle.writer.proofs.+item_varies+list_varies+members_vary+redefine
 use Rattle.writer.proofs.shown_varies.Reads as shown-varies
 use Rattle.writer.proofs.shown_varies.Kinds as shown-varies-kinds
 use Rattle.writer.proofs.+item_varies+list_varies+members_vary+redefiners_vary+shown_varies.Lts-shown_varies as shown-varies-lts
-use Rattle.record.proofs.next_of.Reads as next-of-reads
-use Rattle.record.proofs.redefiner_count.Reads as redefiner-count-reads
-use Rattle.record.proofs.relation_to.Reads as relation-to-reads
-use Rattle.record.proofs.standing_of.Reads as standing-of-reads
+use Rattle.folded.proofs.next_of.Reads as next-of-reads
+use Rattle.folded.proofs.redefiner_count.Reads as redefiner-count-reads
+use Rattle.folded.proofs.relation_to.Reads as relation-to-reads
+use Rattle.folded.proofs.standing_of.Reads as standing-of-reads
 use Rattle.writer.proofs.depends.Reads as depends-reads
 use Rattle.writer.proofs.has_own.Reads as has-own-reads
 use Rattle.writer.proofs.+item_varies+list_varies+members_vary+redefiners_vary+shown_varies.{
@@ -272,16 +272,12 @@ redefiners-vary-loop-again : (t : ℕ) → redefiners-vary-lts.Need-loop-again (
 redefiners-vary-loop-again t c =
     seeking-on (c .before .before .before .before .before .before .before .loop .inv) (c .before .before .before .before .before .next-of .ensures) (c .before .before .before .before .before .before .loop-test .taken) (c .before .before .before .before .relation-to .ensures) (c .before .before .enum-told .given .1) (c .before .item-varies .ensures) (c .if1 .left)
 
-redefiners-vary-returns-2 : (t : ℕ) → redefiners-vary-lts.Need-returns-2 (redefiners-vary-callees t) (redefiners-vary-at t) redefiners-vary.Post redefiners-vary-Inv-loop redefiners-vary-μ-loop
-redefiners-vary-returns-2 t c =
-    seeking-stops (c .before .before .before .before .before .loop .inv) (c .before .before .before .next-of .ensures) (c .before .before .before .before .loop-test .taken) (c .before .before .relation-to .ensures) (c .enum-told2 .given .1)
-
 redefiners-vary-loop-again-2 : (t : ℕ) → redefiners-vary-lts.Need-loop-again-2 (redefiners-vary-callees t) (redefiners-vary-at t) redefiners-vary.Post redefiners-vary-Inv-loop redefiners-vary-μ-loop
 redefiners-vary-loop-again-2 t c =
-    seeking-passes (c .before .before .before .before .before .loop .inv) (c .before .before .before .next-of .ensures) (c .before .before .before .before .loop-test .taken) (c .before .before .relation-to .ensures) (c .enum-told3 .given .1)
+    seeking-passes (c .before .before .before .before .before .loop .inv) (c .before .before .before .next-of .ensures) (c .before .before .before .before .loop-test .taken) (c .before .before .relation-to .ensures) (c .enum-told2 .given .1)
 
-redefiners-vary-returns-3 : (t : ℕ) → redefiners-vary-lts.Need-returns-3 (redefiners-vary-callees t) (redefiners-vary-at t) redefiners-vary.Post redefiners-vary-Inv-loop redefiners-vary-μ-loop
-redefiners-vary-returns-3 t c =
+redefiners-vary-returns-2 : (t : ℕ) → redefiners-vary-lts.Need-returns-2 (redefiners-vary-callees t) (redefiners-vary-at t) redefiners-vary.Post redefiners-vary-Inv-loop redefiners-vary-μ-loop
+redefiners-vary-returns-2 t c =
     seeking-ends (c .before .loop .inv) (c .loop-test .left)
 
 shown-varies-standing-of-requires : (t : ℕ) → shown-varies-lts.Need-standing-of-requires (shown-varies-callees t) (shown-varies-at t) shown-varies.Post
@@ -394,11 +390,9 @@ pub +item-varies+list-varies+members-vary+redefiners-vary+shown-varies-spec :
     (λ c. search needs)
     (redefiners-vary-loop-again t)
     (λ c. search needs)
-    (redefiners-vary-returns-2 t)
-    (λ c. search needs)
     (λ c. search needs)
     (redefiners-vary-loop-again-2 t)
-    (redefiners-vary-returns-3 t))
+    (redefiners-vary-returns-2 t))
     λ t. shown-varies-lts.spec (shown-varies-callees t)
     (shown-varies-at t)
     shown-varies.Post

@@ -7,10 +7,10 @@ use native.Mathlib.Omega.{arith}
 use Rattle.definition.specs.Listing.{members#, entryBytes, entriesBytes}
 use Rattle.listing.proofs.PutLaws.{put-none, put-length}
 use Rattle.places.specs.Places.{basesAt}
-use Rattle.record.proofs.WidthLaws.{branch-tree, branch-base, along-numbered, along-known, along-branch, counting-numbered, counting-row, counting-kin, counting-tree}
+use Rattle.folded.proofs.WidthLaws.{branch-tree, branch-base, along-numbered, along-known, along-branch, counting-numbered, counting-row, counting-kin, counting-tree}
 use Rattle.writer.specs.Written.{listBytes, itemBytes, unionIn, unionEntry, unionBytes}
 use Rattle.writer.proofs.WriteLaws.{put-as, fits-as, fits-entry, shown-under, shown-alone, shown-base, shown-union}
-use Rattle.writer.proofs.WalkLaws.{head-rest, head-then, union-few, folded-first, folded-rest, folded-then, based-first, based-rest, based-then, Writing, writing-starts, writing-ends, writing-fits, writing-on, Redefining, redefining-starts, redefining-ends, redefining-stops, redefining-passes, redefining-fits, redefining-on}
+use Rattle.writer.proofs.WalkLaws.{head-rest, head-then, union-few, folded-first, folded-rest, folded-then, based-first, based-rest, based-then, Writing, writing-starts, writing-ends, writing-fits, writing-on, Redefining, redefining-starts, redefining-ends, redefining-passes, redefining-fits, redefining-on}
 use borrow.Fn.Kinds.{In}
 use borrow.Fn.PlainCycle.{Measures, is, falls, and}
 use Rattle.writer.proofs.write_item.Reads as write-item
@@ -33,11 +33,11 @@ use Rattle.writer.proofs.write_union.Kinds as write-union-kinds
 use Rattle.writer.proofs.+write_item+write_list+write_members+write_redefiners+write_shown+write_union.Lts-write_union as write-union-lts
 use Rattle.places.proofs.entry_at.Reads as entry-at-reads
 use Rattle.listing.proofs.put_entry.Reads as put-entry-reads
-use Rattle.record.proofs.folded_count.Reads as folded-count-reads
-use Rattle.record.proofs.next_of.Reads as next-of-reads
-use Rattle.record.proofs.redefiner_count.Reads as redefiner-count-reads
-use Rattle.record.proofs.relation_to.Reads as relation-to-reads
-use Rattle.record.proofs.standing_of.Reads as standing-of-reads
+use Rattle.folded.proofs.folded_count.Reads as folded-count-reads
+use Rattle.folded.proofs.next_of.Reads as next-of-reads
+use Rattle.folded.proofs.redefiner_count.Reads as redefiner-count-reads
+use Rattle.folded.proofs.relation_to.Reads as relation-to-reads
+use Rattle.folded.proofs.standing_of.Reads as standing-of-reads
 use Rattle.writer.proofs.has_own.Reads as has-own-reads
 use Rattle.writer.proofs.member_at.Reads as member-at-reads
 use Rattle.writer.proofs.union_count.Reads as union-count-reads
@@ -291,24 +291,16 @@ write-redefiners-loop-again : (t : ℕ) → write-redefiners-lts.Need-loop-again
 write-redefiners-loop-again t c =
     redefining-on (c .before .before .before .before .before .before .before .before .before .before .loop .inv) (c .before .before .before .before .before .before .before .before .next-of .ensures) (c .before .before .before .before .before .before .before .before .before .loop-test .taken) (c .before .before .before .before .before .before .before .relation-to .ensures) (c .before .before .before .before .before .enum-told .given .1) (c .before .before .before .before .member-at .ensures) (c .before .before .write-item .ensures)
 
+write-redefiners-loop-again-2 : (t : ℕ) → write-redefiners-lts.Need-loop-again-2 (write-redefiners-callees t) (write-redefiners-at t) write-redefiners.Post write-redefiners-Inv-loop write-redefiners-μ-loop
+write-redefiners-loop-again-2 t c =
+    redefining-passes (c .before .before .before .before .before .loop .inv) (c .before .before .before .next-of .ensures) (c .before .before .before .before .loop-test .taken) (c .before .before .relation-to .ensures) (c .enum-told2 .given .1)
+
 write-redefiners-same-length : (t : ℕ) → write-redefiners-lts.Need-same-length (write-redefiners-callees t) (write-redefiners-at t) write-redefiners.Post write-redefiners-Inv-loop write-redefiners-μ-loop
 write-redefiners-same-length t c =
-    put-length (c .before .before .before .before .before .loop .inv .put)
+    put-length (c .before .loop .inv .put)
 
 write-redefiners-returns : (t : ℕ) → write-redefiners-lts.Need-returns (write-redefiners-callees t) (write-redefiners-at t) write-redefiners.Post write-redefiners-Inv-loop write-redefiners-μ-loop
 write-redefiners-returns t c =
-    redefining-stops (c .before .before .before .before .before .loop .inv) (c .before .before .before .next-of .ensures) (c .before .before .before .before .loop-test .taken) (c .before .before .relation-to .ensures) (c .enum-told2 .given .1)
-
-write-redefiners-loop-again-2 : (t : ℕ) → write-redefiners-lts.Need-loop-again-2 (write-redefiners-callees t) (write-redefiners-at t) write-redefiners.Post write-redefiners-Inv-loop write-redefiners-μ-loop
-write-redefiners-loop-again-2 t c =
-    redefining-passes (c .before .before .before .before .before .loop .inv) (c .before .before .before .next-of .ensures) (c .before .before .before .before .loop-test .taken) (c .before .before .relation-to .ensures) (c .enum-told3 .given .1)
-
-write-redefiners-same-length-2 : (t : ℕ) → write-redefiners-lts.Need-same-length-2 (write-redefiners-callees t) (write-redefiners-at t) write-redefiners.Post write-redefiners-Inv-loop write-redefiners-μ-loop
-write-redefiners-same-length-2 t c =
-    put-length (c .before .loop .inv .put)
-
-write-redefiners-returns-2 : (t : ℕ) → write-redefiners-lts.Need-returns-2 (write-redefiners-callees t) (write-redefiners-at t) write-redefiners.Post write-redefiners-Inv-loop write-redefiners-μ-loop
-write-redefiners-returns-2 t c =
     redefining-ends (c .before .loop .inv) (c .loop-test .left)
 
 write-shown-standing-of-requires : (t : ℕ) → write-shown-lts.Need-standing-of-requires (write-shown-callees t) (write-shown-at t) write-shown.Post
@@ -464,13 +456,10 @@ pub +write-item+write-list+write-members+write-redefiners+write-shown+write-unio
     (λ c. search needs)
     (write-redefiners-loop-again t)
     (λ c. search needs)
-    (write-redefiners-same-length t)
-    (write-redefiners-returns t)
-    (λ c. search needs)
     (λ c. search needs)
     (write-redefiners-loop-again-2 t)
-    (write-redefiners-same-length-2 t)
-    (write-redefiners-returns-2 t))
+    (write-redefiners-same-length t)
+    (write-redefiners-returns t))
     (λ t. write-shown-lts.spec (write-shown-callees t)
     (write-shown-at t)
     write-shown.Post

@@ -10,8 +10,8 @@ use Rattle.definition.specs.declared.Span.{Span}
 use Rattle.definition.specs.Fold.{hasMember}
 use Rattle.rows.specs.Table.{cell, spanAt}
 use Rattle.layout.specs.Bare.{foldedAll}
-use Rattle.record.specs.Shown.{listIn, Tree, Base}
-use Rattle.record.proofs.WidthLaws.{branch-tree}
+use Rattle.folded.specs.Shown.{listIn, Tree, Base}
+use Rattle.folded.proofs.WidthLaws.{branch-tree}
 use Rattle.writer.specs.Written.{ownMember}
 use Rattle.writer.proofs.has_own.Statement.{statement}
 use Rattle.writer.proofs.has_own.Tie as tie

@@ -8,8 +8,8 @@ use mathlib.Core.List.{List}
 use native.Mathlib.Omega.{arith}
 use Rattle.definition.specs.Listing.{members#}
 use Rattle.layout.specs.Bare.{foldedAll}
-use Rattle.record.specs.Shown.{listIn, redefinersIn, Tree, Base}
-use Rattle.record.proofs.WidthLaws.{branch-tree}
+use Rattle.folded.specs.Shown.{listIn, redefinersIn, Tree, Base}
+use Rattle.folded.proofs.WidthLaws.{branch-tree}
 use Rattle.writer.specs.Written.{unionIn, ownMember}
 use Rattle.writer.proofs.WriteLaws.{count-folded, count-based}
 use Rattle.writer.proofs.union_count.Statement.{statement}

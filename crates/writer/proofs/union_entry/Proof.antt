@@ -7,7 +7,7 @@ use mathlib.Core.List.{List}
 use Rattle.definition.specs.declared.Entry.{Entry}
 use Rattle.definition.specs.Fold.{union}
 use Rattle.places.specs.Places.{entryIn}
-use Rattle.record.specs.Shown.{unionWidth, Measured}
+use Rattle.folded.specs.Shown.{unionWidth, Measured}
 use Rattle.writer.specs.Written.{unionEntry}
 use Rattle.writer.proofs.union_entry.Statement.{statement}
 use Rattle.writer.proofs.union_entry.Tie as tie

@@ -1,0 +1,245 @@
+-- Folded lists, entry by entry: a list is what its first entry comes to and then the rest; what is counted or measured of two lists together;
+-- the redefiners of a base.
+-- Assumes nothing.
+use Prim.Native.Nat.{ℕ, suc, _+_, max, _≤_, _<_}
+use mathlib.Core.Path.{_≡_, refl, sym, ap, _∙_}
+use mathlib.Core.Bool.{Bool, true, false}
+use mathlib.Core.List.{List, _∷_}
+use mathlib.Core.Option.{Option, none, some}
+use native.Mathlib.Omega.{arith}
+use lib.Dec.{ltb}
+use Rattle.definition.specs.declared.Span.{Span}
+use Rattle.definition.specs.declared.Entry.{Entry}
+use Rattle.definition.specs.Basic.{if_then_else_, given, Answer, give, _>>=_, refused, refuseIf}
+use Rattle.definition.specs.Fold.{Entries, end, entry, append, total, entryEnd, largest, sameName, sameSpelling, Place, placeOf, find, hasMember, rebased, redefiners, widest, union, unionMembers, withRedefiners}
+use Rattle.definition.specs.Record.{recordLength, endsFit}
+use Rattle.definition.specs.Listing.{members#}
+use Rattle.definition.proofs.LayoutLaws.{redefiners-hit, redefiners-miss, redefiners-next, fits-entry, fits-refused, fits-none}
+use Rattle.layout.specs.Bare.{basesAfter, foldedList, foldedBelow, foldedAll}
+use Rattle.layout.proofs.BareLaws.{list-base, list-alone, list-under, bind-bind}
+use Rattle.folded.specs.declared.Standing.{Standing}
+use Rattle.folded.specs.declared.Relation.{Relation}
+use Rattle.folded.specs.Shown.{standing, shownAs, shown#, shownNamed, relation}
+
+-- ---------------------------------------------------------------- two lists together
+
+pub append-end : (a : Entries) → append a end ≡ a
+unfolding append
+append-end end = refl
+append-end (entry e ms later) = ap (entry e ms) (append-end later)
+
+pub append-append : (a b c : Entries) → append (append a b) c ≡ append a (append b c)
+unfolding append
+append-append end b c = refl
+append-append (entry e ms later) b c = ap (entry e ms) (append-append later b c)
+
+pub count-append : (a b : Entries) → members# (append a b) ≡ members# a + members# b
+unfolding append
+count-append end b = omega arith
+count-append (entry e ms later) b = omega (arith, count-append later b)
+
+pub widest-append : (a b : Entries) → widest (append a b) ≡ max (widest a) (widest b)
+unfolding append widest
+widest-append end b = omega arith
+widest-append (entry e ms later) b = omega (arith, widest-append later b)
+
+pub length-append : (a b : Entries) → recordLength (append a b) ≡ max (recordLength a) (recordLength b)
+unfolding append recordLength
+length-append end b = omega arith
+length-append (entry e ms later) b = omega (arith, length-append later b)
+
+pub member-append : (text : List ℕ) (w : Span) (a b : Entries) → hasMember text w (append a b) ≡ (if hasMember text w a then true else hasMember text w b)
+unfolding append hasMember
+member-append text w end b = refl
+member-append text w (entry e ms later) b = go (sameSpelling text w (e .name)) (member-append text w later b)
+  where
+    go :
+        (h : Bool) →
+        hasMember text w (append later b) ≡ (if hasMember text w later then true else hasMember text w b) →
+        (if h then true else hasMember text w (append later b)) ≡ (if (if h then true else hasMember text w later) then true else hasMember text w b)
+    go true ih = refl
+    go false ih = ih
+
+pub fit-append : (a b : Entries) → endsFit (append a b) ≡ (endsFit a >>= λ _. endsFit b)
+unfolding append endsFit _>>=_
+fit-append end b = refl
+fit-append (entry e ms later) b =
+    let here = refuseIf (ltb largest (entryEnd e)) 29 (e .at) in
+    ap (λ (z : Answer (Unit {0})). here >>= λ _. z) (fit-append later b) ∙ sym (bind-bind here (λ _. endsFit later) (λ _. endsFit b))
+
+-- ---------------------------------------------------------------- one entry of a folded list
+
+or-false : (b : Bool) → (if b then true else false) ≡ b
+or-false true = refl
+or-false false = refl
+
+-- the redefiners of a base in a list, by what its first entry is to the base and the redefiners in the rest
+abbrev pub byRelation : Relation → Place → Entry → Entries → Entries → Entries
+byRelation Relation.Redefiner base e members more = entry (rebased (base .offset) e) members more
+byRelation Relation.Other base e members more = more
+
+module _ (text : List ℕ) where
+  -- a base with its redefiners comes before the later entries
+  with-later : (e : Entry) (members rs later : Entries) → withRedefiners text e members rs later ≡ append (withRedefiners text e members rs end) later
+  unfolding append
+  with-later e members end later = refl
+  with-later e members (entry r ms rs) later = refl
+
+  module _ (bases : List Place) (e : Entry) (members later : Entries) where
+    list-found :
+        given (e .redefines) ≡ true →
+        (o : Option ℕ) →
+        find text (e .redefines) bases ≡ o →
+        foldedList text bases (entry e members later)
+        ≡ append (shownAs text (standing text bases e) e members later) (foldedList text (basesAfter e bases) later)
+    unfolding append
+    list-found g none h = list-alone text bases e members later g h ∙ rw (g, h)
+    list-found g (some base) h = list-under text bases e members later g h ∙ rw (g, h)
+
+    list-given :
+        (b : Bool) →
+        given (e .redefines) ≡ b →
+        foldedList text bases (entry e members later)
+        ≡ append (shownAs text (standing text bases e) e members later) (foldedList text (basesAfter e bases) later)
+    list-given true g = list-found g (find text (e .redefines) bases) refl
+    list-given false g =
+        list-base text bases e members later g
+        ∙ with-later e members (redefiners text (placeOf e) later) (foldedList text (placeOf e ∷ bases) later)
+        ∙ rw g
+
+    -- what it comes to, and then the rest
+    pub list-step :
+        foldedList text bases (entry e members later)
+        ≡ append (shownAs text (standing text bases e) e members later) (foldedList text (basesAfter e bases) later)
+    list-step = list-given (given (e .redefines)) refl
+
+  -- ---------------------------------------------------------------- what an entry comes to
+
+  module _ (e : Entry) (members : Entries) where
+    -- a base with its redefiners is one entry of its name
+    one-entry : (rs : Entries) → members# (withRedefiners text e members rs end) ≡ 1
+    one-entry end = refl
+    one-entry (entry r ms rs) = refl
+
+    own-name : (name : Span) (rs : Entries) → hasMember text name (withRedefiners text e members rs end) ≡ sameSpelling text name (e .name)
+    unfolding hasMember
+    own-name name end = or-false (sameSpelling text name (e .name))
+    own-name name (entry r ms rs) = or-false (sameSpelling text name (e .name))
+
+    -- alone it is as wide and as long as by itself, in a union it is as wide as the widest member
+    pub width-alone : (rs : Entries) → members# rs ≡ 0 → widest (withRedefiners text e members rs end) ≡ total e
+    unfolding widest
+    width-alone end h = omega arith
+    width-alone (entry r ms rs) h = absurd (omega arith)
+
+    pub width-union : (rs : Entries) → 0 < members# rs → widest (withRedefiners text e members rs end) ≡ widest (unionMembers text e members rs)
+    unfolding widest
+    width-union end h = absurd (omega arith)
+    width-union (entry r ms rs) h = omega arith
+
+    pub end-alone : (rs : Entries) → members# rs ≡ 0 → recordLength (withRedefiners text e members rs end) ≡ entryEnd e
+    unfolding recordLength
+    end-alone end h = omega arith
+    end-alone (entry r ms rs) h = absurd (omega arith)
+
+    pub end-union : (rs : Entries) → 0 < members# rs → recordLength (withRedefiners text e members rs end) ≡ e .offset + widest (unionMembers text e members rs)
+    unfolding recordLength
+    end-union end h = absurd (omega arith)
+    end-union (entry r ms rs) h = omega arith
+
+    -- the members are the base's own, or the base, and then the redefiners
+    pub union-inner : (rs : Entries) → hasMember text (e .name) members ≡ true → widest (unionMembers text e members rs) ≡ max (widest members) (widest rs)
+    union-inner rs h = ap (λ (b : Bool). widest (if b then append members rs else entry (rebased (e .offset) e) members rs)) h ∙ widest-append members rs
+
+    pub union-outer : (rs : Entries) → hasMember text (e .name) members ≡ false → widest (unionMembers text e members rs) ≡ max (total e) (widest rs)
+    unfolding widest
+    union-outer rs h = ap (λ (b : Bool). widest (if b then append members rs else entry (rebased (e .offset) e) members rs)) h
+
+    -- it fits or not, by where it ends; the refusal is at the base
+    base-fits : (rs : Entries) → recordLength (withRedefiners text e members rs end) ≤ largest → endsFit (withRedefiners text e members rs end) ≡ give tt
+    unfolding recordLength
+    base-fits end h = fits-entry e members end (omega arith) ∙ fits-none
+    base-fits (entry r ms rs) h =
+        let us = unionMembers text e members (entry r ms rs) in
+        fits-entry (union e (widest us)) us end (omega arith) ∙ fits-none
+
+    base-over : (rs : Entries) → largest < recordLength (withRedefiners text e members rs end) → endsFit (withRedefiners text e members rs end) ≡ refused 29 (e .at)
+    unfolding recordLength
+    base-over end h = fits-refused e members end (omega arith)
+    base-over (entry r ms rs) h =
+        let us = unionMembers text e members (entry r ms rs) in
+        fits-refused (union e (widest us)) us end (omega arith)
+
+    pub shown-fits : (s : Standing) (later : Entries) → recordLength (shownAs text s e members later) ≤ 2147483647 → endsFit (shownAs text s e members later) ≡ give tt
+    unfolding recordLength
+    shown-fits Standing.Under later h = fits-none
+    shown-fits Standing.Alone later h = fits-entry e members end (omega arith) ∙ fits-none
+    shown-fits Standing.Base later h = base-fits (redefiners text (placeOf e) later) h
+
+    pub shown-over : (s : Standing) (later : Entries) → 2147483647 < recordLength (shownAs text s e members later) → endsFit (shownAs text s e members later) ≡ refused 29 (e .at)
+    unfolding recordLength
+    shown-over Standing.Under later h = absurd (omega arith)
+    shown-over Standing.Alone later h = fits-refused e members end (omega arith)
+    shown-over Standing.Base later h = base-over (redefiners text (placeOf e) later) h
+
+    pub shown-count : (s : Standing) (later : Entries) → members# (shownAs text s e members later) ≡ shown# s
+    shown-count Standing.Under later = refl
+    shown-count Standing.Alone later = refl
+    shown-count Standing.Base later = one-entry (redefiners text (placeOf e) later)
+
+    pub shown-named : (name : Span) (s : Standing) (later : Entries) → hasMember text name (shownAs text s e members later) ≡ shownNamed text name s e
+    unfolding hasMember
+    shown-named name Standing.Under later = refl
+    shown-named name Standing.Alone later = or-false (sameSpelling text name (e .name))
+    shown-named name Standing.Base later = own-name name (redefiners text (placeOf e) later)
+
+  -- ---------------------------------------------------------------- redefiners
+
+  module _ (base : Place) (e : Entry) (members later : Entries) where
+    -- the redefiners in a list, by what its first entry is to the base, where it is no base of the same name
+    pub redefiners-step :
+        (given (e .redefines) ≡ false → sameName text (base .name) (e .name) ≡ false) →
+        redefiners text base (entry e members later) ≡ byRelation (relation text (base .name) e) base e members (redefiners text base later)
+    redefiners-step apart = go (given (e .redefines)) refl (sameName text (base .name) (e .redefines)) refl
+      where
+        go :
+            (g : Bool) →
+            given (e .redefines) ≡ g →
+            (a : Bool) →
+            sameName text (base .name) (e .redefines) ≡ a →
+            redefiners text base (entry e members later) ≡ byRelation (relation text (base .name) e) base e members (redefiners text base later)
+        go true g true h = redefiners-hit text base e members later g h ∙ rw (h, g)
+        go true g false h = redefiners-miss text base e members later g h ∙ rw (h, g)
+        go false g a h = redefiners-next text base e members later g (apart g) ∙ rw g
+
+  -- the redefiners among entries whose members are folded
+  pub redefiners-below : (base : Place) (es : Entries) → redefiners text base (foldedBelow text es) ≡ foldedBelow text (redefiners text base es)
+  unfolding foldedBelow redefiners
+  redefiners-below base end = refl
+  redefiners-below base (entry e members later) =
+      go (given (e .redefines)) (sameName text (base .name) (e .redefines)) (sameName text (base .name) (e .name)) (redefiners-below base later)
+    where
+      go :
+          (g a b : Bool) →
+          redefiners text base (foldedBelow text later) ≡ foldedBelow text (redefiners text base later) →
+          (if g then (if a then entry (rebased (base .offset) e) (foldedAll text members) (redefiners text base (foldedBelow text later)) else redefiners text base (foldedBelow text later))
+          else if b then end
+          else redefiners text base (foldedBelow text later))
+          ≡ foldedBelow text
+          (if g then (if a then entry (rebased (base .offset) e) members (redefiners text base later) else redefiners text base later)
+          else if b then end
+          else redefiners text base later)
+      go true true b ih = ap (entry (rebased (base .offset) e) (foldedAll text members)) ih
+      go true false b ih = ih
+      go false a true ih = refl
+      go false a false ih = ih
+
+  pub count-below : (es : Entries) → members# (foldedBelow text es) ≡ members# es
+  unfolding foldedBelow
+  count-below end = refl
+  count-below (entry e ms later) = ap suc (count-below later)
+
+  pub widest-below : (es : Entries) → widest (foldedBelow text es) ≡ widest es
+  unfolding foldedBelow widest
+  widest-below end = refl
+  widest-below (entry e ms later) = ap (max (total e)) (widest-below later)

@@ -1,0 +1,4 @@
+pub mod BaseLaws
+pub mod FoldedLaws
+pub mod ShownLaws
+pub mod WidthLaws

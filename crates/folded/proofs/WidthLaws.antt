@@ -1,0 +1,298 @@
+-- How wide the rows are in the folded list, and where they end: a row alone, a base with its redefiners; and the parts of a table of rows.
+-- Assumes nothing.
+use Prim.Native.Nat.{ℕ, suc, _+_, _-_, _*_, max, _≤_, _<_}
+use mathlib.Core.Path.{_≡_, refl, sym, ap, subst, _∙_}
+use lib.Dec.{eqb}
+use mathlib.Core.Bool.{Bool, true, false}
+use mathlib.Core.List.{List}
+use mathlib.Core.Logic.{⊎-elim}
+use native.Mathlib.Numerals.{add-one}
+use native.Mathlib.Omega.{arith}
+use Rattle.definition.specs.declared.Span.{Span}
+use Rattle.definition.specs.Basic.{if_then_else_, given}
+use Rattle.definition.specs.Fold.{Entries, end, entry, append, total, entryEnd, Place, find, sameName, hasMember, redefiners, widest}
+use Rattle.definition.proofs.Lists.{order}
+use Rattle.definition.specs.Listing.{members#}
+use Rattle.definition.specs.Record.{recordLength}
+use Rattle.definition.specs.Tree.{higher}
+use Rattle.rows.specs.Table.{cell, spanAt, statementAt, statementsFrom}
+use Rattle.places.proofs.RowLaws.{children-end}
+use Rattle.layout.specs.Bare.{hasBase, foldedBelow, foldedAll}
+use Rattle.layout.proofs.SizeLaws.{never}
+use Rattle.places.specs.Places.{basesAt, placeAt, entryIn, rowsForest}
+use Rattle.places.specs.Ends.{ChildrenEnd}
+use Rattle.folded.specs.declared.Standing.{Standing}
+use Rattle.folded.specs.declared.Relation.{Relation}
+use Rattle.folded.specs.Shown.{standing, shownAs, relation, listIn, redefinersIn, shownAt, unionWidth, Open, IsBase, Numbered, Known, Marked, Sized, Tree, Branch, Base, Kin, SizedRow, Measured}
+use Rattle.folded.proofs.BaseLaws.{opens, passes, differs, swapped}
+use Rattle.folded.proofs.FoldedLaws.{width-alone, width-union, end-alone, end-union, union-inner, union-outer, redefiners-below, count-below, widest-below}
+use Rattle.folded.proofs.ShownLaws.{RowIs, marked-step, marked-linked, marked-numbered, marked-known, redefined-by, redefined-stop, redefined-none, Walking, walking-starts, walking-on}
+
+-- ---------------------------------------------------------------- parts of a table
+
+true-false : false ≡ true → ⊥
+true-false e = never e
+
+sized-part : {w : List ℕ} {a b : ℕ} → Sized w a b → (c d : ℕ) → a ≤ c → d ≤ b → Sized w c d
+sized-part s c d l h = record { totals = λ k p q. s .totals k (omega arith) (omega arith) }
+
+module _ {t w : List ℕ} {i j to : ℕ} (b : Branch t w i j to) where
+  -- its children
+  pub branch-tree : Tree t w (i + 1) j
+  branch-tree =
+      record {
+        fits = omega (arith, b .high, b .fits);
+        marked = subst (λ (n : ℕ). Marked t w n 0 (rowsForest w n j)) (sym (add-one i)) (b .marked);
+        sized = sized-part (b .sized) (i + 1) j (omega arith) (b .high);
+      }
+
+  pub branch-row : SizedRow w i
+  branch-row = record { fits = omega (arith, b .low, b .high, b .fits); small = b .sized .totals i (omega arith) (omega (arith, b .low, b .high)) }
+
+  -- it is a base
+  pub branch-base : {s : Standing} (bases : List Place) → s ≡ standing t bases (entryIn w i) → s ≡ Standing.Base → Base t w i j to
+  branch-base {s} bases p e =
+      let stands = stands-base (given (spanAt (cell w i 6))) refl (sym p ∙ e) in
+      record { low = b .low; high = b .high; fits = b .fits; count = b .count stands; opened = b .opened stands; branch = b }
+    where
+      is-base : Standing → Bool
+      is-base Standing.Under = false
+      is-base Standing.Alone = false
+      is-base Standing.Base = true
+
+      not-either : (a : Bool) → (if a then Standing.Under else Standing.Alone) ≡ Standing.Base → ⊥
+      not-either true x = true-false (ap is-base x)
+      not-either false x = true-false (ap is-base x)
+
+      stands-base : (g : Bool) → given (spanAt (cell w i 6)) ≡ g → standing t bases (entryIn w i) ≡ Standing.Base → given (spanAt (cell w i 6)) ≡ false
+      stands-base true q x =
+          let r = spanAt (cell w i 6) in
+          let a = hasBase (find t r bases) in
+          absurd (not-either a (sym (ap (λ (y : Bool). if y then (if a then Standing.Under else Standing.Alone) else Standing.Base) q) ∙ x))
+      stands-base false q x = q
+
+-- ---------------------------------------------------------------- a union
+
+module _ (t w : List ℕ) (i j to : ℕ) where
+  -- its redefiners, whose members are folded, are those that the rows hold
+  count-redefiners : members# (redefiners t (placeAt w i) (foldedBelow t (listIn w j to))) ≡ members# (redefinersIn t w i j to)
+  count-redefiners = ap members# (redefiners-below t (placeAt w i) (listIn w j to)) ∙ count-below t (redefinersIn t w i j to)
+
+  width-redefiners : widest (redefiners t (placeAt w i) (foldedBelow t (listIn w j to))) ≡ widest (redefinersIn t w i j to)
+  width-redefiners = ap widest (redefiners-below t (placeAt w i) (listIn w j to)) ∙ widest-below t (redefinersIn t w i j to)
+
+  module _ {name : Span} {o : Bool} (q : name ≡ spanAt (cell w i 3)) (p : o ≡ hasMember t name (foldedAll t (listIn w (i + 1) j))) where
+    has-own : o ≡ hasMember t (spanAt (cell w i 3)) (foldedAll t (listIn w (suc i) j))
+    has-own = p ∙ ap (λ (n : ℕ). hasMember t name (foldedAll t (listIn w n j))) (add-one i) ∙ ap (λ (s : Span). hasMember t s (foldedAll t (listIn w (suc i) j))) q
+
+    module _ {x y r : ℕ} (n : Measured (widest (redefinersIn t w i j to)) y) (e : r ≡ max x y) where
+      -- the base has a member of its own name: its members take its place
+      pub union-folds : o ≡ true → Measured (widest (foldedAll t (listIn w (i + 1) j))) x → Measured (unionWidth t w i j to) r
+      union-folds h m =
+          let inner = ap (λ (k : ℕ). widest (foldedAll t (listIn w k j))) (add-one i) in
+          let u = union-inner t (entryIn w i) (foldedAll t (listIn w (suc i) j)) (redefiners t (placeAt w i) (foldedBelow t (listIn w j to))) (sym has-own ∙ h) in
+          record { is = omega (arith, e, n .is, m .is, inner, u, width-redefiners); small = omega (arith, n .small, m .small) }
+
+      pub union-stands : o ≡ false → Measured (total (entryIn w i)) x → Measured (unionWidth t w i j to) r
+      union-stands h m =
+          let u = union-outer t (entryIn w i) (foldedAll t (listIn w (suc i) j)) (redefiners t (placeAt w i) (foldedBelow t (listIn w j to))) (sym has-own ∙ h) in
+          record { is = omega (arith, e, n .is, m .is, u, width-redefiners); small = omega (arith, n .small, m .small) }
+
+  -- ---------------------------------------------------------------- a row in the folded list
+
+  module _ (last : ℕ) {s : Standing} (p : s ≡ standing t (basesAt w last) (entryIn w i)) where
+    module _ (x : Standing) (f : Entries → ℕ) where
+      shown-is : s ≡ x → f (shownAt t w i j to last) ≡ f (shownAs t x (entryIn w i) (foldedAll t (listIn w (suc i) j)) (foldedBelow t (listIn w j to)))
+      shown-is e = ap (λ (y : Standing). f (shownAs t y (entryIn w i) (foldedAll t (listIn w (suc i) j)) (foldedBelow t (listIn w j to)))) (sym p ∙ e)
+
+    pub width-under : s ≡ Standing.Under → Measured (widest (shownAt t w i j to last)) 0
+    unfolding widest
+    width-under e = record { is = sym (shown-is Standing.Under widest e); small = omega arith }
+
+    pub width-single : s ≡ Standing.Alone → {r : ℕ} → Measured (total (entryIn w i)) r → Measured (widest (shownAt t w i j to last)) r
+    unfolding widest
+    width-single e m = record { is = omega (arith, m .is, shown-is Standing.Alone widest e); small = m .small }
+
+    pub end-under : s ≡ Standing.Under → 0 ≡ recordLength (shownAt t w i j to last)
+    unfolding recordLength
+    end-under e = sym (shown-is Standing.Under recordLength e)
+
+    pub end-single : s ≡ Standing.Alone → {r : ℕ} → r ≡ entryEnd (entryIn w i) → r ≡ recordLength (shownAt t w i j to last)
+    unfolding recordLength
+    end-single e m = omega (arith, m, shown-is Standing.Alone recordLength e)
+
+    module _ (e : s ≡ Standing.Base) {n : ℕ} (c : n ≡ members# (redefinersIn t w i j to)) where
+      pub width-base : n ≤ 0 → {r : ℕ} → Measured (total (entryIn w i)) r → Measured (widest (shownAt t w i j to last)) r
+      width-base h m =
+          let a = width-alone t (entryIn w i) (foldedAll t (listIn w (suc i) j)) (redefiners t (placeAt w i) (foldedBelow t (listIn w j to))) (omega (arith, count-redefiners)) in
+          record { is = m .is ∙ sym (shown-is Standing.Base widest e ∙ a); small = m .small }
+
+      pub width-joined : 0 < n → {r : ℕ} → Measured (unionWidth t w i j to) r → Measured (widest (shownAt t w i j to last)) r
+      width-joined h m =
+          let a = width-union t (entryIn w i) (foldedAll t (listIn w (suc i) j)) (redefiners t (placeAt w i) (foldedBelow t (listIn w j to))) (omega (arith, count-redefiners)) in
+          record { is = m .is ∙ sym (shown-is Standing.Base widest e ∙ a); small = m .small }
+
+      pub end-base : n ≤ 0 → {r : ℕ} → r ≡ entryEnd (entryIn w i) → r ≡ recordLength (shownAt t w i j to last)
+      end-base h m =
+          let a = end-alone t (entryIn w i) (foldedAll t (listIn w (suc i) j)) (redefiners t (placeAt w i) (foldedBelow t (listIn w j to))) (omega (arith, count-redefiners)) in
+          m ∙ sym (shown-is Standing.Base recordLength e ∙ a)
+
+      pub end-joined : 0 < n → {a r : ℕ} → a ≡ cell w i 13 → Measured (unionWidth t w i j to) r → a + r ≡ recordLength (shownAt t w i j to last)
+      end-joined h q m =
+          let a = end-union t (entryIn w i) (foldedAll t (listIn w (suc i) j)) (redefiners t (placeAt w i) (foldedBelow t (listIn w j to))) (omega (arith, count-redefiners)) in
+          omega (arith, q, m .is, shown-is Standing.Base recordLength e, a)
+
+-- ---------------------------------------------------------------- the loop
+
+-- a walk along the rows of a table
+pub record Along (t w : List ℕ) (from to i last : ℕ) (done : Entries) : Type 0 where
+  pub tree : Tree t w from to
+  pub low : from ≤ i
+  pub back : last ≤ i
+  pub marked : Marked t w i last (rowsForest w i to)
+  pub walk : Walking t w from to i last done
+
+pub along-starts : (t w : List ℕ) (from to : ℕ) → Tree t w from to → Along t w from to from 0 end
+along-starts t w from to h =
+    record {
+      tree = h;
+      low = omega arith;
+      back = omega arith;
+      marked = h .marked;
+      walk = walking-starts t w from to (marked-linked t w (rowsForest w from to) from 0 (h .marked));
+    }
+
+module _ {t w : List ℕ} {from to i last : ℕ} {done : Entries} (inv : Along t w from to i last done) where
+  pub along-numbered : i < to → Numbered w i to
+  along-numbered h = marked-numbered t w i to last (inv .tree .fits) h (inv .marked)
+
+  pub along-known : i < to → Known t w i last
+  along-known h = marked-known t w i to last (inv .tree .fits) (inv .back) h (inv .marked)
+
+  module _ {j : ℕ} (h : ChildrenEnd w i to j) where
+    pub along-branch : Branch t w i j to
+    along-branch =
+        let row = marked-step w i to j h t last (inv .marked) in
+        record {
+          low = h .low;
+          high = h .high;
+          fits = inv .tree .fits;
+          count = row .0 .count;
+          opened = λ g. opens t w i i last (row .0 .before) (inv .back) refl g;
+          marked = row .1;
+          later = row .2;
+          sized = sized-part (inv .tree .sized) i to (inv .low) (omega arith);
+        }
+
+    pub along-on : Along t w from to j (i + 1) (append done (shownAt t w i j to last))
+    along-on =
+        record {
+          tree = inv .tree;
+          low = omega (arith, inv .low, h .low);
+          back = omega (arith, h .low);
+          marked = subst (λ (n : ℕ). Marked t w j n (rowsForest w j to)) (sym (add-one i)) (marked-step w i to j h t last (inv .marked) .2);
+          walk = walking-on (inv .walk) h;
+        }
+
+-- ---------------------------------------------------------------- the redefiners of a base
+
+-- `left` of them are in the rows from k on
+pub record Counting (t w : List ℕ) (i j to left k : ℕ) : Type 0 where
+  pub base : Base t w i j to
+  pub low : j ≤ k
+  pub high : k ≤ to
+  pub before : ℕ
+  pub back : before ≤ k
+  pub opened : Open t w i before
+  pub marked : Marked t w k before (rowsForest w k to)
+  pub is : left ≡ members# (redefinersIn t w i k to)
+
+pub counting-starts : {t w : List ℕ} {i j to left : ℕ} → Base t w i j to → left ≡ members# (redefinersIn t w i j to) → Counting t w i j to left j
+counting-starts {i = i} b e = record { base = b; low = omega arith; high = b .high; before = suc i; back = b .low; opened = b .opened; marked = b .branch .later; is = e }
+
+none-left : (es : Entries) → members# es ≡ 0 → es ≡ end
+none-left end h = refl
+none-left (entry e ms later) h = absurd (omega arith)
+
+module _ {t w : List ℕ} {i j to left k : ℕ} (inv : Counting t w i j to left k) where
+  pub counting-none : left ≤ 0 → redefinersIn t w i k to ≡ end
+  counting-none h = none-left (redefinersIn t w i k to) (omega (arith, inv .is))
+
+  module _ (h : 0 < left) where
+    pub counting-more : k < to
+    counting-more =
+        ⊎-elim (λ (l : k < to). l)
+        (λ (l : to ≤ k). absurd (let e : members# (redefinersIn t w i k to) ≡ 0 = ap members# (redefined-none t w i k to l) in omega (arith, inv .is)))
+        (order k to)
+
+    pub counting-numbered : Numbered w k to
+    counting-numbered = marked-numbered t w k to (inv .before) (inv .base .fits) counting-more (inv .marked)
+
+    pub counting-row : SizedRow w k
+    counting-row =
+        let l = counting-more in
+        record { fits = omega (arith, inv .base .fits); small = inv .base .branch .sized .totals k (omega (arith, inv .low, inv .base .low)) l }
+
+    here : ChildrenEnd w k to (suc k + higher (statementAt w k .level) (statementsFrom w (suc k) (to - suc k)))
+    here = children-end w k to counting-more
+
+    row-is : RowIs t w k (suc k + higher (statementAt w k .level) (statementsFrom w (suc k) (to - suc k))) to (inv .before)
+    row-is = marked-step w k to _ here t (inv .before) (inv .marked) .0
+
+    -- no base of its name is met while some are left
+    other-name : IsBase w k → sameName t (spanAt (cell w i 3)) (spanAt (cell w k 3)) ≡ false
+    other-name g = go (sameName t (spanAt (cell w i 3)) (spanAt (cell w k 3))) refl
+      where
+        go : (b : Bool) → sameName t (spanAt (cell w i 3)) (spanAt (cell w k 3)) ≡ b → sameName t (spanAt (cell w i 3)) (spanAt (cell w k 3)) ≡ false
+        go false q = q
+        go true q =
+            let none : members# (redefinersIn t w i k to) ≡ 0 = ap members# (redefined-stop t w i k to here g q) in
+            absurd (omega (arith, inv .is, none))
+
+    pub counting-kin : Kin t w i k
+    counting-kin =
+        let name = spanAt (cell w i 3) in
+        let r = spanAt (cell w k 6) in
+        record {
+          fits = counting-row .fits;
+          named = λ g. swapped t w name r ∙ sym (inv .opened r) ∙ ap (λ (n : ℕ). eqb n (suc i)) (sym (row-is .under g));
+          apart = other-name;
+        }
+
+    still-open : Open t w i (suc k)
+    still-open = go (given (spanAt (cell w k 6))) refl
+      where
+        go : (b : Bool) → given (spanAt (cell w k 6)) ≡ b → Open t w i (suc k)
+        go true g = passes t w i k (inv .before) (row-is .before) (inv .back) (inv .opened) g
+        go false g = differs t w i k (inv .before) (row-is .before) (inv .back) (omega (arith, inv .low, inv .base .low)) (inv .opened) g (other-name g)
+
+  module _ {m : ℕ} (h : ChildrenEnd w k to m) where
+    pub counting-tree : Tree t w (k + 1) m
+    counting-tree =
+        record {
+          fits = omega (arith, h .high, inv .base .fits);
+          marked = subst (λ (n : ℕ). Marked t w n 0 (rowsForest w n m)) (sym (add-one k)) (marked-step w k to m h t (inv .before) (inv .marked) .1);
+          sized = sized-part (inv .base .branch .sized) (k + 1) m (omega (arith, inv .low, inv .base .low)) (h .high);
+        }
+
+    counting-next : 0 < left → {n : ℕ} → n ≡ members# (redefinersIn t w i m to) → Counting t w i j to n m
+    counting-next l e =
+        record {
+          base = inv .base;
+          low = omega (arith, inv .low, h .low);
+          high = h .high;
+          before = suc k;
+          back = h .low;
+          opened = still-open l;
+          marked = marked-step w k to m h t (inv .before) (inv .marked) .2;
+          is = e;
+        }
+
+    module _ (l : 0 < left) {r : Relation} (p : r ≡ relation t (spanAt (cell w i 3)) (entryIn w k)) where
+      pub counting-hit : r ≡ Relation.Redefiner → Counting t w i j to (left - 1) m
+      counting-hit e =
+          let one : members# (redefinersIn t w i k to) ≡ suc (members# (redefinersIn t w i m to)) = ap members# (redefined-by t w i k to (counting-kin l) h p e) in
+          counting-next l (omega (arith, inv .is, one))
+
+      pub counting-miss : r ≡ Relation.Other → Counting t w i j to left m
+      counting-miss e = counting-next l (inv .is ∙ ap members# (redefined-by t w i k to (counting-kin l) h p e))

@@ -1,0 +1,172 @@
+-- The folded list of a stretch of rows, entry by entry: how the entry of a row stands in it, and what it comes to.
+-- Assumes nothing.
+use Prim.Native.Nat.{ℕ, zero, suc, _+_, _*_, _≤_, _<_}
+use mathlib.Core.Path.{_≡_}
+use mathlib.Core.Bool.{Bool, true, false}
+use lib.Dec.{eqb, ltb}
+use mathlib.Core.List.{List, _∷_}
+use lib.ListN.{length}
+use Rattle.definition.specs.declared.Span.{Span}
+use Rattle.definition.specs.declared.Entry.{Entry}
+use Rattle.definition.specs.Basic.{if_then_else_, given}
+use Rattle.definition.specs.Tree.{Forest, leaf, item}
+use Rattle.definition.specs.Fold.{Entries, end, entry, total, sameName, sameSpelling, Place, placeOf, find, redefiners, widest, unionMembers, withRedefiners}
+use Rattle.definition.specs.Owner.{size}
+use Rattle.definition.specs.Listing.{members#}
+use Rattle.rows.specs.Table.{cell, spanAt}
+use Rattle.layout.specs.Bare.{hasBase, foldedList, foldedBelow, foldedAll}
+use Rattle.places.specs.Places.{isTarget, basesAt, placeAt, entryIn, entriesIn, rowsForest}
+use Rattle.places.specs.Ends.{ChildrenEnd}
+use Rattle.folded.specs.declared.Standing.{Standing}
+use Rattle.folded.specs.declared.Relation.{Relation}
+
+-- ---------------------------------------------------------------- one entry
+
+-- how an entry stands in the folded list: under its base, a redefiner without a base, or a base
+abbrev pub standing : List ℕ → List Place → Entry → Standing
+standing text bases e =
+    if given (e .redefines) then (if hasBase (find text (e .redefines) bases) then Standing.Under else Standing.Alone)
+    else Standing.Base
+
+-- what it comes to: nothing, itself, or itself with its redefiners
+abbrev pub shownAs : List ℕ → Standing → Entry → Entries → Entries → Entries
+shownAs text Standing.Under e members later = end
+shownAs text Standing.Alone e members later = entry e members end
+shownAs text Standing.Base e members later = withRedefiners text e members (redefiners text (placeOf e) later) end
+
+-- how many entries it comes to
+abbrev pub shown# : Standing → ℕ
+shown# Standing.Under = 0
+shown# Standing.Alone = 1
+shown# Standing.Base = 1
+
+-- whether it comes to an entry spelled like the name
+abbrev pub shownNamed : List ℕ → Span → Standing → Entry → Bool
+shownNamed text name Standing.Under e = false
+shownNamed text name Standing.Alone e = sameSpelling text name (e .name)
+shownNamed text name Standing.Base e = sameSpelling text name (e .name)
+
+-- what a later entry, up to the next base of that name, is to a base: one of its redefiners, or not
+abbrev pub relation : List ℕ → Span → Entry → Relation
+relation text name e =
+    if given (e .redefines) then (if sameName text name (e .redefines) then Relation.Redefiner else Relation.Other)
+    else Relation.Other
+
+-- ---------------------------------------------------------------- rows
+
+-- the bare entries of the rows from `from` up to `to`
+abbrev pub listIn : List ℕ → ℕ → ℕ → Entries
+listIn w from to = entriesIn w from (rowsForest w from to)
+
+-- the redefiners of row i among the rows from j up to `to`
+abbrev pub redefinersIn : List ℕ → List ℕ → ℕ → ℕ → ℕ → Entries
+redefinersIn text w i j to = redefiners text (placeAt w i) (listIn w j to)
+
+-- the rest of a folded list, from row i on, after the sibling `last`
+abbrev pub foldedRest : List ℕ → List ℕ → ℕ → ℕ → ℕ → Entries
+foldedRest text w i to last = foldedList text (basesAt w last) (foldedBelow text (listIn w i to))
+
+-- what row i comes to in it, where its children end at j
+abbrev pub shownAt : List ℕ → List ℕ → ℕ → ℕ → ℕ → ℕ → Entries
+shownAt text w i j to last =
+    shownAs text (standing text (basesAt w last) (entryIn w i)) (entryIn w i) (foldedAll text (listIn w (suc i) j)) (foldedBelow text (listIn w j to))
+
+-- how wide row i is with its redefiners
+abbrev pub unionWidth : List ℕ → List ℕ → ℕ → ℕ → ℕ → ℕ
+unionWidth text w i j to =
+    widest (unionMembers text (entryIn w i) (foldedAll text (listIn w (suc i) j)) (redefiners text (placeAt w i) (foldedBelow text (listIn w j to))))
+
+-- ---------------------------------------------------------------- what the table is to be
+
+-- among the first n rows, the latest base of that name from the sibling `last` back: its row and 1, or 0 for none
+unfoldable pub baseFrom : List ℕ → Span → List ℕ → ℕ → ℕ → ℕ
+baseFrom text target w zero last = 0
+baseFrom text target w (suc k) last =
+    if eqb last (suc k) then (if isTarget text target true w k then suc k else baseFrom text target w k (cell w k 16))
+    else baseFrom text target w k last
+
+-- a search for a name, from the sibling `last` back, finds row i where row i has that name
+abbrev pub Open : List ℕ → List ℕ → ℕ → ℕ → Type 0
+Open text w i last = (target : Span) → eqb (baseFrom text target w last last) (suc i) ≡ sameName text target (spanAt (cell w i 3))
+
+-- row i has no REDEFINES
+abbrev pub IsBase : List ℕ → ℕ → Type 0
+IsBase w i = given (spanAt (cell w i 6)) ≡ false
+
+-- row i is there, before `to`, and counts the rows below it
+pub record Numbered (w : List ℕ) (i to : ℕ) : Type 0 where
+  pub low : i < to
+  pub fits : 20 * to ≤ length w
+  pub is : ChildrenEnd w i to (suc i + cell w i 17)
+
+-- row i is there, after the sibling `last`, and a redefiner knows whether it has a base
+pub record Known (text w : List ℕ) (i last : ℕ) : Type 0 where
+  pub fits : 20 * i + 20 ≤ length w
+  pub back : last ≤ i
+  pub is : given (spanAt (cell w i 6)) ≡ true → hasBase (find text (spanAt (cell w i 6)) (basesAt w last)) ≡ ltb 0 (cell w i 18)
+
+-- a row names the sibling before it and counts the rows below it; a base counts its redefiners among the later siblings, and a redefiner names its base
+pub record RowMarked (text w : List ℕ) (k last : ℕ) (kids later : Forest) : Type 0 where
+  pub before : cell w k 16 ≡ last
+  pub below : cell w k 17 ≡ size kids
+  pub count : IsBase w k → cell w k 18 ≡ members# (redefiners text (placeAt w k) (entriesIn w (suc k + size kids) later))
+  pub under : given (spanAt (cell w k 6)) ≡ true → cell w k 18 ≡ baseFrom text (spanAt (cell w k 6)) w last last
+
+-- each row of a list, and of the lists below it, does
+abbrev pub Marked : List ℕ → List ℕ → ℕ → ℕ → Forest → Type 0
+Marked text w k last leaf = Unit {0}
+Marked text w k last (item s kids later) =
+    RowMarked text w k last kids later × Marked text w (suc k) 0 kids × Marked text w (suc k + size kids) (suc k) later
+
+-- no row from `from` up to `to` has more than 2,147,483,647 bytes in all its occurrences
+pub record Sized (w : List ℕ) (from to : ℕ) : Type 0 where
+  pub totals : (k : ℕ) → from ≤ k → k < to → total (entryIn w k) ≤ 2147483647
+
+-- the rows of a list and of those below it are there, marked, and none too large
+pub record Tree (text w : List ℕ) (from to : ℕ) : Type 0 where
+  pub fits : 20 * to ≤ length w
+  pub marked : Marked text w from 0 (rowsForest w from to)
+  pub sized : Sized w from to
+
+-- row i with its children up to j and its later siblings up to `to`
+pub record Branch (text w : List ℕ) (i j to : ℕ) : Type 0 where
+  pub low : i < j
+  pub high : j ≤ to
+  pub fits : 20 * to ≤ length w
+  pub count : IsBase w i → cell w i 18 ≡ members# (redefinersIn text w i j to)
+  pub opened : IsBase w i → Open text w i (suc i)
+  pub marked : Marked text w (suc i) 0 (rowsForest w (suc i) j)
+  pub later : Marked text w j (suc i) (rowsForest w j to)
+  pub sized : Sized w i to
+
+-- such a row that is a base
+pub record Base (text w : List ℕ) (i j to : ℕ) : Type 0 where
+  pub low : i < j
+  pub high : j ≤ to
+  pub fits : 20 * to ≤ length w
+  pub count : cell w i 18 ≡ members# (redefinersIn text w i j to)
+  pub opened : Open text w i (suc i)
+  pub branch : Branch text w i j to
+
+-- row k is there, names row i as its base if it redefines it, and is no base of its name
+pub record Kin (text w : List ℕ) (i k : ℕ) : Type 0 where
+  pub fits : 20 * k + 20 ≤ length w
+  pub named : given (spanAt (cell w k 6)) ≡ true → sameName text (spanAt (cell w i 3)) (spanAt (cell w k 6)) ≡ eqb (cell w k 18) (suc i)
+  pub apart : IsBase w k → sameName text (spanAt (cell w i 3)) (spanAt (cell w k 3)) ≡ false
+
+-- row k is there, and is not too large
+pub record SizedRow (w : List ℕ) (k : ℕ) : Type 0 where
+  pub fits : 20 * k + 20 ≤ length w
+  pub small : total (entryIn w k) ≤ 2147483647
+
+-- ---------------------------------------------------------------- answers
+
+-- r is the number n, and not too large
+pub record Measured (n r : ℕ) : Type 0 where
+  pub is : r ≡ n
+  pub small : r ≤ 2147483647
+
+-- r is the number n, and at most 1
+pub record Few (n r : ℕ) : Type 0 where
+  pub is : r ≡ n
+  pub few : r ≤ 1

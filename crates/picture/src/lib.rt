@@ -41,7 +41,7 @@ pub struct PicShape {
 }
 
 // One less, or 0.
-fn less_one(n: usize) -> usize
+fn less_one(n: u32) -> u32
     ensures { λ r. ⌜ r ≡ n - 1 ⌝ }
 {
     if n == 0 {
@@ -60,12 +60,12 @@ fn shape_of(t: Tallies) -> PicShape
     let minuses = less_one(t.minuses);
     let scale = t.digits - t.whole + t.scaled;
     PicShape {
-        text: t.text,
-        digits: t.whole + dollars + pluses + minuses + scale,
-        scale,
+        text: t.text as usize,
+        digits: (t.whole + dollars + pluses + minuses + scale) as usize,
+        scale: scale as usize,
         signed: 0 < t.signs,
         edited: 0 < t.edits,
-        width: t.symbols - t.hidden,
+        width: (t.symbols - t.hidden) as usize,
     }
 }
 

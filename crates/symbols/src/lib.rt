@@ -132,18 +132,18 @@ fn repeat_after(picture: &[u8], next: usize, at: usize) -> Repeat
 // How often the symbols of each set stand in a list of symbols: X A; 9 Z *; those of 9 Z * before the point; P; V and `.`; `$`;
 // `+`; `-`; the signs S + - C D; the editing symbols; S V P, which take no byte of a mask; and all symbols.
 pub struct Tallies {
-    pub text: usize,
-    pub digits: usize,
-    pub whole: usize,
-    pub scaled: usize,
-    pub points: usize,
-    pub dollars: usize,
-    pub pluses: usize,
-    pub minuses: usize,
-    pub signs: usize,
-    pub edits: usize,
-    pub hidden: usize,
-    pub symbols: usize,
+    pub text: u32,
+    pub digits: u32,
+    pub whole: u32,
+    pub scaled: u32,
+    pub points: u32,
+    pub dollars: u32,
+    pub pluses: u32,
+    pub minuses: u32,
+    pub signs: u32,
+    pub edits: u32,
+    pub hidden: u32,
+    pub symbols: u32,
 }
 
 // The tallies of no symbols.
@@ -167,7 +167,7 @@ fn no_symbols() -> Tallies
 }
 
 // A count of what stands before the point, where so many points stand already.
-fn before_point(points: usize, n: usize) -> usize
+fn before_point(points: u32, n: u32) -> u32
     ensures { λ r. ⌜ r ≡ unless points n ⌝ }
 {
     if points == 0 {
@@ -178,7 +178,7 @@ fn before_point(points: usize, n: usize) -> usize
 
 // The tallies of some symbols and of one more that stands n times: only those that it touches change. Neighbours, as `/` and `0`,
 // have arms of their own here and in `is_symbol`: in one arm they would be a range, of which its proof has two cases.
-fn add_run(s: Tallies, b: u8, n: usize) -> Tallies
+fn add_run(s: Tallies, b: u8, n: u32) -> Tallies
     requires { ⌜ Adds s n ⌝ }
     ensures { λ r. ⌜ r ≡ joined s (runOf b n) ⌝ }
 {
@@ -375,7 +375,8 @@ pub fn count_symbols(picture: &[u8], at: usize) -> Counted
         let next = i + 1;
         match repeat_after(picture, next, at) {
             Repeat::Times { n, skip } => {
-                if 65535 - s.symbols < n {
+                let left = (65535 - s.symbols) as usize;
+                if left < n {
                     return Counted::Refused(Refusal {
                         number: 24,
                         position: at,
@@ -384,7 +385,7 @@ pub fn count_symbols(picture: &[u8], at: usize) -> Counted
                 }
                 i = next + skip;
                 half = half_after(half, b, n);
-                s = add_run(s, b, n);
+                s = add_run(s, b, n as u32);
             }
             Repeat::Refused(r) => {
                 return Counted::Refused(r);

@@ -19,11 +19,11 @@ sub-scale c = search needs
 add-scale : tie.Need-add-scale
 add-scale c = search needs
 
+cast-t7 : tie.Need-cast-t7
+cast-t7 c = search needs
+
 add-t6 : tie.Need-add-t6
 add-t6 c = search needs
-
-add-t7 : tie.Need-add-t7
-add-t7 c = search needs
 
 add-t8 : tie.Need-add-t8
 add-t8 c = search needs
@@ -31,11 +31,23 @@ add-t8 c = search needs
 add-t9 : tie.Need-add-t9
 add-t9 c = search needs
 
-sub-t12 : tie.Need-sub-t12
-sub-t12 c = search needs
+add-t10 : tie.Need-add-t10
+add-t10 c = search needs
+
+cast-t11 : tie.Need-cast-t11
+cast-t11 c = search needs
+
+cast-t12 : tie.Need-cast-t12
+cast-t12 c = search needs
+
+sub-t15 : tie.Need-sub-t15
+sub-t15 c = search needs
+
+cast-t16 : tie.Need-cast-t16
+cast-t16 c = search needs
 
 returns : tie.Need-returns
-returns c = rw (c .before .before .before .before .before .before .before .before .less-one .ensures, c .before .before .before .before .before .before .before .less-one2 .ensures, c .before .before .before .before .before .before .less-one3 .ensures)
+returns c = rw (c .before .before .before .before .before .before .before .before .before .less-one .ensures, c .before .before .before .before .before .before .before .before .less-one2 .ensures, c .before .before .before .before .before .before .before .less-one3 .ensures)
 
 pub shape-of-spec : {M : Type 1} → statement M
 shape-of-spec =
@@ -46,9 +58,13 @@ shape-of-spec =
     less-one-requires-3
     sub-scale
     add-scale
+    cast-t7
     add-t6
-    add-t7
     add-t8
     add-t9
-    sub-t12
+    add-t10
+    cast-t11
+    cast-t12
+    sub-t15
+    cast-t16
     returns)

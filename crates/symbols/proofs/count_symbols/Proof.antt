@@ -129,8 +129,11 @@ repeat-after-requires c κs = search needs
 enum-known-n : tie.Need-enum-known-n Inv-loop μ-loop
 enum-known-n c = search needs
 
-sub-if1 : tie.Need-sub-if1 Inv-loop μ-loop
-sub-if1 c = search needs
+sub-left : tie.Need-sub-left Inv-loop μ-loop
+sub-left c = search needs
+
+cast-left : tie.Need-cast-left Inv-loop μ-loop
+cast-left c = search needs
 
 returns : tie.Need-returns Inv-loop μ-loop
 returns c = search many
@@ -140,6 +143,9 @@ add-i c = omega (arith, step (c .before .before .before .before .before .before 
 
 half-after-requires : tie.Need-half-after-requires Inv-loop μ-loop
 half-after-requires c κs = search needs
+
+cast-add-run : tie.Need-cast-add-run Inv-loop μ-loop
+cast-add-run c = search needs
 
 add-run-requires : tie.Need-add-run-requires Inv-loop μ-loop
 add-run-requires c κs = adds (c .before .before .before .before .before .before .before .before .before .before .loop .inv) (c .before .before .before .before .before .before .before .before .before .loop-test .taken) (c .before .before .before .before .before .before .repeat-after .ensures) (c .before .before .before .before .n .given .1) (c .before .if1 .left)
@@ -172,10 +178,12 @@ count-symbols-spec =
     add-next
     repeat-after-requires
     enum-known-n
-    sub-if1
+    sub-left
+    cast-left
     returns
     add-i
     half-after-requires
+    cast-add-run
     add-run-requires
     loop-less
     loop-again

@@ -1,6 +1,6 @@
 -- The folded list of a stretch of rows, entry by entry: how the entry of a row stands in it, and what it comes to.
 -- Assumes nothing.
-use Prim.Native.Nat.{ℕ, zero, suc, _+_, _*_, _≤_, _<_}
+use Prim.Native.Nat.{ℕ, suc, _+_, _*_, _≤_, _<_}
 use mathlib.Core.Path.{_≡_}
 use mathlib.Core.Bool.{Bool, true, false}
 use lib.Dec.{eqb, ltb}
@@ -15,7 +15,7 @@ use Rattle.definition.specs.Owner.{size}
 use Rattle.definition.specs.Listing.{members#}
 use Rattle.rows.specs.Table.{cell, spanAt}
 use Rattle.layout.specs.Bare.{hasBase, foldedList, foldedBelow, foldedAll}
-use Rattle.places.specs.Places.{isTarget, basesAt, placeAt, entryIn, entriesIn, rowsForest}
+use Rattle.places.specs.Places.{rowFrom, basesAt, placeAt, entryIn, entriesIn, rowsForest}
 use Rattle.places.specs.Ends.{ChildrenEnd}
 use Rattle.folded.specs.declared.Standing.{Standing}
 use Rattle.folded.specs.declared.Relation.{Relation}
@@ -79,11 +79,8 @@ unionWidth text w i j to =
 -- ---------------------------------------------------------------- what the table is to be
 
 -- among the first n rows, the latest base of that name from the sibling `last` back: its row and 1, or 0 for none
-unfoldable pub baseFrom : List ℕ → Span → List ℕ → ℕ → ℕ → ℕ
-baseFrom text target w zero last = 0
-baseFrom text target w (suc k) last =
-    if eqb last (suc k) then (if isTarget text target true w k then suc k else baseFrom text target w k (cell w k 16))
-    else baseFrom text target w k last
+abbrev pub baseFrom : List ℕ → Span → List ℕ → ℕ → ℕ → ℕ
+baseFrom text target w n last = rowFrom text target true w n last
 
 -- a search for a name, from the sibling `last` back, finds row i where row i has that name
 abbrev pub Open : List ℕ → List ℕ → ℕ → ℕ → Type 0

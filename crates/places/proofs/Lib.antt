@@ -1,5 +1,6 @@
 pub mod KindLaws
 pub mod PlaceLaws
+pub mod SearchLaws
 pub mod RowLaws
 pub mod EntriesLaws
 pub mod EndLaws

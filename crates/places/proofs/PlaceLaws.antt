@@ -5,22 +5,19 @@ use mathlib.Core.Path.{_≡_, refl, ap, ap₂, _∙_}
 use mathlib.Core.Bool.{Bool, true, false}
 use mathlib.Core.List.{List, [], _∷_}
 use mathlib.Core.Logic.{⊎-elim}
-use mathlib.Core.Option.{some}
 use native.Mathlib.Omega.{arith}
 use lib.Dec.{lit<}
 use lib.ListN.{length, getD, set, length-set}
 use lib.Seq.{sets, set-comm, length-sets, getD-set-other, getD-set-same}
 use borrow.Author.Tests.{eq-eqb, ne-eqb}
-use Rattle.definition.specs.declared.Span.{Span}
 use Rattle.definition.specs.declared.Statement.{Statement}
 use Rattle.definition.specs.declared.Entry.{Entry}
-use Rattle.definition.specs.Fold.{Entries, end, entry, find}
+use Rattle.definition.specs.Fold.{Entries, end, entry}
 use Rattle.definition.specs.Search.{entries#}
 use Rattle.definition.proofs.Lists.{order}
-use Rattle.definition.proofs.LayoutLaws.{find-hit, find-miss}
 use Rattle.rows.specs.Table.{cell, statementAt, statementsFrom}
 use Rattle.rows.proofs.TableLaws.{statement-same}
-use Rattle.places.specs.Places.{kindCode, placeCells, putPlace, putPlaces, placeAt, leftOut, seenFrom, isTarget}
+use Rattle.places.specs.Places.{kindCode, placeCells, putPlace, putPlaces, placeAt, leftOut, seenFrom}
 
 -- ---------------------------------------------------------------- runs of stores
 
@@ -177,7 +174,7 @@ module _ (bases : Bool) (w : List ℕ) where
   unfolding seenFrom
   seen-skip k last h = rw (ne-eqb last (suc k) h, seenFrom)
 
-  -- rows after the last sibling do not count, and there is no sibling past the rows
+  -- rows after the last sibling do not count
   pub seen-low : (n last : ℕ) → last ≤ n → seenFrom bases w n last ≡ seenFrom bases w last last
   seen-low zero last h = ap (λ (m : ℕ). seenFrom bases w m last) (let e : 0 ≡ last = omega arith in e)
   seen-low (suc k) last h =
@@ -186,11 +183,6 @@ module _ (bases : Bool) (w : List ℕ) where
       (λ (l : last < suc k). seen-skip k last (λ e. omega arith) ∙ ih (omega arith))
       (λ (l : suc k ≤ last). ap (λ (m : ℕ). seenFrom bases w m last) (let e : suc k ≡ last = omega arith in e))
       (order last (suc k))
-
-  pub seen-over : (n last : ℕ) → n < last → seenFrom bases w n last ≡ []
-  unfolding seenFrom
-  seen-over zero last h = refl
-  seen-over (suc k) last h = seen-skip k last (λ e. omega arith) ∙ seen-over k last (omega arith)
 
   -- the latest sibling, and those before it
   module _ (k : ℕ) where
@@ -213,22 +205,3 @@ seen-same bases w w′ (suc k) last h =
     let back = seen-same bases w w′ k (cell w k 16) (λ j c l m. h j c (omega arith) m) in
     let on = seen-same bases w w′ k last (λ j c l m. h j c (omega arith) m) in
     cc (h k 3 (omega arith) (lit< tt), h k 6 (omega arith) (lit< tt), h k 13 (omega arith) (lit< tt), h k 16 (omega arith) (lit< tt), back, on)
-
--- ---------------------------------------------------------------- the search among them
-
-module _ (text : List ℕ) (target : Span) (bases : Bool) (w : List ℕ) (k : ℕ) where
-  pub target-hit : isTarget text target bases w k ≡ true → find text target (seenFrom bases w (suc k) (suc k)) ≡ some (cell w k 13)
-  target-hit h = go (leftOut bases w k) refl
-    where
-      go : (b : Bool) → leftOut bases w k ≡ b → find text target (seenFrom bases w (suc k) (suc k)) ≡ some (cell w k 13)
-      go true e = absurd (let q : false ≡ true = rw e at h in let z : _≡_ {A = ℕ} 0 1 = cc in omega arith)
-      go false e =
-          ap (find text target) (seen-in bases w k e) ∙ find-hit text target (placeAt w k) (seenFrom bases w k (cell w k 16)) (rw e at h)
-
-  pub target-miss : isTarget text target bases w k ≡ false → find text target (seenFrom bases w (suc k) (suc k)) ≡ find text target (seenFrom bases w k (cell w k 16))
-  target-miss h = go (leftOut bases w k) refl
-    where
-      go : (b : Bool) → leftOut bases w k ≡ b → find text target (seenFrom bases w (suc k) (suc k)) ≡ find text target (seenFrom bases w k (cell w k 16))
-      go true e = ap (find text target) (seen-out bases w k e)
-      go false e =
-          ap (find text target) (seen-in bases w k e) ∙ find-miss text target (placeAt w k) (seenFrom bases w k (cell w k 16)) (rw e at h)

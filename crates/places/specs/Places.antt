@@ -131,6 +131,13 @@ basesAt w last = seenFrom true w last last
 abbrev pub isTarget : List ℕ → Span → Bool → List ℕ → ℕ → Bool
 isTarget text target bases w k = if leftOut bases w k then false else sameName text target (spanAt (cell w k 3))
 
+-- among the first n rows, the one that a search from the sibling `last` back ends at: its row and 1, or 0 for none
+unfoldable pub rowFrom : List ℕ → Span → Bool → List ℕ → ℕ → ℕ → ℕ
+rowFrom text target bases w zero last = 0
+rowFrom text target bases w (suc k) last =
+    if eqb last (suc k) then (if isTarget text target bases w k then suc k else rowFrom text target bases w k (cell w k 16))
+    else rowFrom text target bases w k last
+
 -- the offset that a search found, if it found one
 abbrev pub found : Target → Option ℕ
 found (Target.At offset) = some offset

@@ -7,7 +7,7 @@ ghost use Rattle.definition.specs.Basic.{part};
 ghost use Rattle.definition.specs.Fold.{sameName, find, times};
 ghost use Rattle.definition.specs.Layout.{entryOf};
 ghost use Rattle.definition.specs.Listing.{signByte, storageByte};
-ghost use Rattle.places.specs.Places.{kindCode, signOfByte, storageOfByte, kindOfCode, putPlace, seenFrom, leftOut, isTarget, found, entryIn};
+ghost use Rattle.places.specs.Places.{kindCode, signOfByte, storageOfByte, kindOfCode, putPlace, seenFrom, leftOut, isTarget, rowFrom, found, entryIn};
 ghost use Rattle.places.specs.Ends.{ChildrenEnd, endOf, endingOf};
 use definition::Entry;
 use definition::FieldKind;
@@ -228,7 +228,7 @@ fn passed_over(work: &[u32], k: usize, bases: bool) -> bool
 }
 
 // Whether row k is what a search for this name ends at.
-pub fn is_target(text: &[u8], work: &[u32], target: Span, k: usize, bases: bool) -> bool
+fn is_target(text: &[u8], work: &[u32], target: Span, k: usize, bases: bool) -> bool
     requires { ⌜ 20 * k + 20 ≤ length (now work) ⌝ }
     ensures { λ r. ⌜ r ≡ isTarget (now (text .entry)) target bases (now (work .entry)) k ⌝ }
 {
@@ -239,22 +239,35 @@ pub fn is_target(text: &[u8], work: &[u32], target: Span, k: usize, bases: bool)
     same_names(text, target, name)
 }
 
-// The offset of the latest sibling of that name from `last` back, or of the latest base of that name.
-pub fn find_target(text: &[u8], work: &[u32], target: Span, last: usize, bases: bool) -> Target
+// The latest sibling of that name from `last` back, or the latest base of that name: its row and 1, or 0 for none.
+pub fn find_row(text: &[u8], work: &[u32], target: Span, last: usize, bases: bool) -> usize
     requires { ⌜ 20 * last ≤ length (now work) ⌝ }
-    ensures { λ r. ⌜ found r ≡ find (now (text .entry)) target (seenFrom bases (now (work .entry)) last last) ⌝ }
+    ensures { λ r. ⌜ (r ≡ rowFrom (now (text .entry)) target bases (now (work .entry)) last last) × (r ≤ last) ⌝ }
 {
     let mut k = last;
     while 0 < k {
         let row = k - 1;
         if is_target(text, work, target, row, bases) {
-            return Target::At(wide(work[20 * row + 13]));
+            return k;
         }
         let before = wide(work[20 * row + 16]);
         if row < before {
-            return Target::Nothing;
+            return 0;
         }
         k = before;
+    }
+    0
+}
+
+// The offset of the sibling or base that is found so.
+pub fn find_target(text: &[u8], work: &[u32], target: Span, last: usize, bases: bool) -> Target
+    requires { ⌜ 20 * last ≤ length (now work) ⌝ }
+    ensures { λ r. ⌜ found r ≡ find (now (text .entry)) target (seenFrom bases (now (work .entry)) last last) ⌝ }
+{
+    let k = find_row(text, work, target, last, bases);
+    if 0 < k {
+        let row = k - 1;
+        return Target::At(wide(work[20 * row + 13]));
     }
     Target::Nothing
 }

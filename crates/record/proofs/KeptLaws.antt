@@ -21,7 +21,7 @@ use Rattle.definition.specs.Owner.{size}
 use Rattle.definition.proofs.Lists.{order}
 use Rattle.rows.specs.Table.{cell, spanAt, statementAt, statementsFrom}
 use Rattle.rows.proofs.TableLaws.{statement-same}
-use Rattle.places.specs.Places.{isTarget, entryIn, entriesIn, rowsForest}
+use Rattle.places.specs.Places.{rowFrom, entryIn, entriesIn, rowsForest}
 use Rattle.places.proofs.EntriesLaws.{size-stretch, entry-same, entries-same}
 use Rattle.record.specs.Marks.{Column, Chained, Counted, baseOf, hit, hits, Kept, Countable, RowTallied, Tallied}
 use Rattle.folded.specs.Shown.{baseFrom, listIn, Sized, Tree}
@@ -60,7 +60,7 @@ module _ {w w′ : List ℕ} (h : Kept w w′) where
 
   -- and so do the bases
   base-kept : (t : List ℕ) (target : Span) (n last : ℕ) → baseFrom t target w′ n last ≡ baseFrom t target w n last
-  unfolding baseFrom
+  unfolding rowFrom
   base-kept t target zero last = refl
   base-kept t target (suc k) last =
       let back = base-kept t target k (cell w k 16) in

@@ -16,10 +16,11 @@ use Rattle.definition.specs.Listing.{members#}
 use Rattle.definition.specs.Owner.{size}
 use Rattle.definition.proofs.LayoutLaws.{redefiners-hit, redefiners-miss, redefiners-ends, redefiners-next}
 use Rattle.rows.specs.Table.{cell, spanAt}
-use Rattle.places.specs.Places.{isTarget, placeAt, entryIn, entriesIn}
+use Rattle.places.specs.Places.{isTarget, rowFrom, placeAt, entryIn, entriesIn}
+use Rattle.places.proofs.SearchLaws.{if-most, row-low, row-most}
 use Rattle.layout.proofs.SizeLaws.{never}
 use Rattle.folded.specs.Shown.{baseFrom, Open, Marked}
-use Rattle.folded.proofs.BaseLaws.{if-most, if-not, base-low, base-most, back, back-none, back-step, swapped, opens, passes, differs, closes}
+use Rattle.folded.proofs.BaseLaws.{if-not, back, back-none, back-step, swapped, opens, passes, differs, closes}
 use Rattle.record.specs.Marks.{Chained, Counted, baseOf, hit, hits}
 
 if-neither : (b : Bool) {x y z : ℕ} → (b ≡ true → x ≡ z → ⊥) → (y ≡ z → ⊥) → (if b then x else y) ≡ z → ⊥
@@ -31,10 +32,10 @@ module _ (t w : List ℕ) where
   base-own : (k last : ℕ) → cell w k 16 ≡ last → last ≤ k → baseOf t w k ≡ (if given (spanAt (cell w k 6)) then back t w (spanAt (cell w k 6)) last else 0)
   base-own k last e l =
       let r = spanAt (cell w k 6) in
-      ap (λ (x : ℕ). if given r then x else 0) (ap (baseFrom t r w k) e ∙ base-low t w r k last l)
+      ap (λ (x : ℕ). if given r then x else 0) (ap (baseFrom t r w k) e ∙ row-low t w r true k last l)
 
   pub base-within : (k : ℕ) → baseOf t w k ≤ k
-  base-within k = let r = spanAt (cell w k 6) in if-most (given r) (base-most t w r k (cell w k 16)) (omega arith)
+  base-within k = let r = spanAt (cell w k 6) in if-most (given r) (row-most t w r true k (cell w k 16)) (omega arith)
 
   -- ---------------------------------------------------------------- rows that redefine another
 
@@ -112,7 +113,7 @@ module _ (t w : List ℕ) where
 
   -- no row redefines a redefiner
   never-found : (i : ℕ) → given (spanAt (cell w i 6)) ≡ true → (target : Span) (n last : ℕ) → baseFrom t target w n last ≡ suc i → ⊥
-  unfolding baseFrom
+  unfolding rowFrom
   never-found i g target zero last e = omega arith
   never-found i g target (suc k) last e =
       let back = never-found i g target k (cell w k 16) in
@@ -242,7 +243,7 @@ module _ (t w : List ℕ) where
               arith,
               h i (omega arith) (omega arith),
               low-hit i k (omega arith),
-              none-forest later i n (suc k) (ch .2) (omega arith) (omega arith) (λ target e. omega (arith, base-most t w target (suc k) (suc k))),
+              none-forest later i n (suc k) (ch .2) (omega arith) (omega arith) (λ target e. omega (arith, row-most t w target true (suc k) (suc k))),
             )),
         rest (λ i a b. omega (arith, h i (omega arith) (omega arith), low-hit i k (omega arith), high-forest kids i (suc k) (omega arith))),
       )

@@ -7,36 +7,14 @@ ghost use Rattle.definition.specs.Calls.{recordFields};
 ghost use Rattle.places.specs.Places.{rowsForest};
 ghost use Rattle.layout.specs.Steps.{Room};
 ghost use Rattle.rows.specs.Table.{cell};
-ghost use Rattle.folded.specs.Shown.{baseFrom};
 ghost use Rattle.record.specs.Marks.{baseOf, Countable, RowTallied, Tallied};
 ghost use Rattle.record.specs.Laying.{FieldsFrom, RecordIs, fieldsOf};
 use definition::Check;
 use definition::Refusal;
-use definition::Span;
 use layout::LaidList;
 use reading::RowsRead;
 
 // ---------------------------------------------------------------- the redefiners counted
-
-// The latest base of that name from `last` back: its row and 1, or 0 for none.
-fn find_base(text: &[u8], work: &[u32], target: Span, last: usize) -> usize
-    requires { ⌜ 20 * last ≤ length (now work) ⌝ }
-    ensures { λ r. ⌜ r ≡ baseFrom (now (text .entry)) target (now (work .entry)) last last ⌝ }
-{
-    let mut k = last;
-    while 0 < k {
-        let row = k - 1;
-        if places::is_target(text, work, target, row, true) {
-            return k;
-        }
-        let before = places::wide(work[20 * row + 16]);
-        if row < before {
-            return 0;
-        }
-        k = before;
-    }
-    0
-}
 
 // The base that row k redefines: its row and 1, or 0 for none.
 fn base_of(text: &[u8], work: &[u32], k: usize) -> usize
@@ -49,7 +27,7 @@ fn base_of(text: &[u8], work: &[u32], k: usize) -> usize
         if k < last {
             return 0;
         }
-        return find_base(text, work, redefines, last);
+        return places::find_row(text, work, redefines, last, true);
     }
     0
 }

@@ -12,7 +12,7 @@ use Rattle.definition.specs.Basic.{if_then_else_, given}
 use Rattle.rows.specs.Table.{spanAt, cell}
 use Rattle.folded.specs.Shown.{baseFrom}
 use Rattle.record.specs.Marks.{baseOf}
-use Rattle.folded.proofs.BaseLaws.{base-low, base-over}
+use Rattle.places.proofs.SearchLaws.{row-low, row-over}
 use Rattle.record.proofs.base_of.Statement.{statement}
 use Rattle.record.proofs.base_of.Tie as tie
 
@@ -25,10 +25,10 @@ module _ (t w : List ℕ) (k : ℕ) {s : Span} (p : s ≡ spanAt (cell w k 6)) w
     named = sym (ap (λ (b : Bool). if b then baseFrom t s w k (cell w k 16) else 0) (lt-ltb 0 (s .len) h)) ∙ whole
 
     past : k < last → 0 ≡ baseOf t w k
-    past l = sym (base-over t w s k (cell w k 16) (omega arith)) ∙ named
+    past l = sym (row-over t w s true k (cell w k 16) (omega arith)) ∙ named
 
     found : last ≤ k → {r : ℕ} → r ≡ baseFrom t s w last last → r ≡ baseOf t w k
-    found l e = e ∙ sym (base-low t w s k last l) ∙ ap (baseFrom t s w k) q ∙ named
+    found l e = e ∙ sym (row-low t w s true k last l) ∙ ap (baseFrom t s w k) q ∙ named
 
   unnamed : s .len ≤ 0 → 0 ≡ baseOf t w k
   unnamed h = sym (ap (λ (b : Bool). if b then baseFrom t s w k (cell w k 16) else 0) (le-ltb 0 (s .len) h)) ∙ whole

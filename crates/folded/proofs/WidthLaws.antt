@@ -71,6 +71,10 @@ module _ {t w : List ℕ} {i j to : ℕ} (b : Branch t w i j to) where
           absurd (not-either a (sym (ap (λ (y : Bool). if y then (if a then Standing.Under else Standing.Alone) else Standing.Base) q) ∙ x))
       stands-base false q x = q
 
+-- the children of a base
+pub own-tree : {t w : List ℕ} {i j to : ℕ} → Base t w i j to → Tree t w (i + 1) j
+own-tree b = branch-tree (b .branch)
+
 -- ---------------------------------------------------------------- a union
 
 module _ (t w : List ℕ) (i j to : ℕ) where

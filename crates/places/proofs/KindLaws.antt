@@ -9,11 +9,8 @@ use Rattle.definition.specs.declared.SignKind.{SignKind}
 use Rattle.definition.specs.declared.NumRepr.{NumRepr}
 use Rattle.definition.specs.declared.FieldKind.{FieldKind}
 use Rattle.definition.specs.Listing.{flag, signByte, storageByte}
+use Rattle.rows.proofs.TableLaws.{flag-back}
 use Rattle.places.specs.Places.{kindCode, signOfByte, storageOfByte, kindOfCode, Bytes}
-
-flag-back : (b : Bool) → eqb (flag b) 1 ≡ b
-flag-back true = refl
-flag-back false = refl
 
 flag-few : (b : Bool) → flag b < 2
 flag-few true = omega arith

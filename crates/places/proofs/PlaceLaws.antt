@@ -7,8 +7,8 @@ use mathlib.Core.List.{List, [], _∷_}
 use mathlib.Core.Logic.{⊎-elim}
 use native.Mathlib.Omega.{arith}
 use lib.Dec.{lit<}
-use lib.ListN.{length, getD, set, length-set}
-use lib.Seq.{sets, set-comm, length-sets, getD-set-other, getD-set-same}
+use lib.ListN.{length, getD, set}
+use lib.Seq.{sets, set-comm, length-sets}
 use borrow.Author.Tests.{eq-eqb, ne-eqb}
 use Rattle.definition.specs.declared.Statement.{Statement}
 use Rattle.definition.specs.declared.Entry.{Entry}
@@ -16,7 +16,7 @@ use Rattle.definition.specs.Fold.{Entries, end, entry}
 use Rattle.definition.specs.Search.{entries#}
 use Rattle.definition.proofs.Lists.{order}
 use Rattle.rows.specs.Table.{cell, statementAt, statementsFrom}
-use Rattle.rows.proofs.TableLaws.{statement-same}
+use Rattle.rows.proofs.TableLaws.{getD-below, getD-above, getD-in, statement-same}
 use Rattle.places.specs.Places.{kindCode, placeCells, putPlace, putPlaces, placeAt, leftOut, seenFrom}
 
 -- ---------------------------------------------------------------- runs of stores
@@ -30,20 +30,6 @@ sets-sets : (us vs l : List ℕ) (i j : ℕ) → j + length us ≤ i → sets (s
 sets-sets [] vs l i j h = refl
 sets-sets (u ∷ us) vs l i j h =
     ap (λ (x : List ℕ). sets x (suc j) us) (set-sets vs l i j u (omega arith)) ∙ sets-sets us vs (set l j u) i (suc j) (omega arith)
-
-getD-below : (vs l : List ℕ) (i j : ℕ) → j < i → getD (sets l i vs) j 0 ≡ getD l j 0
-getD-below [] l i j h = refl
-getD-below (v ∷ vs) l i j h = getD-below vs (set l i v) (suc i) j (omega arith) ∙ getD-set-other l i j v 0 (omega arith)
-
-getD-above : (vs l : List ℕ) (i j : ℕ) → i + length vs ≤ j → getD (sets l i vs) j 0 ≡ getD l j 0
-getD-above [] l i j h = refl
-getD-above (v ∷ vs) l i j h = getD-above vs (set l i v) (suc i) j (omega arith) ∙ getD-set-other l i j v 0 (omega arith)
-
-getD-in : (vs l : List ℕ) (i c j : ℕ) → j ≡ i + c → c < length vs → i + length vs ≤ length l → getD (sets l i vs) j 0 ≡ getD vs c 0
-getD-in [] l i c j e h fits = absurd (omega arith)
-getD-in (v ∷ vs) l i zero j e h fits =
-    getD-below vs (set l i v) (suc i) j (omega arith) ∙ ap (λ (n : ℕ). getD (set l i v) n 0) (let q : j ≡ i = omega arith in q) ∙ getD-set-same l i v 0 (omega arith)
-getD-in (v ∷ vs) l i (suc c) j e h fits = getD-in vs (set l i v) (suc i) c j (omega arith) (omega arith) (simp length-set (omega arith))
 
 -- ---------------------------------------------------------------- one place
 

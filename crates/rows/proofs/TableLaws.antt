@@ -45,7 +45,7 @@ sign-back (SignWords.Said true false) = refl
 sign-back (SignWords.Said false true) = refl
 sign-back (SignWords.Said true true) = refl
 
-flag-back : (b : Bool) → eqb (flag b) 1 ≡ b
+pub flag-back : (b : Bool) → eqb (flag b) 1 ≡ b
 flag-back true = refl
 flag-back false = refl
 
@@ -55,22 +55,19 @@ occurs-back (Occurs.Times n) = ap Occurs.Times (div-add-mod' n 4294967296)
 
 -- ---------------------------------------------------------------- a run of stores
 
-getD-below : (vs l : List ℕ) (i j : ℕ) → j < i → getD (sets l i vs) j 0 ≡ getD l j 0
+pub getD-below : (vs l : List ℕ) (i j : ℕ) → j < i → getD (sets l i vs) j 0 ≡ getD l j 0
 getD-below [] l i j h = refl
 getD-below (v ∷ vs) l i j h = getD-below vs (set l i v) (suc i) j (omega arith) ∙ getD-set-other l i j v 0 (omega arith)
 
-getD-above : (vs l : List ℕ) (i j : ℕ) → i + length vs ≤ j → getD (sets l i vs) j 0 ≡ getD l j 0
+pub getD-above : (vs l : List ℕ) (i j : ℕ) → i + length vs ≤ j → getD (sets l i vs) j 0 ≡ getD l j 0
 getD-above [] l i j h = refl
 getD-above (v ∷ vs) l i j h = getD-above vs (set l i v) (suc i) j (omega arith) ∙ getD-set-other l i j v 0 (omega arith)
 
-getD-in : (vs l : List ℕ) (i c : ℕ) → c < length vs → i + length vs ≤ length l → getD (sets l i vs) (i + c) 0 ≡ getD vs c 0
-getD-in [] l i c h fits = absurd (omega arith)
-getD-in (v ∷ vs) l i zero h fits =
-    rw add-zero (getD-below vs (set l i v) (suc i) i (omega arith) ∙ getD-set-same l i v 0 (omega arith))
-getD-in (v ∷ vs) l i (suc c) h fits =
-    let e : i + suc c ≡ suc i + c = omega arith in
-    ap (λ (n : ℕ). getD (sets (set l i v) (suc i) vs) n 0) e
-    ∙ getD-in vs (set l i v) (suc i) c (omega arith) (simp length-set (omega arith))
+pub getD-in : (vs l : List ℕ) (i c j : ℕ) → j ≡ i + c → c < length vs → i + length vs ≤ length l → getD (sets l i vs) j 0 ≡ getD vs c 0
+getD-in [] l i c j e h fits = absurd (omega arith)
+getD-in (v ∷ vs) l i zero j e h fits =
+    getD-below vs (set l i v) (suc i) j (omega arith) ∙ ap (λ (n : ℕ). getD (set l i v) n 0) (let q : j ≡ i = omega arith in q) ∙ getD-set-same l i v 0 (omega arith)
+getD-in (v ∷ vs) l i (suc c) j e h fits = getD-in vs (set l i v) (suc i) c j (omega arith) (omega arith) (simp length-set (omega arith))
 
 -- ---------------------------------------------------------------- columns
 
@@ -82,7 +79,7 @@ module _ (w : List ℕ) (a depth : ℕ) (s : Statement) where
   -- a stored column, the columns of a row that no statement takes, and the columns of another row
   cell-put : 20 * a + 20 ≤ length w → (c : ℕ) → c < 13 → cell (putRow w a depth s) a c ≡ getD (cells depth s) c 0
   unfolding putRow
-  cell-put h c l = getD-in (cells depth s) w (20 * a) c l (omega arith)
+  cell-put h c l = getD-in (cells depth s) w (20 * a) c (20 * a + c) refl l (omega arith)
 
   pub cell-beyond : (c : ℕ) → 13 ≤ c → cell (putRow w a depth s) a c ≡ cell w a c
   unfolding putRow

@@ -10,8 +10,8 @@ use Rattle.definition.specs.declared.Span.{Span}
 use Rattle.definition.specs.Fold.{hasMember}
 use Rattle.rows.specs.Table.{cell, spanAt}
 use Rattle.layout.specs.Bare.{foldedAll}
-use Rattle.folded.specs.Shown.{listIn, Tree, Base}
-use Rattle.folded.proofs.WidthLaws.{branch-tree}
+use Rattle.folded.specs.Shown.{listIn}
+use Rattle.folded.proofs.WidthLaws.{own-tree}
 use Rattle.writer.specs.Written.{ownMember}
 use Rattle.writer.proofs.has_own.Statement.{statement}
 use Rattle.writer.proofs.has_own.Tie as tie
@@ -25,9 +25,6 @@ own-is t w i j {name} q p =
     p
     ∙ ap (λ (n : ℕ). hasMember t name (foldedAll t (listIn w n j))) (add-one i)
     ∙ ap (λ (s : Span). hasMember t s (foldedAll t (listIn w (suc i) j))) q
-
-own-tree : {t w : List ℕ} {i j to : ℕ} → Base t w i j to → Tree t w (i + 1) j
-own-tree b = branch-tree (b .branch)
 
 has-member-requires : tie.Need-has-member-requires
 has-member-requires c κs = search own-tree

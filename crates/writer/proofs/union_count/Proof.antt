@@ -8,8 +8,8 @@ use mathlib.Core.List.{List}
 use native.Mathlib.Omega.{arith}
 use Rattle.definition.specs.Listing.{members#}
 use Rattle.layout.specs.Bare.{foldedAll}
-use Rattle.folded.specs.Shown.{listIn, redefinersIn, Tree, Base}
-use Rattle.folded.proofs.WidthLaws.{branch-tree}
+use Rattle.folded.specs.Shown.{listIn, redefinersIn}
+use Rattle.folded.proofs.WidthLaws.{own-tree}
 use Rattle.writer.specs.Written.{unionIn, ownMember}
 use Rattle.writer.proofs.WriteLaws.{count-folded, count-based}
 use Rattle.writer.proofs.union_count.Statement.{statement}
@@ -21,9 +21,6 @@ module _ (t w : List ℕ) (i j to : ℕ) (f : members# (unionIn t w i j to) < 42
 
   small-based : o ≡ false → n + 1 < 18446744073709551616
   small-based e = omega (arith, count-based t w i j to p c e)
-
-own-tree : {t w : List ℕ} {i j to : ℕ} → Base t w i j to → Tree t w (i + 1) j
-own-tree b = branch-tree (b .branch)
 
 folded-count-requires : tie.Need-folded-count-requires
 folded-count-requires c κs = search own-tree

@@ -4,7 +4,6 @@
 use crate::copybook::{self, Usage};
 use crate::layout::{Field, FieldKind, Layout, NumRepr, SignKind};
 use crate::reading::{self, Reading, Refused, Shape, Span, Statement};
-use crate::Error;
 use std::panic;
 
 /// What the Rust did: it answered, it panicked (it is built with overflow checks), or it was not asked.

@@ -32,6 +32,13 @@ fn usage_of(n: u8) -> Usage
     Usage::Comp
 }
 
+// Whether no usage has this number.
+fn no_usage(n: u8) -> bool
+    ensures { λ r. ⌜ r ≡ noUsage n ⌝ }
+{
+    2 < n
+}
+
 // A sign by its number.
 fn sign_of(n: u8) -> SignClause
     ensures { λ r. ⌜ r ≡ signOf n ⌝ }
@@ -230,7 +237,7 @@ fn hand_on_owner(o: OwnerAnswer, answer: &mut [u64]) -> u32
 
 // The layout listing of a copybook, as `copybook::layout_listing` says. To `answer`, 2 numbers: the bytes written, and 0; or position and
 // needed length.
-// The contract rules out a call that returns 0 for a refusal, and one that writes to an `answer` of one number.
+// The contract rules out a call that writes to an `answer` of one number, and one that puts the needed length before the position.
 #[no_mangle]
 pub extern "C" fn copybook_layout(
     text: &[u8],
@@ -256,7 +263,7 @@ pub extern "C" fn copybook_picture(pic: &[u8], usage: u8, sign: u8, answer: &mut
     ensures { λ r. ⌜ r ≡ (if noUsage usage || noSign sign then 255 else returned (pictureAnswer (usageOf usage) (signOf sign) (now (pic .entry)))) ⌝ }
     ensures { λ _. ⌜ now (answer .exit) ≡ (if noUsage usage || noSign sign then now (answer .entry) else answered (pictureNumbers (pictureAnswer (usageOf usage) (signOf sign) (now (pic .entry)))) (now (answer .entry))) ⌝ }
 {
-    if 2 < usage {
+    if no_usage(usage) {
         return 255;
     }
     if 4 < sign {
@@ -268,14 +275,14 @@ pub extern "C" fn copybook_picture(pic: &[u8], usage: u8, sign: u8, answer: &mut
 
 // The mask of a picture that is edited under the usage, as `copybook::mask` says. To `answer`, 2 numbers, as `copybook_layout`. 255, and nothing
 // touched, for a usage above 2.
-// The contract rules out a call that says 0 bytes of a mask that it wrote, and one that writes to the output and refuses.
+// The contract rules out a call that says 0 bytes of a mask that it wrote, and one that takes usage 3 for COMP.
 #[no_mangle]
 pub extern "C" fn copybook_mask(pic: &[u8], usage: u8, out: &mut [u8], answer: &mut [u64]) -> u32
     ensures { λ r. ⌜ r ≡ (if noUsage usage then 255 else returned (maskCall (usageOf usage) (now (pic .entry)) (now (out .entry)) .answer)) ⌝ }
     ensures { λ _. ⌜ now (answer .exit) ≡ (if noUsage usage then now (answer .entry) else answered (writingNumbers (maskCall (usageOf usage) (now (pic .entry)) (now (out .entry)) .answer)) (now (answer .entry))) ⌝ }
     ensures { λ _. ⌜ now (out .exit) ≡ (if noUsage usage then now (out .entry) else maskCall (usageOf usage) (now (pic .entry)) (now (out .entry)) .output) ⌝ }
 {
-    if 2 < usage {
+    if no_usage(usage) {
         return 255;
     }
     let w = copybook::mask(pic, usage_of(usage), out);
@@ -284,7 +291,7 @@ pub extern "C" fn copybook_mask(pic: &[u8], usage: u8, out: &mut [u8], answer: &
 
 // The owner of a byte of the record, as `copybook::byte_owner` says. To `answer`, 4 numbers: 0, the entry's number, the piece's first byte and the place inside
 // it; or 1 for slack, the number of the entry it precedes, and zeros; or position, needed length and zeros.
-// The contract rules out a call that says slack of a piece, and one that leaves work memory as the walk left it.
+// The contract rules out a call that says slack of a piece, and one that takes the piece's first byte for the place inside it.
 #[no_mangle]
 pub extern "C" fn copybook_owner(
     text: &[u8],
@@ -302,7 +309,7 @@ pub extern "C" fn copybook_owner(
 
 // Whether a record of `len` bytes is long enough for a layout of `record_len` bytes, as `copybook::check_record_len` says: 0, or 42. `variable` is 0
 // for a fixed record, and any other number for a variable one.
-// The contract rules out a call that checks a variable record, and one that refuses a record of just the length.
+// The contract rules out a call that checks a variable record, and one that takes the two lengths for each other.
 #[no_mangle]
 pub extern "C" fn copybook_check_record(record_len: u64, variable: u8, len: u64) -> u32
     ensures { λ r. ⌜ r ≡ returned (recordCheck record_len (marked variable) len) ⌝ }

@@ -2,13 +2,15 @@
 -- Assumes nothing.
 use borrow.Author.Needs.{needs}
 use mathlib.Core.Path.{refl}
-use borrow.Author.Tests.{lt-ltb, le-ltb}
 use Rattle.copybook_c.proofs.Handing.{handed}
 use Rattle.copybook_c.proofs.copybook_mask.Statement.{statement}
 use Rattle.copybook_c.proofs.copybook_mask.Tie as tie
 
+no-usage-requires : tie.Need-no-usage-requires
+no-usage-requires c κs = search needs
+
 returns : tie.Need-returns
-returns c = rw (lt-ltb 2 _ (c .if1 .taken)) (refl, (refl, refl))
+returns c = rw (← c .before .no-usage .ensures, c .if1 .taken) (refl, (refl, refl))
 
 usage-of-requires : tie.Need-usage-of-requires
 usage-of-requires c κs = search needs
@@ -28,12 +30,13 @@ same-length-2 c = search needs
 returns-2 : tie.Need-returns-2
 returns-2 c =
     let f = handed _ _ _ _ _ _ _ (c .before .before .before .before .before .before .mask .ensures) (c .before .before .hand-on .ensures) in
-    rw (le-ltb 2 _ (c .before .before .before .before .before .before .before .before .before .if1 .left), ← c .before .before .before .before .before .before .before .before .usage-of .ensures) (f .0, (f .1 .0, f .1 .1 .0))
+    rw (← c .before .before .before .before .before .before .before .before .before .before .no-usage .ensures, c .before .before .before .before .before .before .before .before .before .if1 .left, ← c .before .before .before .before .before .before .before .before .usage-of .ensures) (f .0, (f .1 .0, f .1 .1 .0))
 
 pub copybook-mask-spec : {M : Type 1} → statement M
 copybook-mask-spec =
     tie.close
     (tie.spec
+    no-usage-requires
     returns
     usage-of-requires
     mask-requires

@@ -6,11 +6,14 @@ use borrow.Author.Tests.{lt-ltb, le-ltb}
 use Rattle.copybook_c.proofs.copybook_picture.Statement.{statement}
 use Rattle.copybook_c.proofs.copybook_picture.Tie as tie
 
+no-usage-requires : tie.Need-no-usage-requires
+no-usage-requires c κs = search needs
+
 returns : tie.Need-returns
-returns c = rw (lt-ltb 2 _ (c .if1 .taken)) (refl, refl)
+returns c = rw (← c .before .no-usage .ensures, c .if1 .taken) (refl, refl)
 
 returns-2 : tie.Need-returns-2
-returns-2 c = rw (le-ltb 2 _ (c .before .if1 .left), lt-ltb 4 _ (c .if2 .taken)) (refl, refl)
+returns-2 c = rw (← c .before .before .no-usage .ensures, c .before .if1 .left, lt-ltb 4 _ (c .if2 .taken)) (refl, refl)
 
 usage-of-requires : tie.Need-usage-of-requires
 usage-of-requires c κs = search needs
@@ -29,13 +32,14 @@ same-length c = search needs
 
 returns-3 : tie.Need-returns-3
 returns-3 c =
-    rw (le-ltb 2 _ (c .before .before .before .before .before .before .before .before .if1 .left), le-ltb 4 _ (c .before .before .before .before .before .before .before .if2 .left), ← c .before .before .before .before .before .before .usage-of .ensures, ← c .before .before .before .before .before .sign-of .ensures, ← c .before .before .before .before .parse-pic .ensures)
+    rw (← c .before .before .before .before .before .before .before .before .before .no-usage .ensures, c .before .before .before .before .before .before .before .before .if1 .left, le-ltb 4 _ (c .before .before .before .before .before .before .before .if2 .left), ← c .before .before .before .before .before .before .usage-of .ensures, ← c .before .before .before .before .before .sign-of .ensures, ← c .before .before .before .before .parse-pic .ensures)
     (c .before .before .hand-on-picture .ensures)
 
 pub copybook-picture-spec : {M : Type 1} → statement M
 copybook-picture-spec =
     tie.close
     (tie.spec
+    no-usage-requires
     returns
     returns-2
     usage-of-requires

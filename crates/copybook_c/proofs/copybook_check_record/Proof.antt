@@ -1,7 +1,7 @@
 -- `copybook_c::copybook_check_record` meets its contract, answer by answer.
 -- Assumes nothing.
 use borrow.Author.Needs.{needs}
-use Rattle.copybook_c.proofs.Handing.{passed, short-record}
+use Rattle.numbers.proofs.Handing.{passed, short-record}
 use Rattle.copybook_c.proofs.copybook_check_record.Statement.{statement}
 use Rattle.copybook_c.proofs.copybook_check_record.Tie as tie
 

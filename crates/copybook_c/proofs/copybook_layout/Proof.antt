@@ -1,7 +1,7 @@
 -- `copybook_c::copybook_layout` meets its contract: the entry's answer, handed on.
 -- Assumes nothing.
 use borrow.Author.Needs.{needs}
-use Rattle.copybook_c.proofs.Handing.{handed}
+use Rattle.numbers.proofs.Handing.{handed}
 use Rattle.copybook_c.proofs.copybook_layout.Statement.{statement}
 use Rattle.copybook_c.proofs.copybook_layout.Tie as tie
 

@@ -2,7 +2,7 @@
 -- Assumes nothing.
 use borrow.Author.Needs.{needs}
 use mathlib.Core.Path.{refl}
-use Rattle.copybook_c.proofs.Handing.{handed}
+use Rattle.numbers.proofs.Handing.{handed}
 use Rattle.copybook_c.proofs.copybook_mask.Statement.{statement}
 use Rattle.copybook_c.proofs.copybook_mask.Tie as tie
 

@@ -1,7 +1,7 @@
 -- `copybook_c::copybook_owner` meets its contract: the entry's answer, handed on.
 -- Assumes nothing.
 use borrow.Author.Needs.{needs}
-use Rattle.copybook_c.proofs.Handing.{owner-handed}
+use Rattle.numbers.proofs.Handing.{owner-handed}
 use Rattle.copybook_c.proofs.copybook_owner.Statement.{statement}
 use Rattle.copybook_c.proofs.copybook_owner.Tie as tie
 

@@ -8,7 +8,7 @@ use lib.Seq.{sets, sets-eq}
 use native.Mathlib.Nat.{zero-add}
 use native.Mathlib.Omega.{arith}
 use borrow.Author.Tests.{lt-ltb, le-ltb}
-use Rattle.copybook_c.specs.Numbers.{answered}
+use Rattle.numbers.specs.Numbers.{answered}
 
 pub short : (numbers l : List ℕ) → length l < length numbers → l ≡ answered numbers l
 unfolding answered

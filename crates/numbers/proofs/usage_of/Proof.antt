@@ -1,12 +1,12 @@
--- `copybook_c::usage_of` meets its contract, number by number.
+-- `numbers::usage_of` meets its contract, number by number.
 -- Assumes nothing.
 use Prim.Native.Nat.{ℕ}
 use mathlib.Core.Path.{_≡_}
 use borrow.Author.Tests.{eq-eqb, ne-eqb}
 use Rattle.definition.specs.declared.Usage.{Usage}
-use Rattle.copybook_c.specs.Numbers.{usageOf}
-use Rattle.copybook_c.proofs.usage_of.Statement.{statement}
-use Rattle.copybook_c.proofs.usage_of.Tie as tie
+use Rattle.numbers.specs.Numbers.{usageOf}
+use Rattle.numbers.proofs.usage_of.Statement.{statement}
+use Rattle.numbers.proofs.usage_of.Tie as tie
 
 module _ {n : ℕ} where
   first : n ≡ 0 → Usage.Display ≡ usageOf n

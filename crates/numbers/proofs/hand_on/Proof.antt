@@ -1,9 +1,9 @@
--- `copybook_c::hand_on` meets its contract, answer by answer.
+-- `numbers::hand_on` meets its contract, answer by answer.
 -- Assumes nothing.
 use borrow.Author.Needs.{needs}
-use Rattle.copybook_c.proofs.Handing.{written, refused}
-use Rattle.copybook_c.proofs.hand_on.Statement.{statement}
-use Rattle.copybook_c.proofs.hand_on.Tie as tie
+use Rattle.numbers.proofs.Handing.{written, refused}
+use Rattle.numbers.proofs.hand_on.Statement.{statement}
+use Rattle.numbers.proofs.hand_on.Tie as tie
 
 enum-known-w : tie.Need-enum-known-w
 enum-known-w c = search needs

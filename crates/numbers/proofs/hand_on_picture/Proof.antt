@@ -1,9 +1,9 @@
--- `copybook_c::hand_on_picture` meets its contract, answer by answer.
+-- `numbers::hand_on_picture` meets its contract, answer by answer.
 -- Assumes nothing.
 use borrow.Author.Needs.{needs}
-use Rattle.copybook_c.proofs.Handing.{pictured, no-picture}
-use Rattle.copybook_c.proofs.hand_on_picture.Statement.{statement}
-use Rattle.copybook_c.proofs.hand_on_picture.Tie as tie
+use Rattle.numbers.proofs.Handing.{pictured, no-picture}
+use Rattle.numbers.proofs.hand_on_picture.Statement.{statement}
+use Rattle.numbers.proofs.hand_on_picture.Tie as tie
 
 enum-known-p : tie.Need-enum-known-p
 enum-known-p c = search needs

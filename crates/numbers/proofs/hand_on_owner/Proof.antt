@@ -1,9 +1,9 @@
--- `copybook_c::hand_on_owner` meets its contract, answer by answer.
+-- `numbers::hand_on_owner` meets its contract, answer by answer.
 -- Assumes nothing.
 use borrow.Author.Needs.{needs}
-use Rattle.copybook_c.proofs.Handing.{piece, slack, no-owner}
-use Rattle.copybook_c.proofs.hand_on_owner.Statement.{statement}
-use Rattle.copybook_c.proofs.hand_on_owner.Tie as tie
+use Rattle.numbers.proofs.Handing.{piece, slack, no-owner}
+use Rattle.numbers.proofs.hand_on_owner.Statement.{statement}
+use Rattle.numbers.proofs.hand_on_owner.Tie as tie
 
 enum-known-o : tie.Need-enum-known-o
 enum-known-o c = search needs

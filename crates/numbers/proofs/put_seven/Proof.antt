@@ -1,11 +1,11 @@
--- `copybook_c::put_four` meets its contract: four stores, or none.
+-- `numbers::put_seven` meets its contract: seven stores, or none.
 -- Assumes nothing.
 use borrow.Author.Needs.{needs}
 use native.Mathlib.Omega.{arith}
 use lib.ListN.{length-set}
-use Rattle.copybook_c.proofs.Answering.{short, four}
-use Rattle.copybook_c.proofs.put_four.Statement.{statement}
-use Rattle.copybook_c.proofs.put_four.Tie as tie
+use Rattle.numbers.proofs.Answering.{short, seven}
+use Rattle.numbers.proofs.put_seven.Statement.{statement}
+use Rattle.numbers.proofs.put_seven.Tie as tie
 
 returns : tie.Need-returns
 returns c = search short
@@ -20,16 +20,25 @@ slice-write-answer-3 : tie.Need-slice-write-answer-3
 slice-write-answer-3 c = simp length-set (omega arith)
 
 slice-write-answer-4 : tie.Need-slice-write-answer-4
-slice-write-answer-4 c = search needs
+slice-write-answer-4 c = simp length-set (omega arith)
+
+slice-write-answer-5 : tie.Need-slice-write-answer-5
+slice-write-answer-5 c = simp length-set (omega arith)
+
+slice-write-answer-6 : tie.Need-slice-write-answer-6
+slice-write-answer-6 c = simp length-set (omega arith)
+
+slice-write-answer-7 : tie.Need-slice-write-answer-7
+slice-write-answer-7 c = search needs
 
 same-length : tie.Need-same-length
 same-length c = search needs
 
 returns-2 : tie.Need-returns-2
-returns-2 c = search four
+returns-2 c = search seven
 
-pub put-four-spec : {M : Type 1} → statement M
-put-four-spec =
+pub put-seven-spec : {M : Type 1} → statement M
+put-seven-spec =
     tie.close
     (tie.spec
     returns
@@ -37,5 +46,8 @@ put-four-spec =
     slice-write-answer-2
     slice-write-answer-3
     slice-write-answer-4
+    slice-write-answer-5
+    slice-write-answer-6
+    slice-write-answer-7
     same-length
     returns-2)

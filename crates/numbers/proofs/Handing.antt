@@ -13,7 +13,7 @@ use Rattle.definition.specs.declared.OwnerAnswer.{OwnerAnswer}
 use Rattle.definition.specs.Basic.{Answer}
 use Rattle.definition.specs.Calls.{After, left, writingOf, pictureOf, ownerAnswerOf, checkOf}
 use Rattle.definition.specs.Listing.{kindByte}
-use Rattle.copybook_c.specs.Numbers.{returned, writingNumbers, kindNumbers, pictureNumbers, ownerNumbers, answered}
+use Rattle.numbers.specs.Numbers.{returned, writingNumbers, kindNumbers, pictureNumbers, ownerNumbers, answered}
 
 -- the answer of a call that writes bytes
 module _ {w : Writing} (l l′ : List ℕ) where

@@ -1,9 +1,9 @@
--- `copybook_c::details_of` meets its contract, kind by kind.
+-- `numbers::details_of` meets its contract, kind by kind.
 -- Assumes nothing.
 use borrow.Author.Needs.{needs}
 use mathlib.Core.Path.{_∙_}
-use Rattle.copybook_c.proofs.details_of.Statement.{statement}
-use Rattle.copybook_c.proofs.details_of.Tie as tie
+use Rattle.numbers.proofs.details_of.Statement.{statement}
+use Rattle.numbers.proofs.details_of.Tie as tie
 
 enum-told : tie.Need-enum-told
 enum-told c = search needs

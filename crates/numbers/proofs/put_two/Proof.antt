@@ -1,9 +1,9 @@
--- `copybook_c::put_two` meets its contract: two stores, or none.
+-- `numbers::put_two` meets its contract: two stores, or none.
 -- Assumes nothing.
 use borrow.Author.Needs.{needs}
-use Rattle.copybook_c.proofs.Answering.{short, two}
-use Rattle.copybook_c.proofs.put_two.Statement.{statement}
-use Rattle.copybook_c.proofs.put_two.Tie as tie
+use Rattle.numbers.proofs.Answering.{short, two}
+use Rattle.numbers.proofs.put_two.Statement.{statement}
+use Rattle.numbers.proofs.put_two.Tie as tie
 
 returns : tie.Need-returns
 returns c = search short

@@ -1,13 +1,13 @@
--- `copybook_c::sign_of` meets its contract, number by number.
+-- `numbers::sign_of` meets its contract, number by number.
 -- Assumes nothing.
 use Prim.Native.Nat.{ℕ}
 use mathlib.Core.Path.{_≡_}
 use borrow.Author.Tests.{eq-eqb, ne-eqb}
 use Rattle.definition.specs.declared.SignKind.{SignKind}
 use Rattle.definition.specs.declared.SignClause.{SignClause}
-use Rattle.copybook_c.specs.Numbers.{signOf}
-use Rattle.copybook_c.proofs.sign_of.Statement.{statement}
-use Rattle.copybook_c.proofs.sign_of.Tie as tie
+use Rattle.numbers.specs.Numbers.{signOf}
+use Rattle.numbers.proofs.sign_of.Statement.{statement}
+use Rattle.numbers.proofs.sign_of.Tie as tie
 
 module _ {n : ℕ} where
   first : n ≡ 0 → SignClause.Absent ≡ signOf n

@@ -9,11 +9,10 @@ use Rattle.definition.specs.declared.Refusal.{Refusal}
 use Rattle.definition.specs.declared.Writing.{Writing}
 use Rattle.definition.specs.Basic.{Answer, refuse, give, _>>=_}
 use Rattle.definition.specs.Calls.{left, recordFields, entries, fitting, layoutListing, byteOwner, cleared, afterWriting, layoutCall, ownerCall, ownerAnswerOf, writingOf}
-use Rattle.definition.specs.Fold.{Entries}
+use Rattle.definition.specs.Fold.{Entries, foldedAll}
 use Rattle.definition.specs.Listing.{listing}
 use Rattle.definition.specs.Record.{layout}
 use Rattle.definition.specs.Tree.{Forest}
-use Rattle.layout.specs.Bare.{foldedAll}
 use Rattle.layout.proofs.BareLaws.{layout-is}
 use Rattle.record.specs.Laying.{laidOf}
 

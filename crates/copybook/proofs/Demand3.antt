@@ -18,7 +18,7 @@ use Rattle.definition.specs.Statement.{statements}
 use Rattle.definition.specs.Tree.{Forest, forest, fields}
 use Rattle.definition.specs.Words.{statementWords}
 use Rattle.definition.proofs.Answers.{give-next, through, given-same}
-use Rattle.definition.proofs.Demand3.{demand3 as defined, read-fields, answers, refuses-40, refuses-41}
+use Rattle.definition.proofs.Demand3.{demand3 as defined, read-fields, refuses-40, refuses-41}
 use Rattle.copybook.specs.Answered.{Listing, Owns, Answered}
 
 -- ---------------------------------------------------------------- the listing that was written
@@ -78,7 +78,7 @@ demand3 text out work n out′ work′ h =
       written = ap₂ take (w .long) (w .after) ∙ take-append-seam (w .bytes) (drop (length (w .bytes)) out) ∙ sym same;
       behind = ap₂ drop (w .long) (w .after) ∙ drop-append-seam (w .bytes) (drop (length (w .bytes)) out) ∙ ap (λ (m : ℕ). drop m out) (sym (w .long));
       kept = k;
-      names = λ free p l. (k .demand free .one-owner p l, owns text (length work) (k .of) (k .read) p (answers text (k .of) es (k .laidOut) free p l));
+      names = λ free p l. owns text (length work) (k .of) (k .read) p (sym (read-fields text (length work) (k .of) (k .read) .1 p) ∙ k .demand free .named p l);
       ends = λ free p l. owns text (length work) (k .of) (k .read) p (refuses-41 text (k .of) es (k .laidOut) free p l);
       refuses = λ over p. owns text (length work) (k .of) (k .read) p (refuses-40 text (k .of) es (k .laidOut) over p);
     }

@@ -22,9 +22,26 @@ use record::RecordLaid;
 pub fn layout_listing(text: &[u8], work: &mut [u32], out: &mut [u8]) -> Writing
     ensures { λ r. ⌜ left (writingOf r) (now (out .exit)) (now (work .exit)) ≡ layoutCall (now (text .entry)) (now (out .entry)) (now (work .entry)) ⌝ }
 {
-    match record::read_record(text, work) {
-        RecordLaid::Record { from, to, length } => {
-            let answer = writer::write_listing(text, work, from, to, length, out);
+    let mut entries = [0u32; 8400];
+    match record::read_record(text, work, &mut entries) {
+        RecordLaid::Record {
+            from,
+            to,
+            length,
+            count,
+            top,
+        } => {
+            let answer = writer::write_listing(
+                text,
+                work,
+                &entries,
+                from,
+                to,
+                length,
+                count,
+                top,
+                out,
+            );
             rows::clear(work);
             return answer;
         }
@@ -43,8 +60,15 @@ pub fn layout_listing(text: &[u8], work: &mut [u32], out: &mut [u8]) -> Writing
 pub fn byte_owner(text: &[u8], position: usize, work: &mut [u32]) -> OwnerAnswer
     ensures { λ r. ⌜ left (ownerAnswerOf r) [] (now (work .exit)) ≡ ownerCall (now (text .entry)) position (now (work .entry)) ⌝ }
 {
-    match record::read_record(text, work) {
-        RecordLaid::Record { from, to, length } => {
+    let mut entries = [0u32; 8400];
+    match record::read_record(text, work, &mut entries) {
+        RecordLaid::Record {
+            from,
+            to,
+            length,
+            count,
+            top,
+        } => {
             let found = owner::owner_of(text, work, from, to, length, position);
             rows::clear(work);
             return found;

@@ -15,5 +15,6 @@ pub mod Slack
 pub mod Cover
 pub mod Seek
 pub mod Walk
-pub mod Numbers
+pub mod Told
 pub mod Demand3
+pub mod Occurrences

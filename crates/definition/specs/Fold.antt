@@ -114,20 +114,37 @@ withRedefiners text e members (entry r ms rs) later =
     let us = unionMembers text e members (entry r ms rs) in
     entry (union e (widest us)) us later
 
--- each base stands with its redefiners; a redefiner stands by itself only where no base has that name. 30: a redefiner that starts before its
--- base. `bases` are the earlier bases, the latest first
-unfoldable pub fold : List ℕ → List Place → Entries → Answer Entries
-fold text bases end = give end
-fold text bases (entry e members later) =
+-- 30: a redefiner that starts before its base. `bases` are the earlier bases, the latest first
+unfoldable pub foldCheck : List ℕ → List Place → Entries → Answer (Unit {0})
+foldCheck text bases end = give tt
+foldCheck text bases (entry e members later) =
     if given (e .redefines) then
     (elim (find text (e .redefines) bases) [
-      | none ↦ do
-        l ← fold text bases later
-        give (entry e members l)
+      | none ↦ foldCheck text bases later
       | some base ↦ do
         _ ← refuseIf (ltb (e .offset) base) 30 (e .at)
-        fold text bases later
+        foldCheck text bases later
     ])
-    else do
-      l ← fold text (placeOf e ∷ bases) later
-      give (withRedefiners text e members (redefiners text (placeOf e) later) l)
+    else foldCheck text (placeOf e ∷ bases) later
+
+-- a redefiner stands with its base where some base has that name
+abbrev pub hasBase : Option ℕ → Bool
+hasBase none = false
+hasBase (some base) = true
+
+-- each base stands with its redefiners; a redefiner stands by itself only where no base has that name
+unfoldable pub foldedList : List ℕ → List Place → Entries → Entries
+foldedList text bases end = end
+foldedList text bases (entry e members later) =
+    if given (e .redefines) then
+    (if hasBase (find text (e .redefines) bases) then foldedList text bases later else entry e members (foldedList text bases later))
+    else withRedefiners text e members (redefiners text (placeOf e) later) (foldedList text (placeOf e ∷ bases) later)
+
+-- every list below folded, and not this one
+unfoldable pub foldedBelow : List ℕ → Entries → Entries
+foldedBelow text end = end
+foldedBelow text (entry e members later) = entry e (foldedList text [] (foldedBelow text members)) (foldedBelow text later)
+
+-- every list folded
+abbrev pub foldedAll : List ℕ → Entries → Entries
+foldedAll text es = foldedList text [] (foldedBelow text es)

@@ -17,7 +17,7 @@ use Rattle.definition.specs.Basic.{if_then_else_, given, part, fewest, A
 use Rattle.definition.specs.Statement.{usageOf, signOf}
 use Rattle.definition.specs.Tree.{Forest, leaf, item}
 use Rattle.definition.specs.Picture.{pictured, isBinary, picture}
-use Rattle.definition.specs.Fold.{Entries, end, entry, times, total, reserved, entryEnd, Place, placeOf, find, fold, largest}
+use Rattle.definition.specs.Fold.{Entries, end, entry, times, total, reserved, entryEnd, Place, placeOf, find, foldCheck, largest}
 
 -- 20: a list too deep, at its first statement; record fields are depth 0
 abbrev pub shallow : ℕ → Forest → Answer (Unit {0})
@@ -55,22 +55,22 @@ tooLarge e = ltb largest (times (e .occurs)) || ltb largest (e .offset) || ltb l
 abbrev pub advance : ℕ → Entry → ℕ
 advance cursor e = if given (e .redefines) then cursor else entryEnd e
 
--- a list, and how wide it is before folding
+-- the entries of a list, with the lists below them, as the copybook has them before folding, and how wide the list is
 pub record Laid : Type 0 where
   pub entries : Entries
   pub width : ℕ
 
 -- the items of a list at a depth: `seen` are the earlier siblings, the latest first; the cursor is where the next item starts; `reach` is
--- the largest end so far. Depth first: a group's inner list, fold included, comes before the group's own item checks
+-- the largest end so far. Depth first: a group's inner list, the fold's check included, comes before the group's own item checks
 unfoldable pub lay : List ℕ → ℕ → List Place → ℕ → ℕ → Forest → Answer Laid
 lay text depth seen cursor reach leaf = give (record { entries = end; width = reach })
 lay text depth seen cursor reach (item s kids later) = do
   _ ← shallow (suc depth) kids
   inner ← lay text (suc depth) [] 0 0 kids
-  members ← fold text [] (inner .entries)
+  _ ← foldCheck text [] (inner .entries)
   c ← content text s kids (inner .width)
   offset ← start text s c seen cursor
   let e = entryOf s c offset
   _ ← refuseIf (tooLarge e) 29 (s .at)
   l ← lay text depth (placeOf e ∷ seen) (advance cursor e) (max reach (entryEnd e)) later
-  give (record { entries = entry e members (l .entries); width = l .width })
+  give (record { entries = entry e (inner .entries) (l .entries); width = l .width })

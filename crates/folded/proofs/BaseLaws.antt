@@ -9,10 +9,9 @@ use lib.Dec.{eqb, ltb}
 use borrow.Author.Tests.{lt-ltb, eq-eqb, ne-eqb}
 use Rattle.definition.specs.declared.Span.{Span}
 use Rattle.definition.specs.Basic.{if_then_else_, given, uppers}
-use Rattle.definition.specs.Fold.{find, sameName, nameOf}
+use Rattle.definition.specs.Fold.{find, sameName, nameOf, hasBase}
 use Rattle.rows.specs.Table.{cell, spanAt}
 use Rattle.places.specs.Places.{isTarget, rowFrom, seenFrom}
-use Rattle.layout.specs.Bare.{hasBase}
 use Rattle.places.proofs.SearchLaws.{offsetOf, row-low, row-here, row-most, row-found}
 use Rattle.layout.proofs.SizeLaws.{never, same-sym, same-first}
 use Rattle.folded.specs.Shown.{baseFrom, Open}

@@ -1,25 +1,23 @@
 -- Folded lists, entry by entry: a list is what its first entry comes to and then the rest; what is counted or measured of two lists together;
 -- the redefiners of a base.
 -- Assumes nothing.
-use Prim.Native.Nat.{ℕ, suc, _+_, max, _≤_, _<_}
-use mathlib.Core.Path.{_≡_, refl, sym, ap, _∙_}
+use Prim.Native.Nat.{ℕ, suc, _+_, max}
+use mathlib.Core.Path.{_≡_, refl, ap, _∙_}
 use mathlib.Core.Bool.{Bool, true, false}
 use mathlib.Core.List.{List, _∷_}
 use mathlib.Core.Option.{Option, none, some}
 use native.Mathlib.Omega.{arith}
-use lib.Dec.{ltb}
 use Rattle.definition.specs.declared.Span.{Span}
 use Rattle.definition.specs.declared.Entry.{Entry}
-use Rattle.definition.specs.Basic.{if_then_else_, given, Answer, give, _>>=_, refused, refuseIf}
-use Rattle.definition.specs.Fold.{Entries, end, entry, append, total, entryEnd, largest, sameName, sameSpelling, Place, placeOf, find, hasMember, rebased, redefiners, widest, union, unionMembers, withRedefiners}
-use Rattle.definition.specs.Record.{recordLength, endsFit}
+use Rattle.definition.specs.Basic.{if_then_else_, given}
+use Rattle.definition.specs.Fold.{Entries, end, entry, append, sameName, sameSpelling, Place, placeOf, find, hasMember, rebased, redefiners, widest, withRedefiners, foldedList, foldedBelow, foldedAll}
 use Rattle.definition.specs.Listing.{members#}
-use Rattle.definition.proofs.LayoutLaws.{redefiners-hit, redefiners-miss, redefiners-next, fits-entry, fits-refused, fits-none}
-use Rattle.layout.specs.Bare.{basesAfter, foldedList, foldedBelow, foldedAll}
-use Rattle.layout.proofs.BareLaws.{list-base, list-alone, list-under, bind-bind}
+use Rattle.definition.proofs.LayoutLaws.{redefiners-hit, redefiners-miss, redefiners-next}
+use Rattle.layout.specs.Bare.{basesAfter}
+use Rattle.layout.proofs.BareLaws.{list-base, list-alone, list-under}
 use Rattle.folded.specs.declared.Standing.{Standing}
 use Rattle.folded.specs.declared.Relation.{Relation}
-use Rattle.folded.specs.Shown.{standing, shownAs, shown#, shownNamed, relation}
+use Rattle.folded.specs.Shown.{standing, shownAs, shownNamed, relation}
 
 -- ---------------------------------------------------------------- two lists together
 
@@ -43,11 +41,6 @@ unfolding append widest
 widest-append end b = omega arith
 widest-append (entry e ms later) b = omega (arith, widest-append later b)
 
-pub length-append : (a b : Entries) → recordLength (append a b) ≡ max (recordLength a) (recordLength b)
-unfolding append recordLength
-length-append end b = omega arith
-length-append (entry e ms later) b = omega (arith, length-append later b)
-
 pub member-append : (text : List ℕ) (w : Span) (a b : Entries) → hasMember text w (append a b) ≡ (if hasMember text w a then true else hasMember text w b)
 unfolding append hasMember
 member-append text w end b = refl
@@ -59,13 +52,6 @@ member-append text w (entry e ms later) b = go (sameSpelling text w (e .name)) (
         (if h then true else hasMember text w (append later b)) ≡ (if (if h then true else hasMember text w later) then true else hasMember text w b)
     go true ih = refl
     go false ih = ih
-
-pub fit-append : (a b : Entries) → endsFit (append a b) ≡ (endsFit a >>= λ _. endsFit b)
-unfolding append endsFit _>>=_
-fit-append end b = refl
-fit-append (entry e ms later) b =
-    let here = refuseIf (ltb largest (entryEnd e)) 29 (e .at) in
-    ap (λ (z : Answer (Unit {0})). here >>= λ _. z) (fit-append later b) ∙ sym (bind-bind here (λ _. endsFit later) (λ _. endsFit b))
 
 -- ---------------------------------------------------------------- one entry of a folded list
 
@@ -116,76 +102,10 @@ module _ (text : List ℕ) where
   -- ---------------------------------------------------------------- what an entry comes to
 
   module _ (e : Entry) (members : Entries) where
-    -- a base with its redefiners is one entry of its name
-    one-entry : (rs : Entries) → members# (withRedefiners text e members rs end) ≡ 1
-    one-entry end = refl
-    one-entry (entry r ms rs) = refl
-
     own-name : (name : Span) (rs : Entries) → hasMember text name (withRedefiners text e members rs end) ≡ sameSpelling text name (e .name)
     unfolding hasMember
     own-name name end = or-false (sameSpelling text name (e .name))
     own-name name (entry r ms rs) = or-false (sameSpelling text name (e .name))
-
-    -- alone it is as wide and as long as by itself, in a union it is as wide as the widest member
-    pub width-alone : (rs : Entries) → members# rs ≡ 0 → widest (withRedefiners text e members rs end) ≡ total e
-    unfolding widest
-    width-alone end h = omega arith
-    width-alone (entry r ms rs) h = absurd (omega arith)
-
-    pub width-union : (rs : Entries) → 0 < members# rs → widest (withRedefiners text e members rs end) ≡ widest (unionMembers text e members rs)
-    unfolding widest
-    width-union end h = absurd (omega arith)
-    width-union (entry r ms rs) h = omega arith
-
-    pub end-alone : (rs : Entries) → members# rs ≡ 0 → recordLength (withRedefiners text e members rs end) ≡ entryEnd e
-    unfolding recordLength
-    end-alone end h = omega arith
-    end-alone (entry r ms rs) h = absurd (omega arith)
-
-    pub end-union : (rs : Entries) → 0 < members# rs → recordLength (withRedefiners text e members rs end) ≡ e .offset + widest (unionMembers text e members rs)
-    unfolding recordLength
-    end-union end h = absurd (omega arith)
-    end-union (entry r ms rs) h = omega arith
-
-    -- the members are the base's own, or the base, and then the redefiners
-    pub union-inner : (rs : Entries) → hasMember text (e .name) members ≡ true → widest (unionMembers text e members rs) ≡ max (widest members) (widest rs)
-    union-inner rs h = ap (λ (b : Bool). widest (if b then append members rs else entry (rebased (e .offset) e) members rs)) h ∙ widest-append members rs
-
-    pub union-outer : (rs : Entries) → hasMember text (e .name) members ≡ false → widest (unionMembers text e members rs) ≡ max (total e) (widest rs)
-    unfolding widest
-    union-outer rs h = ap (λ (b : Bool). widest (if b then append members rs else entry (rebased (e .offset) e) members rs)) h
-
-    -- it fits or not, by where it ends; the refusal is at the base
-    base-fits : (rs : Entries) → recordLength (withRedefiners text e members rs end) ≤ largest → endsFit (withRedefiners text e members rs end) ≡ give tt
-    unfolding recordLength
-    base-fits end h = fits-entry e members end (omega arith) ∙ fits-none
-    base-fits (entry r ms rs) h =
-        let us = unionMembers text e members (entry r ms rs) in
-        fits-entry (union e (widest us)) us end (omega arith) ∙ fits-none
-
-    base-over : (rs : Entries) → largest < recordLength (withRedefiners text e members rs end) → endsFit (withRedefiners text e members rs end) ≡ refused 29 (e .at)
-    unfolding recordLength
-    base-over end h = fits-refused e members end (omega arith)
-    base-over (entry r ms rs) h =
-        let us = unionMembers text e members (entry r ms rs) in
-        fits-refused (union e (widest us)) us end (omega arith)
-
-    pub shown-fits : (s : Standing) (later : Entries) → recordLength (shownAs text s e members later) ≤ 2147483647 → endsFit (shownAs text s e members later) ≡ give tt
-    unfolding recordLength
-    shown-fits Standing.Under later h = fits-none
-    shown-fits Standing.Alone later h = fits-entry e members end (omega arith) ∙ fits-none
-    shown-fits Standing.Base later h = base-fits (redefiners text (placeOf e) later) h
-
-    pub shown-over : (s : Standing) (later : Entries) → 2147483647 < recordLength (shownAs text s e members later) → endsFit (shownAs text s e members later) ≡ refused 29 (e .at)
-    unfolding recordLength
-    shown-over Standing.Under later h = absurd (omega arith)
-    shown-over Standing.Alone later h = fits-refused e members end (omega arith)
-    shown-over Standing.Base later h = base-over (redefiners text (placeOf e) later) h
-
-    pub shown-count : (s : Standing) (later : Entries) → members# (shownAs text s e members later) ≡ shown# s
-    shown-count Standing.Under later = refl
-    shown-count Standing.Alone later = refl
-    shown-count Standing.Base later = one-entry (redefiners text (placeOf e) later)
 
     pub shown-named : (name : Span) (s : Standing) (later : Entries) → hasMember text name (shownAs text s e members later) ≡ shownNamed text name s e
     unfolding hasMember
@@ -238,8 +158,3 @@ module _ (text : List ℕ) where
   unfolding foldedBelow
   count-below end = refl
   count-below (entry e ms later) = ap suc (count-below later)
-
-  pub widest-below : (es : Entries) → widest (foldedBelow text es) ≡ widest es
-  unfolding foldedBelow widest
-  widest-below end = refl
-  widest-below (entry e ms later) = ap (max (total e)) (widest-below later)

@@ -11,12 +11,11 @@ use lib.Dec.{ltb}
 use lib.ListN.{length}
 use Rattle.definition.specs.Tree.{Forest, leaf, item, higher}
 use Rattle.definition.specs.Listing.{members#}
-use Rattle.definition.specs.Fold.{Entries, end, entry, append, Place, sameName, redefiners}
+use Rattle.definition.specs.Fold.{Entries, end, entry, append, Place, sameName, redefiners, foldedList, foldedBelow, foldedAll}
 use Rattle.definition.specs.Owner.{size}
 use Rattle.definition.specs.Search.{entries#}
 use Rattle.definition.proofs.LayoutLaws.{redefiners-ends}
 use Rattle.rows.specs.Table.{cell, spanAt, statementAt, statementsFrom}
-use Rattle.layout.specs.Bare.{foldedList, foldedBelow, foldedAll}
 use Rattle.places.specs.Places.{seenFrom, basesAt, placeAt, entryIn, entriesIn, Linked, rowsForest}
 use Rattle.places.specs.Ends.{ChildrenEnd}
 use Rattle.places.proofs.EntriesLaws.{next-row, entries-step, linked-step}

@@ -1,6 +1,6 @@
 -- How wide the rows are in the folded list, and where they end: a row alone, a base with its redefiners; and the parts of a table of rows.
 -- Assumes nothing.
-use Prim.Native.Nat.{ℕ, suc, _+_, _-_, _*_, max, _≤_, _<_}
+use Prim.Native.Nat.{ℕ, suc, _+_, _-_, _≤_, _<_}
 use mathlib.Core.Path.{_≡_, refl, sym, ap, subst, _∙_}
 use lib.Dec.{eqb}
 use mathlib.Core.Bool.{Bool, true, false}
@@ -8,24 +8,20 @@ use mathlib.Core.List.{List}
 use mathlib.Core.Logic.{⊎-elim}
 use native.Mathlib.Numerals.{add-one}
 use native.Mathlib.Omega.{arith}
-use Rattle.definition.specs.declared.Span.{Span}
 use Rattle.definition.specs.Basic.{if_then_else_, given}
-use Rattle.definition.specs.Fold.{Entries, end, entry, append, total, entryEnd, Place, find, sameName, hasMember, redefiners, widest}
+use Rattle.definition.specs.Fold.{Entries, end, entry, append, Place, find, sameName, redefiners, hasBase}
 use Rattle.definition.proofs.Lists.{order}
 use Rattle.definition.specs.Listing.{members#}
-use Rattle.definition.specs.Record.{recordLength}
 use Rattle.definition.specs.Tree.{higher}
 use Rattle.rows.specs.Table.{cell, spanAt, statementAt, statementsFrom}
 use Rattle.places.proofs.RowLaws.{children-end}
-use Rattle.layout.specs.Bare.{hasBase, foldedBelow, foldedAll}
 use Rattle.layout.proofs.SizeLaws.{never}
-use Rattle.places.specs.Places.{basesAt, placeAt, entryIn, rowsForest}
+use Rattle.places.specs.Places.{entryIn, rowsForest}
 use Rattle.places.specs.Ends.{ChildrenEnd}
 use Rattle.folded.specs.declared.Standing.{Standing}
 use Rattle.folded.specs.declared.Relation.{Relation}
-use Rattle.folded.specs.Shown.{standing, shownAs, relation, listIn, redefinersIn, shownAt, unionWidth, Open, IsBase, Numbered, Known, Marked, Sized, Tree, Branch, Base, Kin, SizedRow, Measured}
+use Rattle.folded.specs.Shown.{standing, relation, redefinersIn, shownAt, Open, IsBase, Numbered, Known, Marked, Sized, Tree, Branch, Base, Kin, SizedRow}
 use Rattle.folded.proofs.BaseLaws.{opens, passes, differs, swapped}
-use Rattle.folded.proofs.FoldedLaws.{width-alone, width-union, end-alone, end-union, union-inner, union-outer, redefiners-below, count-below, widest-below}
 use Rattle.folded.proofs.ShownLaws.{RowIs, marked-step, marked-linked, marked-numbered, marked-known, redefined-by, redefined-stop, redefined-none, Walking, walking-starts, walking-on}
 
 -- ---------------------------------------------------------------- parts of a table
@@ -74,77 +70,6 @@ module _ {t w : List ℕ} {i j to : ℕ} (b : Branch t w i j to) where
 -- the children of a base
 pub own-tree : {t w : List ℕ} {i j to : ℕ} → Base t w i j to → Tree t w (i + 1) j
 own-tree b = branch-tree (b .branch)
-
--- ---------------------------------------------------------------- a union
-
-module _ (t w : List ℕ) (i j to : ℕ) where
-  -- its redefiners, whose members are folded, are those that the rows hold
-  count-redefiners : members# (redefiners t (placeAt w i) (foldedBelow t (listIn w j to))) ≡ members# (redefinersIn t w i j to)
-  count-redefiners = ap members# (redefiners-below t (placeAt w i) (listIn w j to)) ∙ count-below t (redefinersIn t w i j to)
-
-  width-redefiners : widest (redefiners t (placeAt w i) (foldedBelow t (listIn w j to))) ≡ widest (redefinersIn t w i j to)
-  width-redefiners = ap widest (redefiners-below t (placeAt w i) (listIn w j to)) ∙ widest-below t (redefinersIn t w i j to)
-
-  module _ {name : Span} {o : Bool} (q : name ≡ spanAt (cell w i 3)) (p : o ≡ hasMember t name (foldedAll t (listIn w (i + 1) j))) where
-    has-own : o ≡ hasMember t (spanAt (cell w i 3)) (foldedAll t (listIn w (suc i) j))
-    has-own = p ∙ ap (λ (n : ℕ). hasMember t name (foldedAll t (listIn w n j))) (add-one i) ∙ ap (λ (s : Span). hasMember t s (foldedAll t (listIn w (suc i) j))) q
-
-    module _ {x y r : ℕ} (n : Measured (widest (redefinersIn t w i j to)) y) (e : r ≡ max x y) where
-      -- the base has a member of its own name: its members take its place
-      pub union-folds : o ≡ true → Measured (widest (foldedAll t (listIn w (i + 1) j))) x → Measured (unionWidth t w i j to) r
-      union-folds h m =
-          let inner = ap (λ (k : ℕ). widest (foldedAll t (listIn w k j))) (add-one i) in
-          let u = union-inner t (entryIn w i) (foldedAll t (listIn w (suc i) j)) (redefiners t (placeAt w i) (foldedBelow t (listIn w j to))) (sym has-own ∙ h) in
-          record { is = omega (arith, e, n .is, m .is, inner, u, width-redefiners); small = omega (arith, n .small, m .small) }
-
-      pub union-stands : o ≡ false → Measured (total (entryIn w i)) x → Measured (unionWidth t w i j to) r
-      union-stands h m =
-          let u = union-outer t (entryIn w i) (foldedAll t (listIn w (suc i) j)) (redefiners t (placeAt w i) (foldedBelow t (listIn w j to))) (sym has-own ∙ h) in
-          record { is = omega (arith, e, n .is, m .is, u, width-redefiners); small = omega (arith, n .small, m .small) }
-
-  -- ---------------------------------------------------------------- a row in the folded list
-
-  module _ (last : ℕ) {s : Standing} (p : s ≡ standing t (basesAt w last) (entryIn w i)) where
-    module _ (x : Standing) (f : Entries → ℕ) where
-      shown-is : s ≡ x → f (shownAt t w i j to last) ≡ f (shownAs t x (entryIn w i) (foldedAll t (listIn w (suc i) j)) (foldedBelow t (listIn w j to)))
-      shown-is e = ap (λ (y : Standing). f (shownAs t y (entryIn w i) (foldedAll t (listIn w (suc i) j)) (foldedBelow t (listIn w j to)))) (sym p ∙ e)
-
-    pub width-under : s ≡ Standing.Under → Measured (widest (shownAt t w i j to last)) 0
-    unfolding widest
-    width-under e = record { is = sym (shown-is Standing.Under widest e); small = omega arith }
-
-    pub width-single : s ≡ Standing.Alone → {r : ℕ} → Measured (total (entryIn w i)) r → Measured (widest (shownAt t w i j to last)) r
-    unfolding widest
-    width-single e m = record { is = omega (arith, m .is, shown-is Standing.Alone widest e); small = m .small }
-
-    pub end-under : s ≡ Standing.Under → 0 ≡ recordLength (shownAt t w i j to last)
-    unfolding recordLength
-    end-under e = sym (shown-is Standing.Under recordLength e)
-
-    pub end-single : s ≡ Standing.Alone → {r : ℕ} → r ≡ entryEnd (entryIn w i) → r ≡ recordLength (shownAt t w i j to last)
-    unfolding recordLength
-    end-single e m = omega (arith, m, shown-is Standing.Alone recordLength e)
-
-    module _ (e : s ≡ Standing.Base) {n : ℕ} (c : n ≡ members# (redefinersIn t w i j to)) where
-      pub width-base : n ≤ 0 → {r : ℕ} → Measured (total (entryIn w i)) r → Measured (widest (shownAt t w i j to last)) r
-      width-base h m =
-          let a = width-alone t (entryIn w i) (foldedAll t (listIn w (suc i) j)) (redefiners t (placeAt w i) (foldedBelow t (listIn w j to))) (omega (arith, count-redefiners)) in
-          record { is = m .is ∙ sym (shown-is Standing.Base widest e ∙ a); small = m .small }
-
-      pub width-joined : 0 < n → {r : ℕ} → Measured (unionWidth t w i j to) r → Measured (widest (shownAt t w i j to last)) r
-      width-joined h m =
-          let a = width-union t (entryIn w i) (foldedAll t (listIn w (suc i) j)) (redefiners t (placeAt w i) (foldedBelow t (listIn w j to))) (omega (arith, count-redefiners)) in
-          record { is = m .is ∙ sym (shown-is Standing.Base widest e ∙ a); small = m .small }
-
-      pub end-base : n ≤ 0 → {r : ℕ} → r ≡ entryEnd (entryIn w i) → r ≡ recordLength (shownAt t w i j to last)
-      end-base h m =
-          let a = end-alone t (entryIn w i) (foldedAll t (listIn w (suc i) j)) (redefiners t (placeAt w i) (foldedBelow t (listIn w j to))) (omega (arith, count-redefiners)) in
-          m ∙ sym (shown-is Standing.Base recordLength e ∙ a)
-
-      pub end-joined : 0 < n → {a r : ℕ} → a ≡ cell w i 13 → Measured (unionWidth t w i j to) r → a + r ≡ recordLength (shownAt t w i j to last)
-      end-joined h q m =
-          let a = end-union t (entryIn w i) (foldedAll t (listIn w (suc i) j)) (redefiners t (placeAt w i) (foldedBelow t (listIn w j to))) (omega (arith, count-redefiners)) in
-          omega (arith, q, m .is, shown-is Standing.Base recordLength e, a)
 
 -- ---------------------------------------------------------------- the loop
 

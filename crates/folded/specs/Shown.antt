@@ -4,17 +4,16 @@ use Prim.Native.Nat.{ℕ, suc, _+_, _*_, _≤_, _<_}
 use mathlib.Core.Path.{_≡_}
 use mathlib.Core.Bool.{Bool, true, false}
 use lib.Dec.{eqb, ltb}
-use mathlib.Core.List.{List, _∷_}
+use mathlib.Core.List.{List}
 use lib.ListN.{length}
 use Rattle.definition.specs.declared.Span.{Span}
 use Rattle.definition.specs.declared.Entry.{Entry}
 use Rattle.definition.specs.Basic.{if_then_else_, given}
 use Rattle.definition.specs.Tree.{Forest, leaf, item}
-use Rattle.definition.specs.Fold.{Entries, end, entry, total, sameName, sameSpelling, Place, placeOf, find, redefiners, widest, unionMembers, withRedefiners}
+use Rattle.definition.specs.Fold.{Entries, end, entry, total, sameName, sameSpelling, Place, placeOf, find, redefiners, withRedefiners, hasBase, foldedList, foldedBelow, foldedAll}
 use Rattle.definition.specs.Owner.{size}
 use Rattle.definition.specs.Listing.{members#}
 use Rattle.rows.specs.Table.{cell, spanAt}
-use Rattle.layout.specs.Bare.{hasBase, foldedList, foldedBelow, foldedAll}
 use Rattle.places.specs.Places.{rowFrom, basesAt, placeAt, entryIn, entriesIn, rowsForest}
 use Rattle.places.specs.Ends.{ChildrenEnd}
 use Rattle.folded.specs.declared.Standing.{Standing}
@@ -34,12 +33,6 @@ shownAs text Standing.Under e members later = end
 shownAs text Standing.Alone e members later = entry e members end
 shownAs text Standing.Base e members later = withRedefiners text e members (redefiners text (placeOf e) later) end
 
--- how many entries it comes to
-abbrev pub shown# : Standing → ℕ
-shown# Standing.Under = 0
-shown# Standing.Alone = 1
-shown# Standing.Base = 1
-
 -- whether it comes to an entry spelled like the name
 abbrev pub shownNamed : List ℕ → Span → Standing → Entry → Bool
 shownNamed text name Standing.Under e = false
@@ -54,7 +47,7 @@ relation text name e =
 
 -- ---------------------------------------------------------------- rows
 
--- the bare entries of the rows from `from` up to `to`
+-- the entries of the rows from `from` up to `to`
 abbrev pub listIn : List ℕ → ℕ → ℕ → Entries
 listIn w from to = entriesIn w from (rowsForest w from to)
 
@@ -70,11 +63,6 @@ foldedRest text w i to last = foldedList text (basesAt w last) (foldedBelow text
 abbrev pub shownAt : List ℕ → List ℕ → ℕ → ℕ → ℕ → ℕ → Entries
 shownAt text w i j to last =
     shownAs text (standing text (basesAt w last) (entryIn w i)) (entryIn w i) (foldedAll text (listIn w (suc i) j)) (foldedBelow text (listIn w j to))
-
--- how wide row i is with its redefiners
-abbrev pub unionWidth : List ℕ → List ℕ → ℕ → ℕ → ℕ → ℕ
-unionWidth text w i j to =
-    widest (unionMembers text (entryIn w i) (foldedAll text (listIn w (suc i) j)) (redefiners text (placeAt w i) (foldedBelow text (listIn w j to))))
 
 -- ---------------------------------------------------------------- what the table is to be
 
@@ -162,8 +150,3 @@ pub record SizedRow (w : List ℕ) (k : ℕ) : Type 0 where
 pub record Measured (n r : ℕ) : Type 0 where
   pub is : r ≡ n
   pub small : r ≤ 2147483647
-
--- r is the number n, and at most 1
-pub record Few (n r : ℕ) : Type 0 where
-  pub is : r ≡ n
-  pub few : r ≤ 1

@@ -9,13 +9,13 @@ use native.Mathlib.Omega.{arith}
 use Rattle.definition.specs.declared.Refusal.{Refusal}
 use Rattle.definition.specs.declared.Entry.{Entry}
 use Rattle.definition.specs.Basic.{if_then_else_, given, Answer, refuse, give, _>>=_}
-use Rattle.definition.specs.Fold.{Entries, entry, Place, placeOf, find}
+use Rattle.definition.specs.Fold.{Entries, entry, Place, placeOf, find, foldCheck}
 use Rattle.rows.specs.Table.{cell}
 use Rattle.places.specs.Places.{seenFrom, basesAt, entryIn, entriesIn, Linked, rowsForest}
 use Rattle.places.specs.Ends.{ChildrenEnd}
 use Rattle.places.proofs.PlaceLaws.{seen-low, seen-out, seen-in}
 use Rattle.places.proofs.EntriesLaws.{entries-step, linked-step}
-use Rattle.layout.specs.Bare.{basesAfter, foldCheck}
+use Rattle.layout.specs.Bare.{basesAfter}
 use Rattle.layout.specs.Steps.{checkEntry}
 use Rattle.layout.proofs.BareLaws.{check-base, check-alone, check-under}
 

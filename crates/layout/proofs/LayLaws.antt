@@ -16,8 +16,8 @@ use Rattle.definition.specs.declared.Entry.{Entry}
 use Rattle.definition.specs.Basic.{if_then_else_, given, Answer, refuse, give, _>>=_}
 use Rattle.definition.specs.Tree.{Forest, leaf, item, forest}
 use Rattle.definition.specs.Picture.{pictured}
-use Rattle.definition.specs.Fold.{Entries, end, entry, entryEnd, Place, placeOf}
-use Rattle.definition.specs.Layout.{shallow, content, entryOf, advance, Laid}
+use Rattle.definition.specs.Fold.{Entries, end, entry, entryEnd, Place, placeOf, foldCheck}
+use Rattle.definition.specs.Layout.{shallow, content, entryOf, advance, Laid, lay}
 use Rattle.definition.specs.Owner.{size}
 use Rattle.definition.specs.Search.{entries#}
 use Rattle.rows.specs.Table.{cell, spanAt, statementAt}
@@ -27,9 +27,8 @@ use Rattle.places.proofs.PlaceLaws.{kept-places, before-places, statement-place
 use Rattle.places.proofs.RowLaws.{forest-empty, forest-split, children-end}
 use Rattle.places.proofs.EntriesLaws.{size-stretch, rows-forest, Held, places-held, next-row, of-size}
 use Rattle.places.proofs.EndLaws.{within}
-use Rattle.layout.specs.Bare.{foldCheck, bare, ItemLaid, placed, bareItem}
-use Rattle.layout.specs.Outcomes.{stopped, ready, after, layRest, layTable}
-use Rattle.layout.specs.Outcomes.{halted, placing, afterItem, layItem, afterOwn, placeRow}
+use Rattle.layout.specs.Bare.{ItemLaid, placed, bareItem}
+use Rattle.layout.specs.Outcomes.{stopped, ready, after, layRest, layTable, halted, placing, afterItem, layItem, afterOwn, placeRow}
 use Rattle.layout.proofs.ContentLaws.{leaf-bounded}
 use Rattle.layout.proofs.ListLaws.{restAfter, bare-split, item-is, bare-is}
 
@@ -100,7 +99,7 @@ module _ (text w : List ℕ) (i to j depth last cursor reach : ℕ) (h : Childre
       layRest text w i to depth last cursor reach
       ≡ after w i last (bareItem text depth (seenAt w last) cursor (statementAt w i) (rowsForest w (suc i) j) >>= restAfter text depth (seenAt w last) cursor reach (statementAt w i) (rowsForest w (suc i) j) (rowsForest w j to))
   list-split =
-      ap (λ (f : Forest). after w i last (bare text depth (seenAt w last) cursor reach f)) (forest-split w i to j h)
+      ap (λ (f : Forest). after w i last (lay text depth (seenAt w last) cursor reach f)) (forest-split w i to j h)
       ∙ ap (after w i last) (bare-split text depth (seenAt w last) cursor reach (statementAt w i) (rowsForest w (suc i) j) (rowsForest w j to))
 
   pub list-stop : {r : Refusal} → layItem text w i j depth last cursor ≡ halted r → layRest text w i to depth last cursor reach ≡ stopped r
@@ -132,16 +131,16 @@ module _ (text w : List ℕ) (i to j depth last cursor reach : ℕ) (h : Childre
       let rows : L ≡ rowsForest w₁ j to = ap forest (sym (statements-places (entry (x .own) (x .members) end) w i last j (to - j))) in
       list-split
       ∙ ap (λ (a : Answer ItemLaid). after w i last (a >>= restAfter text depth (seenAt w last) cursor reach s K L)) (g .is)
-      ∙ after-then w i last x (bare text depth (placeOf (x .own) ∷ seenAt w last) (advance cursor (x .own)) (max reach (entryEnd (x .own))) L)
-      ∙ ap (λ (n : ℕ). after w₁ n (suc i) (bare text depth (placeOf (x .own) ∷ seenAt w last) (advance cursor (x .own)) (max reach (entryEnd (x .own))) L)) at
-      ∙ ap (λ (z : List Place). after w₁ j (suc i) (bare text depth z (advance cursor (x .own)) (max reach (entryEnd (x .own))) L)) seen
-      ∙ ap (λ (f : Forest). after w₁ j (suc i) (bare text depth (seenAt w₁ (suc i)) (advance cursor (x .own)) (max reach (entryEnd (x .own))) f)) rows
+      ∙ after-then w i last x (lay text depth (placeOf (x .own) ∷ seenAt w last) (advance cursor (x .own)) (max reach (entryEnd (x .own))) L)
+      ∙ ap (λ (n : ℕ). after w₁ n (suc i) (lay text depth (placeOf (x .own) ∷ seenAt w last) (advance cursor (x .own)) (max reach (entryEnd (x .own))) L)) at
+      ∙ ap (λ (z : List Place). after w₁ j (suc i) (lay text depth z (advance cursor (x .own)) (max reach (entryEnd (x .own))) L)) seen
+      ∙ ap (λ (f : Forest). after w₁ j (suc i) (lay text depth (seenAt w₁ (suc i)) (advance cursor (x .own)) (max reach (entryEnd (x .own))) f)) rows
       ∙ (λ k. layRest text (g .put k) j to depth (suc i) (g .moves k) (max reach (g .ends k)))
 
 -- after the last item
 pub list-none : (text w : List ℕ) (i to depth last cursor reach : ℕ) → to ≤ i → layRest text w i to depth last cursor reach ≡ ready reach last w
-unfolding bare putPlaces lastOf
-list-none text w i to depth last cursor reach h = ap (λ (f : Forest). after w i last (bare text depth (seenAt w last) cursor reach f)) (forest-empty w i to h)
+unfolding lay putPlaces lastOf
+list-none text w i to depth last cursor reach h = ap (λ (f : Forest). after w i last (lay text depth (seenAt w last) cursor reach f)) (forest-empty w i to h)
 
 -- the cursor and the ends stay within the limit
 pub record Kept (c e : ℕ) : Type 0 where
@@ -176,7 +175,7 @@ own-then w i last cursor members (give e) =
 -- without children
 module _ (text w : List ℕ) (i j depth last cursor : ℕ) (h : j ≤ suc i) where
   leaf-item : bareItem text depth (seenAt w last) cursor (statementAt w i) (rowsForest w (suc i) j) ≡ (content text (statementAt w i) leaf 0 >>= λ c. placed text (statementAt w i) c (seenAt w last) cursor >>= λ e. give (record { own = e; members = end }))
-  unfolding bareItem bare foldCheck _>>=_
+  unfolding bareItem lay foldCheck _>>=_
   leaf-item = ap (bareItem text depth (seenAt w last) cursor (statementAt w i)) (forest-empty w (suc i) j h)
 
   pub leaf-stop : {r : Refusal} → refuse r ≡ content text (statementAt w i) leaf 0 → halted r ≡ layItem text w i j depth last cursor
@@ -202,7 +201,7 @@ leaf-narrow text s e = omega (arith, leaf-bounded text s 0 (sym e) .width)
 -- what was laid, and what the rows hold of it
 pub record LaidRows (text w : List ℕ) (a b depth width : ℕ) (w₁ : List ℕ) : Type 0 where
   pub laid : Laid
-  pub is : bare text depth [] 0 0 (rowsForest w a b) ≡ give laid
+  pub is : lay text depth [] 0 0 (rowsForest w a b) ≡ give laid
   pub wide : laid .width ≡ width
   pub narrow : width ≤ 2147483647
   pub put : putPlaces w a 0 (laid .entries) ≡ w₁
@@ -211,14 +210,14 @@ pub record LaidRows (text w : List ℕ) (a b depth width : ℕ) (w₁ : List ℕ
 
 module _ (text w : List ℕ) (a b depth : ℕ) where
   -- a list begins with no earlier sibling
-  list-begins : layTable text w a b depth ≡ after w a 0 (bare text depth [] 0 0 (rowsForest w a b))
+  list-begins : layTable text w a b depth ≡ after w a 0 (lay text depth [] 0 0 (rowsForest w a b))
   unfolding seenFrom
   list-begins = refl
 
   pub laid-rows : {width l : ℕ} {w₁ : List ℕ} → a ≤ b → 20 * b ≤ length w → layTable text w a b depth ≡ ready width l w₁ → LaidRows text w a b depth width w₁
   laid-rows {width} {l} {w₁} h fits e =
       let f = rowsForest w a b in
-      let r = readied w a 0 (bare text depth [] 0 0 f) (sym list-begins ∙ e) in
+      let r = readied w a 0 (lay text depth [] 0 0 f) (sym list-begins ∙ e) in
       let is = bare-is text f depth [] 0 0 (omega arith) (r .is) in
       let es = r .laid .entries in
       let n = size-stretch w a b in
@@ -235,8 +234,8 @@ module _ (text w : List ℕ) (a b depth : ℕ) where
         held = subst (λ (x : List ℕ). Held x a 0 (rowsForest x a b) es) (r .put) held′;
       }
 
-  inner-refused : {r : Refusal} → layTable text w a b depth ≡ stopped r → bare text depth [] 0 0 (rowsForest w a b) ≡ refuse r
-  inner-refused e = stopped-was w a 0 (bare text depth [] 0 0 (rowsForest w a b)) (sym list-begins ∙ e)
+  inner-refused : {r : Refusal} → layTable text w a b depth ≡ stopped r → lay text depth [] 0 0 (rowsForest w a b) ≡ refuse r
+  inner-refused e = stopped-was w a 0 (lay text depth [] 0 0 (rowsForest w a b)) (sym list-begins ∙ e)
 
 -- ---------------------------------------------------------------- with children
 

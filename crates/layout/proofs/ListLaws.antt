@@ -1,4 +1,4 @@
--- A list laid bare is its first item and the rest; what a laid list has of its statements.
+-- A list is its first item and the rest; what a laid list has of its statements.
 -- Assumes nothing.
 use Prim.Native.Nat.{ℕ, suc, max, _≤_}
 use mathlib.Core.Path.{_≡_, refl, sym, ap, subst, _∙_}
@@ -10,12 +10,12 @@ use Rattle.definition.specs.declared.Entry.{Entry}
 use Rattle.definition.specs.declared.Pictured.{Pictured}
 use Rattle.definition.specs.Basic.{Answer, refuse, give, _>>=_, refuseIf}
 use Rattle.definition.specs.Tree.{Forest, leaf, item}
-use Rattle.definition.specs.Fold.{entry, entryEnd, Place, placeOf}
-use Rattle.definition.specs.Layout.{shallow, content, start, entryOf, tooLarge, advance, Laid}
+use Rattle.definition.specs.Fold.{entry, entryEnd, Place, placeOf, foldCheck}
+use Rattle.definition.specs.Layout.{shallow, content, start, entryOf, tooLarge, advance, Laid, lay}
 use Rattle.definition.proofs.Answers.{through, given-same, not-refused}
 use Rattle.places.proofs.EntriesLaws.{EntryOf, Of}
 use Rattle.places.proofs.EndLaws.{within}
-use Rattle.layout.specs.Bare.{foldCheck, bare, ItemLaid, placed, bareItem}
+use Rattle.layout.specs.Bare.{ItemLaid, placed, bareItem}
 use Rattle.layout.proofs.BareLaws.{bind-along}
 use Rattle.layout.proofs.ContentLaws.{content-bytes}
 
@@ -38,14 +38,14 @@ module _ (text : List ℕ) (depth : ℕ) (seen : List Place) (cursor reach : ℕ
   -- what comes after the first item
   abbrev pub restAfter : ItemLaid → Answer Laid
   restAfter x =
-      bare text depth (placeOf (x .own) ∷ seen) (advance cursor (x .own)) (max reach (entryEnd (x .own))) later >>= λ l.
+      lay text depth (placeOf (x .own) ∷ seen) (advance cursor (x .own)) (max reach (entryEnd (x .own))) later >>= λ l.
       give (record { entries = entry (x .own) (x .members) (l .entries); width = l .width })
 
-  pub bare-split : bare text depth seen cursor reach (item s kids later) ≡ (bareItem text depth seen cursor s kids >>= restAfter)
-  unfolding bare bareItem placed _>>=_
+  pub bare-split : lay text depth seen cursor reach (item s kids later) ≡ (bareItem text depth seen cursor s kids >>= restAfter)
+  unfolding lay bareItem placed _>>=_
   bare-split =
       bind-along (shallow (suc depth) kids) _ _ restAfter λ _.
-      bind-along (bare text (suc depth) [] 0 0 kids) _ _ restAfter λ inner.
+      bind-along (lay text (suc depth) [] 0 0 kids) _ _ restAfter λ inner.
       bind-along (foldCheck text [] (inner .entries)) _ _ restAfter λ _.
       bind-along (content text s kids (inner .width)) _ _ restAfter λ c.
       place-along (start text s c seen cursor) (λ o. refuseIf (tooLarge (entryOf s c o)) 29 (s .at)) (entryOf s c) (λ e. give (record { own = e; members = inner .entries })) restAfter _ (λ o. refl)
@@ -55,7 +55,7 @@ module _ (text : List ℕ) (depth : ℕ) (seen : List Place) (cursor reach : ℕ
 -- its inner list, kind and width, and its place
 pub record ItemIs (text : List ℕ) (depth : ℕ) (s : Statement) (kids : Forest) (x : ItemLaid) : Type 0 where
   pub inner : Laid
-  pub inner-laid : bare text (suc depth) [] 0 0 kids ≡ give inner
+  pub inner-laid : lay text (suc depth) [] 0 0 kids ≡ give inner
   pub members : inner .entries ≡ x .members
   pub contents : Pictured
   pub contents-are : content text s kids (inner .width) ≡ give contents
@@ -99,9 +99,9 @@ module _ (text : List ℕ) where
   pub bare-is :
       (f : Forest) (depth : ℕ) (seen : List Place) (cursor reach : ℕ) {l : Laid} →
       reach ≤ 2147483647 →
-      bare text depth seen cursor reach f ≡ give l →
+      lay text depth seen cursor reach f ≡ give l →
       BareIs f l
-  unfolding bare
+  unfolding lay
   bare-is leaf depth seen cursor reach h e = subst (BareIs leaf) (given-same e) (record { of = tt; width = h })
   bare-is (item s kids later) depth seen cursor reach h e =
       through _ _ (sym (bare-split text depth seen cursor reach s kids later) ∙ e) λ x e₁ h₁.

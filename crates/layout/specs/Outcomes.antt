@@ -7,10 +7,10 @@ use Rattle.definition.specs.declared.Entry.{Entry}
 use Rattle.definition.specs.declared.Pictured.{Pictured}
 use Rattle.definition.specs.Basic.{Answer, refuse, give}
 use Rattle.definition.specs.Fold.{end, entry, entryEnd}
-use Rattle.definition.specs.Layout.{advance, Laid}
+use Rattle.definition.specs.Layout.{advance, Laid, lay}
 use Rattle.rows.specs.Table.{statementAt}
 use Rattle.places.specs.Places.{putPlace, putPlaces, lastOf, seenAt, rowsForest}
-use Rattle.layout.specs.Bare.{bare, ItemLaid, placed, bareItem}
+use Rattle.layout.specs.Bare.{ItemLaid, placed, bareItem}
 
 -- ---------------------------------------------------------------- a list laid in the table
 
@@ -26,7 +26,7 @@ after w k last (give l) = ready (l .width) (lastOf k last (l .entries)) (putPlac
 
 -- the rest of a list, rows i to before `to`, laid after the sibling `last`
 abbrev pub layRest : List ℕ → List ℕ → ℕ → ℕ → ℕ → ℕ → ℕ → ℕ → Outcome
-layRest text w i to depth last cursor reach = after w i last (bare text depth (seenAt w last) cursor reach (rowsForest w i to))
+layRest text w i to depth last cursor reach = after w i last (lay text depth (seenAt w last) cursor reach (rowsForest w i to))
 
 -- a whole list
 abbrev pub layTable : List ℕ → List ℕ → ℕ → ℕ → ℕ → Outcome

@@ -11,7 +11,7 @@ ghost use Rattle.definition.specs.Picture.{isBinary};
 ghost use Rattle.places.specs.Places.{seenAt, basesAt, entryIn, entriesIn, Linked, rowsForest};
 ghost use Rattle.layout.specs.Outcomes.{placeRow, layItem, layTable};
 ghost use Rattle.layout.specs.Steps.{startOf, itemOf, listOf, Room, checkEntry};
-ghost use Rattle.layout.specs.Bare.{foldCheck};
+ghost use Rattle.definition.specs.Fold.{foldCheck};
 ghost use mathlib.Core.List.{[]};
 use definition::Check;
 use definition::FieldKind;

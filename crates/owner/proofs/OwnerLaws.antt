@@ -17,21 +17,21 @@ use Rattle.definition.specs.declared.Refusal.{Refusal}
 use Rattle.definition.specs.declared.Statement.{Statement}
 use Rattle.definition.specs.Basic.{given, Answer, refuse, give, _>>=_}
 use Rattle.definition.specs.Calls.{recordFields, ownerIn, byteOwner, ownerAnswerOf}
-use Rattle.definition.specs.Fold.{Entries, end, entry, times, total}
+use Rattle.definition.specs.Fold.{Entries, end, entry, times, total, foldedList, foldedBelow, foldedAll}
 use Rattle.definition.specs.Owner.{size, overlaid, pieces, ownerOf}
-use Rattle.definition.specs.Record.{recordLength, layout}
+use Rattle.definition.specs.Record.{recordLength, layout, unfolded}
 use Rattle.definition.specs.Search.{entries#, Row, rowOf, rows, walk}
 use Rattle.definition.specs.Tree.{Forest, leaf, item, above, notAbove, forest}
 use Rattle.definition.proofs.Answers.{given-same, through}
 use Rattle.definition.proofs.Cover.{Plain, plain, Unfolded, fold-plain}
+use Rattle.definition.specs.Demand.{told}
 use Rattle.definition.proofs.Demand3.{refuses-40, refuses-41, one-owner, walked, computed}
 use Rattle.definition.proofs.Lists.{order, tested}
 use Rattle.definition.proofs.Pieces.{owned-someone, positive}
 use Rattle.definition.proofs.Walk.{walk-slack, walk-piece, walk-in, walk-later, walk-skip}
 use Rattle.rows.specs.Table.{cell, statementAt, statementsFrom}
-use Rattle.layout.specs.Bare.{foldedList, foldedBelow, foldedAll, bareRecord}
 use Rattle.places.specs.Places.{entryIn, entriesIn, rowsForest}
-use Rattle.layout.proofs.BareLaws.{fold-is, layout-is}
+use Rattle.layout.proofs.BareLaws.{layout-is}
 use Rattle.places.proofs.EntriesLaws.{size-stretch, Rows, rows-forest}
 use Rattle.places.proofs.RowLaws.{stretch-cons, stretch-none}
 use Rattle.folded.proofs.ShownLaws.{entries-size}
@@ -284,7 +284,7 @@ module _ {w : List ℕ} {from to position k first q offset width below all : ℕ
 module _ (text : List ℕ) where
   -- one list
   list-plain : (bases : List _) (es : Entries) → Unfolded es → foldedList text bases es ≡ es
-  list-plain bases es u = through _ _ (sym (fold-is text bases es) ∙ fold-plain text bases es u) λ _ _ e. given-same e
+  list-plain bases es u = fold-plain text bases es u
 
   -- no entry of a list in the table redefines, where no statement does
   rows-unfolded : (w : List ℕ) (f : Forest) (k : ℕ) → Plain f → Rows w k f → Unfolded (entriesIn w k f)
@@ -363,13 +363,13 @@ module _ {text w : List ℕ} {from to length : ℕ} (l : Listed text (give (rows
             let F = rowsForest w from to in
             let es = foldedAll text (listIn w from to) in
             let free = sym p ∙ e in
-            owned-someone 0 (pieces text F) q (one-owner text F es laid-out free q below-length)
+            owned-someone (told 0 0 0 es) q (one-owner text F es laid-out free q below-length)
             (sym (walked text F es laid-out free q below-length) ∙ sym of-listing ∙ z)
 
 -- ---------------------------------------------------------------- the call
 
 -- a record that is not laid is refused
-not-laid : (text : List ℕ) (q : ℕ) (f : Forest) {r : Refusal} → bareRecord text f ≡ refuse r → ownerIn text f q ≡ refuse r
+not-laid : (text : List ℕ) (q : ℕ) (f : Forest) {r : Refusal} → unfolded text f ≡ refuse r → ownerIn text f q ≡ refuse r
 unfolding ownerIn _>>=_
 not-laid text q f {r} h =
     let e : layout text f ≡ refuse r = layout-is text f ∙ ap (λ (a : Answer Entries). a >>= λ es. give (foldedAll text es)) h in

@@ -4,6 +4,7 @@ ghost use mathlib.Core.Path.{_≡_};
 ghost use Prim.Native.Nat.{_≤_};
 ghost use lib.ListN.{length};
 ghost use Rattle.reader.specs.Reading.{standsAt, Takes};
+ghost use Rattle.text.specs.Tokens.{between, tokensFrom, First};
 use text::Next;
 
 pub struct WordReader<'a> {
@@ -60,4 +61,35 @@ pub fn next_word<'s, 'a>(r: &'s mut WordReader<'a>) -> Next
     let taken = take_token(r.text, r.at);
     r.at = taken.at;
     taken.token
+}
+
+// A reader at a place of a text.
+pub fn reader_at<'a>(text: &'a [u8], at: usize) -> WordReader<'a>
+    ensures { λ r. ⌜ (r .text ≡ text .entry) × (r .at ≡ at) ⌝ }
+{
+    WordReader { text, at }
+}
+
+// The covered work.
+pub fn token_from(text: &[u8], at: usize, fresh: bool) -> Next
+    requires { ⌜ at ≤ length (now text) ⌝ }
+    ensures { λ r. ⌜ First (tokensFrom (now (text .entry)) (between fresh) at) (now (text .entry)) at r ⌝ }
+{
+    text::next_token(text, at, fresh)
+}
+
+// The token before a reader.
+pub fn word_of<'a>(r: WordReader<'a>, fresh: bool) -> Next
+    requires { ⌜ r .at ≤ length (now (r .text)) ⌝ }
+    ensures { λ t. ⌜ First (tokensFrom (now (r .entry .text)) (between fresh) (r .entry .at)) (now (r .entry .text)) (r .entry .at) t ⌝ }
+{
+    token_from(r.text, r.at, fresh)
+}
+
+// The first token at a place or after it, by a reader made for it: its callers need no walk.
+pub fn word_at(text: &[u8], at: usize, fresh: bool) -> Next
+    requires { ⌜ at ≤ length (now text) ⌝ }
+    ensures { λ t. ⌜ First (tokensFrom (now (text .entry)) (between fresh) at) (now (text .entry)) at t ⌝ }
+{
+    word_of(reader_at(text, at), fresh)
 }

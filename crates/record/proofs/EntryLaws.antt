@@ -46,5 +46,5 @@ module _ (text : List ℕ) (n : ℕ) (p : Passes text n) where
   fields-read = rw (p .is)
 
   -- past the checks it is what lays the record that answers
-  pub record-read : (r : RecordLaid) (w : List ℕ) → RecordIs text (fieldsOf text) r w → RecordIs text (recordFields text n) r w
-  record-read r w h = subst (λ (a : Answer Forest). RecordIs text a r w) fields-read h
+  pub record-read : (r : RecordLaid) (w t : List ℕ) → RecordIs text (fieldsOf text) r w t → RecordIs text (recordFields text n) r w t
+  record-read r w t h = subst (λ (a : Answer Forest). RecordIs text a r w t) fields-read h

@@ -15,8 +15,8 @@ use Rattle.definition.specs.declared.Entry.{Entry}
 use Rattle.definition.specs.Basic.{Answer, refuse, give, _>>=_}
 use Rattle.definition.specs.declared.Statement.{Statement}
 use Rattle.definition.specs.Tree.{Forest, leaf, item, forest, fields}
-use Rattle.definition.specs.Fold.{Entries, end, entry, times, total, entryEnd, largest, Place, placeOf}
-use Rattle.definition.specs.Layout.{entryOf, tooLarge, advance, Laid}
+use Rattle.definition.specs.Fold.{Entries, end, entry, times, total, entryEnd, largest, Place, placeOf, foldCheck, foldedAll}
+use Rattle.definition.specs.Layout.{entryOf, tooLarge, advance, Laid, lay}
 use Rattle.definition.specs.Owner.{size}
 use Rattle.definition.specs.Search.{entries#}
 use Rattle.definition.proofs.Answers.{or-false, through, given-same}
@@ -26,15 +26,13 @@ use Rattle.definition.specs.Words.{statementWords}
 use Rattle.rows.specs.Table.{cell, statementAt, statementsFrom}
 use Rattle.reading.proofs.ReadingLaws.{Stored}
 use Rattle.definition.specs.Calls.{checkOf}
-use Rattle.definition.specs.Record.{recordLength, endsFit}
-use Rattle.layout.specs.Bare.{foldCheck, foldedAll, bare, bareRecord}
+use Rattle.definition.specs.Record.{recordLength, endsFit, unfolded}
 use Rattle.places.specs.Places.{putPlace, putPlaces, seenFrom, entryIn, entriesIn, rowsForest}
 use Rattle.layout.specs.Outcomes.{stopped, after, layTable}
 use Rattle.layout.specs.declared.LaidList.{LaidList}
 use Rattle.places.specs.Ends.{ChildrenEnd}
 use Rattle.layout.specs.Steps.{listOf}
-use Rattle.places.proofs.EntriesLaws.{size-stretch}
-use Rattle.places.proofs.EntriesLaws.{Of, of-size}
+use Rattle.places.proofs.EntriesLaws.{size-stretch, Of, of-size}
 use Rattle.layout.proofs.ListLaws.{bare-split, item-is, bare-is}
 use Rattle.layout.proofs.LayLaws.{LaidRows, laid-rows, stopped-was}
 use Rattle.places.proofs.RowLaws.{children-end, forest-split, forest-empty}
@@ -60,9 +58,9 @@ total-within e h =
 
 bare-sized :
     (text : List ℕ) (f : Forest) (depth : ℕ) (seen : List Place) (cursor reach : ℕ) {l : Laid} →
-    bare text depth seen cursor reach f ≡ give l →
+    lay text depth seen cursor reach f ≡ give l →
     SizedAll (l .entries)
-unfolding bare
+unfolding lay
 bare-sized text leaf depth seen cursor reach e = subst (λ (l : Laid). SizedAll (l .entries)) (given-same e) tt
 bare-sized text (item s kids later) depth seen cursor reach e =
     through _ _ (sym (bare-split text depth seen cursor reach s kids later) ∙ e) λ x e₁ h₁.
@@ -225,17 +223,17 @@ module _ (text w : List ℕ) (a b : ℕ) where
 
     -- or refused
     pub list-refused : {r : Refusal} → x ≡ LaidList.Refused r → laidOf text (give (rowsForest w a b)) ≡ refuse r
-    unfolding bareRecord seenFrom _>>=_
+    unfolding unfolded seenFrom _>>=_
     list-refused e =
         ap (λ (y : Answer Laid). y >>= λ l. foldCheck text [] (l .entries) >>= λ _. endsFit (foldedAll text (l .entries)) >>= λ _. give (l .entries))
-        (stopped-was w a 0 (bare text 0 [] 0 0 (rowsForest w a b)) (sym p ∙ ap (λ (y : LaidList). listOf y w₁) e))
+        (stopped-was w a 0 (lay text 0 [] 0 0 (rowsForest w a b)) (sym p ∙ ap (λ (y : LaidList). listOf y w₁) e))
 
   module _ {width : ℕ} {w₁ : List ℕ} (n : LaidRows text w a b 0 width w₁) where
     -- the checks of the list, as the rows hold it
     record-split :
         laidOf text (give (rowsForest w a b))
         ≡ (foldCheck text [] (listIn w₁ a b) >>= λ _. endsFit (foldedAll text (listIn w₁ a b)) >>= λ _. give (listIn w₁ a b))
-    unfolding bareRecord _>>=_
+    unfolding unfolded _>>=_
     record-split =
         ap (λ (x : Answer Laid). x >>= λ l. foldCheck text [] (l .entries) >>= λ _. endsFit (foldedAll text (l .entries)) >>= λ _. give (l .entries)) (n .is)
         ∙ ap (λ (es : Entries). foldCheck text [] es >>= λ _. endsFit (foldedAll text es) >>= λ _. give es) (sym (n .held .entries))
@@ -305,7 +303,7 @@ module _ (text : List ℕ) where
       {w w′ : List ℕ} {n from : ℕ} →
       Stored text w w′ n →
       FieldsFrom w′ n from →
-      (w″ : List ℕ) (r : RecordLaid) →
-      RecordIs text (give (rowsForest w′ from n)) r w″ →
-      RecordIs text (fieldsOf text) r w″
-  fields-laid s f w″ r h = subst (λ (a : Answer Forest). RecordIs text a r w″) (rows-read s f) h
+      (w″ t : List ℕ) (r : RecordLaid) →
+      RecordIs text (give (rowsForest w′ from n)) r w″ t →
+      RecordIs text (fieldsOf text) r w″ t
+  fields-laid s f w″ t r h = subst (λ (a : Answer Forest). RecordIs text a r w″ t) (rows-read s f) h

@@ -68,12 +68,14 @@ fn mark_redefiners(text: &[u8], work: &mut [u32], from: usize, to: usize)
 
 // ---------------------------------------------------------------- a record
 
-// The rows that hold a record and its length, or why it is refused.
+// The rows that hold a record, its length, and how many entries its table has, in all and at the top; or why it is refused.
 pub enum RecordLaid {
     Record {
         from: usize,
         to: usize,
         length: usize,
+        count: usize,
+        top: usize,
     },
     Refused(Refusal),
 }
@@ -93,20 +95,30 @@ pub fn first_field(work: &[u32], n: usize) -> usize
 }
 
 // Lays out the fields in the rows from `from` up to `to`: their places, then 30, then 29 for an end in the folded list.
-pub fn lay_fields(text: &[u8], work: &mut [u32], from: usize, to: usize) -> RecordLaid
-    requires { ⌜ (from ≤ to) × Room (now work) to × (to ≤ 800) ⌝ }
-    ensures { λ r. ⌜ RecordIs (now (text .entry)) (give (rowsForest (now (work .entry)) from to)) r (now (work .exit)) ⌝ }
+pub fn lay_fields(
+    text: &[u8],
+    work: &mut [u32],
+    entries: &mut [u32],
+    from: usize,
+    to: usize,
+) -> RecordLaid
+    requires { ⌜ (from ≤ to) × Room (now work) to × (to ≤ 800) × (8400 ≤ length (now entries)) ⌝ }
+    ensures { λ r. ⌜ RecordIs (now (text .entry)) (give (rowsForest (now (work .entry)) from to)) r (now (work .exit)) (now (entries .exit)) ⌝ }
 {
     match layout::lay_list(text, work, from, to, 64) {
         LaidList::Done { width, last } => match layout::fold_check(text, work, from, to) {
             Check::Passed => {
                 mark_redefiners(text, work, from, to);
-                match folded::ends_fit(text, work, from, to) {
+                let made = entries::make_entries(text, work, from, to, entries);
+                let count = made.next;
+                match entries::ends_fit(work, entries, count) {
                     Check::Passed => {
                         return RecordLaid::Record {
                             from,
                             to,
-                            length: folded::record_length(text, work, from, to),
+                            length: entries::record_length(work, entries, count),
+                            count,
+                            top: made.count,
                         };
                     }
                     Check::Refused(r) => {
@@ -125,14 +137,14 @@ pub fn lay_fields(text: &[u8], work: &mut [u32], from: usize, to: usize) -> Reco
 }
 
 // Reads a text into rows of work memory and lays its record out there.
-pub fn lay_record(text: &[u8], work: &mut [u32]) -> RecordLaid
-    requires { ⌜ (length (now text) ≤ 65535) × (16384 ≤ length (now work)) ⌝ }
-    ensures { λ r. ⌜ RecordIs (now (text .entry)) (fieldsOf (now (text .entry))) r (now (work .exit)) ⌝ }
+pub fn lay_record(text: &[u8], work: &mut [u32], entries: &mut [u32]) -> RecordLaid
+    requires { ⌜ (length (now text) ≤ 65535) × (16384 ≤ length (now work)) × (8400 ≤ length (now entries)) ⌝ }
+    ensures { λ r. ⌜ RecordIs (now (text .entry)) (fieldsOf (now (text .entry))) r (now (work .exit)) (now (entries .exit)) ⌝ }
 {
     match reading::read_rows(text, work) {
         RowsRead::Rows(n) => {
             let from = first_field(work, n);
-            return lay_fields(text, work, from, n);
+            return lay_fields(text, work, entries, from, n);
         }
         RowsRead::Refused(r) => {
             return RecordLaid::Refused(r);
@@ -142,12 +154,13 @@ pub fn lay_record(text: &[u8], work: &mut [u32]) -> RecordLaid
 
 // Checks what a caller lends, reads the text into rows of work memory and lays its record out there, or says why not: 1, 2, 3, then
 // the statements' 10 to 14, then 20 to 30. Every entry that speaks of a copybook's record starts so.
-pub fn read_record(text: &[u8], work: &mut [u32]) -> RecordLaid
-    ensures { λ r. ⌜ RecordIs (now (text .entry)) (recordFields (now (text .entry)) (length (now (work .entry)))) r (now (work .exit)) ⌝ }
+pub fn read_record(text: &[u8], work: &mut [u32], entries: &mut [u32]) -> RecordLaid
+    requires { ⌜ 8400 ≤ length (now entries) ⌝ }
+    ensures { λ r. ⌜ RecordIs (now (text .entry)) (recordFields (now (text .entry)) (length (now (work .entry)))) r (now (work .exit)) (now (entries .exit)) ⌝ }
 {
     match reading::entry_checks(text, work.len()) {
         Check::Passed => {
-            return lay_record(text, work);
+            return lay_record(text, work, entries);
         }
         Check::Refused(r) => {
             return RecordLaid::Refused(r);

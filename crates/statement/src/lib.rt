@@ -84,7 +84,7 @@ pub fn read_clauses(text: &[u8], at: usize, from: usize) -> ClausesRead
     let mut e = Expect::Clause;
     let mut c = clauses::no_clauses();
     loop {
-        match text::next_token(text, place, false) {
+        match reader::word_at(text, place, false) {
             Next::Word { start, len, next } => {
                 match clauses::step(
                     e,
@@ -126,7 +126,7 @@ fn skip_statement(text: &[u8], from: usize) -> usize
 {
     let mut place = from;
     loop {
-        match text::next_token(text, place, false) {
+        match reader::word_at(text, place, false) {
             Next::Word {
                 start: _,
                 len: _,
@@ -155,7 +155,7 @@ fn read_named(text: &[u8], at: usize, level: u8, from: usize) -> NamedRead
     requires { ⌜ (at < length (now text)) × (from ≤ length (now text)) ⌝ }
     ensures { λ r. ⌜ NamedAre (now (text .entry)) at level from r ⌝ }
 {
-    match text::next_token(text, from, false) {
+    match reader::word_at(text, from, false) {
         Next::Word { start, len, next } => {
             match read_clauses(text, at, next) {
                 ClausesRead::Done(c, after) => {
@@ -244,7 +244,7 @@ pub fn read_statement(text: &[u8], at: usize, fresh: bool) -> StatementRead
     requires { ⌜ at ≤ length (now text) ⌝ }
     ensures { λ r. ⌜ FirstStatement (tokensFrom (now (text .entry)) (between fresh) at) (now (text .entry)) (at + 1) r ⌝ }
 {
-    match text::next_token(text, at, fresh) {
+    match reader::word_at(text, at, fresh) {
         Next::Word { start, len, next } => {
             return read_levelled(text, start, len, next);
         }

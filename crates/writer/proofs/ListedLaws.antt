@@ -20,25 +20,7 @@ use Rattle.listing.specs.Puts.{Put, headBytes}
 use Rattle.listing.proofs.PutLaws.{_and_, put-first, listing-parts}
 use Rattle.folded.specs.Shown.{listIn}
 use Rattle.folded.proofs.ShownLaws.{entries-size}
-use Rattle.writer.specs.Written.{Fits, listBytes}
 use Rattle.writer.specs.Listed.{entriesOf, listingOf}
-
--- a list has an entry for each row, so its bytes can be counted
-pub list-fits : (text w : List ℕ) (from to at : ℕ) → to ≤ 800 → at ≤ 10 → Fits at (listBytes text w from to)
-list-fits text w from to at few small =
-    omega (arith, listing-few text (listIn w from to), entries-size w (rowsForest w from to) from, size-stretch w from to)
-
--- the head and then the entries are the listing
-pub whole :
-    (es : Entries) {m : ℕ} {v : Bool} {t : ℕ} →
-    m ≡ recordLength es →
-    v ≡ variable es →
-    t ≡ members# es →
-    {out : List ℕ} {r r′ : ℕ} {o o′ : List ℕ} →
-    Put out 0 (headBytes m v t) r o →
-    Put o r (entriesBytes es) r′ o′ →
-    Put out 0 (listing es) r′ o′
-whole es p q s a b = rw (listing-parts es, ← p, ← q, ← s) (a and b)
 
 module _ (bs out : List ℕ) {n : ℕ} (e : n ≡ length bs) where
   -- 31 where the listing is longer than the output

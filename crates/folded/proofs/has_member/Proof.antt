@@ -9,8 +9,7 @@ use native.Mathlib.Omega.{arith}
 use lib.ListN.{length}
 use Rattle.definition.specs.declared.Span.{Span}
 use Rattle.definition.specs.Basic.{if_then_else_}
-use Rattle.definition.specs.Fold.{Entries, end, append, hasMember}
-use Rattle.layout.specs.Bare.{foldedBelow, foldedAll}
+use Rattle.definition.specs.Fold.{Entries, end, append, hasMember, foldedBelow, foldedAll}
 use Rattle.places.specs.Places.{basesAt, entryIn}
 use Rattle.places.specs.Ends.{ChildrenEnd}
 use Rattle.places.proofs.RowLaws.{children-end}

@@ -8,9 +8,8 @@ use mathlib.Core.List.{List}
 use borrow.Author.Tests.{lt-ltb, le-ltb}
 use Rattle.definition.specs.declared.Span.{Span}
 use Rattle.definition.specs.Basic.{if_then_else_, given}
-use Rattle.definition.specs.Fold.{find}
+use Rattle.definition.specs.Fold.{find, hasBase}
 use Rattle.rows.specs.Table.{spanAt, cell}
-use Rattle.layout.specs.Bare.{hasBase}
 use Rattle.places.specs.Places.{basesAt, entryIn}
 use Rattle.folded.specs.declared.Standing.{Standing}
 use Rattle.folded.specs.Shown.{standing, Known}

@@ -23,7 +23,7 @@ use Rattle.places.specs.Places.{entriesIn, Linked, rowsForest}
 use Rattle.places.specs.Ends.{ChildrenEnd}
 use Rattle.layout.specs.declared.ItemAnswer.{ItemAnswer}
 use Rattle.layout.specs.declared.LaidList.{LaidList}
-use Rattle.layout.specs.Bare.{foldCheck}
+use Rattle.definition.specs.Fold.{foldCheck}
 use Rattle.layout.specs.Outcomes.{Outcome, stopped, ready, layRest, layTable, ItemOutcome, halted, layItem, placeRow}
 use Rattle.layout.specs.Steps.{itemOf, listOf, Room}
 use Rattle.layout.proofs.LayLaws.{list-stop, list-step, list-none, item-within, leaf-stop, leaf-place, leaf-narrow, LaidRows, laid-rows, too-deep, inner-stop, fold-stop, group-place}

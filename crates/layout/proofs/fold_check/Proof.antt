@@ -14,7 +14,7 @@ use Rattle.definition.specs.Calls.{checkOf}
 use Rattle.places.specs.Places.{basesAt, entryIn, entriesIn, rowsForest}
 use Rattle.places.specs.Ends.{ChildrenEnd}
 use Rattle.places.proofs.RowLaws.{forest-empty, children-end}
-use Rattle.layout.specs.Bare.{foldCheck}
+use Rattle.definition.specs.Fold.{foldCheck}
 use Rattle.layout.specs.Steps.{checkEntry}
 use Rattle.layout.proofs.FoldLaws.{Checking, checking-starts, checking-on, checking-refused}
 use Rattle.layout.proofs.fold_check.Statement.{statement}

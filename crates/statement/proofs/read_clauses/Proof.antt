@@ -111,8 +111,8 @@ no-clauses-requires c κs = search needs
 loop-holds : tie.Need-loop-holds Inv-loop μ-loop
 loop-holds c = search start
 
-next-token-requires : tie.Need-next-token-requires Inv-loop μ-loop
-next-token-requires c κs = search needs
+word-at-requires : tie.Need-word-at-requires Inv-loop μ-loop
+word-at-requires c κs = search needs
 
 enum-known-start : tie.Need-enum-known-start Inv-loop μ-loop
 enum-known-start c = search needs
@@ -173,7 +173,7 @@ read-clauses-spec =
     μ-loop
     no-clauses-requires
     loop-holds
-    next-token-requires
+    word-at-requires
     enum-known-start
     add-step
     sub-step

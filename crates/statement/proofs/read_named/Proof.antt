@@ -81,8 +81,8 @@ module _ (t : List ℕ) (at level from : ℕ) (h : from ≤ length t) {r : Next}
     ended : r ≡ Next.End → NamedAre t at level from (NamedRead.Done (of level at w c) (length t))
     ended q = bare b (tokens-named t at level (end-first _ t from f q)) p p′ (ends-text (reached-start h) f q)
 
-next-token-requires : tie.Need-next-token-requires
-next-token-requires c κs = search needs
+word-at-requires : tie.Need-word-at-requires
+word-at-requires c κs = search needs
 
 enum-known-start : tie.Need-enum-known-start
 enum-known-start c = search needs
@@ -130,7 +130,7 @@ pub read-named-spec : {M : Type 1} → statement M
 read-named-spec =
     tie.close
     (tie.spec
-    next-token-requires
+    word-at-requires
     enum-known-start
     read-clauses-requires
     enum-known-c

@@ -54,14 +54,14 @@ module _ (t : List ℕ) (at : ℕ) (fresh : Bool) {r : Next} (f : First (tokensF
   ended : r ≡ Next.End → FirstStatement (tokensFrom t (between fresh) at) t (at + 1) StatementRead.End
   ended q = end-first _ t at f q
 
-next-token-requires : tie.Need-next-token-requires
-next-token-requires c κs = search needs
+word-at-requires : tie.Need-word-at-requires
+word-at-requires c κs = search needs
 
 enum-known-start : tie.Need-enum-known-start
 enum-known-start c = search needs
 
 read-levelled-requires : tie.Need-read-levelled-requires
-read-levelled-requires c κs = let a = c .before .before .before .before .before .args in places (a .text .now) (a .at) (a .fresh) (c .before .before .before .next-token .ensures) (c .before .start .given .1)
+read-levelled-requires c κs = let a = c .before .before .before .before .before .args in places (a .text .now) (a .at) (a .fresh) (c .before .before .before .word-at .ensures) (c .before .start .given .1)
 
 returns : tie.Need-returns
 returns c = search begun
@@ -82,7 +82,7 @@ pub read-statement-spec : {M : Type 1} → statement M
 read-statement-spec =
     tie.close
     (tie.spec
-    next-token-requires
+    word-at-requires
     enum-known-start
     read-levelled-requires
     returns

@@ -10,8 +10,15 @@ fn white(b: u8) -> bool {
 }
 
 /// A word of the text; what is no UTF-8 is left out.
-pub(crate) fn word(text: &[u8], range: Range<usize>) -> Word<'_> {
+fn word(text: &[u8], range: Range<usize>) -> Word<'_> {
     Word { start: range.start, word: std::str::from_utf8(&text[range]).unwrap_or("") }
+}
+
+/// The text as a word, without the white space around it.
+pub(crate) fn trimmed(text: &[u8]) -> Word<'_> {
+    let start = text.iter().take_while(|&&b| white(b)).count();
+    let end = text.iter().rposition(|&b| !white(b)).map_or(start, |last| last + 1);
+    word(text, start..end)
 }
 
 /// Where the next line that is no comment starts, from the end of a line on.

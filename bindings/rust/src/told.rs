@@ -48,11 +48,9 @@ impl Refusal {
 
     /// The word that the refusal is about, and the item's name.
     fn named<'t>(&self, text: &'t [u8]) -> (Option<Word<'t>>, Option<&'t str>) {
-        let whole = || statement::word(text, 0..text.len());
-        let s = if self.line > 0 {
-            Statement::at(text, self.position)
-        } else {
-            Statement { picture: Some(whole()), ..Statement::default() }
+        let s = match self.line {
+            0 => Statement { picture: Some(statement::trimmed(text)), ..Statement::default() },
+            _ => Statement::at(text, self.position),
         };
         let word = match self.row().about {
             About::Nothing | About::Byte | About::Item => None,

@@ -1,5 +1,5 @@
-//! Links the static library of the crate `copybook_c`: from the folder that the environment variable COPYBOOK_LIB names,
-//! or else from this repository, where `rt staticlib copybook_c` proves the crate and makes it.
+//! Links the static library of the crate `copybook_c`: from the folder that the environment variable COPYBOOK_LIB
+//! names, or else from this repository, where `rt staticlib copybook_c` proves the crate and makes it.
 
 use std::path::{Path, PathBuf};
 use std::process::Command;

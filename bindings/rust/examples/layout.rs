@@ -1,5 +1,6 @@
-//! Prints the columns of a copybook, from a file or from standard input: where each starts in the record, how wide it is,
-//! its kind, its picture, and the path of its name. `copybook layout --table` prints more; this shows how the crate is used.
+//! Prints the columns of a copybook, from a file or from standard input: where each starts in the record, how wide it
+//! is, its kind, its picture, and the path of its name. `copybook layout --table` prints more; this shows how the crate
+//! is used.
 //!
 //!     cargo run --example layout -- [FILE]
 

@@ -1,5 +1,5 @@
-//! The calls of include/copybook.h. A Rust slice is what they ask for: its pointer is good for its elements and aligned,
-//! and a `&mut` slice overlaps nothing else that is lent.
+//! The calls of include/copybook.h. A Rust slice is what they ask for: its pointer is good for its elements and
+//! aligned, and a `&mut` slice overlaps nothing else that is lent.
 
 use crate::declared::*;
 use crate::{Facts, FieldKind, NumRepr, Owner, Picture, Refusal, SignKind, Usage};

@@ -1,11 +1,11 @@
-//! The calls over buffers that the caller lends. A refused call changes no byte of `out`, an accepted one none past what
-//! it wrote; `work` is zero after every call, whatever it held.
+//! The calls over buffers that the caller lends. A refused call changes no byte of `out`, an accepted one none past
+//! what it wrote; `work` is zero after every call, whatever it held.
 
 use crate::{calls, Details, Layout, Owner, Refusal, Usage};
 use std::borrow::Cow;
 
-/// As [`crate::layout()`], with the listing in `out`. Refusals: 1 to 3, 10 to 14, 20 to 31; `work` needs [`crate::WORK`]
-/// numbers, and an `out` of [`crate::LONGEST_LISTING`] bytes is never too short.
+/// As [`crate::layout()`], with the listing in `out`. Refusals: 1 to 3, 10 to 14, 20 to 31; `work` needs
+/// [`crate::WORK`] numbers, and an `out` of [`crate::LONGEST_LISTING`] bytes is never too short.
 pub fn layout<'t, 'o>(text: &'t [u8], work: &mut [u32], out: &'o mut [u8]) -> Result<Layout<'t, 'o>, Refusal> {
     let written = calls::layout(text, work, out)?;
     Ok(Layout::new(text, Cow::Borrowed(&out[..written])))

@@ -1,6 +1,6 @@
-//! What the columns of a COBOL copybook are. These are safe functions over the static library of `copybook_c`, whose code
-//! is proved equal to its definition; this crate is not proved: it lends the buffers as include/copybook.h asks, and
-//! reads the answers.
+//! What the columns of a COBOL copybook are. These are safe functions over the static library of `copybook_c`, whose
+//! code is proved equal to its definition; this crate is not proved: it lends the buffers as include/copybook.h asks,
+//! and reads the answers.
 //!
 //! ```
 //! let text = b"01 FISH. 05 TAG PIC X(5). 05 SIRE PIC 9(4) COMP SYNC. 05 WT OCCURS 3 PIC 9(3)V9.";
@@ -55,8 +55,8 @@ pub const WORK: usize = 16_384;
 /// The longest listing: a head, and at most 2 entries of at most 49 bytes for each of at most 800 statements.
 pub const LONGEST_LISTING: usize = 10 + 800 * 2 * 49;
 
-/// The longest details: 47 bytes for each entry. There are at most 800 statements, and a group made by folding has two of
-/// them for itself: its base, and that one's first redefiner.
+/// The longest details: 47 bytes for each entry. There are at most 800 statements, and a group made by folding has two
+/// of them for itself: its base, and that one's first redefiner.
 pub const LONGEST_DETAILS: usize = (800 + 800 / 2) * details::DETAIL;
 
 /// The longest mask.
@@ -72,8 +72,8 @@ pub struct Picture<'t> {
 /// Whose a byte of the record is.
 #[derive(Debug, Clone, Copy, PartialEq, Eq)]
 pub enum Owner {
-    /// One occurrence of an elementary item: the number of its entry, its first byte in the record, and the byte's place
-    /// in it.
+    /// One occurrence of an elementary item: the number of its entry, its first byte in the record, and the byte's
+    /// place in it.
     Piece { entry: usize, first: usize, place: usize },
     /// Alignment before the item of that entry.
     Slack { entry: usize },
@@ -117,8 +117,8 @@ pub fn mask(picture: &[u8], usage: Usage) -> Result<String, Refusal> {
     lent::mask(picture, usage, &mut [0; LONGEST_MASK]).map(str::to_owned)
 }
 
-/// Whether a record of `len` bytes is long enough for a layout of `record_len` bytes: refusal 42 if it is shorter and not
-/// variable.
+/// Whether a record of `len` bytes is long enough for a layout of `record_len` bytes: refusal 42 if it is shorter and
+/// not variable.
 pub fn check_record_len(record_len: usize, variable: bool, len: usize) -> Result<(), Refusal> {
     calls::check_record_len(record_len, variable, len)
 }

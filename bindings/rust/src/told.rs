@@ -1,5 +1,5 @@
-//! A refusal told to people: a sentence that names what was found, the source line with a mark under the place, and what
-//! to do.
+//! A refusal told to people: a sentence that names what was found, the source line with a mark under the place, and
+//! what to do.
 
 use crate::refusal::About;
 use crate::statement::{self, Statement};
@@ -85,8 +85,8 @@ fn shown(bytes: &[u8]) -> String {
 }
 
 impl Told<'_> {
-    /// The source line of the place with `^` under it and `~` under the word, where that stands on another line that one
-    /// too; nothing for a refusal that is about no part of the text.
+    /// The source line of the place with `^` under it and `~` under the word, where that stands on another line that
+    /// one too; nothing for a refusal that is about no part of the text.
     pub fn excerpt(&self) -> String {
         let place = if self.refusal.line > 0 { Some(self.refusal.position) } else { self.word.map(|word| word.start) };
         let Some(place) = place else {
@@ -126,7 +126,8 @@ fn line_around(text: &[u8], place: usize) -> Range<usize> {
     start..end
 }
 
-/// A line, or the part of it around the place or else the word, and below it `^` under the place and `~` under the word.
+/// A line, or the part of it around the place or else the word, and below it `^` under the place and `~` under the
+/// word.
 fn marked(text: &[u8], line: &Range<usize>, place: Range<usize>, word: &Range<usize>) -> String {
     let at = if place.is_empty() { word.start } else { place.start };
     let from = if line.len() > WIDEST { line.start.max(at.saturating_sub(WIDEST / 3)) } else { line.start };

@@ -206,7 +206,8 @@ fn printed(answer: Result<Layout, Refusal>) -> String {
     lines
 }
 
-/// The examples of the repository have the answers that stand beside them, from a fresh call and from a reader that is used again.
+/// The examples of the repository have the answers that stand beside them, from a fresh call and from a reader that is
+/// used again.
 #[test]
 fn examples_of_the_repository() {
     let folder = concat!(env!("CARGO_MANIFEST_DIR"), "/../../examples");

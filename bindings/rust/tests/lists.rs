@@ -1,6 +1,6 @@
 //! The lists that crates/test_layout replays, through this crate: the bytes of every listing are made again from its
-//! entries, so that an entry has all that the listing says and its names are the very places of the text; the details of
-//! every entry go with it; every refusal is told.
+//! entries, so that an entry has all that the listing says and its names are the very places of the text; the details
+//! of every entry go with it; every refusal is told.
 
 use copybook::{Details, Entry, FieldKind, Layout, Reader, Refusal};
 use std::fs;

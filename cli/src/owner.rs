@@ -1,0 +1,193 @@
+//! `copybook owner`: whose a byte of the record is, or every byte.
+
+use crate::{files, refusals, Arguments, Command, Failure, Status};
+use copybook::{Entry, Layout, Owner, Reader, Refusal};
+use std::io::{self, Write};
+
+pub const COMMAND: Command = Command {
+    name: "owner",
+    summary: "whose the byte at a position of the record is, or every byte",
+    help: "\
+copybook owner [FILE] [POSITION]
+
+Whose the byte at a position of the record is. Positions count from 0:
+
+    POSITION entry NUMBER PATH KIND WIDTH first FIRST place PLACE
+    POSITION slack before NUMBER PATH
+
+Without a position, one line for each piece of the record and each run of slack, in the record's order:
+
+    FIRST-LAST entry NUMBER PATH KIND WIDTH
+    FIRST-LAST slack before NUMBER PATH
+
+NUMBER is the entry's in the layout, from 0; FIRST the first byte of the piece, one occurrence of the item, and PLACE
+the byte's place in it. PATH has the names of the groups around the item and its own, joined by periods, and after
+each name with an OCCURS which of them it is, from 1: PEN(3).FISH(2).TAG.
+
+One word of digits alone is a POSITION; a FILE of such a name is ./12. A copybook with REDEFINES or DEPENDING ON is
+refused (40): its bytes have no single owner. See copybook layout --table for it.
+",
+    flags: &[],
+    values: &[],
+    run,
+};
+
+/// Where in the list of an entry's occurrences a place of its list is: which occurrence, from 0, and where in it.
+fn occurrence(entry: &Entry, place: usize) -> (usize, usize) {
+    let past = place.saturating_sub(entry.offset);
+    match entry.width {
+        0 => (0, 0),
+        width => (past / width, past % width),
+    }
+}
+
+/// The name of an entry, and which of its occurrences has a place of its list.
+fn named(entry: &Entry, place: usize) -> String {
+    let name = entry.name.unwrap_or("FILLER");
+    match entry.occurs {
+        Some(_) => format!("{name}({})", occurrence(entry, place).0 + 1),
+        None => name.to_owned(),
+    }
+}
+
+/// A record whose owners are asked for: its text and its entries.
+struct Record<'t> {
+    text: &'t [u8],
+    entries: Vec<Entry<'t>>,
+    reader: Reader,
+}
+
+impl<'t> Record<'t> {
+    fn new(text: &'t [u8], layout: &Layout<'t, '_>) -> Record<'t> {
+        Record { text, entries: layout.entries().collect(), reader: Reader::new() }
+    }
+
+    fn owner(&mut self, position: usize) -> Result<Owner, Refusal> {
+        self.reader.owner(self.text, position)
+    }
+
+    /// The groups around an entry, the outermost first.
+    fn around(&self, number: usize) -> Vec<&Entry<'t>> {
+        let mut depth = self.entries[number].depth;
+        let mut groups = Vec::new();
+        for entry in self.entries[..number].iter().rev() {
+            if entry.depth < depth {
+                depth = entry.depth;
+                groups.push(entry);
+            }
+        }
+        groups.reverse();
+        groups
+    }
+
+    /// The groups around an entry with a period after each, and where in the innermost a position of the record is.
+    fn path(&self, number: usize, position: usize) -> (String, usize) {
+        let mut path = String::new();
+        let mut place = position;
+        for group in self.around(number) {
+            path += &named(group, place);
+            path.push('.');
+            place = occurrence(group, place).1;
+        }
+        (path, place)
+    }
+
+    /// The words for the piece of an entry that has a position.
+    fn piece(&self, number: usize, position: usize) -> String {
+        let (path, place) = self.path(number, position);
+        let entry = &self.entries[number];
+        format!("entry {number} {path}{} {} {}", named(entry, place), entry.kind.word(), entry.width)
+    }
+
+    /// The words for the slack at a position, which stands before all occurrences of an entry.
+    fn slack(&self, number: usize, position: usize) -> String {
+        let (path, _) = self.path(number, position);
+        format!("slack before {number} {path}{}", self.entries[number].name.unwrap_or("FILLER"))
+    }
+
+    /// The line of one position.
+    fn at(&mut self, position: usize) -> Result<String, Refusal> {
+        Ok(match self.owner(position)? {
+            Owner::Piece { entry, first, place } => {
+                format!("{position} {} first {first} place {place}", self.piece(entry, position))
+            }
+            Owner::Slack { entry } => format!("{position} {}", self.slack(entry, position)),
+        })
+    }
+
+    /// The line of the piece or slack that begins at a position, and the position after it.
+    fn from(&mut self, first: usize) -> Result<(String, usize), Refusal> {
+        match self.owner(first)? {
+            Owner::Piece { entry, .. } => {
+                let after = first + self.entries[entry].width;
+                Ok((format!("{first}-{} {}", after - 1, self.piece(entry, first)), after))
+            }
+            slack @ Owner::Slack { entry } => {
+                let mut after = first + 1;
+                while self.owner(after) == Ok(slack) {
+                    after += 1;
+                }
+                Ok((format!("{first}-{} {}", after - 1, self.slack(entry, first)), after))
+            }
+        }
+    }
+
+    /// A line for each piece and each run of slack.
+    fn all(&mut self, length: usize, out: &mut dyn Write) -> io::Result<()> {
+        let mut position = 0;
+        while position < length {
+            let (line, after) = self.from(position).expect("a byte below the record length has an owner");
+            writeln!(out, "{line}")?;
+            position = after;
+        }
+        Ok(())
+    }
+}
+
+/// The FILE and the POSITION of the command line.
+fn asked(arguments: &Arguments) -> Result<(Option<&std::ffi::OsStr>, Option<usize>), Failure> {
+    let is_position =
+        |word: &std::ffi::OsStr| word.to_str().is_some_and(|w| !w.is_empty() && w.bytes().all(|b| b.is_ascii_digit()));
+    // a position of more digits than a number has is behind every record
+    let position = |word: &std::ffi::OsStr| word.to_str().and_then(|w| w.parse().ok()).unwrap_or(usize::MAX);
+    match arguments.operands.as_slice() {
+        [] => Ok((None, None)),
+        [one] if is_position(one) => Ok((None, Some(position(one)))),
+        [file] => Ok((Some(file), None)),
+        [file, second] if is_position(second) => Ok((Some(file), Some(position(second)))),
+        [_, second] => {
+            Err(Failure::Misuse(format!("{} is no position: digits alone, from 0", second.to_string_lossy())))
+        }
+        _ => Err(Failure::Misuse("one FILE and one POSITION at most".into())),
+    }
+}
+
+fn run(arguments: &Arguments) -> Result<Status, Failure> {
+    let (file, position) = asked(arguments)?;
+    let source = files::read(file)?;
+    let layout = match copybook::layout(&source.text) {
+        Ok(layout) => layout,
+        Err(refusal) => return refusals::print(&refusal, &source),
+    };
+    let mut record = Record::new(&source.text, &layout);
+    let length = layout.record_len();
+    // whether there are owners at all: an empty record has none to be asked for, and 41 is no fault of the copybook
+    match (position, record.owner(position.unwrap_or(0))) {
+        (_, Err(refusal)) if refusal.number != PAST_RECORD || position.is_some() => refusals::print(&refusal, &source),
+        (Some(position), _) => {
+            let line = record.at(position).expect("this position has an owner");
+            files::write(|out| writeln!(out, "{line}"))?;
+            Ok(Status::Answered)
+        }
+        (None, _) => {
+            if length == 0 {
+                refusals::no_entries(&source);
+            }
+            files::write(|out| record.all(length, out))?;
+            Ok(Status::Answered)
+        }
+    }
+}
+
+/// The refusal of a position that is not below the record length.
+const PAST_RECORD: u32 = 41;

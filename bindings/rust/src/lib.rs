@@ -33,6 +33,7 @@ mod bytes;
 mod calls;
 mod declared;
 mod details;
+pub mod fixedformat;
 mod kinds;
 mod layout;
 pub mod lent;

@@ -34,34 +34,38 @@ const INDENT: &str = "    ";
 impl Refusal {
     /// The refusal in the words of the text that was refused: the copybook, or the picture that was asked for alone.
     pub fn told<'t>(&self, text: &'t [u8]) -> Told<'t> {
-        let (word, item) = self.named(text);
+        let statement = self.statement(text);
+        let word = self.word(&statement);
         let named = match self.row().about {
             About::Byte => format!("{:#04x}", text.get(self.position).unwrap_or(&0)),
             _ => word.map_or("nothing".into(), |word| shown(word.as_bytes())),
         };
         let sentence = match self.row().sentence {
             "" => self.found().into(),
-            sentence => filled(sentence, &named, item),
+            sentence => filled(sentence, &named, statement.level.map(|_| statement.item())),
         };
         Told { refusal: *self, sentence, word, advice: self.advice(), text }
     }
 
-    /// The word that the refusal is about, and the item's name.
-    fn named<'t>(&self, text: &'t [u8]) -> (Option<Word<'t>>, Option<&'t str>) {
-        let s = match self.line {
+    /// The statement that was refused; of a picture that was asked for alone, that picture.
+    pub(crate) fn statement<'t>(&self, text: &'t [u8]) -> Statement<'t> {
+        match self.line {
             0 => Statement { picture: Some(statement::trimmed(text)), ..Statement::default() },
             _ => Statement::at(text, self.position),
-        };
-        let word = match self.row().about {
+        }
+    }
+
+    /// The word that the refusal is about.
+    pub(crate) fn word<'t>(&self, statement: &Statement<'t>) -> Option<Word<'t>> {
+        match self.row().about {
             About::Nothing | About::Byte | About::Item => None,
-            About::Level => s.level,
-            About::Count => s.no_count,
-            About::Redefines => s.redefines,
-            About::Picture => s.picture,
-            About::Repeat => s.picture.and_then(statement::bad_repeat),
-            About::Symbol => s.picture.and_then(statement::bad_symbol),
-        };
-        (word, s.level.map(|_| s.item()))
+            About::Level => statement.level,
+            About::Count => statement.no_count,
+            About::Redefines => statement.redefines,
+            About::Picture => statement.picture,
+            About::Repeat => statement.picture.and_then(statement::bad_repeat),
+            About::Symbol => statement.picture.and_then(statement::bad_symbol),
+        }
     }
 }
 

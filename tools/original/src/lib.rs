@@ -1,4 +1,10 @@
-// What the modules of the original take from the root of their crate, and what their errors mean. modules.rs includes it.
+//! The original Rust module, for the tools that compare with it. Its files are built unchanged (build.rs); here stands
+//! what they take from the root of their crate, what their errors mean, and the numbers of what they say (`numbers`).
+
+include!(concat!(env!("OUT_DIR"), "/modules.rs"));
+pub mod numbers;
+
+pub use layout::{DateTimeKind, Endian, Field, FieldKind, Justify, Layout, NumRepr, SignKind};
 
 #[derive(Debug, Clone, PartialEq, Eq)]
 pub struct Error(pub String);
@@ -8,6 +14,8 @@ impl std::fmt::Display for Error {
         f.write_str(&self.0)
     }
 }
+
+impl std::error::Error for Error {}
 
 /// The errors by how their messages begin, with the numbers of the refusals that they mean.
 const REFUSALS: [(&str, u32); 12] = [
@@ -27,7 +35,6 @@ const REFUSALS: [(&str, u32); 12] = [
 
 impl Error {
     /// The number of the refusal, or 0 for an error that is none of the table's.
-    #[allow(dead_code)]
     pub fn number(&self) -> u32 {
         REFUSALS.iter().find(|(begin, _)| self.0.starts_with(begin)).map_or(0, |&(_, n)| n)
     }

@@ -1,7 +1,8 @@
-//! The calls of `copybook_c`, each with lent buffers that stand between guards. What a call may not touch is checked here: the guards, the
-//! answer where it is too short, the output after a refusal and past what was written, and work memory, which must be zero.
+//! The calls of `copybook_c`, each with lent buffers that stand between guards. What a call may not touch is checked
+//! here: the guards, the answer where it is too short, the output after a refusal and past what was written, and work
+//! memory, which must be zero.
 
-use crate::declared::{copybook_check_record, copybook_layout, copybook_mask, copybook_owner, copybook_picture};
+use crate::declared::*;
 use crate::inputs::Random;
 
 pub const ENOUGH_WORK: usize = 16_384;
@@ -58,7 +59,7 @@ fn answered(answer: &Lent<u64>, writes: usize, number: u32) -> Result<Returned, 
 }
 
 /// The output after a call: what was written, or nothing where it was refused.
-fn written(out: &Lent<u8>, returned: &Returned, long: Option<usize>) -> Result<Vec<u8>, String> {
+fn output(out: &Lent<u8>, returned: &Returned, long: Option<usize>) -> Result<Vec<u8>, String> {
     if returned.number != 0 {
         out.kept_from(0, "the output of a refusal")?;
         return Ok(Vec::new());
@@ -75,16 +76,25 @@ fn written(out: &Lent<u8>, returned: &Returned, long: Option<usize>) -> Result<V
     Ok(out.now()[..n].to_vec())
 }
 
-/// The layout call with so much work memory and output. `long` is the length of the listing that is expected, if one is.
-pub fn layout(r: &mut Random, text: &[u8], work_len: usize, room: usize, long: Option<usize>) -> Result<(Returned, Vec<u8>), String> {
+/// A call that answers a copybook in bytes.
+pub type Written = unsafe extern "C" fn(*const u8, usize, *mut u32, usize, *mut u8, usize, *mut u64, usize) -> u32;
+
+/// Such a call with so much work memory and output. `long` is how many bytes are expected, if some are.
+pub fn written(
+    call: Written,
+    r: &mut Random,
+    text: &[u8],
+    work_len: usize,
+    room: usize,
+    long: Option<usize>,
+) -> Result<(Returned, Vec<u8>), String> {
     let seed = r.next() | 1;
     let mut work = Lent::new(work_len, |i| (seed >> (i % 13)) as u32 ^ i as u32);
     let mut out = Lent::new(room, |i| (seed >> (i % 23)) as u8 ^ i as u8);
     let mut answer = lent_answer(r, 2);
     let text_copy = text.to_vec();
-    let number = unsafe {
-        copybook_layout(text.as_ptr(), text.len(), work.pointer(), work.len, out.pointer(), out.len, answer.pointer(), answer.len)
-    };
+    let (w, o, a) = (work.pointer(), out.pointer(), answer.pointer());
+    let number = unsafe { call(text.as_ptr(), text.len(), w, work.len, o, out.len, a, answer.len) };
     if text != text_copy {
         return Err("the text was changed".into());
     }
@@ -93,7 +103,7 @@ pub fn layout(r: &mut Random, text: &[u8], work_len: usize, room: usize, long: O
     }
     work.kept_from(work_len, "the memory beside work memory")?;
     let returned = answered(&answer, 2, number)?;
-    let bytes = written(&out, &returned, long)?;
+    let bytes = output(&out, &returned, long)?;
     Ok((returned, bytes))
 }
 
@@ -103,13 +113,20 @@ pub fn picture(r: &mut Random, text: &[u8], usage: u8, sign: u8) -> Result<Retur
     answered(&answer, 7, number)
 }
 
-pub fn mask(r: &mut Random, text: &[u8], usage: u8, room: usize, long: Option<usize>) -> Result<(Returned, Vec<u8>), String> {
+pub fn mask(
+    r: &mut Random,
+    text: &[u8],
+    usage: u8,
+    room: usize,
+    long: Option<usize>,
+) -> Result<(Returned, Vec<u8>), String> {
     let seed = r.next();
     let mut out = Lent::new(room, |i| (seed >> (i % 23)) as u8 ^ i as u8);
     let mut answer = lent_answer(r, 2);
-    let number = unsafe { copybook_mask(text.as_ptr(), text.len(), usage, out.pointer(), out.len, answer.pointer(), answer.len) };
+    let (o, a) = (out.pointer(), answer.pointer());
+    let number = unsafe { copybook_mask(text.as_ptr(), text.len(), usage, o, out.len, a, answer.len) };
     let returned = answered(&answer, 2, number)?;
-    let bytes = written(&out, &returned, long)?;
+    let bytes = output(&out, &returned, long)?;
     Ok((returned, bytes))
 }
 
@@ -117,7 +134,8 @@ pub fn owner(r: &mut Random, text: &[u8], position: u64, work_len: usize) -> Res
     let seed = r.next() | 1;
     let mut work = Lent::new(work_len, |i| (seed >> (i % 13)) as u32 ^ i as u32);
     let mut answer = lent_answer(r, 4);
-    let number = unsafe { copybook_owner(text.as_ptr(), text.len(), position, work.pointer(), work.len, answer.pointer(), answer.len) };
+    let (w, a) = (work.pointer(), answer.pointer());
+    let number = unsafe { copybook_owner(text.as_ptr(), text.len(), position, w, work.len, a, answer.len) };
     if work.now().iter().any(|&n| n != 0) {
         return Err(format!("owner: work memory is not zero after number {number}"));
     }

@@ -1,5 +1,5 @@
-//! For the build scripts of tools that hold the original Rust: takes its files from the folder that the environment variable ORACLE_SRC names, copies them byte for
-//! byte, and writes `modules.rs`, which declares them as modules beside what they take from the root of their crate (root.rs). None of them stands in this repository.
+//! Takes the files of the original module from the folder that the environment variable ORACLE_SRC names, copies them
+//! byte for byte, and writes `modules.rs`, which declares them as modules. None of them stands in this repository.
 
 use std::path::{Path, PathBuf};
 use std::{env, fs};
@@ -20,24 +20,18 @@ fn folder() -> PathBuf {
     fs::canonicalize(&named).unwrap_or_else(|e| panic!("ORACLE_SRC ({named}): {e}"))
 }
 
-fn utf8(path: &Path) -> &str {
-    path.to_str().expect("a path in UTF-8")
-}
-
-/// Writes `modules.rs`, for `include!`, and the modules beside it.
-pub fn write() {
+fn main() {
+    println!("cargo:rerun-if-changed=build.rs");
     let sources = folder();
     let out = PathBuf::from(env::var("OUT_DIR").expect("cargo sets OUT_DIR"));
-    let root = fs::canonicalize("../original/root.rs").expect("a build script runs in the folder of its tool");
-    println!("cargo:rerun-if-changed={}", root.display());
-    let mut modules = format!("include!({:?});\n", utf8(&root));
+    let mut modules = String::new();
     for module in MODULES {
         let from = find(&sources, module);
         println!("cargo:rerun-if-changed={}", from.display());
         let to = out.join(format!("{module}.rs"));
         let bytes = fs::read(&from).expect("a readable Rust file");
         fs::write(&to, &bytes).expect("OUT_DIR can be written");
-        modules += &format!("#[allow(dead_code)]\n#[path = {:?}]\npub mod {module};\n", utf8(&to));
+        modules += &format!("#[path = {:?}]\npub mod {module};\n", to.to_str().expect("a path in UTF-8"));
     }
     fs::write(out.join("modules.rs"), modules).expect("OUT_DIR can be written");
 }

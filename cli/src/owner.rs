@@ -2,6 +2,7 @@
 
 use crate::{files, refusals, Arguments, Command, Failure, Status};
 use copybook::{Entry, Layout, Owner, Reader, Refusal};
+use std::ffi::OsStr;
 use std::io::{self, Write};
 
 pub const COMMAND: Command = Command {
@@ -144,23 +145,30 @@ impl<'t> Record<'t> {
     }
 }
 
+/// A POSITION: digits alone. One of more digits than a number has is behind every record.
+fn position(word: &OsStr) -> Option<usize> {
+    let word = word.to_str().filter(|w| !w.is_empty() && w.bytes().all(|b| b.is_ascii_digit()))?;
+    Some(word.parse().unwrap_or(usize::MAX))
+}
+
 /// The FILE and the POSITION of the command line.
-fn asked(arguments: &Arguments) -> Result<(Option<&std::ffi::OsStr>, Option<usize>), Failure> {
-    let is_position =
-        |word: &std::ffi::OsStr| word.to_str().is_some_and(|w| !w.is_empty() && w.bytes().all(|b| b.is_ascii_digit()));
-    // a position of more digits than a number has is behind every record
-    let position = |word: &std::ffi::OsStr| word.to_str().and_then(|w| w.parse().ok()).unwrap_or(usize::MAX);
+fn asked(arguments: &Arguments) -> Result<(Option<&OsStr>, Option<usize>), Failure> {
     match arguments.operands.as_slice() {
         [] => Ok((None, None)),
-        [one] if is_position(one) => Ok((None, Some(position(one)))),
-        [file] => Ok((Some(file), None)),
-        [file, second] if is_position(second) => Ok((Some(file), Some(position(second)))),
-        [_, second] => {
-            Err(Failure::Misuse(format!("{} is no position: digits alone, from 0", second.to_string_lossy())))
-        }
+        [one] => match position(one) {
+            None => Ok((Some(one), None)),
+            position => Ok((None, position)),
+        },
+        [file, second] => match position(second) {
+            None => Err(Failure::Misuse(format!("{} is no position: digits alone, from 0", second.to_string_lossy()))),
+            position => Ok((Some(file), position)),
+        },
         _ => Err(Failure::Misuse("one FILE and one POSITION at most".into())),
     }
 }
+
+/// The refusal of a position that is not below the record length.
+const PAST_RECORD: u32 = 41;
 
 fn run(arguments: &Arguments) -> Result<Status, Failure> {
     let (file, position) = asked(arguments)?;
@@ -169,25 +177,21 @@ fn run(arguments: &Arguments) -> Result<Status, Failure> {
         Ok(layout) => layout,
         Err(refusal) => return refusals::print(&refusal, &source),
     };
-    let mut record = Record::new(&source.text, &layout);
-    let length = layout.record_len();
-    // whether there are owners at all: an empty record has none to be asked for, and 41 is no fault of the copybook
-    match (position, record.owner(position.unwrap_or(0))) {
-        (_, Err(refusal)) if refusal.number != PAST_RECORD || position.is_some() => refusals::print(&refusal, &source),
-        (Some(position), _) => {
-            let line = record.at(position).expect("this position has an owner");
-            files::write(|out| writeln!(out, "{line}"))?;
-            Ok(Status::Answered)
-        }
-        (None, _) => {
-            if length == 0 {
-                refusals::no_entries(&source);
-            }
-            files::write(|out| record.all(length, out))?;
-            Ok(Status::Answered)
-        }
+    if layout.top_len() == 0 {
+        refusals::no_entries(&source);
     }
+    let mut record = Record::new(&source.text, &layout);
+    if let Some(position) = position {
+        match record.at(position) {
+            Ok(line) => files::write(|out| writeln!(out, "{line}"))?,
+            Err(refusal) => return refusals::print(&refusal, &source),
+        }
+        return Ok(Status::Answered);
+    }
+    // of an empty record no byte is asked for
+    if let Some(refusal) = record.owner(0).err().filter(|refusal| refusal.number != PAST_RECORD) {
+        return refusals::print(&refusal, &source);
+    }
+    files::write(|out| record.all(layout.record_len(), out))?;
+    Ok(Status::Answered)
 }
-
-/// The refusal of a position that is not below the record length.
-const PAST_RECORD: u32 = 41;

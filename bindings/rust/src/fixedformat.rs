@@ -124,7 +124,7 @@ pub fn parse(src: &str) -> Result<Layout> {
 /// Kind and width of a picture.
 pub fn parse_pic(pic: &str, usage: Usage, sign: Option<SignKind>) -> Result<(FieldKind, usize)> {
     let found = crate::picture(pic.as_bytes(), usage, sign).map_err(|refusal| Error::of(refusal, pic))?;
-    Ok((elementary(found.kind), found.width))
+    Ok((elementary(found.kind, found.width), found.width))
 }
 
 impl Layout {
@@ -165,7 +165,11 @@ impl Field {
 
 /// The next so many fields, with what is below them.
 fn fields(entries: &mut Entries, count: usize) -> Vec<Field> {
-    (0..count).map_while(|_| entries.next().map(|entry| field(entry, entries))).collect()
+    let mut fields = Vec::with_capacity(count);
+    while let Some(entry) = (fields.len() < count).then(|| entries.next()).flatten() {
+        fields.push(field(entry, entries));
+    }
+    fields
 }
 
 /// The field of an entry; what is below it are the next entries.
@@ -176,7 +180,7 @@ fn field(entry: Entry, later: &mut Entries) -> Field {
         width: entry.width,
         kind: match entry.kind {
             crate::FieldKind::Group { members } => FieldKind::Group(fields(later, members)),
-            kind => elementary(kind),
+            kind => elementary(kind, entry.width),
         },
         occurs: entry.occurs,
         depending_on: entry.depending_on.map(str::to_owned),
@@ -184,8 +188,8 @@ fn field(entry: Entry, later: &mut Entries) -> Field {
     }
 }
 
-/// The kind of an elementary item; a group has its members elsewhere.
-fn elementary(kind: crate::FieldKind) -> FieldKind {
+/// The kind of an elementary item of that width; a group has its members elsewhere.
+fn elementary(kind: crate::FieldKind, width: usize) -> FieldKind {
     use crate::FieldKind as Kind;
     match kind {
         Kind::Text => FieldKind::Text { justify: Justify::Left, trim: true, pad: b' ' },
@@ -193,11 +197,19 @@ fn elementary(kind: crate::FieldKind) -> FieldKind {
         Kind::Binary { signed } => FieldKind::Binary { endian: Endian::Big, signed },
         Kind::Decimal { precision, scale, repr, sign } => FieldKind::Decimal { precision, scale, repr, sign },
         Kind::Edited { precision, scale, signed, picture } => {
-            let mask = crate::mask(picture.as_bytes(), Usage::Display).expect("the picture of an edited item");
-            FieldKind::Edited { precision, scale, signed, mask }
+            FieldKind::Edited { precision, scale, signed, mask: mask(picture, width) }
         }
         Kind::Group { .. } => FieldKind::Group(Vec::new()),
     }
+}
+
+/// The mask of an edited picture of that width. The width is the mask's length, so a picture without repeat counts that is
+/// as long has no symbol that takes no place, and is its own mask: asking for it would take longer than the rest.
+fn mask(picture: &str, width: usize) -> String {
+    if picture.len() == width && !picture.contains('(') {
+        return picture.to_ascii_uppercase();
+    }
+    crate::mask(picture.as_bytes(), Usage::Display).expect("the picture of an edited item")
 }
 
 // ---------------------------------------------------------------- errors

@@ -1,5 +1,5 @@
-//! Refusals: numbers, names, lines and columns; the words in which they are told; and that docs/REFUSALS.md and
-//! include/copybook.h say the same.
+//! Refusals: numbers, names, lines and columns; the words in which they are told; and that docs/REFUSALS.md says the
+//! same.
 
 use copybook::{layout, lent, line_and_column, mask, owner, picture, Refusal, Usage, REFUSALS, WORK};
 use std::fs;
@@ -155,11 +155,7 @@ fn lines_that_are_shown() {
     assert_eq!(lines[1].find('~'), Some(mark + 9));
 }
 
-// ---------------------------------------------------------------- the papers
-
-fn file(path: &str) -> String {
-    fs::read_to_string(format!("{}/../../{path}", env!("CARGO_MANIFEST_DIR"))).unwrap()
-}
+// ---------------------------------------------------------------- the paper
 
 /// The cells of a Markdown table's row.
 fn cells(line: &str) -> Vec<&str> {
@@ -169,7 +165,7 @@ fn cells(line: &str) -> Vec<&str> {
 /// docs/REFUSALS.md has a row for each refusal, with the words of the table.
 #[test]
 fn words_are_those_of_the_paper() {
-    let paper = file("docs/REFUSALS.md");
+    let paper = fs::read_to_string(concat!(env!("CARGO_MANIFEST_DIR"), "/../../docs/REFUSALS.md")).unwrap();
     let head = cells(paper.lines().find(|line| line.starts_with("| Number |")).expect("a table of refusals"));
     let column = |name: &str| head.iter().position(|&cell| cell == name).expect("a column of that name");
     let [number, found, advice] = ["Number", "What was found", "What to do"].map(column);
@@ -180,22 +176,6 @@ fn words_are_those_of_the_paper() {
         assert_eq!(told, expected);
     }
     assert_eq!(told.len(), expected.len());
-}
-
-/// The numbers and names of the header's enum of refusals, COPYBOOK_OK and COPYBOOK_NO_SUCH_NUMBER aside.
-fn header_names(header: &str) -> Vec<(String, u32)> {
-    let start = header.find("enum copybook_number").unwrap();
-    let body = &header[start..start + header[start..].find("};").unwrap()];
-    let values = body.lines().filter_map(|line| line.split([',', '/']).next()?.trim().split_once(" = "));
-    let named =
-        values.map(|(name, n)| (name.to_lowercase().replace("copybook_", "").replace('_', "-"), n.parse().unwrap()));
-    named.filter(|(_, number)| ![0, 255].contains(number)).collect()
-}
-
-#[test]
-fn names_are_those_of_the_header() {
-    let expected: Vec<_> = REFUSALS.iter().map(|row| (row.name.to_owned(), row.number)).collect();
-    assert_eq!(header_names(&file("include/copybook.h")), expected);
 }
 
 /// Each refusal can be brought about, and has its name.
@@ -228,12 +208,4 @@ fn every_number() {
     ];
     let expected: Vec<_> = REFUSALS.iter().map(|row| (row.number, row.name)).collect();
     assert_eq!(seen.map(|r| (r.number, r.name)).to_vec(), expected);
-}
-
-#[test]
-fn lengths_are_those_of_the_header() {
-    let header = file("include/copybook.h");
-    assert!(header.contains(&format!("#define COPYBOOK_WORK {WORK}\n")));
-    assert!(header.contains("#define COPYBOOK_LONGEST_LISTING (10 + 800 * 2 * 49)\n"));
-    assert_eq!(copybook::LONGEST_LISTING, 10 + 800 * 2 * 49);
 }

@@ -1,4 +1,4 @@
-"""A copybook's layout listing by document 01, over the kept statements of reader_list.py: Picture, Width, Offsets, and the listing's bytes.
+"""A copybook's layout listing by docs/RULES.md, over the kept statements of reader_list.py: Picture, Width, Offsets, and the listing's bytes.
 
 It shares nothing with the crates. `answer(text)` is what the layout listing has to answer, as numbers: `1 LENGTH` and the bytes of the
 listing, or `0 NUMBER POSITION NEEDED`. `oracle_numbers(text, listing)` reads a listing back into what tools/oracle answers to that text, and

@@ -1,4 +1,4 @@
-"""A copybook's kept statements by document 01, read by its words: Text, Statement and Levels, and where a call is turned down.
+"""A copybook's kept statements by docs/RULES.md, read by its words: Text, Statement and Levels, and where a call is turned down.
 
 It shares nothing with the crates: `reading(text)` is the answer that the reader has to give, as numbers. `0 NUMBER POSITION NEEDED` is a
 refusal. `1 COUNT` is followed by the statements, 16 numbers for each: level, position, depth, name; picture, usage, sign, sync, occurs

@@ -54,7 +54,7 @@ fn format(arguments: &Arguments) -> Result<Format, Failure> {
     }
 }
 
-/// The lines of document 01's small program.
+/// The lines of the small program, the crate `copybook_layout`.
 fn lines(layout: &Layout, out: &mut dyn Write) -> io::Result<()> {
     let fixed = if layout.variable() { "variable" } else { "fixed" };
     writeln!(out, "record {} {fixed} {}", layout.record_len(), layout.top_len())?;

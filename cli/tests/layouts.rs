@@ -1,6 +1,6 @@
-//! `copybook layout` prints the same bytes as document 01's small program, the crate `copybook_layout`, whose text is
-//! proved to be safe and is compiled by Rattle: on every copybook of the lists that the test programs replay, on the
-//! examples, and on damaged copies of these.
+//! `copybook layout` prints the same bytes as the small program, the crate `copybook_layout`, which is written in
+//! Rattle over the same library: on every copybook of the lists that the test programs replay, on the examples, and on
+//! damaged copies of these.
 
 use std::io::Write;
 use std::path::{Path, PathBuf};

@@ -29,10 +29,7 @@ fn said(got: &fixedformat::Error, want: &Error) -> Found {
     Err(format!("drop-in: {:?} where {:?} is due", got.0, want.0))
 }
 
-fn accepted<T>(got: T) -> String
-where
-    T: Debug,
-{
+fn accepted(got: impl Debug) -> String {
     format!("drop-in: {got:?} where a refusal is due")
 }
 

@@ -1,6 +1,6 @@
-//! A reading of document 01 of its own: it gives what the Rust does not have, that is places in the text, positions of
-//! refusals and the added refusals 1, 2, 14, 24, 27, 29, 30, 40 and 41, and the owners of bytes. Offsets, widths and
-//! kinds of a listing are taken from the Rust, never from here.
+//! A reading of the rules (docs/RULES.md) of its own: it gives what the Rust does not have, that is places in the text,
+//! positions of refusals and the added refusals 1, 2, 14, 24, 27, 29, 30, 40 and 41, and the owners of bytes. Offsets,
+//! widths and kinds of a listing are taken from the Rust, never from here.
 
 /// A part of the text; length 0 means absent.
 #[derive(Clone, Copy, PartialEq, Eq, Debug, Default)]

@@ -2,9 +2,9 @@
 //! builds and starts it; docs/BENCHMARKS.md says what its tables mean. They are printed as Markdown.
 //!
 //! The product is called through the Rust binding with buffers that are lent once, and through the binding's drop-in
-//! for the Rust. A time is that of one call, the best of ROUNDS rounds; a round calls each side in turn, so often that
-//! it takes at least ROUND seconds. Before an input is measured, both sides must accept it, and agree on the record
-//! length or the width.
+//! for the Rust. A time is the processor time of one call, the best of ROUNDS rounds; a round calls each side in turn,
+//! so often that it takes at least ROUND seconds. Before an input is measured, both sides must accept it, and agree on
+//! the record length or the width.
 
 mod inputs;
 
@@ -12,20 +12,37 @@ use fixedformat_core::{copybook, numbers};
 use inputs::{Shape, OWNED, SHAPES, SIZES};
 use product::{fixedformat, lent, SignKind, Usage, LONGEST_LISTING, LONGEST_MASK, WORK};
 use std::hint::black_box;
-use std::time::Instant;
 
 const ROUNDS: usize = 15;
 const ROUND: f64 = 0.01;
 
 // ---------------------------------------------------------------- timing
 
+/// Seconds of processor time that this thread has had, so that what else the machine does counts as little as can be.
+fn processor_time() -> f64 {
+    /// `struct timespec` and CLOCK_THREAD_CPUTIME_ID of x86-64 Linux, for which the library is made.
+    #[repr(C)]
+    struct Time {
+        seconds: i64,
+        nanoseconds: i64,
+    }
+    const THREAD: i32 = 3;
+    extern "C" {
+        fn clock_gettime(clock: i32, time: *mut Time) -> i32;
+    }
+    let mut time = Time { seconds: 0, nanoseconds: 0 };
+    // SAFETY: `time` is good for one such struct.
+    assert_eq!(unsafe { clock_gettime(THREAD, &mut time) }, 0);
+    time.seconds as f64 + time.nanoseconds as f64 / 1e9
+}
+
 /// Seconds for so many calls.
 fn seconds(call: &mut dyn FnMut(), times: u64) -> f64 {
-    let start = Instant::now();
+    let start = processor_time();
     for _ in 0..times {
         call();
     }
-    start.elapsed().as_secs_f64()
+    processor_time() - start
 }
 
 /// How many calls take a round.

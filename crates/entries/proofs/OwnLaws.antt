@@ -11,6 +11,7 @@ use borrow.Author.Tests.{eq-eqb, ne-eqb, lt-ltb, le-ltb}
 use Rattle.definition.specs.declared.Entry.{Entry}
 use Rattle.definition.specs.Basic.{if_then_else_, given}
 use Rattle.definition.specs.Fold.{times, total, entryEnd, union}
+use Rattle.rows.specs.Columns.{AT, OFFSET}
 use Rattle.rows.specs.Table.{cell}
 use Rattle.places.specs.Places.{entryIn}
 use Rattle.entries.specs.declared.Item.{Item}
@@ -45,12 +46,12 @@ module _ (w : List ℕ) (x : Item) {e : Entry} (q : e ≡ entryIn w (x .row)) wh
     own-union m p = rw (ne-eqb (x .mark) 0 n, ne-eqb (x .mark) 1 m) (p ∙ ap (λ (y : Entry). union y (x .width)) q)
 
 -- it is at its row's statement
-own-position : (w : List ℕ) (x : Item) → ownOf w x .at ≡ cell w (x .row) 2
+own-position : (w : List ℕ) (x : Item) → ownOf w x .at ≡ cell w (x .row) AT
 own-position w x = go (eqb (x .mark) 0) (eqb (x .mark) 1)
   where
     go :
         (a b : Bool) →
-        (if a then entryIn w (x .row) else if b then moved (x .offset) (entryIn w (x .row)) else union (entryIn w (x .row)) (x .width)) .at ≡ cell w (x .row) 2
+        (if a then entryIn w (x .row) else if b then moved (x .offset) (entryIn w (x .row)) else union (entryIn w (x .row)) (x .width)) .at ≡ cell w (x .row) AT
     go true b = refl
     go false true = refl
     go false false = refl
@@ -77,7 +78,7 @@ module _ (w t : List ℕ) (k : ℕ) {x : Item} (e : (x ≡ itemAt t k) × (x .of
   below-read h =
       subst (λ (y : Item). 0 ≡ topEnd (shownOf w y)) (e .0) (sym (ap (λ (b : Bool). if b then entryEnd (ownOf w x) else 0) (ne-eqb (x .depth) 0 h)))
 
-  pub position-read : {a : ℕ} → a ≡ cell w (x .row) 2 → a ≡ ownOf w (itemAt t k) .at
+  pub position-read : {a : ℕ} → a ≡ cell w (x .row) AT → a ≡ ownOf w (itemAt t k) .at
   position-read p = p ∙ sym (own-position w x) ∙ ap (λ (y : Item). ownOf w y .at) (e .0)
 
 -- where it starts and ends
@@ -87,10 +88,10 @@ module _ (w : List ℕ) (x : Item) where
       let n : eqb (x .mark) 0 ≡ false = ne-eqb (x .mark) 0 (λ z. omega arith) in
       (rw (n, eq-eqb (x .mark) 1 h), l)
 
-  pub offset-own : (x .mark ≡ 1 → ⊥) → {a : ℕ} → (a ≡ cell w (x .row) 13) × (a < 4294967296) → (a ≡ ownOf w x .offset) × (a < 4294967296)
+  pub offset-own : (x .mark ≡ 1 → ⊥) → {a : ℕ} → (a ≡ cell w (x .row) OFFSET) × (a < 4294967296) → (a ≡ ownOf w x .offset) × (a < 4294967296)
   offset-own m {a} p = (p .0 ∙ sym (go (eqb (x .mark) 0)), p .1)
     where
-      go : (b : Bool) → (if b then entryIn w (x .row) else if eqb (x .mark) 1 then moved (x .offset) (entryIn w (x .row)) else union (entryIn w (x .row)) (x .width)) .offset ≡ cell w (x .row) 13
+      go : (b : Bool) → (if b then entryIn w (x .row) else if eqb (x .mark) 1 then moved (x .offset) (entryIn w (x .row)) else union (entryIn w (x .row)) (x .width)) .offset ≡ cell w (x .row) OFFSET
       go true = refl
       go false = rw (ne-eqb (x .mark) 1 m)
 

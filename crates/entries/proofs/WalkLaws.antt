@@ -12,6 +12,7 @@ use Rattle.definition.specs.Basic.{if_then_else_}
 use Rattle.definition.specs.Fold.{Entries, end, entry, append, rebased, redefiners, widest, union, unionMembers, withRedefiners, foldedBelow, foldedAll}
 use Rattle.definition.specs.Listing.{members#}
 use Rattle.definition.specs.Search.{entries#}
+use Rattle.rows.specs.Columns.{NAME, OFFSET}
 use Rattle.rows.specs.Table.{cell, spanAt}
 use Rattle.places.specs.Places.{basesAt, placeAt, entryIn}
 use Rattle.places.specs.Ends.{ChildrenEnd}
@@ -78,20 +79,20 @@ module _ (t w : List ℕ) (i j to : ℕ) where
         o ≡ b →
         unionIn t w i j to
         ≡ (if b then append (foldedAll t (listIn w (suc i) j)) (redefined t w i j to)
-        else entry (rebased (cell w i 13) (entryIn w i)) (foldedAll t (listIn w (suc i) j)) (redefined t w i j to))
+        else entry (rebased (cell w i OFFSET) (entryIn w i)) (foldedAll t (listIn w (suc i) j)) (redefined t w i j to))
     union-is b e =
         ap (unionMembers t (entryIn w i) (foldedAll t (listIn w (suc i) j))) later-redefiners
         ∙ ap (λ (x : Bool). if x then append (foldedAll t (listIn w (suc i) j)) (redefined t w i j to)
-        else entry (rebased (cell w i 13) (entryIn w i)) (foldedAll t (listIn w (suc i) j)) (redefined t w i j to)) (sym p ∙ e)
+        else entry (rebased (cell w i OFFSET) (entryIn w i)) (foldedAll t (listIn w (suc i) j)) (redefined t w i j to)) (sym p ∙ e)
 
     pub members-folded : o ≡ true → unionIn t w i j to ≡ append (listed t w (i + 1) j) (redefined t w i j to)
     members-folded e = union-is true e ∙ ap (λ (n : ℕ). append (listed t w n j) (redefined t w i j to)) (sym (add-one i))
 
-    pub members-based : o ≡ false → {start : ℕ} → start ≡ cell w i 13 → unionIn t w i j to ≡ append (itemIn t w i j true start) (redefined t w i j to)
+    pub members-based : o ≡ false → {start : ℕ} → start ≡ cell w i OFFSET → unionIn t w i j to ≡ append (itemIn t w i j true start) (redefined t w i j to)
     unfolding append
     members-based e {start} q =
         union-is false e
-        ∙ at-next (rebased (cell w i 13) (entryIn w i)) (redefined t w i j to)
+        ∙ at-next (rebased (cell w i OFFSET) (entryIn w i)) (redefined t w i j to)
         ∙ ap (λ (n : ℕ). entry (rebased n (entryIn w i)) (listed t w (i + 1) j) (redefined t w i j to)) (sym q)
 
 -- ---------------------------------------------------------------- two parts, one after the other
@@ -169,7 +170,7 @@ module _ {t w out₀ out : List ℕ} {i j to : ℕ} {b₀ : Block} {d left : ℕ
       (inv .same ∙ ap (λ (es : Entries). append (inv .done) (foldedBelow t es)) (counting-none (inv .counting) h) ∙ append-end (inv .done))
       (inv .built)
 
-  module _ {m : ℕ} (h : ChildrenEnd w k to m) (l : 0 < left) {r : Relation} (p : r ≡ relation t (spanAt (cell w i 3)) (entryIn w k)) where
+  module _ {m : ℕ} (h : ChildrenEnd w k to m) (l : 0 < left) {r : Relation} (p : r ≡ relation t (spanAt (cell w i NAME)) (entryIn w k)) where
     pub redefining-passes : r ≡ Relation.Other → Redefining t w out₀ out i j to b₀ d left b m
     redefining-passes e =
         record {
@@ -180,12 +181,12 @@ module _ {t w out₀ out : List ℕ} {i j to : ℕ} {b₀ : Block} {d left : ℕ
           same = inv .same ∙ ap (λ (es : Entries). append (inv .done) (foldedBelow t es)) (redefined-by t w i k to (counting-kin (inv .counting) l) h p e);
         }
 
-    module _ (e : r ≡ Relation.Redefiner) {start : ℕ} (z : start ≡ cell w i 13) where
+    module _ (e : r ≡ Relation.Redefiner) {start : ℕ} (z : start ≡ cell w i OFFSET) where
       next-is : redefined t w i k to ≡ append (itemIn t w k m true start) (redefined t w i m to)
       unfolding foldedBelow append
       next-is =
           ap (foldedBelow t) (redefined-by t w i k to (counting-kin (inv .counting) l) h p e)
-          ∙ at-next t w k m to (rebased (cell w i 13) (entryIn w k)) (redefined t w i m to)
+          ∙ at-next t w k m to (rebased (cell w i OFFSET) (entryIn w k)) (redefined t w i m to)
           ∙ ap (λ (n : ℕ). entry (rebased n (entryIn w k)) (listed t w (k + 1) m) (redefined t w i m to)) (sym z)
 
       pub redefining-room : Room out b d (entries# (itemIn t w k m true start)) m

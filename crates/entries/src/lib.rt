@@ -14,12 +14,18 @@ ghost use Rattle.places.specs.Places.{entryIn};
 ghost use Rattle.folded.specs.Shown.{shownAt, Known, Tree, Branch, Base, SizedRow};
 ghost use Rattle.entries.specs.Entered.{flatBytes, flatVaries, topEnd, flatLength, flatFits, shownOf, itemCells, itemAt, itemsFrom, moved, ownOf, shownAll, Sound, Rows, Entered};
 ghost use Rattle.entries.specs.Building.{listed, itemIn, redefined, unionIn, ownMember, within, Room, Built, ownItem, unionItem, Small, Open, Closed};
+ghost use Rattle.rows.specs.Columns.{ROW};
 use definition::Check;
 use definition::Entry;
 use definition::Refusal;
 use definition::Span;
 use folded::Relation;
 use folded::Standing;
+use rows::AT;
+use rows::NAME;
+use rows::OFFSET;
+use rows::ROW;
+use rows::WIDTH;
 
 // An entry in the table: the row that it names, whether it is that row's own entry (0), the same as a member of a union (1) or the union (2);
 // offset and width; how many members it has and how many entries stand below it; how deep it stands.
@@ -106,8 +112,8 @@ fn close_item(
     let x = Item {
         row: i,
         mark: mark_of(member),
-        offset: less(places::wide(work[20 * i + 13]), start),
-        width: places::wide(work[20 * i + 14]),
+        offset: less(places::wide(work[ROW * i + OFFSET]), start),
+        width: places::wide(work[ROW * i + WIDTH]),
         members: inner.count,
         below: inner.next - b.next - 1,
         depth: depth,
@@ -124,13 +130,13 @@ fn close_union(
     inner: Block,
     depth: usize,
 ) -> Block
-    requires { ⌜ (20 * i + 20 ≤ length (now work)) × Open (now entries) b inner depth i ⌝ }
+    requires { ⌜ (ROW * i + ROW ≤ length (now work)) × Open (now entries) b inner depth i ⌝ }
     ensures { λ r. ⌜ Closed (now (entries .entry)) b inner (unionItem (now (work .entry)) i b inner depth) (inner .widest) r (now (entries .exit)) ⌝ }
 {
     let x = Item {
         row: i,
         mark: 2,
-        offset: places::wide(work[20 * i + 13]),
+        offset: places::wide(work[ROW * i + OFFSET]),
         width: inner.widest,
         members: inner.count,
         below: inner.next - b.next - 1,
@@ -187,7 +193,7 @@ fn build_redefiners(
     requires { ⌜ Base (now text) (now work) i j to × Room (now entries) b depth (entries# (redefined (now text) (now work) i j to)) to ⌝ }
     ensures { λ r. ⌜ Built (now (work .entry)) (now (entries .entry)) b depth (redefined (now (text .entry)) (now (work .entry)) i j to) r (now (entries .exit)) ⌝ }
 {
-    let start = places::wide(work[20 * i + 13]);
+    let start = places::wide(work[ROW * i + OFFSET]);
     let mut left = folded::redefiner_count(text, work, i, j, to);
     let mut r = b;
     let mut k = j;
@@ -212,7 +218,7 @@ fn has_own(text: &[u8], work: &[u32], i: usize, j: usize, to: usize) -> bool
     requires { ⌜ Base (now text) (now work) i j to ⌝ }
     ensures { λ r. ⌜ r ≡ ownMember (now (text .entry)) (now (work .entry)) i j ⌝ }
 {
-    let name = rows::span_at(work[20 * i + 3]);
+    let name = rows::span_at(work[ROW * i + NAME]);
     folded::has_member(text, work, i + 1, j, name)
 }
 
@@ -235,7 +241,7 @@ fn build_members(
         let next = build_list(text, work, i + 1, j, entries, b, depth);
         return build_redefiners(text, work, i, j, to, entries, next, depth);
     }
-    let start = places::wide(work[20 * i + 13]);
+    let start = places::wide(work[ROW * i + OFFSET]);
     let next = build_item(text, work, i, j, true, start, entries, b, depth);
     build_redefiners(text, work, i, j, to, entries, next, depth)
 }
@@ -374,7 +380,7 @@ fn moved_to(e: Entry, offset: usize) -> Entry
 
 // The entry that an item stands for.
 pub fn own_of(work: &[u32], x: Item) -> Entry
-    requires { ⌜ 20 * x .row + 20 ≤ length (now work) ⌝ }
+    requires { ⌜ ROW * x .row + ROW ≤ length (now work) ⌝ }
     ensures { λ r. ⌜ r ≡ ownOf (now (work .entry)) x ⌝ }
 {
     let e = places::entry_at(work, x.row);
@@ -446,7 +452,7 @@ fn offset_of(work: &[u32], x: Item) -> usize
         return x.offset;
     }
     let row = x.row;
-    places::wide(work[20 * row + 13])
+    places::wide(work[ROW * row + OFFSET])
 }
 
 // Where an entry ends: its offset and what it reserves.
@@ -497,7 +503,7 @@ fn position_of(work: &[u32], entries: &[u32], k: usize) -> usize
 {
     let x = item_at(entries, k);
     let row = x.row;
-    places::wide(work[20 * row + 2])
+    places::wide(work[ROW * row + AT])
 }
 
 // Refusal 29 for the first end at the top above 2,147,483,647.

@@ -15,6 +15,7 @@ use Rattle.definition.specs.Fold.{Entries, end, entry, append, Place, sameName,
 use Rattle.definition.specs.Owner.{size}
 use Rattle.definition.specs.Search.{entries#}
 use Rattle.definition.proofs.LayoutLaws.{redefiners-ends}
+use Rattle.rows.specs.Columns.{ROW, NAME, REDEFINES, BEFORE, BELOW, BASE}
 use Rattle.rows.specs.Table.{cell, spanAt, statementAt, statementsFrom}
 use Rattle.places.specs.Places.{seenFrom, basesAt, placeAt, entryIn, entriesIn, Linked, rowsForest}
 use Rattle.places.specs.Ends.{ChildrenEnd}
@@ -41,10 +42,10 @@ entries-size w (item s kids later) k = omega (arith, entries-size w kids (suc k)
 
 -- what row i holds, whose children end at j, and its siblings at `to`
 pub record RowIs (t w : List ℕ) (i j to last : ℕ) : Type 0 where
-  pub before : cell w i 16 ≡ last
-  pub next : suc i + cell w i 17 ≡ j
-  pub count : IsBase w i → cell w i 18 ≡ members# (redefinersIn t w i j to)
-  pub under : given (spanAt (cell w i 6)) ≡ true → cell w i 18 ≡ baseFrom t (spanAt (cell w i 6)) w last last
+  pub before : cell w i BEFORE ≡ last
+  pub next : suc i + cell w i BELOW ≡ j
+  pub count : IsBase w i → cell w i BASE ≡ members# (redefinersIn t w i j to)
+  pub under : given (spanAt (cell w i REDEFINES)) ≡ true → cell w i BASE ≡ baseFrom t (spanAt (cell w i REDEFINES)) w last last
 
 module _ (w : List ℕ) (i to j : ℕ) (h : ChildrenEnd w i to j) where
   -- row i, its children up to j, and the rest
@@ -60,8 +61,8 @@ module _ (w : List ℕ) (i to j : ℕ) (h : ChildrenEnd w i to j) where
       let all = subst (Marked t w i last) (forest-split w i to j h) l in
       let next = next-row w i to j h in
       let row = all .0 in
-      let below : suc i + cell w i 17 ≡ j = ap (λ (n : ℕ). suc i + n) (row .below) ∙ next in
-      let count : IsBase w i → cell w i 18 ≡ members# (redefinersIn t w i j to) =
+      let below : suc i + cell w i BELOW ≡ j = ap (λ (n : ℕ). suc i + n) (row .below) ∙ next in
+      let count : IsBase w i → cell w i BASE ≡ members# (redefinersIn t w i j to) =
       λ b. row .count b ∙ ap (λ (n : ℕ). members# (redefiners t (placeAt w i) (entriesIn w n (rowsForest w j to)))) next in
       (record { before = row .before; next = below; count = count; under = row .under }, all .1, subst (λ (n : ℕ). Marked t w n (suc i) (rowsForest w j to)) next (all .2))
 
@@ -70,14 +71,14 @@ marked-linked t w leaf k last h = tt
 marked-linked t w (item s kids later) k last h = (h .0 .before, marked-linked t w later (suc k + size kids) (suc k) (h .2))
 
 -- a row of a list counts the rows below it
-pub marked-numbered : (t w : List ℕ) (i to last : ℕ) → 20 * to ≤ length w → i < to → Marked t w i last (rowsForest w i to) → Numbered w i to
+pub marked-numbered : (t w : List ℕ) (i to last : ℕ) → ROW * to ≤ length w → i < to → Marked t w i last (rowsForest w i to) → Numbered w i to
 marked-numbered t w i to last fits h m =
     let j = suc i + higher (statementAt w i .level) (statementsFrom w (suc i) (to - suc i)) in
     let c : ChildrenEnd w i to j = children-end w i to h in
     record { low = h; fits = fits; is = subst (ChildrenEnd w i to) (sym (marked-step w i to j c t last m .0 .next)) c }
 
 -- and a redefiner knows whether it has a base
-pub marked-known : (t w : List ℕ) (i to last : ℕ) → 20 * to ≤ length w → last ≤ i → i < to → Marked t w i last (rowsForest w i to) → Known t w i last
+pub marked-known : (t w : List ℕ) (i to last : ℕ) → ROW * to ≤ length w → last ≤ i → i < to → Marked t w i last (rowsForest w i to) → Known t w i last
 marked-known t w i to last fits back h m =
     let j = suc i + higher (statementAt w i .level) (statementsFrom w (suc i) (to - suc i)) in
     let c : ChildrenEnd w i to j = children-end w i to h in
@@ -85,7 +86,7 @@ marked-known t w i to last fits back h m =
     record {
       fits = omega arith;
       back = back;
-      is = λ g. base-found t w (spanAt (cell w i 6)) last last ∙ ap (ltb 0) (sym (row .under g));
+      is = λ g. base-found t w (spanAt (cell w i REDEFINES)) last last ∙ ap (ltb 0) (sym (row .under g));
     }
 
 -- ---------------------------------------------------------------- redefiners
@@ -97,7 +98,7 @@ module _ (t w : List ℕ) (i k to : ℕ) where
       {n : ℕ} →
       ChildrenEnd w k to n →
       {r x : Relation} →
-      r ≡ relation t (spanAt (cell w i 3)) (entryIn w k) →
+      r ≡ relation t (spanAt (cell w i NAME)) (entryIn w k) →
       r ≡ x →
       redefinersIn t w i k to ≡ byRelation x (placeAt w i) (entryIn w k) (listIn w (suc k) n) (redefinersIn t w i n to)
   redefined-by a {n} h {r} {x} p e =
@@ -107,7 +108,7 @@ module _ (t w : List ℕ) (i k to : ℕ) where
 
   -- there is none from the next base of its name on
   pub redefined-stop :
-      {n : ℕ} → ChildrenEnd w k to n → IsBase w k → sameName t (spanAt (cell w i 3)) (spanAt (cell w k 3)) ≡ true → redefinersIn t w i k to ≡ end
+      {n : ℕ} → ChildrenEnd w k to n → IsBase w k → sameName t (spanAt (cell w i NAME)) (spanAt (cell w k NAME)) ≡ true → redefinersIn t w i k to ≡ end
   redefined-stop {n} h g q =
       ap (redefiners t (placeAt w i)) (list-split w k to n h)
       ∙ redefiners-ends t (placeAt w i) (entryIn w k) (listIn w (suc k) n) (listIn w n to) g q
@@ -122,7 +123,7 @@ module _ (t w : List ℕ) (i k to : ℕ) where
 rest-step :
     (t w : List ℕ) (i to last j : ℕ) →
     ChildrenEnd w i to j →
-    cell w i 16 ≡ last →
+    cell w i BEFORE ≡ last →
     last ≤ i →
     foldedRest t w i to last ≡ append (shownAt t w i j to last) (foldedRest t w j to (suc i))
 unfolding foldedBelow

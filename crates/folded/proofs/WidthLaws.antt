@@ -13,6 +13,7 @@ use Rattle.definition.specs.Fold.{Entries, end, entry, append, Place, find, sam
 use Rattle.definition.proofs.Lists.{order}
 use Rattle.definition.specs.Listing.{members#}
 use Rattle.definition.specs.Tree.{higher}
+use Rattle.rows.specs.Columns.{NAME, REDEFINES}
 use Rattle.rows.specs.Table.{cell, spanAt, statementAt, statementsFrom}
 use Rattle.places.proofs.RowLaws.{children-end}
 use Rattle.layout.proofs.SizeLaws.{never}
@@ -48,7 +49,7 @@ module _ {t w : List ℕ} {i j to : ℕ} (b : Branch t w i j to) where
   -- it is a base
   pub branch-base : {s : Standing} (bases : List Place) → s ≡ standing t bases (entryIn w i) → s ≡ Standing.Base → Base t w i j to
   branch-base {s} bases p e =
-      let stands = stands-base (given (spanAt (cell w i 6))) refl (sym p ∙ e) in
+      let stands = stands-base (given (spanAt (cell w i REDEFINES))) refl (sym p ∙ e) in
       record { low = b .low; high = b .high; fits = b .fits; count = b .count stands; opened = b .opened stands; branch = b }
     where
       is-base : Standing → Bool
@@ -60,9 +61,9 @@ module _ {t w : List ℕ} {i j to : ℕ} (b : Branch t w i j to) where
       not-either true x = true-false (ap is-base x)
       not-either false x = true-false (ap is-base x)
 
-      stands-base : (g : Bool) → given (spanAt (cell w i 6)) ≡ g → standing t bases (entryIn w i) ≡ Standing.Base → given (spanAt (cell w i 6)) ≡ false
+      stands-base : (g : Bool) → given (spanAt (cell w i REDEFINES)) ≡ g → standing t bases (entryIn w i) ≡ Standing.Base → given (spanAt (cell w i REDEFINES)) ≡ false
       stands-base true q x =
-          let r = spanAt (cell w i 6) in
+          let r = spanAt (cell w i REDEFINES) in
           let a = hasBase (find t r bases) in
           absurd (not-either a (sym (ap (λ (y : Bool). if y then (if a then Standing.Under else Standing.Alone) else Standing.Base) q) ∙ x))
       stands-base false q x = q
@@ -169,10 +170,10 @@ module _ {t w : List ℕ} {i j to left k : ℕ} (inv : Counting t w i j to left 
     row-is = marked-step w k to _ here t (inv .before) (inv .marked) .0
 
     -- no base of its name is met while some are left
-    other-name : IsBase w k → sameName t (spanAt (cell w i 3)) (spanAt (cell w k 3)) ≡ false
-    other-name g = go (sameName t (spanAt (cell w i 3)) (spanAt (cell w k 3))) refl
+    other-name : IsBase w k → sameName t (spanAt (cell w i NAME)) (spanAt (cell w k NAME)) ≡ false
+    other-name g = go (sameName t (spanAt (cell w i NAME)) (spanAt (cell w k NAME))) refl
       where
-        go : (b : Bool) → sameName t (spanAt (cell w i 3)) (spanAt (cell w k 3)) ≡ b → sameName t (spanAt (cell w i 3)) (spanAt (cell w k 3)) ≡ false
+        go : (b : Bool) → sameName t (spanAt (cell w i NAME)) (spanAt (cell w k NAME)) ≡ b → sameName t (spanAt (cell w i NAME)) (spanAt (cell w k NAME)) ≡ false
         go false q = q
         go true q =
             let none : members# (redefinersIn t w i k to) ≡ 0 = ap members# (redefined-stop t w i k to here g q) in
@@ -180,8 +181,8 @@ module _ {t w : List ℕ} {i j to left k : ℕ} (inv : Counting t w i j to left 
 
     pub counting-kin : Kin t w i k
     counting-kin =
-        let name = spanAt (cell w i 3) in
-        let r = spanAt (cell w k 6) in
+        let name = spanAt (cell w i NAME) in
+        let r = spanAt (cell w k REDEFINES) in
         record {
           fits = counting-row .fits;
           named = λ g. swapped t w name r ∙ sym (inv .opened r) ∙ ap (λ (n : ℕ). eqb n (suc i)) (sym (row-is .under g));
@@ -189,9 +190,9 @@ module _ {t w : List ℕ} {i j to left k : ℕ} (inv : Counting t w i j to left 
         }
 
     still-open : Open t w i (suc k)
-    still-open = go (given (spanAt (cell w k 6))) refl
+    still-open = go (given (spanAt (cell w k REDEFINES))) refl
       where
-        go : (b : Bool) → given (spanAt (cell w k 6)) ≡ b → Open t w i (suc k)
+        go : (b : Bool) → given (spanAt (cell w k REDEFINES)) ≡ b → Open t w i (suc k)
         go true g = passes t w i k (inv .before) (row-is .before) (inv .back) (inv .opened) g
         go false g = differs t w i k (inv .before) (row-is .before) (inv .back) (omega (arith, inv .low, inv .base .low)) (inv .opened) g (other-name g)
 
@@ -217,7 +218,7 @@ module _ {t w : List ℕ} {i j to left k : ℕ} (inv : Counting t w i j to left 
           is = e;
         }
 
-    module _ (l : 0 < left) {r : Relation} (p : r ≡ relation t (spanAt (cell w i 3)) (entryIn w k)) where
+    module _ (l : 0 < left) {r : Relation} (p : r ≡ relation t (spanAt (cell w i NAME)) (entryIn w k)) where
       pub counting-hit : r ≡ Relation.Redefiner → Counting t w i j to (left - 1) m
       counting-hit e =
           let one : members# (redefinersIn t w i k to) ≡ suc (members# (redefinersIn t w i m to)) = ap members# (redefined-by t w i k to (counting-kin l) h p e) in

@@ -10,6 +10,7 @@ use Rattle.definition.specs.declared.Refusal.{Refusal}
 use Rattle.definition.specs.declared.Entry.{Entry}
 use Rattle.definition.specs.Basic.{if_then_else_, given, Answer, refuse, give, _>>=_}
 use Rattle.definition.specs.Fold.{Entries, entry, Place, placeOf, find, foldCheck}
+use Rattle.rows.specs.Columns.{BEFORE}
 use Rattle.rows.specs.Table.{cell}
 use Rattle.places.specs.Places.{seenFrom, basesAt, entryIn, entriesIn, Linked, rowsForest}
 use Rattle.places.specs.Ends.{ChildrenEnd}
@@ -50,10 +51,10 @@ module _ (text : List ℕ) (bases : List Place) (e : Entry) (members later : Ent
 -- ---------------------------------------------------------------- one row
 
 -- the bases after row i
-pub bases-after : (w : List ℕ) (i last : ℕ) → cell w i 16 ≡ last → last ≤ i → basesAt w (suc i) ≡ basesAfter (entryIn w i) (basesAt w last)
+pub bases-after : (w : List ℕ) (i last : ℕ) → cell w i BEFORE ≡ last → last ≤ i → basesAt w (suc i) ≡ basesAfter (entryIn w i) (basesAt w last)
 bases-after w i last h l = go (given (entryIn w i .redefines)) refl
   where
-    before : seenFrom true w i (cell w i 16) ≡ basesAt w last
+    before : seenFrom true w i (cell w i BEFORE) ≡ basesAt w last
     before = ap (seenFrom true w i) h ∙ seen-low true w i last l
 
     go : (b : Bool) → given (entryIn w i .redefines) ≡ b → basesAt w (suc i) ≡ basesAfter (entryIn w i) (basesAt w last)

@@ -20,6 +20,7 @@ use Rattle.definition.specs.Fold.{Entries, end, entry, entryEnd, Place, placeOf
 use Rattle.definition.specs.Layout.{shallow, content, entryOf, advance, Laid, lay}
 use Rattle.definition.specs.Owner.{size}
 use Rattle.definition.specs.Search.{entries#}
+use Rattle.rows.specs.Columns.{ROW, AT, NAME, OFFSET, BEFORE}
 use Rattle.rows.specs.Table.{cell, spanAt, statementAt}
 use Rattle.places.specs.Places.{putPlaces, lastOf, placeAt, seenFrom, seenAt, entriesIn, rowsForest}
 use Rattle.places.specs.Ends.{ChildrenEnd}
@@ -78,16 +79,16 @@ after-then w i last x (give l) = refl
 -- the earlier siblings after an item
 seen-step :
     (w : List ℕ) (i last : ℕ) (x : ItemLaid) →
-    20 * i + 20 ≤ length w →
+    ROW * i + ROW ≤ length w →
     last ≤ i →
     statementAt w i .name ≡ x .own .name →
     seenAt (putPlaces w i last (entry (x .own) (x .members) end)) (suc i) ≡ placeOf (x .own) ∷ seenAt w last
 seen-step w i last x fits l h =
     let es = entry (x .own) (x .members) end in
     let w′ = putPlaces w i last es in
-    let name : spanAt (cell w′ i 3) ≡ x .own .name = ap spanAt (kept-places es w i last i 3 (lit< tt)) ∙ h in
-    let offset : cell w′ i 13 ≡ x .own .offset = first-offset (x .own) (x .members) end w i last fits in
-    let before : seenFrom false w′ i (cell w′ i 16) ≡ seenAt w last =
+    let name : spanAt (cell w′ i NAME) ≡ x .own .name = ap spanAt (kept-places es w i last i 3 (lit< tt)) ∙ h in
+    let offset : cell w′ i OFFSET ≡ x .own .offset = first-offset (x .own) (x .members) end w i last fits in
+    let before : seenFrom false w′ i (cell w′ i BEFORE) ≡ seenAt w last =
     ap (seenFrom false w′ i) (first-last (x .own) (x .members) end w i last fits)
     ∙ seen-same false w′ w i last (λ k c m n. before-places es w i last k c m n)
     ∙ seen-low false w i last l in
@@ -111,7 +112,7 @@ module _ (text w : List ℕ) (i to j depth last cursor reach : ℕ) (h : Childre
 
   pub list-step :
       {c e : ℕ} {w′ : List ℕ} →
-      20 * to ≤ length w →
+      ROW * to ≤ length w →
       last ≤ i →
       layItem text w i j depth last cursor ≡ placing c e w′ →
       layRest text w i to depth last cursor reach ≡ layRest text w′ j to depth (suc i) c (max reach e)
@@ -214,7 +215,7 @@ module _ (text w : List ℕ) (a b depth : ℕ) where
   unfolding seenFrom
   list-begins = refl
 
-  pub laid-rows : {width l : ℕ} {w₁ : List ℕ} → a ≤ b → 20 * b ≤ length w → layTable text w a b depth ≡ ready width l w₁ → LaidRows text w a b depth width w₁
+  pub laid-rows : {width l : ℕ} {w₁ : List ℕ} → a ≤ b → ROW * b ≤ length w → layTable text w a b depth ≡ ready width l w₁ → LaidRows text w a b depth width w₁
   laid-rows {width} {l} {w₁} h fits e =
       let f = rowsForest w a b in
       let r = readied w a 0 (lay text depth [] 0 0 f) (sym list-begins ∙ e) in
@@ -246,7 +247,7 @@ module _ (text w : List ℕ) (i j depth last cursor : ℕ) (h : suc i < j) where
       let k = children-end w (suc i) j h in
       ap f (forest-split w (suc i) j _ k) ∙ g (statementAt w (suc i)) _ _ refl
 
-  pub too-deep : 64 ≤ depth → halted (record { number = 20; position = cell w (suc i) 2; needed = 0 }) ≡ layItem text w i j depth last cursor
+  pub too-deep : 64 ≤ depth → halted (record { number = 20; position = cell w (suc i) AT; needed = 0 }) ≡ layItem text w i j depth last cursor
   unfolding bareItem _>>=_
   too-deep d =
       sym

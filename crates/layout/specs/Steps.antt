@@ -8,6 +8,7 @@ use lib.ListN.{length}
 use Rattle.definition.specs.declared.Entry.{Entry}
 use Rattle.definition.specs.Basic.{if_then_else_, given, Answer, refuse, give, refuseIf}
 use Rattle.definition.specs.Fold.{Place, find}
+use Rattle.rows.specs.Columns.{ROW, REDEFINES}
 use Rattle.layout.specs.declared.Start.{Start}
 use Rattle.layout.specs.declared.ItemAnswer.{ItemAnswer}
 use Rattle.layout.specs.declared.LaidList.{LaidList}
@@ -30,7 +31,7 @@ listOf (LaidList.Refused r) w = stopped r
 
 -- the table has rows up to `to`
 pub record Room (w : List ℕ) (to : ℕ) : Type 0 where
-  pub fits : 20 * to ≤ length w
+  pub fits : ROW * to ≤ length w
   pub small : to < 4294967296
 
 -- 30 for one entry: a redefiner that starts before its base

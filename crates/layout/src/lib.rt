@@ -13,6 +13,7 @@ ghost use Rattle.layout.specs.Outcomes.{placeRow, layItem, layTable};
 ghost use Rattle.layout.specs.Steps.{startOf, itemOf, listOf, Room, checkEntry};
 ghost use Rattle.definition.specs.Fold.{foldCheck};
 ghost use mathlib.Core.List.{[]};
+ghost use Rattle.rows.specs.Columns.{ROW};
 use definition::Check;
 use definition::FieldKind;
 use definition::PicAnswer;
@@ -27,6 +28,9 @@ use definition::Usage;
 use definition::UsageClause;
 use places::Ending;
 use places::Target;
+use rows::AT;
+use rows::OFFSET;
+use rows::ROW;
 
 // Whether a kind is binary.
 fn is_binary(kind: FieldKind) -> bool
@@ -77,7 +81,7 @@ fn start_of(
     last: usize,
     cursor: usize,
 ) -> Start
-    requires { ⌜ (20 * last ≤ length (now work)) × (cursor ≤ 2147483647) × (c .width ≤ 2147483647) ⌝ }
+    requires { ⌜ (ROW * last ≤ length (now work)) × (cursor ≤ 2147483647) × (c .width ≤ 2147483647) ⌝ }
     ensures { λ r. ⌜ startOf r ≡ start (now (text .entry)) s c (seenAt (now (work .entry)) last) cursor ⌝ }
 {
     let clauses = s.clauses;
@@ -188,7 +192,7 @@ fn place(
     cursor: usize,
     c: Pictured,
 ) -> ItemAnswer
-    requires { ⌜ (20 * i + 20 ≤ length (now work)) × (last ≤ i) × (i < 4294967296) × (below < 4294967296) × (cursor ≤ 2147483647) × (c .width ≤ 2147483647) ⌝ }
+    requires { ⌜ (ROW * i + ROW ≤ length (now work)) × (last ≤ i) × (i < 4294967296) × (below < 4294967296) × (cursor ≤ 2147483647) × (c .width ≤ 2147483647) ⌝ }
     ensures { λ r. ⌜ itemOf r (now (work .exit)) ≡ placeRow (now (text .entry)) (now (work .entry)) i below last cursor c ⌝ }
 {
     let s = rows::statement_at(work, i);
@@ -221,7 +225,7 @@ fn place(
 
 // Refusal 30 for the entry of row i: a redefiner that starts before its base; the siblings before it go back from `last`.
 fn check_entry(text: &[u8], work: &[u32], i: usize, last: usize) -> Check
-    requires { ⌜ (20 * i + 20 ≤ length (now work)) × (last ≤ i) ⌝ }
+    requires { ⌜ (ROW * i + ROW ≤ length (now work)) × (last ≤ i) ⌝ }
     ensures { λ r. ⌜ checkOf r ≡ checkEntry (now (text .entry)) (basesAt (now (work .entry)) last) (entryIn (now (work .entry)) i) ⌝ }
 {
     let s = rows::statement_at(work, i);
@@ -230,7 +234,7 @@ fn check_entry(text: &[u8], work: &[u32], i: usize, last: usize) -> Check
     if 0 < redefines.len {
         match places::find_target(text, work, redefines, last, true) {
             Target::At(base) => {
-                let offset = places::wide(work[20 * i + 13]);
+                let offset = places::wide(work[ROW * i + OFFSET]);
                 if offset < base {
                     return Check::Refused(Refusal {
                         number: 30,
@@ -250,7 +254,7 @@ fn check_entry(text: &[u8], work: &[u32], i: usize, last: usize) -> Check
 
 // Refusal 30 for the list in the rows from `from` up to `to`, as it is laid: its first redefiner that starts before its base.
 pub fn fold_check(text: &[u8], work: &[u32], from: usize, to: usize) -> Check
-    requires { ⌜ (20 * to ≤ length (now work)) × Linked (now work) from 0 (rowsForest (now work) from to) ⌝ }
+    requires { ⌜ (ROW * to ≤ length (now work)) × Linked (now work) from 0 (rowsForest (now work) from to) ⌝ }
     ensures { λ r. ⌜ checkOf r ≡ foldCheck (now (text .entry)) [] (entriesIn (now (work .entry)) from (rowsForest (now (work .entry)) from to)) ⌝ }
 {
     let mut i = from;
@@ -288,7 +292,7 @@ fn lay_item(
         if depth_left == 0 {
             return ItemAnswer::Refused(Refusal {
                 number: 20,
-                position: places::wide(work[20 * first + 2]),
+                position: places::wide(work[ROW * first + AT]),
                 needed: 0,
             });
         }

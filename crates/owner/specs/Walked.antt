@@ -7,6 +7,7 @@ use lib.ListN.{length}
 use Rattle.definition.specs.declared.Statement.{Statement}
 use Rattle.definition.specs.Basic.{given}
 use Rattle.definition.specs.Search.{Row, rowOf}
+use Rattle.rows.specs.Columns.{ROW, DEPENDING, REDEFINES, BELOW}
 use Rattle.rows.specs.Table.{cell}
 use Rattle.places.specs.Places.{entryIn, rowsForest}
 use Rattle.folded.specs.Shown.{Sized}
@@ -18,7 +19,7 @@ overlays s = given (s .clauses .redefines) || given (s .clauses .depending)
 
 -- row k as the walk reads it: its offset, width and count, and the number of rows below it
 abbrev pub rowAt : List ℕ → ℕ → Row
-rowAt w k = rowOf (entryIn w k) (cell w k 17)
+rowAt w k = rowOf (entryIn w k) (cell w k BELOW)
 
 -- n of them from row k on
 unfoldable pub tableRows : List ℕ → ℕ → ℕ → List Row
@@ -27,6 +28,6 @@ tableRows w k (suc n) = rowAt w k ∷ tableRows w (suc k) n
 
 -- the rows of a list and of those below it are there, none is too large, and each counts the rows below it
 pub record Walkable (w : List ℕ) (from to : ℕ) : Type 0 where
-  pub fits : 20 * to ≤ length w
+  pub fits : ROW * to ≤ length w
   pub sized : Sized w from to
   pub counted : Counted w from 0 (rowsForest w from to)

@@ -16,6 +16,7 @@ use Rattle.definition.specs.Layout.{entryOf}
 use Rattle.definition.specs.Owner.{size}
 use Rattle.definition.specs.Search.{entries#}
 use Rattle.definition.proofs.Lists.{tested}
+use Rattle.rows.specs.Columns.{ROW, OFFSET, WIDTH, KIND, BEFORE, BASE}
 use Rattle.rows.specs.Table.{cell, statementAt, statementsFrom}
 use Rattle.rows.proofs.TableLaws.{statement-same, length-statements}
 use Rattle.places.specs.Places.{kindCode, kindOfCode, Bytes, putPlace, putPlaces, entryIn, rowsForest, entriesIn, Linked}
@@ -96,7 +97,7 @@ rows-same w w′ h k (item s kids later) r =
 -- ---------------------------------------------------------------- entries in rows
 
 -- an entry is read from its row
-pub entry-same : (w w′ : List ℕ) (k : ℕ) → ((c : ℕ) → c < 18 → cell w k c ≡ cell w′ k c) → entryIn w k ≡ entryIn w′ k
+pub entry-same : (w w′ : List ℕ) (k : ℕ) → ((c : ℕ) → c < BASE → cell w k c ≡ cell w′ k c) → entryIn w k ≡ entryIn w′ k
 entry-same w w′ k h =
     cc (
       h 2 (lit< tt),
@@ -115,7 +116,7 @@ entry-same w w′ k h =
 -- and the entries of a list from its rows
 pub entries-same :
     (w w′ : List ℕ) (k : ℕ) (f : Forest) →
-    ((j c : ℕ) → j < k + size f → c < 18 → cell w j c ≡ cell w′ j c) →
+    ((j c : ℕ) → j < k + size f → c < BASE → cell w j c ≡ cell w′ j c) →
     entriesIn w k f ≡ entriesIn w′ k f
 unfolding entriesIn
 entries-same w w′ k leaf h = refl
@@ -130,16 +131,16 @@ entry-held :
     (w : List ℕ) (k : ℕ) (s : Statement) (e : Entry) →
     EntryOf s e →
     statementAt w k ≡ s →
-    cell w k 13 ≡ e .offset →
-    cell w k 14 ≡ e .width →
-    cell w k 15 ≡ kindCode (e .kind) →
+    cell w k OFFSET ≡ e .offset →
+    cell w k WIDTH ≡ e .width →
+    cell w k KIND ≡ kindCode (e .kind) →
     entryIn w k ≡ e
 entry-held w k s e o h a b c =
-    let kind : kindOfCode (cell w k 15) ≡ o .contents .kind =
+    let kind : kindOfCode (cell w k KIND) ≡ o .contents .kind =
     ap kindOfCode (c ∙ ap (λ (x : Entry). kindCode (x .kind)) (o .is)) ∙ kind-back (o .contents .kind) (o .bytes) in
-    let a′ : cell w k 13 ≡ o .place = a ∙ ap (λ (x : Entry). x .offset) (o .is) in
-    let b′ : cell w k 14 ≡ o .contents .width = b ∙ ap (λ (x : Entry). x .width) (o .is) in
-    let made : Statement → Entry = λ x. record { at = x .at; name = x .name; offset = cell w k 13; width = cell w k 14; kind = kindOfCode (cell w k 15); picture = x .clauses .picture; occurs = x .clauses .occurs; depending = x .clauses .depending; redefines = x .clauses .redefines } in
+    let a′ : cell w k OFFSET ≡ o .place = a ∙ ap (λ (x : Entry). x .offset) (o .is) in
+    let b′ : cell w k WIDTH ≡ o .contents .width = b ∙ ap (λ (x : Entry). x .width) (o .is) in
+    let made : Statement → Entry = λ x. record { at = x .at; name = x .name; offset = cell w k OFFSET; width = cell w k WIDTH; kind = kindOfCode (cell w k KIND); picture = x .clauses .picture; occurs = x .clauses .occurs; depending = x .clauses .depending; redefines = x .clauses .redefines } in
     let same : entryIn w k ≡ made s = ap made h in
     let whole : made s ≡ entryOf s (o .contents) (o .place) = cc (kind, a′, b′) in
     same ∙ whole ∙ sym (o .is)
@@ -158,7 +159,7 @@ module _ (w : List ℕ) (i to j : ℕ) (h : ChildrenEnd w i to j) where
       ∙ ap (λ (n : ℕ). entry (entryIn w i) (entriesIn w (suc i) (rowsForest w (suc i) j)) (entriesIn w n (rowsForest w j to))) next-row
 
   -- each names the sibling before it
-  pub linked-step : (last : ℕ) → Linked w i last (rowsForest w i to) → (cell w i 16 ≡ last) × Linked w j (suc i) (rowsForest w j to)
+  pub linked-step : (last : ℕ) → Linked w i last (rowsForest w i to) → (cell w i BEFORE ≡ last) × Linked w j (suc i) (rowsForest w j to)
   linked-step last l =
       let both = subst (Linked w i last) (forest-split w i to j h) l in
       (both .0, subst (λ (n : ℕ). Linked w n (suc i) (rowsForest w j to)) next-row (both .1))
@@ -174,7 +175,7 @@ pub places-held :
     (f : Forest) (es : Entries) (w : List ℕ) (k last : ℕ) →
     Of f es →
     Rows w k f →
-    20 * (k + size f) ≤ length w →
+    ROW * (k + size f) ≤ length w →
     Held (putPlaces w k last es) k last f es
 unfolding entriesIn putPlaces
 places-held leaf end w k last o r fits = record { entries = refl; linked = tt }
@@ -187,7 +188,7 @@ places-held (item s kids later) (entry e members more) w k last o r fits =
     let n = suc k + entries# members in
     let at : n ≡ suc k + size kids = omega (arith, m) in
     let w₃ = putPlaces w₂ n (suc k) more in
-    let room : 20 * k + 20 ≤ length w = omega arith in
+    let room : ROW * k + ROW ≤ length w = omega arith in
     let l₁ : length w₁ ≡ length w = length-place w k last (entries# members) e in
     let l₂ : length w₂ ≡ length w = length-places members w₁ (suc k) 0 ∙ l₁ in
     let s₁ : (j : ℕ) → statementAt w j ≡ statementAt w₁ j = λ j. statement-same w j w₁ (λ c l. sym (kept-place w k last (entries# members) e j c l)) in

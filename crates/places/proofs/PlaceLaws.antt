@@ -15,6 +15,7 @@ use Rattle.definition.specs.declared.Entry.{Entry}
 use Rattle.definition.specs.Fold.{Entries, end, entry}
 use Rattle.definition.specs.Search.{entries#}
 use Rattle.definition.proofs.Lists.{order}
+use Rattle.rows.specs.Columns.{ROW, OFFSET, WIDTH, KIND, BEFORE, BELOW}
 use Rattle.rows.specs.Table.{cell, statementAt, statementsFrom}
 use Rattle.rows.proofs.TableLaws.{getD-below, getD-above, getD-in, statement-same}
 use Rattle.places.specs.Places.{kindCode, placeCells, putPlace, putPlaces, placeAt, leftOut, seenFrom}
@@ -36,34 +37,34 @@ sets-sets (u ∷ us) vs l i j h =
 module _ (w : List ℕ) (a last below : ℕ) (e : Entry) where
   pub length-place : length (putPlace w a last below e) ≡ length w
   unfolding putPlace
-  length-place = length-sets w (20 * a + 13) (placeCells e last below)
+  length-place = length-sets w (ROW * a + OFFSET) (placeCells e last below)
 
   -- its five columns
-  place-in : 20 * a + 20 ≤ length w → (c : ℕ) → c < 5 → cell (putPlace w a last below e) a (13 + c) ≡ getD (placeCells e last below) c 0
+  place-in : ROW * a + ROW ≤ length w → (c : ℕ) → c < 5 → cell (putPlace w a last below e) a (OFFSET + c) ≡ getD (placeCells e last below) c 0
   unfolding putPlace
-  place-in h c l = getD-in (placeCells e last below) w (20 * a + 13) c (20 * a + (13 + c)) (omega arith) l (omega arith)
+  place-in h c l = getD-in (placeCells e last below) w (ROW * a + OFFSET) c (ROW * a + (OFFSET + c)) (omega arith) l (omega arith)
 
   -- the columns of the statements
-  pub kept-place : (k c : ℕ) → c < 13 → cell (putPlace w a last below e) k c ≡ cell w k c
+  pub kept-place : (k c : ℕ) → c < OFFSET → cell (putPlace w a last below e) k c ≡ cell w k c
   unfolding putPlace
   kept-place k c l =
       ⊎-elim
-      (λ (more : a < k). getD-above (placeCells e last below) w (20 * a + 13) (20 * k + c) (omega arith))
-      (λ (less : k ≤ a). getD-below (placeCells e last below) w (20 * a + 13) (20 * k + c) (omega arith))
+      (λ (more : a < k). getD-above (placeCells e last below) w (ROW * a + OFFSET) (ROW * k + c) (omega arith))
+      (λ (less : k ≤ a). getD-below (placeCells e last below) w (ROW * a + OFFSET) (ROW * k + c) (omega arith))
       (order a k)
 
   -- the rows before it, and after it
-  before-place : (k c : ℕ) → k < a → c < 20 → cell (putPlace w a last below e) k c ≡ cell w k c
+  before-place : (k c : ℕ) → k < a → c < ROW → cell (putPlace w a last below e) k c ≡ cell w k c
   unfolding putPlace
-  before-place k c h l = getD-below (placeCells e last below) w (20 * a + 13) (20 * k + c) (omega arith)
+  before-place k c h l = getD-below (placeCells e last below) w (ROW * a + OFFSET) (ROW * k + c) (omega arith)
 
   after-place : (k c : ℕ) → a < k → cell (putPlace w a last below e) k c ≡ cell w k c
   unfolding putPlace
-  after-place k c h = getD-above (placeCells e last below) w (20 * a + 13) (20 * k + c) (omega arith)
+  after-place k c h = getD-above (placeCells e last below) w (ROW * a + OFFSET) (ROW * k + c) (omega arith)
 
   place-place : (b m n : ℕ) (d : Entry) → a < b → putPlace (putPlace w b m n d) a last below e ≡ putPlace (putPlace w a last below e) b m n d
   unfolding putPlace
-  place-place b m n d h = sets-sets (placeCells e last below) (placeCells d m n) w (20 * b + 13) (20 * a + 13) (omega arith)
+  place-place b m n d h = sets-sets (placeCells e last below) (placeCells d m n) w (ROW * b + OFFSET) (ROW * a + OFFSET) (omega arith)
 
 -- ---------------------------------------------------------------- the places of a list
 
@@ -77,7 +78,7 @@ length-places (entry e members later) w a last =
     ∙ length-place w a last (entries# members) e
 
 -- every statement is as it was
-pub kept-places : (es : Entries) (w : List ℕ) (a last k c : ℕ) → c < 13 → cell (putPlaces w a last es) k c ≡ cell w k c
+pub kept-places : (es : Entries) (w : List ℕ) (a last k c : ℕ) → c < OFFSET → cell (putPlaces w a last es) k c ≡ cell w k c
 unfolding putPlaces
 kept-places end w a last k c l = refl
 kept-places (entry e members later) w a last k c l =
@@ -87,7 +88,7 @@ kept-places (entry e members later) w a last k c l =
     ∙ kept-place w a last (entries# members) e k c l
 
 -- and every row outside
-pub before-places : (es : Entries) (w : List ℕ) (a last k c : ℕ) → k < a → c < 20 → cell (putPlaces w a last es) k c ≡ cell w k c
+pub before-places : (es : Entries) (w : List ℕ) (a last k c : ℕ) → k < a → c < ROW → cell (putPlaces w a last es) k c ≡ cell w k c
 unfolding putPlaces
 before-places end w a last k c h l = refl
 before-places (entry e members later) w a last k c h l =
@@ -129,28 +130,28 @@ place-late (entry e members later) w a b last m n d h =
     (place-late members w₁ a (suc b) 0 m n d (omega arith) ∙ ap (λ (x : List ℕ). putPlaces x (suc b) 0 members) (place-place w a m n d b last (entries# members) e h))
 
 -- the first place of a list is read back
-module _ (e : Entry) (members later : Entries) (w : List ℕ) (a last : ℕ) (fits : 20 * a + 20 ≤ length w) where
-  first-place : (c : ℕ) → c < 5 → cell (putPlaces w a last (entry e members later)) a (13 + c) ≡ getD (placeCells e last (entries# members)) c 0
+module _ (e : Entry) (members later : Entries) (w : List ℕ) (a last : ℕ) (fits : ROW * a + ROW ≤ length w) where
+  first-place : (c : ℕ) → c < 5 → cell (putPlaces w a last (entry e members later)) a (OFFSET + c) ≡ getD (placeCells e last (entries# members)) c 0
   unfolding putPlaces
   first-place c l =
       let w₁ = putPlace w a last (entries# members) e in
-      before-places later (putPlaces w₁ (suc a) 0 members) (suc a + entries# members) (suc a) a (13 + c) (omega arith) (omega arith)
-      ∙ before-places members w₁ (suc a) 0 a (13 + c) (omega arith) (omega arith)
+      before-places later (putPlaces w₁ (suc a) 0 members) (suc a + entries# members) (suc a) a (OFFSET + c) (omega arith) (omega arith)
+      ∙ before-places members w₁ (suc a) 0 a (OFFSET + c) (omega arith) (omega arith)
       ∙ place-in w a last (entries# members) e fits c l
 
-  pub first-offset : cell (putPlaces w a last (entry e members later)) a 13 ≡ e .offset
+  pub first-offset : cell (putPlaces w a last (entry e members later)) a OFFSET ≡ e .offset
   first-offset = first-place 0 (lit< tt)
 
-  pub first-width : cell (putPlaces w a last (entry e members later)) a 14 ≡ e .width
+  pub first-width : cell (putPlaces w a last (entry e members later)) a WIDTH ≡ e .width
   first-width = first-place 1 (lit< tt)
 
-  pub first-kind : cell (putPlaces w a last (entry e members later)) a 15 ≡ kindCode (e .kind)
+  pub first-kind : cell (putPlaces w a last (entry e members later)) a KIND ≡ kindCode (e .kind)
   first-kind = first-place 2 (lit< tt)
 
-  pub first-last : cell (putPlaces w a last (entry e members later)) a 16 ≡ last
+  pub first-last : cell (putPlaces w a last (entry e members later)) a BEFORE ≡ last
   first-last = first-place 3 (lit< tt)
 
-  pub first-below : cell (putPlaces w a last (entry e members later)) a 17 ≡ entries# members
+  pub first-below : cell (putPlaces w a last (entry e members later)) a BELOW ≡ entries# members
   first-below = first-place 4 (lit< tt)
 
 -- ---------------------------------------------------------------- the earlier siblings
@@ -172,22 +173,22 @@ module _ (bases : Bool) (w : List ℕ) where
 
   -- the latest sibling, and those before it
   module _ (k : ℕ) where
-    pub seen-out : leftOut bases w k ≡ true → seenFrom bases w (suc k) (suc k) ≡ seenFrom bases w k (cell w k 16)
+    pub seen-out : leftOut bases w k ≡ true → seenFrom bases w (suc k) (suc k) ≡ seenFrom bases w k (cell w k BEFORE)
     unfolding seenFrom
     seen-out h = rw (h, eq-eqb (suc k) (suc k) refl, seenFrom)
 
-    pub seen-in : leftOut bases w k ≡ false → seenFrom bases w (suc k) (suc k) ≡ placeAt w k ∷ seenFrom bases w k (cell w k 16)
+    pub seen-in : leftOut bases w k ≡ false → seenFrom bases w (suc k) (suc k) ≡ placeAt w k ∷ seenFrom bases w k (cell w k BEFORE)
     unfolding seenFrom
     seen-in h = rw (h, eq-eqb (suc k) (suc k) refl, seenFrom)
 
 -- they are read from the rows before
 pub seen-same :
     (bases : Bool) (w w′ : List ℕ) (n last : ℕ) →
-    ((k c : ℕ) → k < n → c < 20 → cell w k c ≡ cell w′ k c) →
+    ((k c : ℕ) → k < n → c < ROW → cell w k c ≡ cell w′ k c) →
     seenFrom bases w n last ≡ seenFrom bases w′ n last
 unfolding seenFrom
 seen-same bases w w′ zero last h = refl
 seen-same bases w w′ (suc k) last h =
-    let back = seen-same bases w w′ k (cell w k 16) (λ j c l m. h j c (omega arith) m) in
+    let back = seen-same bases w w′ k (cell w k BEFORE) (λ j c l m. h j c (omega arith) m) in
     let on = seen-same bases w w′ k last (λ j c l m. h j c (omega arith) m) in
     cc (h k 3 (omega arith) (lit< tt), h k 6 (omega arith) (lit< tt), h k 13 (omega arith) (lit< tt), h k 16 (omega arith) (lit< tt), back, on)

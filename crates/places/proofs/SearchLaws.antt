@@ -13,6 +13,7 @@ use Rattle.definition.specs.declared.Span.{Span}
 use Rattle.definition.specs.Basic.{if_then_else_}
 use Rattle.definition.specs.Fold.{find, sameName}
 use Rattle.definition.proofs.Lists.{order}
+use Rattle.rows.specs.Columns.{NAME, OFFSET, BEFORE}
 use Rattle.rows.specs.Table.{cell, spanAt}
 use Rattle.places.specs.Places.{leftOut, isTarget, rowFrom, seenFrom, placeAt}
 
@@ -23,7 +24,7 @@ if-most false p q = q
 -- the offset of the row that was found
 abbrev pub offsetOf : List ℕ → ℕ → Option ℕ
 offsetOf w zero = none
-offsetOf w (suc k) = some (cell w k 13)
+offsetOf w (suc k) = some (cell w k OFFSET)
 
 module _ (t w : List ℕ) (target : Span) (bases : Bool) where
   row-skip : (k last : ℕ) → (last ≡ suc k → ⊥) → rowFrom t target bases w (suc k) last ≡ rowFrom t target bases w k last
@@ -46,7 +47,7 @@ module _ (t w : List ℕ) (target : Span) (bases : Bool) where
   row-over (suc k) last h = row-skip k last (λ e. omega arith) ∙ row-over k last (omega arith)
 
   -- the latest sibling, or those before it
-  pub row-here : (k : ℕ) → rowFrom t target bases w (suc k) (suc k) ≡ (if isTarget t target bases w k then suc k else rowFrom t target bases w k (cell w k 16))
+  pub row-here : (k : ℕ) → rowFrom t target bases w (suc k) (suc k) ≡ (if isTarget t target bases w k then suc k else rowFrom t target bases w k (cell w k BEFORE))
   unfolding rowFrom
   row-here k = rw (eq-eqb (suc k) (suc k) refl, rowFrom)
 
@@ -54,7 +55,7 @@ module _ (t w : List ℕ) (target : Span) (bases : Bool) where
   unfolding rowFrom
   row-most zero last = omega arith
   row-most (suc k) last =
-      let back = row-most k (cell w k 16) in
+      let back = row-most k (cell w k BEFORE) in
       let on = row-most k last in
       if-most (eqb last (suc k)) (if-most (isTarget t target bases w k) (omega arith) (omega (arith, back))) (omega (arith, on))
 
@@ -62,21 +63,21 @@ module _ (t w : List ℕ) (target : Span) (bases : Bool) where
   pub row-found : (n last : ℕ) → find t target (seenFrom bases w n last) ≡ offsetOf w (rowFrom t target bases w n last)
   unfolding rowFrom seenFrom find
   row-found zero last = refl
-  row-found (suc k) last = go (eqb last (suc k)) (leftOut bases w k) (row-found k (cell w k 16)) (row-found k last)
+  row-found (suc k) last = go (eqb last (suc k)) (leftOut bases w k) (row-found k (cell w k BEFORE)) (row-found k last)
     where
       named :
           (c : Bool) →
-          find t target (seenFrom bases w k (cell w k 16)) ≡ offsetOf w (rowFrom t target bases w k (cell w k 16)) →
-          (if c then some (cell w k 13) else find t target (seenFrom bases w k (cell w k 16))) ≡ offsetOf w (if c then suc k else rowFrom t target bases w k (cell w k 16))
+          find t target (seenFrom bases w k (cell w k BEFORE)) ≡ offsetOf w (rowFrom t target bases w k (cell w k BEFORE)) →
+          (if c then some (cell w k OFFSET) else find t target (seenFrom bases w k (cell w k BEFORE))) ≡ offsetOf w (if c then suc k else rowFrom t target bases w k (cell w k BEFORE))
       named true p = refl
       named false p = p
 
       go :
           (a b : Bool) →
-          find t target (seenFrom bases w k (cell w k 16)) ≡ offsetOf w (rowFrom t target bases w k (cell w k 16)) →
+          find t target (seenFrom bases w k (cell w k BEFORE)) ≡ offsetOf w (rowFrom t target bases w k (cell w k BEFORE)) →
           find t target (seenFrom bases w k last) ≡ offsetOf w (rowFrom t target bases w k last) →
-          find t target (if a then (if b then seenFrom bases w k (cell w k 16) else placeAt w k ∷ seenFrom bases w k (cell w k 16)) else seenFrom bases w k last)
-          ≡ offsetOf w (if a then (if (if b then false else sameName t target (spanAt (cell w k 3))) then suc k else rowFrom t target bases w k (cell w k 16)) else rowFrom t target bases w k last)
+          find t target (if a then (if b then seenFrom bases w k (cell w k BEFORE) else placeAt w k ∷ seenFrom bases w k (cell w k BEFORE)) else seenFrom bases w k last)
+          ≡ offsetOf w (if a then (if (if b then false else sameName t target (spanAt (cell w k NAME))) then suc k else rowFrom t target bases w k (cell w k BEFORE)) else rowFrom t target bases w k last)
       go true true p q = p
-      go true false p q = named (sameName t target (spanAt (cell w k 3))) p
+      go true false p q = named (sameName t target (spanAt (cell w k NAME))) p
       go false b p q = q

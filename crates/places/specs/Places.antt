@@ -19,6 +19,7 @@ use Rattle.definition.specs.Fold.{Entries, end, entry, sameName, Place}
 use Rattle.definition.specs.Owner.{size}
 use Rattle.definition.specs.Listing.{flag, signByte, storageByte}
 use Rattle.definition.specs.Search.{entries#}
+use Rattle.rows.specs.Columns.{ROW, AT, NAME, REDEFINES, OFFSET, WIDTH, KIND, BEFORE}
 use Rattle.rows.specs.Table.{spanAt, cell, clausesAt, statementsFrom}
 use Rattle.places.specs.declared.Target.{Target}
 
@@ -74,7 +75,7 @@ placeCells e last below = e .offset ∷ e .width ∷ kindCode (e .kind) ∷ last
 
 -- w with the place of an entry in row k, after the sibling `last`
 unfoldable pub putPlace : List ℕ → ℕ → ℕ → ℕ → Entry → List ℕ
-putPlace w k last below e = sets w (20 * k + 13) (placeCells e last below)
+putPlace w k last below e = sets w (ROW * k + OFFSET) (placeCells e last below)
 
 -- w with the places of a list of entries, and of those below them, from row k on, after the sibling `last`
 unfoldable pub putPlaces : List ℕ → ℕ → ℕ → Entries → List ℕ
@@ -92,11 +93,11 @@ abbrev pub entryIn : List ℕ → ℕ → Entry
 entryIn w k =
     let c = clausesAt w k in
     record {
-      at = cell w k 2;
-      name = spanAt (cell w k 3);
-      offset = cell w k 13;
-      width = cell w k 14;
-      kind = kindOfCode (cell w k 15);
+      at = cell w k AT;
+      name = spanAt (cell w k NAME);
+      offset = cell w k OFFSET;
+      width = cell w k WIDTH;
+      kind = kindOfCode (cell w k KIND);
       picture = c .picture;
       occurs = c .occurs;
       depending = c .depending;
@@ -105,18 +106,18 @@ entryIn w k =
 
 -- the name and the offset of the entry in row k
 abbrev pub placeAt : List ℕ → ℕ → Place
-placeAt w k = record { name = spanAt (cell w k 3); offset = cell w k 13 }
+placeAt w k = record { name = spanAt (cell w k NAME); offset = cell w k OFFSET }
 
 -- a search for bases leaves redefiners out
 abbrev pub leftOut : Bool → List ℕ → ℕ → Bool
-leftOut bases w k = bases && given (spanAt (cell w k 6))
+leftOut bases w k = bases && given (spanAt (cell w k REDEFINES))
 
 -- among the first n rows, the siblings from `last` back, the latest first, or those of them that are bases
 unfoldable pub seenFrom : Bool → List ℕ → ℕ → ℕ → List Place
 seenFrom bases w zero last = []
 seenFrom bases w (suc k) last =
     if eqb last (suc k) then
-    (if leftOut bases w k then seenFrom bases w k (cell w k 16) else placeAt w k ∷ seenFrom bases w k (cell w k 16))
+    (if leftOut bases w k then seenFrom bases w k (cell w k BEFORE) else placeAt w k ∷ seenFrom bases w k (cell w k BEFORE))
     else seenFrom bases w k last
 
 -- the siblings from `last` back
@@ -129,13 +130,13 @@ basesAt w last = seenFrom true w last last
 
 -- row k is what a search for a name ends at
 abbrev pub isTarget : List ℕ → Span → Bool → List ℕ → ℕ → Bool
-isTarget text target bases w k = if leftOut bases w k then false else sameName text target (spanAt (cell w k 3))
+isTarget text target bases w k = if leftOut bases w k then false else sameName text target (spanAt (cell w k NAME))
 
 -- among the first n rows, the one that a search from the sibling `last` back ends at: its row and 1, or 0 for none
 unfoldable pub rowFrom : List ℕ → Span → Bool → List ℕ → ℕ → ℕ → ℕ
 rowFrom text target bases w zero last = 0
 rowFrom text target bases w (suc k) last =
-    if eqb last (suc k) then (if isTarget text target bases w k then suc k else rowFrom text target bases w k (cell w k 16))
+    if eqb last (suc k) then (if isTarget text target bases w k then suc k else rowFrom text target bases w k (cell w k BEFORE))
     else rowFrom text target bases w k last
 
 -- the offset that a search found, if it found one
@@ -157,4 +158,4 @@ entriesIn w k (item s kids later) = entry (entryIn w k) (entriesIn w (suc k) kid
 -- each row of a list, from row k on, names the sibling before it; `last` is the one before the first
 abbrev pub Linked : List ℕ → ℕ → ℕ → Forest → Type 0
 Linked w k last leaf = Unit {0}
-Linked w k last (item s kids later) = (cell w k 16 ≡ last) × Linked w (suc k + size kids) (suc k) later
+Linked w k last (item s kids later) = (cell w k BEFORE ≡ last) × Linked w (suc k + size kids) (suc k) later

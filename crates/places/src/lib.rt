@@ -9,6 +9,7 @@ ghost use Rattle.definition.specs.Layout.{entryOf};
 ghost use Rattle.definition.specs.Listing.{signByte, storageByte};
 ghost use Rattle.places.specs.Places.{kindCode, signOfByte, storageOfByte, kindOfCode, putPlace, seenFrom, leftOut, isTarget, rowFrom, found, entryIn};
 ghost use Rattle.places.specs.Ends.{ChildrenEnd, endOf, endingOf};
+ghost use Rattle.rows.specs.Columns.{ROW};
 use definition::Entry;
 use definition::FieldKind;
 use definition::NumRepr;
@@ -17,6 +18,14 @@ use definition::Pictured;
 use definition::SignKind;
 use definition::Span;
 use definition::Statement;
+use rows::BEFORE;
+use rows::KIND;
+use rows::LEVEL;
+use rows::NAME;
+use rows::OFFSET;
+use rows::REDEFINES;
+use rows::ROW;
+use rows::WIDTH;
 
 // The part of the text that a span fills, cut off at the text's end.
 pub fn part_of(text: &[u8], w: Span) -> &[u8]
@@ -174,10 +183,10 @@ pub fn kind_of_code(n: u32) -> FieldKind
 
 // An item's place into row k: its offset, width and kind, the sibling before it (its row and 1, or 0) and the rows below it.
 pub fn put_place(work: &mut [u32], k: usize, last: usize, below: usize, e: Entry)
-    requires { ⌜ (20 * k + 20 ≤ length (now work)) × (last < 4294967296) × (below < 4294967296) × (e .offset < 4294967296) × (e .width < 4294967296) ⌝ }
+    requires { ⌜ (ROW * k + ROW ≤ length (now work)) × (last < 4294967296) × (below < 4294967296) × (e .offset < 4294967296) × (e .width < 4294967296) ⌝ }
     ensures { λ _. ⌜ now (work .exit) ≡ putPlace (now (work .entry)) k last below e ⌝ }
 {
-    let at = 20 * k + 13;
+    let at = ROW * k + OFFSET;
     let kind = e.kind;
     work[at] = e.offset as u32;
     work[at + 1] = e.width as u32;
@@ -188,13 +197,13 @@ pub fn put_place(work: &mut [u32], k: usize, last: usize, below: usize, e: Entry
 
 // The end of the children of row i, among the rows up to `to`.
 pub fn end_of(work: &[u32], i: usize, to: usize) -> usize
-    requires { ⌜ (i < to) × (20 * to ≤ length (now work)) ⌝ }
+    requires { ⌜ (i < to) × (ROW * to ≤ length (now work)) ⌝ }
     ensures { λ r. ⌜ ChildrenEnd (now (work .entry)) i to r ⌝ }
 {
-    let level = work[20 * i + 0] % 256;
+    let level = work[ROW * i + LEVEL] % 256;
     let mut j = i + 1;
     while j < to {
-        if work[20 * j + 0] % 256 <= level {
+        if work[ROW * j + LEVEL] % 256 <= level {
             return j;
         }
         j += 1;
@@ -217,11 +226,11 @@ pub fn wide(n: u32) -> usize
 
 // Whether the search passes over row k: one for bases passes over a redefiner.
 fn passed_over(work: &[u32], k: usize, bases: bool) -> bool
-    requires { ⌜ 20 * k + 20 ≤ length (now work) ⌝ }
+    requires { ⌜ ROW * k + ROW ≤ length (now work) ⌝ }
     ensures { λ r. ⌜ r ≡ leftOut bases (now (work .entry)) k ⌝ }
 {
     if bases {
-        let redefines = rows::span_at(work[20 * k + 6]);
+        let redefines = rows::span_at(work[ROW * k + REDEFINES]);
         return 0 < redefines.len;
     }
     false
@@ -229,19 +238,19 @@ fn passed_over(work: &[u32], k: usize, bases: bool) -> bool
 
 // Whether row k is what a search for this name ends at.
 fn is_target(text: &[u8], work: &[u32], target: Span, k: usize, bases: bool) -> bool
-    requires { ⌜ 20 * k + 20 ≤ length (now work) ⌝ }
+    requires { ⌜ ROW * k + ROW ≤ length (now work) ⌝ }
     ensures { λ r. ⌜ r ≡ isTarget (now (text .entry)) target bases (now (work .entry)) k ⌝ }
 {
     if passed_over(work, k, bases) {
         return false;
     }
-    let name = rows::span_at(work[20 * k + 3]);
+    let name = rows::span_at(work[ROW * k + NAME]);
     same_names(text, target, name)
 }
 
 // The latest sibling of that name from `last` back, or the latest base of that name: its row and 1, or 0 for none.
 pub fn find_row(text: &[u8], work: &[u32], target: Span, last: usize, bases: bool) -> usize
-    requires { ⌜ 20 * last ≤ length (now work) ⌝ }
+    requires { ⌜ ROW * last ≤ length (now work) ⌝ }
     ensures { λ r. ⌜ (r ≡ rowFrom (now (text .entry)) target bases (now (work .entry)) last last) × (r ≤ last) ⌝ }
 {
     let mut k = last;
@@ -250,7 +259,7 @@ pub fn find_row(text: &[u8], work: &[u32], target: Span, last: usize, bases: boo
         if is_target(text, work, target, row, bases) {
             return k;
         }
-        let before = wide(work[20 * row + 16]);
+        let before = wide(work[ROW * row + BEFORE]);
         if row < before {
             return 0;
         }
@@ -261,13 +270,13 @@ pub fn find_row(text: &[u8], work: &[u32], target: Span, last: usize, bases: boo
 
 // The offset of the sibling or base that is found so.
 pub fn find_target(text: &[u8], work: &[u32], target: Span, last: usize, bases: bool) -> Target
-    requires { ⌜ 20 * last ≤ length (now work) ⌝ }
+    requires { ⌜ ROW * last ≤ length (now work) ⌝ }
     ensures { λ r. ⌜ found r ≡ find (now (text .entry)) target (seenFrom bases (now (work .entry)) last last) ⌝ }
 {
     let k = find_row(text, work, target, last, bases);
     if 0 < k {
         let row = k - 1;
-        return Target::At(wide(work[20 * row + 13]));
+        return Target::At(wide(work[ROW * row + OFFSET]));
     }
     Target::Nothing
 }
@@ -298,16 +307,16 @@ pub fn entry_of(s: Statement, c: Pictured, offset: usize) -> Entry
 
 // The entry in row k, as it is laid.
 pub fn entry_at(work: &[u32], k: usize) -> Entry
-    requires { ⌜ 20 * k + 20 ≤ length (now work) ⌝ }
+    requires { ⌜ ROW * k + ROW ≤ length (now work) ⌝ }
     ensures { λ r. ⌜ r ≡ entryIn (now (work .entry)) k ⌝ }
 {
     let s = rows::statement_at(work, k);
-    let kind = kind_of_code(work[20 * k + 15]);
+    let kind = kind_of_code(work[ROW * k + KIND]);
     let c = Pictured {
         kind,
-        width: wide(work[20 * k + 14]),
+        width: wide(work[ROW * k + WIDTH]),
     };
-    entry_of(s, c, wide(work[20 * k + 13]))
+    entry_of(s, c, wide(work[ROW * k + OFFSET]))
 }
 
 // How often an item stands.

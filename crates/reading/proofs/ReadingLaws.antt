@@ -14,6 +14,7 @@ use Rattle.definition.specs.Tree.{stillOpen, depths, forest, nesting}
 use Rattle.definition.specs.Words.{statementWords}
 use Rattle.definition.proofs.DepthLaws.{length-depths, depths-nesting}
 use Rattle.reading.specs.declared.RowsRead.{RowsRead}
+use Rattle.rows.specs.Columns.{ROW}
 use Rattle.rows.specs.Table.{Storable, Storables, putRow, putRows, statementsFrom, depthsFrom}
 use Rattle.reading.specs.Reading.{stopped, ready, outcome, Held, RowsAre}
 use Rattle.rows.proofs.TableLaws.{length-putRows, statements-put, depths-put}
@@ -67,7 +68,7 @@ module _ {text w w′ : List ℕ} where
         let many : n ≡ 0 + length ss = cc in
         let rows : w′ ≡ putRows w 0 (depths [] ss) ss = cc in
         let size = length-depths [] ss in
-        let fits : 20 * (0 + length ss) ≤ length w = omega (arith, h .1) in
+        let fits : ROW * (0 + length ss) ≤ length w = omega (arith, h .1) in
         let count : n ≡ length ss = omega arith in
         record {
           kept = ss;

@@ -5,6 +5,7 @@ ghost use mathlib.Core.List.{[]};
 ghost use lib.ListN.{length};
 ghost use Rattle.definition.specs.Calls.{entryChecks, checkOf};
 ghost use Rattle.definition.proofs.DepthLaws.{Rising};
+ghost use Rattle.rows.specs.Columns.{ROW};
 ghost use Rattle.rows.specs.Table.{Placed};
 ghost use Rattle.reading.specs.Levels.{stackOf, Nested, Closed, Opened};
 ghost use Rattle.reading.specs.Reading.{Added, RowsAre};
@@ -87,7 +88,7 @@ fn open(o: OpenLevels, level: u8) -> OpenLevels
 
 // A statement into row n, at the depth that the open levels give; its level is open then.
 fn add_row(work: &mut [u32], n: usize, o: OpenLevels, s: Statement) -> OpenLevels
-    requires { ⌜ (20 * n + 20 ≤ length (now work)) × Nested o × Placed s ⌝ }
+    requires { ⌜ (ROW * n + ROW ≤ length (now work)) × Nested o × Placed s ⌝ }
     ensures { λ r. ⌜ Added (now (work .entry)) n o s (now (work .exit)) r ⌝ }
 {
     let level = s.level;

@@ -19,6 +19,7 @@ use Rattle.definition.specs.Tree.{Forest, leaf, item, forest}
 use Rattle.definition.specs.Fold.{total}
 use Rattle.definition.specs.Owner.{size}
 use Rattle.definition.proofs.Lists.{order}
+use Rattle.rows.specs.Columns.{ROW, REDEFINES, BEFORE, BASE}
 use Rattle.rows.specs.Table.{cell, spanAt, statementAt, statementsFrom}
 use Rattle.rows.proofs.TableLaws.{statement-same}
 use Rattle.places.specs.Places.{rowFrom, entryIn, entriesIn, rowsForest}
@@ -50,7 +51,7 @@ module _ {w w′ : List ℕ} (h : Kept w w′) where
   pub list-kept : (a b : ℕ) → listIn w a b ≡ listIn w′ a b
   list-kept a b = entries-same w w′ a (rowsForest w a b) (λ j c m l. sym (h .same j c l)) ∙ ap (entriesIn w′ a) (forest-kept a b)
 
-  pub column-kept : (c : ℕ) (value : ℕ → Forest → ℕ) (a b : ℕ) → c < 18 → Column c value w a 0 (rowsForest w a b) → Column c value w′ a 0 (rowsForest w′ a b)
+  pub column-kept : (c : ℕ) (value : ℕ → Forest → ℕ) (a b : ℕ) → c < BASE → Column c value w a 0 (rowsForest w a b) → Column c value w′ a 0 (rowsForest w′ a b)
   column-kept c value a b l x =
       subst (Column c value w′ a 0) (forest-kept a b) (column-same c value w w′ (rowsForest w a b) a 0 (λ j m. sym (h .same j c l)) x)
 
@@ -63,14 +64,14 @@ module _ {w w′ : List ℕ} (h : Kept w w′) where
   unfolding rowFrom
   base-kept t target zero last = refl
   base-kept t target (suc k) last =
-      let back = base-kept t target k (cell w k 16) in
+      let back = base-kept t target k (cell w k BEFORE) in
       let on = base-kept t target k last in
       cc (h .same k 3 (lit< tt), h .same k 6 (lit< tt), h .same k 16 (lit< tt), back, on)
 
   base-of-kept : (t : List ℕ) (k : ℕ) → baseOf t w′ k ≡ baseOf t w k
   base-of-kept t k =
       ap₂ (λ (a b : ℕ). if given (spanAt a) then baseFrom t (spanAt a) w′ k b else 0) (h .same k 6 (lit< tt)) (h .same k 16 (lit< tt))
-      ∙ ap (λ (x : ℕ). if given (spanAt (cell w k 6)) then x else 0) (base-kept t (spanAt (cell w k 6)) k (cell w k 16))
+      ∙ ap (λ (x : ℕ). if given (spanAt (cell w k REDEFINES)) then x else 0) (base-kept t (spanAt (cell w k REDEFINES)) k (cell w k BEFORE))
 
   hit-kept : (t : List ℕ) (i k : ℕ) → hit t w′ i k ≡ hit t w i k
   hit-kept t i k = ap (λ (x : ℕ). if eqb x (suc i) then 1 else 0) (base-of-kept t k)
@@ -89,25 +90,25 @@ kept-on a b = record { long = b .long ∙ a .long; same = λ k c l. b .same k c 
 -- ---------------------------------------------------------------- one row
 
 -- a number stored in column 18
-kept-set : (w : List ℕ) (a v : ℕ) → Kept w (set w (20 * a + 18) v)
+kept-set : (w : List ℕ) (a v : ℕ) → Kept w (set w (ROW * a + BASE) v)
 kept-set w a v =
-    record { long = length-set w (20 * a + 18) v; same = λ k c l. getD-set-other w (20 * a + 18) (20 * k + c) v 0 (λ e. omega arith) }
+    record { long = length-set w (ROW * a + BASE) v; same = λ k c l. getD-set-other w (ROW * a + BASE) (ROW * k + c) v 0 (λ e. omega arith) }
 
-set-other : (w : List ℕ) (a v i : ℕ) → (i ≡ a → ⊥) → cell (set w (20 * a + 18) v) i 18 ≡ cell w i 18
-set-other w a v i h = getD-set-other w (20 * a + 18) (20 * i + 18) v 0 (λ e. h (omega arith))
+set-other : (w : List ℕ) (a v i : ℕ) → (i ≡ a → ⊥) → cell (set w (ROW * a + BASE) v) i BASE ≡ cell w i BASE
+set-other w a v i h = getD-set-other w (ROW * a + BASE) (ROW * i + BASE) v 0 (λ e. h (omega arith))
 
-set-own : (w : List ℕ) (a v : ℕ) → 20 * a + 20 ≤ length w → cell (set w (20 * a + 18) v) a 18 ≡ v
-set-own w a v h = getD-set-same w (20 * a + 18) v 0 (omega arith)
+set-own : (w : List ℕ) (a v : ℕ) → ROW * a + ROW ≤ length w → cell (set w (ROW * a + BASE) v) a BASE ≡ v
+set-own w a v h = getD-set-same w (ROW * a + BASE) v 0 (omega arith)
 
-module _ (t w : List ℕ) (from k : ℕ) (fits : 20 * k + 20 ≤ length w) {b : ℕ} (p : b ≡ baseOf t w k) where
+module _ (t w : List ℕ) (from k : ℕ) (fits : ROW * k + ROW ≤ length w) {b : ℕ} (p : b ≡ baseOf t w k) where
   -- the row that is counted up
   pub base-small : k < 4294967296 → b < 4294967296
   base-small h = omega (arith, p, base-within t w k)
 
-  pub can-count : Countable w from k → from < b → (20 * (b - 1) + 20 ≤ length (set w (20 * k + 18) b)) × (cell (set w (20 * k + 18) b) (b - 1) 18 < 4294967295)
+  pub can-count : Countable w from k → from < b → (ROW * (b - 1) + ROW ≤ length (set w (ROW * k + BASE) b)) × (cell (set w (ROW * k + BASE) b) (b - 1) BASE < 4294967295)
   can-count c h =
       let m = base-within t w k in
-      let long = length-set w (20 * k + 18) b in
+      let long = length-set w (ROW * k + BASE) b in
       let low = c .small (b - 1) (omega arith) (omega (arith, p, m)) in
       (omega (arith, p, m, long), omega (arith, low, set-other w k b (b - 1) (λ e. omega (arith, p, m))))
 
@@ -115,14 +116,14 @@ module _ (t w : List ℕ) (from k : ℕ) (fits : 20 * k + 20 ≤ length w) {b : 
   no-hit i h = rw (ne-eqb (baseOf t w k) (suc i) (λ e. h (p ∙ e)))
 
   -- a row from `from` on is counted up
-  pub tallied-up : from < b → {w′ : List ℕ} → w′ ≡ set (set w (20 * k + 18) b) (20 * (b - 1) + 18) (cell (set w (20 * k + 18) b) (b - 1) 18 + 1) → RowTallied t w from k w′
+  pub tallied-up : from < b → {w′ : List ℕ} → w′ ≡ set (set w (ROW * k + BASE) b) (ROW * (b - 1) + BASE) (cell (set w (ROW * k + BASE) b) (b - 1) BASE + 1) → RowTallied t w from k w′
   tallied-up h e =
-      let w₁ = set w (20 * k + 18) b in
-      let v = cell w₁ (b - 1) 18 + 1 in
+      let w₁ = set w (ROW * k + BASE) b in
+      let v = cell w₁ (b - 1) BASE + 1 in
       let m = base-within t w k in
-      let long = length-set w (20 * k + 18) b in
+      let long = length-set w (ROW * k + BASE) b in
       let at : b ≡ suc (b - 1) = omega arith in
-      let own : cell (set w₁ (20 * (b - 1) + 18) v) k 18 ≡ baseOf t w k = set-other w₁ (b - 1) v k (λ x. omega (arith, p, m)) ∙ set-own w k b fits ∙ p in
+      let own : cell (set w₁ (ROW * (b - 1) + BASE) v) k BASE ≡ baseOf t w k = set-other w₁ (b - 1) v k (λ x. omega (arith, p, m)) ∙ set-own w k b fits ∙ p in
       subst (RowTallied t w from k) (sym e)
       (record {
         kept = kept-on (kept-set w k b) (kept-set w₁ (b - 1) v);
@@ -139,7 +140,7 @@ module _ (t w : List ℕ) (from k : ℕ) (fits : 20 * k + 20 ≤ length w) {b : 
             (λ (y : i ≤ b - 1).
             let same : b - 1 ≡ i = omega arith in
             let one : hit t w i k ≡ 1 = rw (eq-eqb (baseOf t w k) (suc i) (sym p ∙ at ∙ ap suc same)) in
-            subst (λ (n : ℕ). cell (set w₁ (20 * (b - 1) + 18) v) n 18 ≡ cell w n 18 + 1) same
+            subst (λ (n : ℕ). cell (set w₁ (ROW * (b - 1) + BASE) v) n BASE ≡ cell w n BASE + 1) same
             (set-own w₁ (b - 1) v (omega (arith, p, m, long)) ∙ ap (λ (x : ℕ). x + 1) (set-other w k b (b - 1) (λ x. omega (arith, p, m))))
             ∙ (omega (arith, one)))
             (order (b - 1) i))
@@ -147,7 +148,7 @@ module _ (t w : List ℕ) (from k : ℕ) (fits : 20 * k + 20 ≤ length w) {b : 
       })
 
   -- none is
-  pub tallied-alone : b ≤ from → RowTallied t w from k (set w (20 * k + 18) b)
+  pub tallied-alone : b ≤ from → RowTallied t w from k (set w (ROW * k + BASE) b)
   tallied-alone h =
       record {
         kept = kept-set w k b;
@@ -159,18 +160,18 @@ module _ (t w : List ℕ) (from k : ℕ) (fits : 20 * k + 20 ≤ length w) {b : 
 
 -- what the loop keeps: what a row holds and what the rows from k on add
 pub record Tallying (t w : List ℕ) (from to k : ℕ) (now : List ℕ) : Type 0 where
-  pub fits : 20 * to ≤ length w
+  pub fits : ROW * to ≤ length w
   pub few : to ≤ 800
   pub low : from ≤ k
   pub kept : Kept w now
-  pub counts : (i : ℕ) → from ≤ i → i < k → cell now i 18 + hits t w i k (to - k) ≡ baseOf t w i + hits t w i from (to - from)
+  pub counts : (i : ℕ) → from ≤ i → i < k → cell now i BASE + hits t w i k (to - k) ≡ baseOf t w i + hits t w i from (to - from)
 
-pub tallying-starts : (t w : List ℕ) (from to : ℕ) → 20 * to ≤ length w → to ≤ 800 → Tallying t w from to from w
+pub tallying-starts : (t w : List ℕ) (from to : ℕ) → ROW * to ≤ length w → to ≤ 800 → Tallying t w from to from w
 tallying-starts t w from to f h =
     record { fits = f; few = h; low = omega arith; kept = kept-self w; counts = λ i l u. absurd (omega arith) }
 
 module _ {t w : List ℕ} {from to k : ℕ} {now : List ℕ} (inv : Tallying t w from to k now) where
-  pub tallying-row : k < to → (20 * k + 20 ≤ length now) × (k < 4294967296) × Countable now from k
+  pub tallying-row : k < to → (ROW * k + ROW ≤ length now) × (k < 4294967296) × Countable now from k
   tallying-row h =
       (omega (arith, inv .fits, inv .kept .long), omega (arith, inv .few), record { small = λ i l u. omega (arith, inv .counts i l u, hits-most t w i from (to - from), base-within t w i, inv .few) })
 
@@ -183,7 +184,7 @@ module _ {t w : List ℕ} {from to k : ℕ} {now : List ℕ} (inv : Tallying t w
         low = omega (arith, inv .low);
         kept = kept-on (inv .kept) (r .kept);
         counts =
-            subst (λ (n : ℕ). (i : ℕ) → from ≤ i → i < n → cell w′ i 18 + hits t w i n (to - n) ≡ baseOf t w i + hits t w i from (to - from)) (sym (add-one k)) (λ i l u.
+            subst (λ (n : ℕ). (i : ℕ) → from ≤ i → i < n → cell w′ i BASE + hits t w i n (to - n) ≡ baseOf t w i + hits t w i from (to - from)) (sym (add-one k)) (λ i l u.
             ⊎-elim
             (λ (x : i < k).
             let here : hits t w i k (to - k) ≡ hit t w i k + hits t w i (suc k) (to - suc k) = ap (hits t w i k) (let e : to - k ≡ suc (to - suc k) = omega arith in e) in
@@ -195,7 +196,7 @@ module _ {t w : List ℕ} {from to k : ℕ} {now : List ℕ} (inv : Tallying t w
             ∙ hits-append t w k from (suc k - from) (to - suc k)
             ∙ ap (λ (n : ℕ). hits t w k from (suc k - from) + hits t w k n (to - suc k)) (let e : from + (suc k - from) ≡ suc k = omega (arith, inv .low) in e) in
             let none = hits-low t w k from (suc k - from) (omega (arith, inv .low)) in
-            subst (λ (n : ℕ). cell w′ n 18 + hits t w n (suc k) (to - suc k) ≡ baseOf t w n + hits t w n from (to - from)) same (omega (arith, r .own, base-of-kept (inv .kept) t k, all, none)))
+            subst (λ (n : ℕ). cell w′ n BASE + hits t w n (suc k) (to - suc k) ≡ baseOf t w n + hits t w n from (to - from)) same (omega (arith, r .own, base-of-kept (inv .kept) t k, all, none)))
             (order i k));
       }
 
@@ -214,7 +215,7 @@ module _ {t w : List ℕ} {from to k : ℕ} {now : List ℕ} (inv : Tallying t w
 
 -- a laid table: every row names the sibling before it, counts the rows below it, and none is too large
 pub record Ready (w : List ℕ) (a b : ℕ) : Type 0 where
-  pub fits : 20 * b ≤ length w
+  pub fits : ROW * b ≤ length w
   pub chained : Chained w a 0 (rowsForest w a b)
   pub counted : Counted w a 0 (rowsForest w a b)
   pub sized : Sized w a b

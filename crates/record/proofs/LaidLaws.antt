@@ -23,6 +23,7 @@ use Rattle.definition.proofs.Answers.{or-false, through, given-same}
 use Rattle.definition.proofs.Lists.{order}
 use Rattle.definition.specs.Statement.{statements}
 use Rattle.definition.specs.Words.{statementWords}
+use Rattle.rows.specs.Columns.{ROW}
 use Rattle.rows.specs.Table.{cell, statementAt, statementsFrom}
 use Rattle.reading.proofs.ReadingLaws.{Stored}
 use Rattle.definition.specs.Calls.{checkOf}
@@ -87,17 +88,17 @@ rows-sized w (item s kids later) k h m l u =
 
 -- a column that the place of each entry fills
 module _
-    (c : ℕ) (value : ℕ → Forest → ℕ) (small : c < 20)
+    (c : ℕ) (value : ℕ → Forest → ℕ) (small : c < ROW)
     (first :
     (e : Entry) (members more : Entries) (w : List ℕ) (k last : ℕ) (kids : Forest) →
     entries# members ≡ size kids →
-    20 * k + 20 ≤ length w →
+    ROW * k + ROW ≤ length w →
     cell (putPlaces w k last (entry e members more)) k c ≡ value last kids)
   where
     places-column :
         (f : Forest) (es : Entries) (w : List ℕ) (k last : ℕ) →
         Of f es →
-        20 * (k + size f) ≤ length w →
+        ROW * (k + size f) ≤ length w →
         Column c value (putPlaces w k last es) k last f
     unfolding putPlaces
     places-column leaf end w k last o fits = tt
@@ -120,16 +121,16 @@ module _
         )
 
 -- every row names the sibling before it
-places-chained : (f : Forest) (es : Entries) (w : List ℕ) (k last : ℕ) → Of f es → 20 * (k + size f) ≤ length w → Chained (putPlaces w k last es) k last f
+places-chained : (f : Forest) (es : Entries) (w : List ℕ) (k last : ℕ) → Of f es → ROW * (k + size f) ≤ length w → Chained (putPlaces w k last es) k last f
 places-chained = places-column 16 (λ before kids. before) (lit< tt) (λ e members more w k last kids m fits. first-last e members more w k last fits)
 
 -- and counts the rows below it
-places-counted : (f : Forest) (es : Entries) (w : List ℕ) (k last : ℕ) → Of f es → 20 * (k + size f) ≤ length w → Counted (putPlaces w k last es) k last f
+places-counted : (f : Forest) (es : Entries) (w : List ℕ) (k last : ℕ) → Of f es → ROW * (k + size f) ≤ length w → Counted (putPlaces w k last es) k last f
 places-counted = places-column 17 (λ before kids. size kids) (lit< tt) (λ e members more w k last kids m fits. first-below e members more w k last fits ∙ m)
 
 -- ---------------------------------------------------------------- a list that was laid
 
-module _ (text w : List ℕ) (a b depth : ℕ) {width : ℕ} {w₁ : List ℕ} (h : a ≤ b) (fits : 20 * b ≤ length w) (n : LaidRows text w a b depth width w₁) where
+module _ (text w : List ℕ) (a b depth : ℕ) {width : ℕ} {w₁ : List ℕ} (h : a ≤ b) (fits : ROW * b ≤ length w) (n : LaidRows text w a b depth width w₁) where
   -- the statements are as they were
   same-places : rowsForest w a b ≡ rowsForest (putPlaces w a 0 (n .laid .entries)) a b
   same-places = ap forest (sym (statements-places (n .laid .entries) w a 0 a (b - a)))
@@ -155,7 +156,7 @@ module _ (text w : List ℕ) (a b depth : ℕ) {width : ℕ} {w₁ : List ℕ} (
       let sized : SizedAll (entriesIn w₁ a (rowsForest w₁ a b)) = subst SizedAll (sym (n .held .entries)) (bare-sized text f depth [] 0 0 (n .is)) in
       let many₁ = size-stretch w₁ a b in
       record {
-        fits = subst (λ (x : List ℕ). 20 * b ≤ length x) (n .put) (omega (arith, length-places es w a 0));
+        fits = subst (λ (x : List ℕ). ROW * b ≤ length x) (n .put) (omega (arith, length-places es w a 0));
         chained = laid-column 16 (λ before kids. before) (places-chained f es w a 0 of-rows (omega (arith, size-stretch w a b)));
         counted = laid-column 17 (λ before kids. size kids) (places-counted f es w a 0 of-rows (omega (arith, size-stretch w a b)));
         sized = record { totals = λ k l u. rows-sized w₁ (rowsForest w₁ a b) a sized k l (omega (arith, many₁)) };
@@ -218,7 +219,7 @@ few-rows w n h =
 module _ (text w : List ℕ) (a b : ℕ) where
   module _ {x : LaidList} (w₁ : List ℕ) (p : listOf x w₁ ≡ layTable text w a b 0) where
     -- the list is laid
-    pub list-laid : a ≤ b → 20 * b ≤ length w → {width last : ℕ} → x ≡ LaidList.Done width last → LaidRows text w a b 0 width w₁
+    pub list-laid : a ≤ b → ROW * b ≤ length w → {width last : ℕ} → x ≡ LaidList.Done width last → LaidRows text w a b 0 width w₁
     list-laid h fits e = laid-rows text w a b 0 h fits (sym p ∙ ap (λ (y : LaidList). listOf y w₁) e)
 
     -- or refused
@@ -266,7 +267,7 @@ module _ (text w : List ℕ) (a b : ℕ) where
         pub laid-listed :
             d ≡ Check.Passed →
             a ≤ b →
-            20 * b ≤ length w →
+            ROW * b ≤ length w →
             b ≤ 800 →
             {l : ℕ} →
             l ≡ recordLength (foldedAll text (listIn w₂ a b)) →

@@ -15,6 +15,7 @@ use Rattle.definition.specs.Fold.{sameName, redefiners}
 use Rattle.definition.specs.Listing.{members#}
 use Rattle.definition.specs.Owner.{size}
 use Rattle.definition.proofs.LayoutLaws.{redefiners-hit, redefiners-miss, redefiners-ends, redefiners-next}
+use Rattle.rows.specs.Columns.{NAME, REDEFINES, BEFORE, BASE}
 use Rattle.rows.specs.Table.{cell, spanAt}
 use Rattle.places.specs.Places.{isTarget, rowFrom, placeAt, entryIn, entriesIn}
 use Rattle.places.proofs.SearchLaws.{if-most, row-low, row-most}
@@ -29,13 +30,13 @@ if-neither false p q e = q e
 
 module _ (t w : List ℕ) where
   -- the base of a row, after the sibling `last`
-  base-own : (k last : ℕ) → cell w k 16 ≡ last → last ≤ k → baseOf t w k ≡ (if given (spanAt (cell w k 6)) then back t w (spanAt (cell w k 6)) last else 0)
+  base-own : (k last : ℕ) → cell w k BEFORE ≡ last → last ≤ k → baseOf t w k ≡ (if given (spanAt (cell w k REDEFINES)) then back t w (spanAt (cell w k REDEFINES)) last else 0)
   base-own k last e l =
-      let r = spanAt (cell w k 6) in
+      let r = spanAt (cell w k REDEFINES) in
       ap (λ (x : ℕ). if given r then x else 0) (ap (baseFrom t r w k) e ∙ row-low t w r true k last l)
 
   pub base-within : (k : ℕ) → baseOf t w k ≤ k
-  base-within k = let r = spanAt (cell w k 6) in if-most (given r) (row-most t w r true k (cell w k 16)) (omega arith)
+  base-within k = let r = spanAt (cell w k REDEFINES) in if-most (given r) (row-most t w r true k (cell w k BEFORE)) (omega arith)
 
   -- ---------------------------------------------------------------- rows that redefine another
 
@@ -96,7 +97,7 @@ module _ (t w : List ℕ) where
       hitsIn i k f ≡ 0
   none-forest leaf i k last ch l h apart = refl
   none-forest (item s kids later) i k last ch l h apart =
-      let r = spanAt (cell w k 6) in
+      let r = spanAt (cell w k REDEFINES) in
       let own = no-hit i k (λ e. if-not′ (given r) (apart r) (sym (base-own k last (ch .0) l) ∙ e)) in
       let inner = none-forest kids i (suc k) 0 (ch .1) (omega arith) (omega arith) (λ target e. zero-suc i (sym (back-none t w target) ∙ e)) in
       let rest =
@@ -112,25 +113,25 @@ module _ (t w : List ℕ) where
       if-not′ false p e = omega arith
 
   -- no row redefines a redefiner
-  never-found : (i : ℕ) → given (spanAt (cell w i 6)) ≡ true → (target : Span) (n last : ℕ) → baseFrom t target w n last ≡ suc i → ⊥
+  never-found : (i : ℕ) → given (spanAt (cell w i REDEFINES)) ≡ true → (target : Span) (n last : ℕ) → baseFrom t target w n last ≡ suc i → ⊥
   unfolding rowFrom
   never-found i g target zero last e = omega arith
   never-found i g target (suc k) last e =
-      let back = never-found i g target k (cell w k 16) in
+      let back = never-found i g target k (cell w k BEFORE) in
       let on = never-found i g target k last in
       if-not (eqb last (suc k)) (if-neither (isTarget t target true w k) left-out back) (λ _. on) e
     where
       left-out : isTarget t target true w k ≡ true → suc k ≡ suc i → ⊥
       left-out h q =
           let same : i ≡ k = omega arith in
-          let g′ : given (spanAt (cell w k 6)) ≡ true = subst (λ (n : ℕ). given (spanAt (cell w n 6)) ≡ true) same g in
-          never (sym (ap (λ (b : Bool). if b then false else sameName t target (spanAt (cell w k 3))) g′) ∙ h)
+          let g′ : given (spanAt (cell w k REDEFINES)) ≡ true = subst (λ (n : ℕ). given (spanAt (cell w n REDEFINES)) ≡ true) same g in
+          never (sym (ap (λ (b : Bool). if b then false else sameName t target (spanAt (cell w k NAME))) g′) ∙ h)
 
-  redefiner-forest : (f : Forest) (i k : ℕ) → given (spanAt (cell w i 6)) ≡ true → hitsIn i k f ≡ 0
+  redefiner-forest : (f : Forest) (i k : ℕ) → given (spanAt (cell w i REDEFINES)) ≡ true → hitsIn i k f ≡ 0
   redefiner-forest leaf i k g = refl
   redefiner-forest (item s kids later) i k g =
-      let r = spanAt (cell w k 6) in
-      let own = no-hit i k (λ e. if-given (given r) (never-found i g r k (cell w k 16)) e) in
+      let r = spanAt (cell w k REDEFINES) in
+      let own = no-hit i k (λ e. if-given (given r) (never-found i g r k (cell w k BEFORE)) e) in
       omega (arith, own, redefiner-forest kids i (suc k) g, redefiner-forest later i (suc k + size kids) g)
     where
       if-given : (b : Bool) {x z : ℕ} → (x ≡ suc z → ⊥) → (if b then x else 0) ≡ suc z → ⊥
@@ -150,7 +151,7 @@ module _ (t w : List ℕ) where
   unfolding entriesIn redefiners
   count-forest leaf i k last ch l h o = refl
   count-forest (item s kids later) i k last ch l h o =
-      let r = spanAt (cell w k 6) in
+      let r = spanAt (cell w k REDEFINES) in
       let n = suc k + size kids in
       let inner = none-forest kids i (suc k) 0 (ch .1) (omega arith) (omega arith) (λ target e. zero-suc i (sym (back-none t w target) ∙ e)) in
       let rest = count-forest later i n (suc k) (ch .2) (omega arith) (omega arith) in
@@ -160,33 +161,33 @@ module _ (t w : List ℕ) where
       let es = entriesIn w (suc k) kids in
       let more = entriesIn w n later in
       let own : eqb (baseOf t w k) (suc i) ≡ eqb (if given r then back t w r last else 0) (suc i) = ap (λ (x : ℕ). eqb x (suc i)) (base-own k last (ch .0) l) in
-      go (given r) refl (sameName t (spanAt (cell w i 3)) r) refl (sameName t (spanAt (cell w i 3)) (spanAt (cell w k 3))) refl inner rest none own
+      go (given r) refl (sameName t (spanAt (cell w i NAME)) r) refl (sameName t (spanAt (cell w i NAME)) (spanAt (cell w k NAME))) refl inner rest none own
     where
       zero-suc : (i : ℕ) → 0 ≡ suc i → ⊥
       zero-suc i e = omega arith
 
       go :
           (g : Bool) →
-          given (spanAt (cell w k 6)) ≡ g →
+          given (spanAt (cell w k REDEFINES)) ≡ g →
           (a : Bool) →
-          sameName t (spanAt (cell w i 3)) (spanAt (cell w k 6)) ≡ a →
+          sameName t (spanAt (cell w i NAME)) (spanAt (cell w k REDEFINES)) ≡ a →
           (b : Bool) →
-          sameName t (spanAt (cell w i 3)) (spanAt (cell w k 3)) ≡ b →
+          sameName t (spanAt (cell w i NAME)) (spanAt (cell w k NAME)) ≡ b →
           hitsIn i (suc k) kids ≡ 0 →
           (Open t w i (suc k) → hitsIn i (suc k + size kids) later ≡ members# (redefiners t (placeAt w i) (entriesIn w (suc k + size kids) later))) →
           (((target : Span) → back t w target (suc k) ≡ suc i → ⊥) → hitsIn i (suc k + size kids) later ≡ 0) →
-          eqb (baseOf t w k) (suc i) ≡ eqb (if given (spanAt (cell w k 6)) then back t w (spanAt (cell w k 6)) last else 0) (suc i) →
+          eqb (baseOf t w k) (suc i) ≡ eqb (if given (spanAt (cell w k REDEFINES)) then back t w (spanAt (cell w k REDEFINES)) last else 0) (suc i) →
           hit t w i k + (hitsIn i (suc k) kids + hitsIn i (suc k + size kids) later)
           ≡ members# (redefiners t (placeAt w i) (entriesIn w k (item s kids later)))
       go true g a p b q inner rest none own =
           let found : eqb (baseOf t w k) (suc i) ≡ a =
-          own ∙ ap (λ (x : Bool). eqb (if x then back t w (spanAt (cell w k 6)) last else 0) (suc i)) g ∙ o (spanAt (cell w k 6)) ∙ swapped t w (spanAt (cell w k 6)) (spanAt (cell w i 3)) ∙ p in
+          own ∙ ap (λ (x : Bool). eqb (if x then back t w (spanAt (cell w k REDEFINES)) last else 0) (suc i)) g ∙ o (spanAt (cell w k REDEFINES)) ∙ swapped t w (spanAt (cell w k REDEFINES)) (spanAt (cell w i NAME)) ∙ p in
           redefined a p g found inner (rest (passes t w i k last (ch .0) l o g))
         where
           redefined :
               (a : Bool) →
-              sameName t (spanAt (cell w i 3)) (spanAt (cell w k 6)) ≡ a →
-              given (spanAt (cell w k 6)) ≡ true →
+              sameName t (spanAt (cell w i NAME)) (spanAt (cell w k REDEFINES)) ≡ a →
+              given (spanAt (cell w k REDEFINES)) ≡ true →
               eqb (baseOf t w k) (suc i) ≡ a →
               hitsIn i (suc k) kids ≡ 0 →
               hitsIn i (suc k + size kids) later ≡ members# (redefiners t (placeAt w i) (entriesIn w (suc k + size kids) later)) →
@@ -201,11 +202,11 @@ module _ (t w : List ℕ) where
               let whole = ap members# (redefiners-miss t (placeAt w i) (entryIn w k) (entriesIn w (suc k) kids) (entriesIn w (suc k + size kids) later) g p) in
               omega (arith, zero, inner, rest, whole)
       go false g a p true q inner rest none own =
-          let zero : hit t w i k ≡ 0 = ap (λ (x : Bool). if x then 1 else 0) (own ∙ ap (λ (x : Bool). eqb (if x then back t w (spanAt (cell w k 6)) last else 0) (suc i)) g ∙ ne-eqb 0 (suc i) (λ x. omega arith)) in
+          let zero : hit t w i k ≡ 0 = ap (λ (x : Bool). if x then 1 else 0) (own ∙ ap (λ (x : Bool). eqb (if x then back t w (spanAt (cell w k REDEFINES)) last else 0) (suc i)) g ∙ ne-eqb 0 (suc i) (λ x. omega arith)) in
           let whole = ap members# (redefiners-ends t (placeAt w i) (entryIn w k) (entriesIn w (suc k) kids) (entriesIn w (suc k + size kids) later) g q) in
           omega (arith, zero, inner, none (closes t w i k last (ch .0) l h o g q), whole)
       go false g a p false q inner rest none own =
-          let zero : hit t w i k ≡ 0 = ap (λ (x : Bool). if x then 1 else 0) (own ∙ ap (λ (x : Bool). eqb (if x then back t w (spanAt (cell w k 6)) last else 0) (suc i)) g ∙ ne-eqb 0 (suc i) (λ x. omega arith)) in
+          let zero : hit t w i k ≡ 0 = ap (λ (x : Bool). if x then 1 else 0) (own ∙ ap (λ (x : Bool). eqb (if x then back t w (spanAt (cell w k REDEFINES)) last else 0) (suc i)) g ∙ ne-eqb 0 (suc i) (λ x. omega arith)) in
           let whole = ap members# (redefiners-next t (placeAt w i) (entryIn w k) (entriesIn w (suc k) kids) (entriesIn w (suc k + size kids) later) g q) in
           omega (arith, zero, inner, rest (differs t w i k last (ch .0) l h o g q), whole)
 
@@ -217,7 +218,7 @@ module _ (t w : List ℕ) where
       Chained w k last f →
       Counted w k last f →
       last ≤ k →
-      ((i : ℕ) → k ≤ i → i < k + size f → cell w i 18 ≡ baseOf t w i + hitsIn i k f) →
+      ((i : ℕ) → k ≤ i → i < k + size f → cell w i BASE ≡ baseOf t w i + hitsIn i k f) →
       Marked t w k last f
   marked-forest leaf k last ch co l h = tt
   marked-forest (item s kids later) k last ch co l h =
@@ -231,10 +232,10 @@ module _ (t w : List ℕ) where
         record {
           before = ch .0;
           below = co .0;
-          count = λ g. (let none : baseOf t w k ≡ 0 = ap (λ (b : Bool). if b then baseFrom t (spanAt (cell w k 6)) w k (cell w k 16) else 0) g in omega (arith, row, none, own, below, after (opens t w k k last (ch .0) l refl g)));
+          count = λ g. (let none : baseOf t w k ≡ 0 = ap (λ (b : Bool). if b then baseFrom t (spanAt (cell w k REDEFINES)) w k (cell w k BEFORE) else 0) g in omega (arith, row, none, own, below, after (opens t w k k last (ch .0) l refl g)));
           under =
               λ g.
-              (let some = base-own k last (ch .0) l ∙ ap (λ (b : Bool). if b then back t w (spanAt (cell w k 6)) last else 0) g in
+              (let some = base-own k last (ch .0) l ∙ ap (λ (b : Bool). if b then back t w (spanAt (cell w k REDEFINES)) last else 0) g in
               omega (arith, row, some, redefiner-forest (item s kids later) k k g));
         },
         inner
@@ -255,7 +256,7 @@ module _ (t w : List ℕ) where
       (f : Forest) (k : ℕ) →
       Chained w k 0 f →
       Counted w k 0 f →
-      ((i : ℕ) → k ≤ i → i < k + size f → cell w i 18 ≡ baseOf t w i + hits t w i k (size f)) →
+      ((i : ℕ) → k ≤ i → i < k + size f → cell w i BASE ≡ baseOf t w i + hits t w i k (size f)) →
       Marked t w k 0 f
   marked-all f k ch co h = marked-forest f k 0 ch co (omega arith) (λ i a b. h i a b ∙ ap (λ (n : ℕ). baseOf t w i + n) (hits-forest f i k))
 

@@ -6,6 +6,7 @@ ghost use Rattle.definition.specs.Basic.{give};
 ghost use Rattle.definition.specs.Calls.{recordFields};
 ghost use Rattle.places.specs.Places.{rowsForest};
 ghost use Rattle.layout.specs.Steps.{Room};
+ghost use Rattle.rows.specs.Columns.{ROW, BASE};
 ghost use Rattle.rows.specs.Table.{cell};
 ghost use Rattle.record.specs.Marks.{baseOf, Countable, RowTallied, Tallied};
 ghost use Rattle.record.specs.Laying.{FieldsFrom, RecordIs, fieldsOf};
@@ -13,17 +14,21 @@ use definition::Check;
 use definition::Refusal;
 use layout::LaidList;
 use reading::RowsRead;
+use rows::BASE;
+use rows::BEFORE;
+use rows::REDEFINES;
+use rows::ROW;
 
 // ---------------------------------------------------------------- the redefiners counted
 
 // The base that row k redefines: its row and 1, or 0 for none.
 fn base_of(text: &[u8], work: &[u32], k: usize) -> usize
-    requires { ⌜ 20 * k + 20 ≤ length (now work) ⌝ }
+    requires { ⌜ ROW * k + ROW ≤ length (now work) ⌝ }
     ensures { λ r. ⌜ r ≡ baseOf (now (text .entry)) (now (work .entry)) k ⌝ }
 {
-    let redefines = rows::span_at(work[20 * k + 6]);
+    let redefines = rows::span_at(work[ROW * k + REDEFINES]);
     if 0 < redefines.len {
-        let last = places::wide(work[20 * k + 16]);
+        let last = places::wide(work[ROW * k + BEFORE]);
         if k < last {
             return 0;
         }
@@ -34,20 +39,20 @@ fn base_of(text: &[u8], work: &[u32], k: usize) -> usize
 
 // One redefiner more for row i.
 fn count_up(work: &mut [u32], i: usize)
-    requires { ⌜ (20 * i + 20 ≤ length (now work)) × (cell (now work) i 18 < 4294967295) ⌝ }
-    ensures { λ _. ⌜ now (work .exit) ≡ set (now (work .entry)) (20 * i + 18) (cell (now (work .entry)) i 18 + 1) ⌝ }
+    requires { ⌜ (ROW * i + ROW ≤ length (now work)) × (cell (now work) i BASE < 4294967295) ⌝ }
+    ensures { λ _. ⌜ now (work .exit) ≡ set (now (work .entry)) (ROW * i + BASE) (cell (now (work .entry)) i BASE + 1) ⌝ }
 {
-    let at = 20 * i + 18;
+    let at = ROW * i + BASE;
     work[at] = work[at] + 1;
 }
 
 // Row k holds the base that it redefines, or 0, and the base, if it is a row from `from` on, has one redefiner more.
 fn mark_row(text: &[u8], work: &mut [u32], from: usize, k: usize)
-    requires { ⌜ (20 * k + 20 ≤ length (now work)) × (k < 4294967296) × Countable (now work) from k ⌝ }
+    requires { ⌜ (ROW * k + ROW ≤ length (now work)) × (k < 4294967296) × Countable (now work) from k ⌝ }
     ensures { λ _. ⌜ RowTallied (now (text .entry)) (now (work .entry)) from k (now (work .exit)) ⌝ }
 {
     let base = base_of(text, work, k);
-    work[20 * k + 18] = base as u32;
+    work[ROW * k + BASE] = base as u32;
     if from < base {
         count_up(work, base - 1);
         return;
@@ -56,7 +61,7 @@ fn mark_row(text: &[u8], work: &mut [u32], from: usize, k: usize)
 
 // Has each row from `from` up to `to` hold its base, or how many of these rows redefine it.
 fn mark_redefiners(text: &[u8], work: &mut [u32], from: usize, to: usize)
-    requires { ⌜ (20 * to ≤ length (now work)) × (to ≤ 800) ⌝ }
+    requires { ⌜ (ROW * to ≤ length (now work)) × (to ≤ 800) ⌝ }
     ensures { λ _. ⌜ Tallied (now (text .entry)) (now (work .entry)) from to (now (work .exit)) ⌝ }
 {
     let mut k = from;
@@ -82,7 +87,7 @@ pub enum RecordLaid {
 
 // The first row of the fields of a record that has n rows: an only root with children is dropped.
 pub fn first_field(work: &[u32], n: usize) -> usize
-    requires { ⌜ 20 * n ≤ length (now work) ⌝ }
+    requires { ⌜ ROW * n ≤ length (now work) ⌝ }
     ensures { λ r. ⌜ FieldsFrom (now (work .entry)) n r ⌝ }
 {
     if n < 2 {

@@ -21,6 +21,7 @@ use Rattle.definition.specs.Basic.{span}
 use Rattle.definition.specs.Listing.{flag}
 use Rattle.definition.specs.Statement.{clausesOf}
 use Rattle.definition.proofs.Lists.{order}
+use Rattle.rows.specs.Columns.{ROW, OFFSET}
 use Rattle.rows.specs.Table.{spanCode, spanAt, usageCode, usageAt, signCode, signAt, markOf, countOf, occursAt}
 use Rattle.rows.specs.Table.{Short, Storable, Storables, cells, putRow, putRows, cell, depthAt, clausesAt, statementAt, statementsFrom, depthsFrom}
 
@@ -74,35 +75,35 @@ getD-in (v ∷ vs) l i (suc c) j e h fits = getD-in vs (set l i v) (suc i) c j (
 module _ (w : List ℕ) (a depth : ℕ) (s : Statement) where
   pub length-putRow : length (putRow w a depth s) ≡ length w
   unfolding putRow
-  length-putRow = length-sets w (20 * a) (cells depth s)
+  length-putRow = length-sets w (ROW * a) (cells depth s)
 
   -- a stored column, the columns of a row that no statement takes, and the columns of another row
-  cell-put : 20 * a + 20 ≤ length w → (c : ℕ) → c < 13 → cell (putRow w a depth s) a c ≡ getD (cells depth s) c 0
+  cell-put : ROW * a + ROW ≤ length w → (c : ℕ) → c < OFFSET → cell (putRow w a depth s) a c ≡ getD (cells depth s) c 0
   unfolding putRow
-  cell-put h c l = getD-in (cells depth s) w (20 * a) c (20 * a + c) refl l (omega arith)
+  cell-put h c l = getD-in (cells depth s) w (ROW * a) c (ROW * a + c) refl l (omega arith)
 
-  pub cell-beyond : (c : ℕ) → 13 ≤ c → cell (putRow w a depth s) a c ≡ cell w a c
+  pub cell-beyond : (c : ℕ) → OFFSET ≤ c → cell (putRow w a depth s) a c ≡ cell w a c
   unfolding putRow
-  cell-beyond c l = getD-above (cells depth s) w (20 * a) (20 * a + c) (omega arith)
+  cell-beyond c l = getD-above (cells depth s) w (ROW * a) (ROW * a + c) (omega arith)
 
-  pub cell-other : (k : ℕ) → (k ≡ a → ⊥) → (c : ℕ) → c < 20 → cell (putRow w a depth s) k c ≡ cell w k c
+  pub cell-other : (k : ℕ) → (k ≡ a → ⊥) → (c : ℕ) → c < ROW → cell (putRow w a depth s) k c ≡ cell w k c
   unfolding putRow
   cell-other k n c l =
       ⊎-elim
-      (λ (less : k < a). getD-below (cells depth s) w (20 * a) (20 * k + c) (omega arith))
-      (λ (more : a ≤ k). getD-above (cells depth s) w (20 * a) (20 * k + c) (omega arith))
+      (λ (less : k < a). getD-below (cells depth s) w (ROW * a) (ROW * k + c) (omega arith))
+      (λ (more : a ≤ k). getD-above (cells depth s) w (ROW * a) (ROW * k + c) (omega arith))
       (order k a)
 
 -- ---------------------------------------------------------------- one row
 
 module _ (w : List ℕ) (k : ℕ) where
   -- a statement depends on its 13 columns alone
-  pub statement-same : (w′ : List ℕ) → ((c : ℕ) → c < 13 → cell w k c ≡ cell w′ k c) → statementAt w k ≡ statementAt w′ k
+  pub statement-same : (w′ : List ℕ) → ((c : ℕ) → c < OFFSET → cell w k c ≡ cell w′ k c) → statementAt w k ≡ statementAt w′ k
   statement-same w′ h =
       cc (h 0 (lit< tt), h 2 (lit< tt), h 3 (lit< tt), h 4 (lit< tt), h 5 (lit< tt), h 6 (lit< tt), h 7 (lit< tt), h 8 (lit< tt), h 9 (lit< tt), h 10 (lit< tt), h 11 (lit< tt), h 12 (lit< tt))
 
   -- columns that are a statement's hold the statement
-  module _ (depth : ℕ) (s : Statement) (h : (c : ℕ) → c < 13 → cell w k c ≡ getD (cells depth s) c 0) (fits : Storable s) where
+  module _ (depth : ℕ) (s : Statement) (h : (c : ℕ) → c < OFFSET → cell w k c ≡ getD (cells depth s) c 0) (fits : Storable s) where
     clauses-held : clausesAt w k ≡ s .clauses
     clauses-held =
         let c = s .clauses in
@@ -135,10 +136,10 @@ module _ (w : List ℕ) (k : ℕ) where
 
 module _ (w : List ℕ) (a depth : ℕ) (s : Statement) where
   -- a stored statement is read back, and its depth
-  pub statement-put : 20 * a + 20 ≤ length w → Storable s → statementAt (putRow w a depth s) a ≡ s
+  pub statement-put : ROW * a + ROW ≤ length w → Storable s → statementAt (putRow w a depth s) a ≡ s
   statement-put h fits = statement-held (putRow w a depth s) a depth s (cell-put w a depth s h) fits
 
-  pub depth-put : 20 * a + 20 ≤ length w → depthAt (putRow w a depth s) a ≡ depth
+  pub depth-put : ROW * a + ROW ≤ length w → depthAt (putRow w a depth s) a ≡ depth
   depth-put h = cell-put w a depth s h 1 (lit< tt)
 
   -- and the other rows are as before
@@ -146,14 +147,14 @@ module _ (w : List ℕ) (a depth : ℕ) (s : Statement) where
   statement-other k n = statement-same (putRow w a depth s) k w (λ c l. cell-other w a depth s k n c (omega arith))
 
 -- a number stored in a column that no statement takes leaves the statements alone
-module _ (w : List ℕ) (a c v : ℕ) (low : 13 ≤ c) (high : c < 20) where
-  cell-set : (k d : ℕ) → d < 13 → cell (set w (20 * a + c) v) k d ≡ cell w k d
-  cell-set k d h = getD-set-other w (20 * a + c) (20 * k + d) v 0 (λ e. omega arith)
+module _ (w : List ℕ) (a c v : ℕ) (low : OFFSET ≤ c) (high : c < ROW) where
+  cell-set : (k d : ℕ) → d < OFFSET → cell (set w (ROW * a + c) v) k d ≡ cell w k d
+  cell-set k d h = getD-set-other w (ROW * a + c) (ROW * k + d) v 0 (λ e. omega arith)
 
-  pub statement-set : (k : ℕ) → statementAt (set w (20 * a + c) v) k ≡ statementAt w k
-  statement-set k = statement-same (set w (20 * a + c) v) k w (cell-set k)
+  pub statement-set : (k : ℕ) → statementAt (set w (ROW * a + c) v) k ≡ statementAt w k
+  statement-set k = statement-same (set w (ROW * a + c) v) k w (cell-set k)
 
-  pub statements-set : (k n : ℕ) → statementsFrom (set w (20 * a + c) v) k n ≡ statementsFrom w k n
+  pub statements-set : (k n : ℕ) → statementsFrom (set w (ROW * a + c) v) k n ≡ statementsFrom w k n
   unfolding statementsFrom
   statements-set k zero = refl
   statements-set k (suc n) = ap₂ (λ (x : Statement) (xs : List Statement). x ∷ xs) (statement-set k) (statements-set (suc k) n)
@@ -167,7 +168,7 @@ length-putRows [] (s ∷ ss) w a = refl
 length-putRows (d ∷ ds) (s ∷ ss) w a = length-putRows ds ss (putRow w a d s) (suc a) ∙ length-putRow w a d s
 
 -- rows before the run are as before
-cell-before : (ds : List ℕ) (ss : List Statement) (w : List ℕ) (a k : ℕ) → k < a → (c : ℕ) → c < 20 → cell (putRows w a ds ss) k c ≡ cell w k c
+cell-before : (ds : List ℕ) (ss : List Statement) (w : List ℕ) (a k : ℕ) → k < a → (c : ℕ) → c < ROW → cell (putRows w a ds ss) k c ≡ cell w k c
 unfolding putRows
 cell-before ds [] w a k h c l = refl
 cell-before [] (s ∷ ss) w a k h c l = refl
@@ -181,7 +182,7 @@ statement-before ds ss w a k h = statement-same (putRows w a ds ss) k w (λ c l.
 pub statements-put :
     (ds : List ℕ) (ss : List Statement) (w : List ℕ) (a : ℕ) →
     length ds ≡ length ss →
-    20 * (a + length ss) ≤ length w →
+    ROW * (a + length ss) ≤ length w →
     Storables ss →
     statementsFrom (putRows w a ds ss) a (length ss) ≡ ss
 unfolding putRows statementsFrom
@@ -197,7 +198,7 @@ statements-put (d ∷ ds) (s ∷ ss) w a e h fits =
 pub depths-put :
     (ds : List ℕ) (ss : List Statement) (w : List ℕ) (a : ℕ) →
     length ds ≡ length ss →
-    20 * (a + length ss) ≤ length w →
+    ROW * (a + length ss) ≤ length w →
     depthsFrom (putRows w a ds ss) a (length ss) ≡ ds
 unfolding putRows depthsFrom
 depths-put [] [] w a e h = refl

@@ -1,4 +1,4 @@
--- A table of rows in lent work memory: row k stands at 20 * k, one row for each kept statement, in copybook order. Columns 0 to 12 hold the
+-- A table of rows in lent work memory: row k stands at ROW * k, one row for each kept statement, in copybook order. Columns 0 to 12 hold the
 -- statement and its depth; the others are the layout's.
 --   0 level  1 depth  2 at  3 name  4 picture  5 depending  6 redefines  7 usage  8 sign  9 sync  10 occurs or not  11, 12 its count, low and high
 -- A span is one number, for a text has at most 65,535 bytes; a count takes two.
@@ -19,6 +19,7 @@ use Rattle.definition.specs.declared.Statement.{Statement}
 use Rattle.definition.specs.Basic.{if_then_else_, span}
 use Rattle.definition.specs.Listing.{flag}
 use Rattle.definition.specs.Statement.{clausesOf}
+use Rattle.rows.specs.Columns.{ROW, LEVEL, DEPTH, AT, NAME, PICTURE, DEPENDING, REDEFINES, USAGE, SIGN, SYNC, OCCURS, LOW, HIGH}
 
 -- ---------------------------------------------------------------- a number for each part
 
@@ -121,7 +122,7 @@ cells depth s = s .level ∷ depth ∷ s .at ∷ spanCode (s .name) ∷ clauseCe
 
 -- w with a statement in row k
 unfoldable pub putRow : List ℕ → ℕ → ℕ → Statement → List ℕ
-putRow w k depth s = sets w (20 * k) (cells depth s)
+putRow w k depth s = sets w (ROW * k) (cells depth s)
 
 -- w with statements, and their depths, from row k on
 unfoldable pub putRows : List ℕ → ℕ → List ℕ → List Statement → List ℕ
@@ -131,27 +132,27 @@ putRows w k (d ∷ ds) (s ∷ ss) = putRows (putRow w k d s) (suc k) ds ss
 
 -- a column of row k
 abbrev pub cell : List ℕ → ℕ → ℕ → ℕ
-cell w k c = getD w (20 * k + c) 0
+cell w k c = getD w (ROW * k + c) 0
 
 -- the depth of the statement in row k
 abbrev pub depthAt : List ℕ → ℕ → ℕ
-depthAt w k = cell w k 1
+depthAt w k = cell w k DEPTH
 
 -- the clauses of the statement in row k
 abbrev pub clausesAt : List ℕ → ℕ → Clauses
 clausesAt w k =
     clausesOf
-    (spanAt (cell w k 4))
-    (usageAt (cell w k 7))
-    (signAt (cell w k 8))
-    (eqb (cell w k 9) 1)
-    (occursAt (cell w k 10) (cell w k 11) (cell w k 12))
-    (spanAt (cell w k 5))
-    (spanAt (cell w k 6))
+    (spanAt (cell w k PICTURE))
+    (usageAt (cell w k USAGE))
+    (signAt (cell w k SIGN))
+    (eqb (cell w k SYNC) 1)
+    (occursAt (cell w k OCCURS) (cell w k LOW) (cell w k HIGH))
+    (spanAt (cell w k DEPENDING))
+    (spanAt (cell w k REDEFINES))
 
 -- the statement in row k
 abbrev pub statementAt : List ℕ → ℕ → Statement
-statementAt w k = record { level = cell w k 0 % 256; at = cell w k 2; name = spanAt (cell w k 3); clauses = clausesAt w k }
+statementAt w k = record { level = cell w k LEVEL % 256; at = cell w k AT; name = spanAt (cell w k NAME); clauses = clausesAt w k }
 
 -- n statements from row k on, and their depths
 unfoldable pub statementsFrom : List ℕ → ℕ → ℕ → List Statement

@@ -6,6 +6,7 @@ ghost use lib.ListN.{length};
 ghost use lib.Seq.{sets};
 ghost use Rattle.definition.specs.Calls.{cleared};
 ghost use Rattle.definition.specs.Listing.{flag};
+ghost use Rattle.rows.specs.Columns.{ROW};
 ghost use Rattle.rows.specs.Table.{spanCode, spanAt, usageCode, usageAt, signCode, signAt, markOf, countOf, occursAt};
 ghost use Rattle.rows.specs.Table.{Short, Brief, Placed, clauseCells, putRow, clausesAt, statementAt};
 use definition::Clauses;
@@ -15,6 +16,47 @@ use definition::Span;
 use definition::Statement;
 use definition::Usage;
 use definition::UsageClause;
+
+// The columns of a row, as `specs/Columns` has them.
+pub const ROW: usize = 20;
+
+pub const LEVEL: usize = 0;
+
+pub const DEPTH: usize = 1;
+
+pub const AT: usize = 2;
+
+pub const NAME: usize = 3;
+
+pub const PICTURE: usize = 4;
+
+pub const DEPENDING: usize = 5;
+
+pub const REDEFINES: usize = 6;
+
+pub const USAGE: usize = 7;
+
+pub const SIGN: usize = 8;
+
+pub const SYNC: usize = 9;
+
+pub const OCCURS: usize = 10;
+
+pub const LOW: usize = 11;
+
+pub const HIGH: usize = 12;
+
+pub const OFFSET: usize = 13;
+
+pub const WIDTH: usize = 14;
+
+pub const KIND: usize = 15;
+
+pub const BEFORE: usize = 16;
+
+pub const BELOW: usize = 17;
+
+pub const BASE: usize = 18;
 
 // Work memory to zero.
 pub fn clear(work: &mut [u32])
@@ -211,10 +253,10 @@ fn put_clauses(work: &mut [u32], at: usize, c: Clauses)
 
 // A statement and its depth into row k.
 pub fn put_row(work: &mut [u32], k: usize, depth: u32, s: Statement)
-    requires { ⌜ (20 * k + 20 ≤ length (now work)) × Placed s ⌝ }
+    requires { ⌜ (ROW * k + ROW ≤ length (now work)) × Placed s ⌝ }
     ensures { λ _. ⌜ now (work .exit) ≡ putRow (now (work .entry)) k depth s ⌝ }
 {
-    let base = 20 * k;
+    let base = ROW * k;
     let name = s.name;
     let clauses = s.clauses;
     put_four(
@@ -230,29 +272,33 @@ pub fn put_row(work: &mut [u32], k: usize, depth: u32, s: Statement)
 
 // The clauses of the statement in row k.
 fn clauses_at(work: &[u32], k: usize) -> Clauses
-    requires { ⌜ 20 * k + 20 ≤ length (now work) ⌝ }
+    requires { ⌜ ROW * k + ROW ≤ length (now work) ⌝ }
     ensures { λ r. ⌜ r ≡ clausesAt (now (work .entry)) k ⌝ }
 {
     Clauses {
-        picture: span_at(work[20 * k + 4]),
-        usage: usage_at(work[20 * k + 7]),
-        sign: sign_at(work[20 * k + 8]),
-        sync: work[20 * k + 9] == 1,
-        occurs: occurs_at(work[20 * k + 10], work[20 * k + 11], work[20 * k + 12]),
-        depending: span_at(work[20 * k + 5]),
-        redefines: span_at(work[20 * k + 6]),
+        picture: span_at(work[ROW * k + PICTURE]),
+        usage: usage_at(work[ROW * k + USAGE]),
+        sign: sign_at(work[ROW * k + SIGN]),
+        sync: work[ROW * k + SYNC] == 1,
+        occurs: occurs_at(
+            work[ROW * k + OCCURS],
+            work[ROW * k + LOW],
+            work[ROW * k + HIGH],
+        ),
+        depending: span_at(work[ROW * k + DEPENDING]),
+        redefines: span_at(work[ROW * k + REDEFINES]),
     }
 }
 
 // The statement in row k.
 pub fn statement_at(work: &[u32], k: usize) -> Statement
-    requires { ⌜ 20 * k + 20 ≤ length (now work) ⌝ }
+    requires { ⌜ ROW * k + ROW ≤ length (now work) ⌝ }
     ensures { λ r. ⌜ r ≡ statementAt (now (work .entry)) k ⌝ }
 {
     Statement {
-        level: (work[20 * k] % 256) as u8,
-        at: work[20 * k + 2] as usize,
-        name: span_at(work[20 * k + 3]),
+        level: (work[ROW * k + LEVEL] % 256) as u8,
+        at: work[ROW * k + AT] as usize,
+        name: span_at(work[ROW * k + NAME]),
         clauses: clauses_at(work, k),
     }
 }

@@ -13,6 +13,7 @@ use Rattle.definition.specs.Fold.{Entries, end, append, hasMember, foldedBelow,
 use Rattle.places.specs.Places.{basesAt, entryIn}
 use Rattle.places.specs.Ends.{ChildrenEnd}
 use Rattle.places.proofs.RowLaws.{children-end}
+use Rattle.rows.specs.Columns.{ROW}
 use Rattle.folded.specs.Shown.{standing, shownNamed, listIn, foldedRest, shownAt, Numbered, Tree}
 use Rattle.folded.proofs.FoldedLaws.{member-append, shown-named}
 use Rattle.folded.proofs.ShownLaws.{walking-ends, walking-here}
@@ -22,7 +23,7 @@ use Rattle.folded.proofs.has_member.Tie as tie
 
 -- what the loop keeps
 record Left (t w : List ℕ) (from to : ℕ) (name : Span) (i last : ℕ) : Type 0 where
-  fits : 20 * to ≤ length w
+  fits : ROW * to ≤ length w
   back : last ≤ i
   done : Entries
   along : Along t w from to i last done

@@ -10,6 +10,7 @@ use borrow.Author.Tests.{lt-ltb, le-ltb, eq-eqb, ne-eqb}
 use Rattle.definition.specs.declared.Span.{Span}
 use Rattle.definition.specs.Basic.{if_then_else_, given}
 use Rattle.definition.specs.Fold.{sameName}
+use Rattle.rows.specs.Columns.{NAME, REDEFINES, BASE}
 use Rattle.rows.specs.Table.{spanAt, cell}
 use Rattle.places.specs.Places.{entryIn}
 use Rattle.folded.specs.declared.Relation.{Relation}
@@ -21,23 +22,23 @@ use Rattle.folded.proofs.relation_to.Tie as tie
 abbrev told : Bool → Bool → Relation
 told g a = if g then (if a then Relation.Redefiner else Relation.Other) else Relation.Other
 
-module _ (t w : List ℕ) (i k : ℕ) (n : Kin t w i k) {s : Span} (p : s ≡ spanAt (cell w k 6)) where
-  module _ (h : 0 < s .len) {v : ℕ} (q : v ≡ cell w k 18) where
-    redefines : given (spanAt (cell w k 6)) ≡ true
+module _ (t w : List ℕ) (i k : ℕ) (n : Kin t w i k) {s : Span} (p : s ≡ spanAt (cell w k REDEFINES)) where
+  module _ (h : 0 < s .len) {v : ℕ} (q : v ≡ cell w k BASE) where
+    redefines : given (spanAt (cell w k REDEFINES)) ≡ true
     redefines = ap given (sym p) ∙ lt-ltb 0 (s .len) h
 
-    redefiner : v ≡ i + 1 → Relation.Redefiner ≡ relation t (spanAt (cell w i 3)) (entryIn w k)
+    redefiner : v ≡ i + 1 → Relation.Redefiner ≡ relation t (spanAt (cell w i NAME)) (entryIn w k)
     redefiner e =
-        sym (ap₂ told redefines (n .named redefines ∙ eq-eqb (cell w k 18) (suc i) (omega arith)))
+        sym (ap₂ told redefines (n .named redefines ∙ eq-eqb (cell w k BASE) (suc i) (omega arith)))
 
-    other : (v ≡ i + 1 → ⊥) → Relation.Other ≡ relation t (spanAt (cell w i 3)) (entryIn w k)
+    other : (v ≡ i + 1 → ⊥) → Relation.Other ≡ relation t (spanAt (cell w i NAME)) (entryIn w k)
     other e =
-        sym (ap₂ told redefines (n .named redefines ∙ ne-eqb (cell w k 18) (suc i) (λ x. e (omega arith))))
+        sym (ap₂ told redefines (n .named redefines ∙ ne-eqb (cell w k BASE) (suc i) (λ x. e (omega arith))))
 
-  base : s .len ≤ 0 → Relation.Other ≡ relation t (spanAt (cell w i 3)) (entryIn w k)
+  base : s .len ≤ 0 → Relation.Other ≡ relation t (spanAt (cell w i NAME)) (entryIn w k)
   base h =
-      let g : given (spanAt (cell w k 6)) ≡ false = ap given (sym p) ∙ le-ltb 0 (s .len) h in
-      sym (ap (λ (g : Bool). told g (sameName t (spanAt (cell w i 3)) (spanAt (cell w k 6)))) g)
+      let g : given (spanAt (cell w k REDEFINES)) ≡ false = ap given (sym p) ∙ le-ltb 0 (s .len) h in
+      sym (ap (λ (g : Bool). told g (sameName t (spanAt (cell w i NAME)) (spanAt (cell w k REDEFINES)))) g)
 
 returns : tie.Need-returns
 returns c = search redefiner

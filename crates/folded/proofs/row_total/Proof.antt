@@ -7,6 +7,7 @@ use mathlib.Core.List.{List}
 use native.Mathlib.Omega.{arith}
 use Rattle.definition.specs.declared.Statement.{Statement}
 use Rattle.definition.specs.Fold.{times, total}
+use Rattle.rows.specs.Columns.{WIDTH}
 use Rattle.rows.specs.Table.{cell, statementAt}
 use Rattle.places.specs.Places.{entryIn}
 use Rattle.folded.specs.Shown.{Measured}
@@ -14,7 +15,7 @@ use Rattle.folded.proofs.row_total.Statement.{statement}
 use Rattle.folded.proofs.row_total.Tie as tie
 
 -- what is multiplied
-module _ (w : List ℕ) (k : ℕ) {s : Statement} {a n : ℕ} (p : s ≡ statementAt w k) (q : a ≡ cell w k 14) (e : n ≡ times (s .clauses .occurs)) where
+module _ (w : List ℕ) (k : ℕ) {s : Statement} {a n : ℕ} (p : s ≡ statementAt w k) (q : a ≡ cell w k WIDTH) (e : n ≡ times (s .clauses .occurs)) where
   product : a * n ≡ total (entryIn w k)
   product = ap₂ (λ (x y : ℕ). x * y) q (e ∙ ap (λ (x : Statement). times (x .clauses .occurs)) p)
 

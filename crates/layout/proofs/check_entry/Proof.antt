@@ -10,6 +10,7 @@ use borrow.Author.Tests.{lt-ltb, le-ltb}
 use Rattle.definition.specs.declared.Statement.{Statement}
 use Rattle.definition.specs.Basic.{given, give, refused, if_then_else_}
 use Rattle.definition.specs.Fold.{find}
+use Rattle.rows.specs.Columns.{OFFSET}
 use Rattle.rows.specs.Table.{cell, statementAt}
 use Rattle.places.specs.declared.Target.{Target}
 use Rattle.places.specs.Places.{seenFrom, basesAt, entryIn, found}
@@ -20,26 +21,26 @@ use Rattle.layout.proofs.check_entry.Tie as tie
 module _ (t w : List ℕ) (i last : ℕ) {s : Statement} (ps : s ≡ statementAt w i) where
   -- the statement's words are the entry's
   same-entry :
-      (if given (s .clauses .redefines) then checkBase (s .at) (cell w i 13) (find t (s .clauses .redefines) (basesAt w last)) else give tt)
+      (if given (s .clauses .redefines) then checkBase (s .at) (cell w i OFFSET) (find t (s .clauses .redefines) (basesAt w last)) else give tt)
       ≡ checkEntry t (basesAt w last) (entryIn w i)
-  same-entry = ap (λ (x : Statement). if given (x .clauses .redefines) then checkBase (x .at) (cell w i 13) (find t (x .clauses .redefines) (basesAt w last)) else give tt) ps
+  same-entry = ap (λ (x : Statement). if given (x .clauses .redefines) then checkBase (x .at) (cell w i OFFSET) (find t (x .clauses .redefines) (basesAt w last)) else give tt) ps
 
   plain : s .clauses .redefines .len ≤ 0 → give tt ≡ checkEntry t (basesAt w last) (entryIn w i)
   plain h =
-      sym (ap (λ (b : Bool). if b then checkBase (s .at) (cell w i 13) (find t (s .clauses .redefines) (basesAt w last)) else give tt) (le-ltb 0 (s .clauses .redefines .len) h))
+      sym (ap (λ (b : Bool). if b then checkBase (s .at) (cell w i OFFSET) (find t (s .clauses .redefines) (basesAt w last)) else give tt) (le-ltb 0 (s .clauses .redefines .len) h))
       ∙ same-entry
 
   module _ (h : 0 < s .clauses .redefines .len) where
-    under : (o : Target) → (found o ≡ find t (s .clauses .redefines) (seenFrom true w last last)) → checkBase (s .at) (cell w i 13) (found o) ≡ checkEntry t (basesAt w last) (entryIn w i)
+    under : (o : Target) → (found o ≡ find t (s .clauses .redefines) (seenFrom true w last last)) → checkBase (s .at) (cell w i OFFSET) (found o) ≡ checkEntry t (basesAt w last) (entryIn w i)
     under o p =
-        ap (checkBase (s .at) (cell w i 13)) p
-        ∙ sym (ap (λ (b : Bool). if b then checkBase (s .at) (cell w i 13) (find t (s .clauses .redefines) (basesAt w last)) else give tt) (lt-ltb 0 (s .clauses .redefines .len) h))
+        ap (checkBase (s .at) (cell w i OFFSET)) p
+        ∙ sym (ap (λ (b : Bool). if b then checkBase (s .at) (cell w i OFFSET) (find t (s .clauses .redefines) (basesAt w last)) else give tt) (lt-ltb 0 (s .clauses .redefines .len) h))
         ∙ same-entry
 
     alone : {o : Target} → found o ≡ find t (s .clauses .redefines) (seenFrom true w last last) → o ≡ Target.Nothing → give tt ≡ checkEntry t (basesAt w last) (entryIn w i)
-    alone {o} p e = ap (λ (x : Target). checkBase (s .at) (cell w i 13) (found x)) (sym e) ∙ under o p
+    alone {o} p e = ap (λ (x : Target). checkBase (s .at) (cell w i OFFSET) (found x)) (sym e) ∙ under o p
 
-    module _ {o : Target} {base offset : ℕ} (p : found o ≡ find t (s .clauses .redefines) (seenFrom true w last last)) (e : o ≡ Target.At base) (q : offset ≡ cell w i 13) where
+    module _ {o : Target} {base offset : ℕ} (p : found o ≡ find t (s .clauses .redefines) (seenFrom true w last last)) (e : o ≡ Target.At base) (q : offset ≡ cell w i OFFSET) where
       at-base : checkBase (s .at) offset (some base) ≡ checkEntry t (basesAt w last) (entryIn w i)
       at-base = ap₂ (λ (x : ℕ) (y : Target). checkBase (s .at) x (found y)) q (sym e) ∙ under o p
 

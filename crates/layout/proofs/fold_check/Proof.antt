@@ -15,6 +15,7 @@ use Rattle.places.specs.Places.{basesAt, entryIn, entriesIn, rowsForest}
 use Rattle.places.specs.Ends.{ChildrenEnd}
 use Rattle.places.proofs.RowLaws.{forest-empty, children-end}
 use Rattle.definition.specs.Fold.{foldCheck}
+use Rattle.rows.specs.Columns.{ROW}
 use Rattle.layout.specs.Steps.{checkEntry}
 use Rattle.layout.proofs.FoldLaws.{Checking, checking-starts, checking-on, checking-refused}
 use Rattle.layout.proofs.fold_check.Statement.{statement}
@@ -22,11 +23,11 @@ use Rattle.layout.proofs.fold_check.Tie as tie
 
 -- what the loop keeps
 record Left (t w : List ℕ) (from to i last : ℕ) : Type 0 where
-  fits : 20 * to ≤ length w
+  fits : ROW * to ≤ length w
   back : last ≤ i
   rest : Checking t w from to i last
 
-begin : {t w : List ℕ} {from to : ℕ} → 20 * to ≤ length w → Checking t w from to from 0 → Left t w from to from 0
+begin : {t w : List ℕ} {from to : ℕ} → ROW * to ≤ length w → Checking t w from to from 0 → Left t w from to from 0
 begin h c = record { fits = h; back = omega arith; rest = c }
 
 module _ {t w : List ℕ} {from to i last : ℕ} (inv : Left t w from to i last) where

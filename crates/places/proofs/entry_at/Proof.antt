@@ -9,6 +9,7 @@ use Rattle.definition.specs.declared.FieldKind.{FieldKind}
 use Rattle.definition.specs.declared.Entry.{Entry}
 use Rattle.definition.specs.Picture.{pictured}
 use Rattle.definition.specs.Layout.{entryOf}
+use Rattle.rows.specs.Columns.{OFFSET, WIDTH, KIND}
 use Rattle.rows.specs.Table.{cell, statementAt}
 use Rattle.places.specs.Places.{kindOfCode, entryIn}
 use Rattle.places.proofs.entry_at.Statement.{statement}
@@ -17,9 +18,9 @@ use Rattle.places.proofs.entry_at.Tie as tie
 in-row :
     (w : List ℕ) (k : ℕ) {s : Statement} {kind : FieldKind} {width offset : ℕ} {e : Entry} →
     s ≡ statementAt w k →
-    kind ≡ kindOfCode (cell w k 15) →
-    width ≡ cell w k 14 →
-    offset ≡ cell w k 13 →
+    kind ≡ kindOfCode (cell w k KIND) →
+    width ≡ cell w k WIDTH →
+    offset ≡ cell w k OFFSET →
     e ≡ entryOf s (pictured kind width) offset →
     e ≡ entryIn w k
 in-row w k ps pk pw po e = e ∙ (λ i. entryOf (ps i) (pictured (pk i) (pw i)) (po i))

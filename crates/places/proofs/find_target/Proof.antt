@@ -9,6 +9,7 @@ use mathlib.Core.Option.{none, some}
 use native.Mathlib.Omega.{arith}
 use Rattle.definition.specs.declared.Span.{Span}
 use Rattle.definition.specs.Fold.{find}
+use Rattle.rows.specs.Columns.{OFFSET}
 use Rattle.rows.specs.Table.{cell}
 use Rattle.places.specs.Places.{seenFrom, rowFrom}
 use Rattle.places.proofs.SearchLaws.{offsetOf, row-found}
@@ -19,7 +20,7 @@ module _ (t w : List ℕ) (target : Span) (bases : Bool) (last : ℕ) {k : ℕ} 
   row-is : {n : ℕ} → k ≡ n → offsetOf w n ≡ find t target (seenFrom bases w last last)
   row-is e = sym (row-found t w target bases last last ∙ ap (offsetOf w) (sym p ∙ e))
 
-  hit : 0 < k → {n : ℕ} → n ≡ cell w (k - 1) 13 → some n ≡ find t target (seenFrom bases w last last)
+  hit : 0 < k → {n : ℕ} → n ≡ cell w (k - 1) OFFSET → some n ≡ find t target (seenFrom bases w last last)
   hit h q = ap some q ∙ row-is (let e : k ≡ suc (k - 1) = omega arith in e)
 
   nothing : k ≤ 0 → none ≡ find t target (seenFrom bases w last last)

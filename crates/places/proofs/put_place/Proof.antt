@@ -8,6 +8,7 @@ use native.Mathlib.Numerals.{towards-suc}
 use native.Mathlib.Omega.{arith}
 use lib.ListN.{set, length-set}
 use Rattle.definition.specs.declared.Entry.{Entry}
+use Rattle.rows.specs.Columns.{ROW, OFFSET}
 use Rattle.places.specs.Places.{kindCode, putPlace}
 use Rattle.places.proofs.put_place.Statement.{statement}
 use Rattle.places.proofs.put_place.Tie as tie
@@ -15,7 +16,7 @@ use Rattle.places.proofs.put_place.Tie as tie
 one-run :
     (w : List ℕ) (k last below : ℕ) (e : Entry) {n : ℕ} →
     n ≡ kindCode (e .kind) →
-    set (set (set (set (set w (20 * k + 13) (e .offset)) (20 * k + 13 + 1) (e .width)) (20 * k + 13 + 2) n) (20 * k + 13 + 3) last) (20 * k + 13 + 4) below
+    set (set (set (set (set w (ROW * k + OFFSET) (e .offset)) (ROW * k + OFFSET + 1) (e .width)) (ROW * k + OFFSET + 2) n) (ROW * k + OFFSET + 3) last) (ROW * k + OFFSET + 4) below
     ≡ putPlace w k last below e
 unfolding putPlace
 one-run w k last below e q = rw q (simp towards-suc)

@@ -27,6 +27,7 @@ use Rattle.statement.proofs.ReadLaws.{kept-read, skipped-read, refused-read, en
 use Rattle.reading.specs.declared.OpenLevels.{OpenLevels}
 use Rattle.reading.specs.declared.RowsRead.{RowsRead}
 use Rattle.reading.specs.Levels.{stackOf, Nested}
+use Rattle.rows.specs.Columns.{ROW}
 use Rattle.rows.specs.Table.{Short, Placed, putRows}
 use Rattle.reading.specs.Reading.{Added, outcome, Held, RowsAre}
 use Rattle.rows.proofs.TableLaws.{length-putRow}
@@ -142,7 +143,7 @@ module _ {t w₀ w : List ℕ} {at : ℕ} {fresh : Bool} {n : ℕ} {o : OpenLeve
             };
           }
 
-      addable : n < 800 → (20 * n + 20 ≤ length w) × Nested o × Placed s
+      addable : n < 800 → (ROW * n + ROW ≤ length w) × Nested o × Placed s
       addable l = (omega (arith, inv .room), inv .nested, placed)
 
       -- 800 were kept before it

@@ -9,6 +9,7 @@ use native.Mathlib.Omega.{arith}
 use borrow.Author.Tests.{lt-ltb, le-ltb}
 use Rattle.definition.specs.declared.Span.{Span}
 use Rattle.definition.specs.Basic.{if_then_else_, given}
+use Rattle.rows.specs.Columns.{REDEFINES, BEFORE}
 use Rattle.rows.specs.Table.{spanAt, cell}
 use Rattle.folded.specs.Shown.{baseFrom}
 use Rattle.record.specs.Marks.{baseOf}
@@ -16,22 +17,22 @@ use Rattle.places.proofs.SearchLaws.{row-low, row-over}
 use Rattle.record.proofs.base_of.Statement.{statement}
 use Rattle.record.proofs.base_of.Tie as tie
 
-module _ (t w : List ℕ) (k : ℕ) {s : Span} (p : s ≡ spanAt (cell w k 6)) where
-  whole : (if given s then baseFrom t s w k (cell w k 16) else 0) ≡ baseOf t w k
-  whole = ap (λ (x : Span). if given x then baseFrom t x w k (cell w k 16) else 0) p
+module _ (t w : List ℕ) (k : ℕ) {s : Span} (p : s ≡ spanAt (cell w k REDEFINES)) where
+  whole : (if given s then baseFrom t s w k (cell w k BEFORE) else 0) ≡ baseOf t w k
+  whole = ap (λ (x : Span). if given x then baseFrom t x w k (cell w k BEFORE) else 0) p
 
-  module _ (h : 0 < s .len) {last : ℕ} (q : last ≡ cell w k 16) where
-    named : baseFrom t s w k (cell w k 16) ≡ baseOf t w k
-    named = sym (ap (λ (b : Bool). if b then baseFrom t s w k (cell w k 16) else 0) (lt-ltb 0 (s .len) h)) ∙ whole
+  module _ (h : 0 < s .len) {last : ℕ} (q : last ≡ cell w k BEFORE) where
+    named : baseFrom t s w k (cell w k BEFORE) ≡ baseOf t w k
+    named = sym (ap (λ (b : Bool). if b then baseFrom t s w k (cell w k BEFORE) else 0) (lt-ltb 0 (s .len) h)) ∙ whole
 
     past : k < last → 0 ≡ baseOf t w k
-    past l = sym (row-over t w s true k (cell w k 16) (omega arith)) ∙ named
+    past l = sym (row-over t w s true k (cell w k BEFORE) (omega arith)) ∙ named
 
     found : last ≤ k → {r : ℕ} → r ≡ baseFrom t s w last last → r ≡ baseOf t w k
     found l e = e ∙ sym (row-low t w s true k last l) ∙ ap (baseFrom t s w k) q ∙ named
 
   unnamed : s .len ≤ 0 → 0 ≡ baseOf t w k
-  unnamed h = sym (ap (λ (b : Bool). if b then baseFrom t s w k (cell w k 16) else 0) (le-ltb 0 (s .len) h)) ∙ whole
+  unnamed h = sym (ap (λ (b : Bool). if b then baseFrom t s w k (cell w k BEFORE) else 0) (le-ltb 0 (s .len) h)) ∙ whole
 
 returns : tie.Need-returns
 returns c = search past

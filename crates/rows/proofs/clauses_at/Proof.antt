@@ -10,6 +10,7 @@ use Rattle.definition.specs.declared.UsageClause.{UsageClause}
 use Rattle.definition.specs.declared.SignWords.{SignWords}
 use Rattle.definition.specs.declared.Occurs.{Occurs}
 use Rattle.definition.specs.Statement.{clausesOf}
+use Rattle.rows.specs.Columns.{PICTURE, DEPENDING, REDEFINES, USAGE, SIGN, SYNC, OCCURS, LOW, HIGH}
 use Rattle.rows.specs.Table.{spanAt, usageAt, signAt, occursAt, cell, clausesAt}
 use Rattle.rows.proofs.clauses_at.Statement.{statement}
 use Rattle.rows.proofs.clauses_at.Tie as tie
@@ -17,13 +18,13 @@ use Rattle.rows.proofs.clauses_at.Tie as tie
 module _ (w : List ℕ) (k : ℕ) {p d r : Span} {u : UsageClause} {s : SignWords} {o : Occurs} where
   -- the clauses of parts that are read
   read :
-      p ≡ spanAt (cell w k 4) →
-      u ≡ usageAt (cell w k 7) →
-      s ≡ signAt (cell w k 8) →
-      o ≡ occursAt (cell w k 10) (cell w k 11) (cell w k 12) →
-      d ≡ spanAt (cell w k 5) →
-      r ≡ spanAt (cell w k 6) →
-      clausesOf p u s (eqb (cell w k 9) 1) o d r ≡ clausesAt w k
+      p ≡ spanAt (cell w k PICTURE) →
+      u ≡ usageAt (cell w k USAGE) →
+      s ≡ signAt (cell w k SIGN) →
+      o ≡ occursAt (cell w k OCCURS) (cell w k LOW) (cell w k HIGH) →
+      d ≡ spanAt (cell w k DEPENDING) →
+      r ≡ spanAt (cell w k REDEFINES) →
+      clausesOf p u s (eqb (cell w k SYNC) 1) o d r ≡ clausesAt w k
   read ep eu es eo ed er = rw (ep, eu, es, eo, ed, er)
 
 returns : tie.Need-returns

@@ -7,6 +7,7 @@ use mathlib.Core.List.{List, [], _∷_}
 use native.Mathlib.Numerals.{towards-suc}
 use lib.Seq.{sets}
 use Rattle.definition.specs.declared.Statement.{Statement}
+use Rattle.rows.specs.Columns.{ROW, PICTURE}
 use Rattle.rows.specs.Table.{spanCode, clauseCells, putRow}
 use Rattle.rows.proofs.put_row.Statement.{statement}
 use Rattle.rows.proofs.put_row.Tie as tie
@@ -14,8 +15,8 @@ use Rattle.rows.proofs.put_row.Tie as tie
 module _ (w : List ℕ) {w₁ w₂ : List ℕ} (k depth : ℕ) (s : Statement) {n : ℕ} where
   -- the first four columns, and those of the clauses
   one-run :
-      w₁ ≡ sets w (20 * k) (s .level ∷ depth ∷ s .at ∷ n ∷ []) →
-      w₂ ≡ sets w₁ (20 * k + 4) (clauseCells (s .clauses)) →
+      w₁ ≡ sets w (ROW * k) (s .level ∷ depth ∷ s .at ∷ n ∷ []) →
+      w₂ ≡ sets w₁ (ROW * k + PICTURE) (clauseCells (s .clauses)) →
       n ≡ spanCode (s .name) →
       w₂ ≡ putRow w k depth s
   unfolding putRow

@@ -1,4 +1,4 @@
--- What the layout adds to the rows of the table: columns 13 to 17 of row k hold the offset, the width and the kind of its entry, the previous
+-- What the layout adds to the rows of the table: columns OFFSET to BELOW of row k hold the offset, the width and the kind of its entry, the previous
 -- sibling (0 for none, else its row and 1) and the number of rows below it.
 -- Assumes nothing.
 use Prim.Native.Nat.{ℕ, zero, suc, _+_, _*_, _-_, _<_}
@@ -22,7 +22,7 @@ use Rattle.places.specs.declared.Target.{Target}
 
 -- ---------------------------------------------------------------- places
 
--- columns 13 to 17
+-- columns OFFSET to BELOW
 abbrev pub placeCells : Entry → ℕ → ℕ → List ℕ
 placeCells e last below = e .offset ∷ e .width ∷ kindCode (e .kind) ∷ last ∷ below ∷ []
 

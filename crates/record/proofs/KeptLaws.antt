@@ -1,4 +1,4 @@
--- A table whose columns below 18 are as they were holds what it held; and the pass that fills column 18.
+-- A table whose columns before BASE are as they were holds what it held; and the pass that fills column BASE.
 -- Assumes nothing.
 use Prim.Native.Nat.{ℕ, zero, suc, _+_, _*_, _-_, _≤_, _<_}
 use mathlib.Core.Path.{_≡_, refl, sym, ap, ap₂, subst, _∙_}
@@ -19,7 +19,7 @@ use Rattle.definition.specs.Tree.{Forest, leaf, item, forest}
 use Rattle.definition.specs.Fold.{total}
 use Rattle.definition.specs.Owner.{size}
 use Rattle.definition.proofs.Lists.{order}
-use Rattle.rows.specs.Columns.{ROW, NAME, REDEFINES, BEFORE, BASE}
+use Rattle.rows.specs.Columns.{ROW, NAME, REDEFINES, BEFORE, BELOW, BASE}
 use Rattle.rows.specs.Table.{cell, spanAt, statementAt, statementsFrom}
 use Rattle.rows.proofs.TableLaws.{statement-same}
 use Rattle.places.specs.Places.{rowFrom, entryIn, entriesIn, rowsForest}
@@ -89,7 +89,7 @@ kept-on a b = record { long = b .long ∙ a .long; same = λ k c l. b .same k c 
 
 -- ---------------------------------------------------------------- one row
 
--- a number stored in column 18
+-- a number stored in column BASE
 kept-set : (w : List ℕ) (a v : ℕ) → Kept w (set w (ROW * a + BASE) v)
 kept-set w a v =
     record { long = length-set w (ROW * a + BASE) v; same = λ k c l. getD-set-other w (ROW * a + BASE) (ROW * k + c) v 0 (λ e. omega arith) }
@@ -228,8 +228,8 @@ module _ (text : List ℕ) {w w′ : List ℕ} (a b : ℕ) (low : a ≤ b) (r : 
       record {
         fits = omega (arith, r .fits, m .kept .long);
         marked =
-            marked-all text w′ f a (column-kept (m .kept) 16 (λ before kids. before) a b (lit< tt) (r .chained))
-            (column-kept (m .kept) 17 (λ before kids. size kids) a b (lit< tt) (r .counted))
+            marked-all text w′ f a (column-kept (m .kept) BEFORE (λ before kids. before) a b (lit< tt) (r .chained))
+            (column-kept (m .kept) BELOW (λ before kids. size kids) a b (lit< tt) (r .counted))
             (λ i l u. omega (arith, m .counts i l (omega (arith, many)), base-of-kept (m .kept) text i, hits-kept (m .kept) text i a (b - a), ap (hits text w′ i a) many));
         sized = sized-kept (m .kept) a b (r .sized);
       }

@@ -139,6 +139,8 @@ table =
     ∷ pictured "9(4)" Usage.Display (SignClause.Given SignKind.LeadingSeparate) 4 (Int false SignKind.Unsigned)
     ∷ accepted "05 A PIC S9(4) SIGN TRAILING SEPARATE." 5 false (column 0 5 (Int true SignKind.TrailingSeparate) ∷ [])
     ∷ accepted "05 A PIC 9(4) SIGN LEADING SEPARATE." 4 false (column 0 4 (Int false SignKind.Unsigned) ∷ [])
+    -- SEPARATE counts after VALUE, which ends the reading of the other clauses
+    ∷ accepted "05 A PIC S9(4) SIGN TRAILING VALUE 5 SEPARATE COMP." 5 false (column 0 5 (Int true SignKind.TrailingSeparate) ∷ [])
     -- PIC is the name; levels
     ∷ turnedDown "05 PIC X." 21 0
     ∷ accepted "255 A PIC X." 1 false (column 0 1 Text ∷ [])
@@ -147,6 +149,8 @@ table =
     ∷ accepted "05 A PIC X(2). 05 B REDEFINES A PIC X(5). 05 C PIC X." 5 false (column 0 5 Group ∷ column 0 2 Text ∷ column 0 5 Text ∷ column 2 1 Text ∷ [])
     ∷ turnedDown "05 A PIC X. 05 B PIC X. 05 B REDEFINES A PIC X. 05 C REDEFINES B PIC X." 30 48
     ∷ accepted "05 N PIC 9(2). 05 T OCCURS 1 TO 5 DEPENDING ON N PIC X(3). 05 Z PIC X." 3 true (column 0 2 (Int false SignKind.Unsigned) ∷ column 2 3 Text ∷ column 2 1 Text ∷ [])
+    -- a group is not aligned because a member is SYNC
+    ∷ accepted "05 A PIC X. 05 G. 10 B PIC 9(4) COMP SYNC." 3 false (column 0 1 Text ∷ column 1 2 Group ∷ column 0 2 (Binary false) ∷ [])
     -- the worked example
     ∷ accepted fish 20 false (column 0 5 Text ∷ column 6 2 (Binary false) ∷ column 8 4 (Decimal 4 1 NumRepr.Display SignKind.Unsigned) ∷ [])
     ∷ listed fish 129 fishListing

@@ -70,8 +70,8 @@ under-item (o ∷ os) k s kids later =
     let at : k + 0 ≡ k = omega arith in
     tested (o .level) (s .level)
     (λ p _. simp p
-      (ap (λ (n : ℕ). o .number ∷ ((inner ++ beside) ++ under os n (notAbove (o .level) later))) all
-      ∙ ap (λ (l : List ℕ). o .number ∷ l) (append-assoc inner beside (under os (suc k + length inner + length beside) (notAbove (o .level) later)))))
+    (ap (λ (n : ℕ). o .number ∷ ((inner ++ beside) ++ under os n (notAbove (o .level) later))) all
+    ∙ ap (λ (l : List ℕ). o .number ∷ l) (append-assoc inner beside (under os (suc k + length inner + length beside) (notAbove (o .level) later)))))
     (λ p _. simp p (ap (λ (n : ℕ). under os n (item s kids later)) at ∙ under-item os k s kids later))
 
 parents-under : (os : List Open) (k : ℕ) (ss : List Statement) → parents os k ss ≡ under os k (forest ss)

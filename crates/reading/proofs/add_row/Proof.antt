@@ -26,7 +26,7 @@ module _ (w : List ℕ) (k : ℕ) (s : Statement) {o u r : OpenLevels} (fits : R
       let w′ = putRow w k (u .row) s in
       opening .is w′
       ∙ ap (λ (os : List Open). opened (s .level) (suc k) ∷ os)
-        (ap (topDown w′ (u .levels) (u .count)) (parent-put w k (u .row) s fits) ∙ down-put w (u .levels) k (u .row) s (u .count) (u .row) (closed .fit))
+      (ap (topDown w′ (u .levels) (u .count)) (parent-put w k (u .row) s fits) ∙ down-put w (u .levels) k (u .row) s (u .count) (u .row) (closed .fit))
 
   nested-put : Nested (putRow w k (u .row) s) (suc k) r
   nested-put =

@@ -1,4 +1,4 @@
--- `picture::fill` meets its contract: the bytes that are left, written from i on, are all the bytes, written from k on.
+-- `mask::fill` meets its contract: the bytes that are left, written from i on, are all the bytes, written from k on.
 -- Assumes nothing.
 use Prim.Native.Nat.{ℕ, suc, _+_, _-_, _≤_, _<_}
 use mathlib.Core.Path.{_≡_, refl, _∙_}
@@ -9,8 +9,8 @@ use native.Mathlib.Omega.{arith}
 use lib.ListN.{length, set, replicate, length-set}
 use lib.Seq.{sets}
 use borrow.Author.Needs.{needs}
-use Rattle.picture.proofs.fill.Statement.{statement}
-use Rattle.picture.proofs.fill.Tie as tie
+use Rattle.mask.proofs.fill.Statement.{statement}
+use Rattle.mask.proofs.fill.Tie as tie
 
 record Left (out₀ : List ℕ) (k n b : ℕ) (out : List ℕ) (i : ℕ) : Type 0 where
   within : i ≤ k + n

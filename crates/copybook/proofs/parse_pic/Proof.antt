@@ -1,4 +1,4 @@
--- `picture::parse_pic` meets its contract: the checks of the text, then the picture.
+-- `copybook::parse_pic` meets its contract: the checks of the text, then the picture.
 -- Assumes nothing.
 use Prim.Native.Nat.{ℕ}
 use mathlib.Core.Path.{_≡_}
@@ -12,8 +12,8 @@ use Rattle.definition.specs.Basic.{refuse, _>>=_}
 use Rattle.definition.specs.Picture.{picture}
 use Rattle.definition.specs.Calls.{textChecks, pictureAnswer, pictureOf, checkOf}
 use borrow.Author.Needs.{needs}
-use Rattle.picture.proofs.parse_pic.Statement.{statement}
-use Rattle.picture.proofs.parse_pic.Tie as tie
+use Rattle.copybook.proofs.parse_pic.Statement.{statement}
+use Rattle.copybook.proofs.parse_pic.Tie as tie
 
 module _ (usage : Usage) (sign : SignClause) (bs : List ℕ) (k : Check) (e : checkOf k ≡ textChecks bs) where
   passed : k ≡ Check.Passed → (r : PicAnswer) → pictureOf r ≡ picture 0 usage sign bs → pictureOf r ≡ pictureAnswer usage sign bs

@@ -11,7 +11,7 @@ use Rattle.definition.specs.Basic.{Answer, refuse, give, _>>=_}
 use Rattle.definition.specs.Picture.{mask}
 use Rattle.definition.proofs.Lists.{sets-append}
 use Rattle.definition.proofs.PictureLaws.{onto, mask-append}
-use Rattle.picture.specs.Masks.{Room, put}
+use Rattle.mask.specs.Masks.{Room, put}
 
 mask-sum : (p l : List ℕ) → length (mask (p ++ l)) ≡ length (mask p) + length (mask l)
 mask-sum p l = ap length (mask-append p l) ∙ length-append (mask p) (mask l)

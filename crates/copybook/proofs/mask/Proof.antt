@@ -1,4 +1,4 @@
--- `picture::mask` meets its contract: the checks of the text, then the mask.
+-- `copybook::mask` meets its contract: the checks of the text, then the mask.
 -- Assumes nothing.
 use Prim.Native.Nat.{ℕ}
 use mathlib.Core.Path.{_≡_}
@@ -9,10 +9,10 @@ use Rattle.definition.specs.declared.Usage.{Usage}
 use Rattle.definition.specs.declared.Check.{Check}
 use Rattle.definition.specs.Basic.{Answer, refuse, _>>=_}
 use Rattle.definition.specs.Calls.{textChecks, pictureMask, afterWriting, maskCall, checkOf}
-use Rattle.picture.specs.Masks.{maskIn, after}
+use Rattle.mask.specs.Masks.{maskIn, after}
 use borrow.Author.Needs.{needs}
-use Rattle.picture.proofs.mask.Statement.{statement}
-use Rattle.picture.proofs.mask.Tie as tie
+use Rattle.copybook.proofs.mask.Statement.{statement}
+use Rattle.copybook.proofs.mask.Tie as tie
 
 module _ (usage : Usage) (bs out : List ℕ) (k : Check) (e : checkOf k ≡ textChecks bs) where
   passed :

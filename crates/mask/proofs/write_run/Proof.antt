@@ -1,4 +1,4 @@
--- `picture::write_run` meets its contract.
+-- `mask::write_run` meets its contract.
 -- Assumes nothing.
 use Prim.Native.Nat.{ℕ, _+_, _≤_}
 use mathlib.Core.Path.{_≡_, _∙_}
@@ -10,10 +10,10 @@ use lib.ListN.{length, replicate, length-replicate}
 use lib.Seq.{sets}
 use Rattle.definition.specs.Picture.{mask}
 use Rattle.definition.proofs.PictureLaws.{mask-run}
-use Rattle.picture.specs.Masks.{hidden, Wrote}
+use Rattle.mask.specs.Masks.{hidden, Wrote}
 use borrow.Author.Needs.{needs}
-use Rattle.picture.proofs.write_run.Statement.{statement}
-use Rattle.picture.proofs.write_run.Tie as tie
+use Rattle.mask.proofs.write_run.Statement.{statement}
+use Rattle.mask.proofs.write_run.Tie as tie
 
 module _ (b n : ℕ) {t : Bool} (e : t ≡ hidden b) where
   unseen : t ≡ true → mask (replicate n b) ≡ []

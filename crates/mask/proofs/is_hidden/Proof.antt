@@ -1,13 +1,13 @@
--- `picture::is_hidden` meets its contract: what the arm's keys and the default know.
+-- `mask::is_hidden` meets its contract: what the arm's keys and the default know.
 -- Assumes nothing.
 use mathlib.Core.Path.{refl, sym}
 use mathlib.Core.Bool.{true}
 use mathlib.Core.List.{[], _∷_}
-use Rattle.picture.specs.Masks.{hidden}
+use Rattle.mask.specs.Masks.{hidden}
 use Rattle.symbols.proofs.Keys.{one-of, missed}
 use borrow.Author.Needs.{needs}
-use Rattle.picture.proofs.is_hidden.Statement.{statement}
-use Rattle.picture.proofs.is_hidden.Tie as tie
+use Rattle.mask.proofs.is_hidden.Statement.{statement}
+use Rattle.mask.proofs.is_hidden.Tie as tie
 
 returns : tie.Need-returns
 returns c = sym (one-of hidden true (80 ∷ 83 ∷ 86 ∷ []) _ (search needs) (c .match .keys1))

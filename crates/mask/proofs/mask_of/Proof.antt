@@ -1,4 +1,4 @@
--- `picture::mask_of` meets its contract: a law for each exit.
+-- `mask::mask_of` meets its contract: a law for each exit.
 -- Assumes nothing.
 use Prim.Native.Nat.{ℕ, _+_, _≤_, _<_}
 use mathlib.Core.Path.{_≡_, sym, ap, ap₂, _∙_}
@@ -14,14 +14,14 @@ use Rattle.definition.specs.declared.Usage.{Usage}
 use Rattle.definition.specs.Basic.{Answer, refuse, give, _>>=_}
 use Rattle.definition.specs.Picture.{trim, expand, mask, isMasked}
 use Rattle.definition.specs.Calls.{afterWriting}
 use Rattle.picture.specs.declared.PicShape.{PicShape}
 use Rattle.picture.specs.declared.Shaped.{Shaped}
 use Rattle.picture.specs.Kinds.{maskedBy, Reads}
-use Rattle.picture.specs.Masks.{Room, put, maskIn, after}
+use Rattle.mask.specs.Masks.{Room, put, maskIn, after}
 use Rattle.picture.proofs.Shapes.{Behind, behind, behind-refused}
 use borrow.Author.Needs.{needs}
-use Rattle.picture.proofs.mask_of.Statement.{statement}
-use Rattle.picture.proofs.mask_of.Tie as tie
+use Rattle.mask.proofs.mask_of.Statement.{statement}
+use Rattle.mask.proofs.mask_of.Tie as tie
 
 -- what stands in the output after a mask that has room
 whole : (m out : List ℕ) → length m ≤ length out → sets out 0 m ≡ m ++ drop (length m) out
@@ -81,13 +81,13 @@ trim-requires : tie.Need-trim-requires
 trim-requires c κs = search needs
 
 write-mask-requires : tie.Need-write-mask-requires
-write-mask-requires c κs = room (c .before .before .before .before .before .before .before .before .before .before .before .args .usage) (c .before .before .before .before .before .before .before .before .before .before .before .args .picture .now) (c .before .before .before .before .before .before .before .before .before .before .before .args .out .now) (c .before .before .before .before .before .before .before .before .read-shape .ensures) (c .before .before .before .before .before .before .s .given .1) (c .before .before .before .before .is-masked .ensures) (c .before .before .before .if1 .taken) (c .before .before .if2 .left) (c .before .trim .ensures)
+write-mask-requires c κs = room (c .before .before .before .before .before .before .before .before .before .before .before .args .usage) (c .before .before .before .before .before .before .before .before .before .before .before .args .pic .now) (c .before .before .before .before .before .before .before .before .before .before .before .args .out .now) (c .before .before .before .before .before .before .before .before .read-shape .ensures) (c .before .before .before .before .before .before .s .given .1) (c .before .before .before .before .is-masked .ensures) (c .before .before .before .if1 .taken) (c .before .before .if2 .left) (c .before .trim .ensures)
 
 same-length : tie.Need-same-length
 same-length c = search needs
 
 returns-2 : tie.Need-returns-2
-returns-2 c = written (c .before .before .before .before .before .before .before .before .before .before .before .before .before .before .args .usage) (c .before .before .before .before .before .before .before .before .before .before .before .before .before .before .args .picture .now) (c .before .before .before .before .before .before .before .before .before .before .before .before .before .before .args .out .now) (c .before .before .before .before .before .before .before .before .before .before .before .read-shape .ensures) (c .before .before .before .before .before .before .before .before .before .s .given .1) (c .before .before .before .before .before .before .before .is-masked .ensures) (c .before .before .before .before .before .before .if1 .taken) (c .before .before .before .before .before .if2 .left) (c .before .before .before .before .trim .ensures) (c .before .before .write-mask .ensures)
+returns-2 c = written (c .before .before .before .before .before .before .before .before .before .before .before .before .before .before .args .usage) (c .before .before .before .before .before .before .before .before .before .before .before .before .before .before .args .pic .now) (c .before .before .before .before .before .before .before .before .before .before .before .before .before .before .args .out .now) (c .before .before .before .before .before .before .before .before .before .before .before .read-shape .ensures) (c .before .before .before .before .before .before .before .before .before .s .given .1) (c .before .before .before .before .before .before .before .is-masked .ensures) (c .before .before .before .before .before .before .if1 .taken) (c .before .before .before .before .before .if2 .left) (c .before .before .before .before .trim .ensures) (c .before .before .write-mask .ensures)
 
 returns-3 : tie.Need-returns-3
 returns-3 c = search plain

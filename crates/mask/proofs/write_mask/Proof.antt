@@ -1,4 +1,4 @@
--- `picture::write_mask` meets its contract: what is written from k on of the symbols from i on is all that is to be written.
+-- `mask::write_mask` meets its contract: what is written from k on of the symbols from i on is all that is to be written.
 -- Assumes nothing.
 use Prim.Native.Nat.{ℕ, _+_, _-_, _≤_, _<_}
 use mathlib.Core.Path.{_≡_, refl, sym, ap, _∙_}
@@ -14,11 +14,11 @@ use Rattle.definition.proofs.Lists.{order}
 use Rattle.definition.proofs.PictureLaws.{onto, expand-end, expand-refused, expand-many, expand-more}
 use Rattle.symbols.specs.declared.Repeat.{Repeat}
 use Rattle.symbols.specs.Repeats.{Repeated, repeatOf}
-use Rattle.picture.specs.Masks.{Room, put, Wrote}
-use Rattle.picture.proofs.Masking.{room-run, room-rest, put-run}
+use Rattle.mask.specs.Masks.{Room, put, Wrote}
+use Rattle.mask.proofs.Masking.{room-run, room-rest, put-run}
 use borrow.Author.Needs.{needs}
-use Rattle.picture.proofs.write_mask.Statement.{statement}
-use Rattle.picture.proofs.write_mask.Tie as tie
+use Rattle.mask.proofs.write_mask.Statement.{statement}
+use Rattle.mask.proofs.write_mask.Tie as tie
 
 -- `seen` symbols stand before i, and their mask fills k bytes
 record Left (t out₀ out : List ℕ) (k i : ℕ) : Type 0 where

@@ -1,4 +1,4 @@
--- A table whose columns below 18 are as they were holds what it held; and the pass that fills column 18.
+-- A table whose columns below BASE are as they were holds what it held; and the pass that fills column BASE.
 -- Assumes nothing.
 use Prim.Native.Nat.{ℕ, zero, suc, _+_, _*_, _-_, _≤_, _<_}
 use mathlib.Core.Path.{_≡_, refl, sym, ap, ap₂, subst, _∙_}
@@ -89,7 +89,7 @@ kept-on a b = record { long = b .long ∙ a .long; same = λ k c l. b .same k c 
 
 -- ---------------------------------------------------------------- one row
 
--- a number stored in column 18
+-- a number stored in column BASE
 kept-set : (w : List ℕ) (a v : ℕ) → Kept w (set w (ROW * a + BASE) v)
 kept-set w a v =
     record { long = length-set w (ROW * a + BASE) v; same = λ k c l. getD-set-other w (ROW * a + BASE) (ROW * k + c) v 0 (λ e. omega arith) }

@@ -1,4 +1,4 @@
--- What columns 16 to 18 of the table hold: a row names the sibling before it and counts the rows below it; a redefiner names its base (its row
+-- What columns BEFORE, BELOW and BASE of the table hold: a row names the sibling before it and counts the rows below it; a redefiner names its base (its row
 -- and 1, or 0 for none), and a base counts its redefiners.
 -- Assumes nothing.
 use Prim.Native.Nat.{ℕ, zero, suc, _+_, _-_, _≤_, _<_}
@@ -40,7 +40,7 @@ unfoldable pub hits : List ℕ → List ℕ → ℕ → ℕ → ℕ → ℕ
 hits text w i k zero = 0
 hits text w i k (suc n) = hit text w i k + hits text w i (suc k) n
 
--- the columns below 18 are as they were
+-- the columns below BASE are as they were
 pub record Kept (w w′ : List ℕ) : Type 0 where
   pub long : length w′ ≡ length w
   pub same : (k c : ℕ) → c < BASE → cell w′ k c ≡ cell w k c

@@ -71,6 +71,10 @@ BEFORE = 16
 abbrev pub BELOW : ℕ
 BELOW = 17
 
+-- the slack bytes directly before it
+abbrev pub SLACK : ℕ
+SLACK = 18
+
 -- the base that it redefines: its row and 1, or 0 for none
 abbrev pub BASE : ℕ
-BASE = 18
+BASE = 19

@@ -56,7 +56,9 @@ pub const BEFORE: usize = 16;
 
 pub const BELOW: usize = 17;
 
-pub const BASE: usize = 18;
+pub const SLACK: usize = 18;
+
+pub const BASE: usize = 19;
 
 // Work memory to zero.
 pub fn clear(work: &mut [u32])

@@ -20,7 +20,7 @@ use Rattle.definition.specs.Fold.{Entries, end, entry, append, entryEnd,
 use Rattle.definition.specs.Layout.{Laid, start, slackFrom, entryOf, shallow, advance, lay}
 use Rattle.definition.specs.Record.{unfolded}
 use Rattle.definition.specs.Search.{entries#}
-use Rattle.definition.specs.Details.{Detail, detail, detailsIn, detailBytes, detailsBytes, entriesDetails, around, firstOf, Inside, Following}
+use Rattle.definition.specs.Details.{Detail, detail, detailsIn, detailBytes, detailsBytes, entriesDetails, around, firstOf, Inside, Following, height}
 use Rattle.definition.proofs.Answers.{through, given-same, not-refused}
 use Rattle.definition.proofs.LayoutLaws.{redefiners-none, redefiners-hit, redefiners-miss, redefiners-ends, redefiners-next, folded-none, folded-base, folded-alone, folded-under, below-none, below-entry, append-none, append-entry}
 use Rattle.definition.proofs.Cover.{item-laid}
@@ -46,6 +46,11 @@ bytes-many : (xs : List Detail) → length (detailsBytes xs) ≡ 47 * length xs
 unfolding detailsBytes
 bytes-many [] = refl
 bytes-many (x ∷ xs) = omega (arith, length-append (detailBytes x) (detailsBytes xs), detail-length x, bytes-many xs)
+
+pub bytes-both : (xs ys : List Detail) → detailsBytes (xs ++ ys) ≡ detailsBytes xs ++ detailsBytes ys
+unfolding detailsBytes
+bytes-both [] ys = refl
+bytes-both (x ∷ xs) ys = simp (bytes-both xs ys, append-assoc)
 
 -- as many rows as the listing has entries
 pub details-length : (es : Entries) → length (entriesDetails es) ≡ 47 * entries# es
@@ -130,11 +135,6 @@ module _ (text : List ℕ) where
       subst (Following 0) (given-same h₃) (laid-following f 0 [] 0 0 l e)
 
 -- ---------------------------------------------------------------- how deep
-
--- how many lists deep a list is, itself included
-abbrev pub height : Entries → ℕ
-height end = 0
-height (entry e members later) = max (suc (height members)) (height later)
 
 module _ (text : List ℕ) where
   -- lists nest at most 65 deep: 20 refuses more

@@ -133,8 +133,8 @@ fishDetails =
     ++ hex "36000000 05 00 00 00000000 0800000000000000 00000000 49000000 06000000 00000000 00000000 00000000 00000000"
 
 -- an entry's details: position, level, depth, made by folding, entries below, first byte, slack, and the three places
-abbrev pub told : ℕ → ℕ → ℕ → Bool → ℕ → ℕ → ℕ → Span → Span → Span → List ℕ
-told at level depth folded below first slack picture over depending =
+abbrev pub facts : ℕ → ℕ → ℕ → Bool → ℕ → ℕ → ℕ → Span → Span → Span → List ℕ
+facts at level depth folded below first slack picture over depending =
     le4 at ++ (level ∷ depth ∷ flag folded ∷ le4 below) ++ le8 first ++ le4 slack ++ spanBytes picture ++ spanBytes over ++ spanBytes depending
 
 pub table : List Row
@@ -189,36 +189,36 @@ table =
     ∷ detailed fish fishDetails
     ∷ noDetails fish 140 141
     ∷ detailed tank
-    (told 0 5 0 false 0 0 0 (span 9 1) absent absent
-    ++ told 12 5 0 false 2 1 0 absent absent absent
-    ++ told 27 10 1 false 0 1 0 (span 36 1) absent absent
-    ++ told 39 10 1 false 0 5 3 (span 48 4) absent absent
-    ++ told 64 5 0 false 0 17 0 (span 73 1) absent absent
-    ++ told 76 5 0 false 0 20 2 (span 94 4) absent absent
-    ++ told 110 5 0 false 0 20 0 (span 119 1) absent absent)
+    (facts 0 5 0 false 0 0 0 (span 9 1) absent absent
+    ++ facts 12 5 0 false 2 1 0 absent absent absent
+    ++ facts 27 10 1 false 0 1 0 (span 36 1) absent absent
+    ++ facts 39 10 1 false 0 5 3 (span 48 4) absent absent
+    ++ facts 64 5 0 false 0 17 0 (span 73 1) absent absent
+    ++ facts 76 5 0 false 0 20 2 (span 94 4) absent absent
+    ++ facts 110 5 0 false 0 20 0 (span 119 1) absent absent)
     -- a fold: the group has no slack, its base has
     ∷ detailed "05 P PIC X. 05 A PIC 9(4) COMP SYNC. 05 B REDEFINES a PIC X(5). 05 C PIC X."
-    (told 0 5 0 false 0 0 0 (span 9 1) absent absent
-    ++ told 12 5 0 true 2 2 0 absent absent absent
-    ++ told 12 5 1 false 0 2 1 (span 21 4) absent absent
-    ++ told 37 5 1 false 0 2 0 (span 58 4) (span 52 1) absent
-    ++ told 64 5 0 false 0 4 0 (span 73 1) absent absent)
+    (facts 0 5 0 false 0 0 0 (span 9 1) absent absent
+    ++ facts 12 5 0 true 2 2 0 absent absent absent
+    ++ facts 12 5 1 false 0 2 1 (span 21 4) absent absent
+    ++ facts 37 5 1 false 0 2 0 (span 58 4) (span 52 1) absent
+    ++ facts 64 5 0 false 0 4 0 (span 73 1) absent absent)
     -- a group with a member of its own name, redefined
     ∷ detailed "05 G. 10 G PIC X. 10 H PIC X. 05 R REDEFINES G. 10 T PIC X."
-    (told 0 5 0 true 4 0 0 absent absent absent
-    ++ told 6 10 1 false 0 0 0 (span 15 1) absent absent
-    ++ told 18 10 1 false 0 1 0 (span 27 1) absent absent
-    ++ told 30 5 1 false 1 0 0 absent (span 45 1) absent
-    ++ told 48 10 2 false 0 0 0 (span 57 1) absent absent)
+    (facts 0 5 0 true 4 0 0 absent absent absent
+    ++ facts 6 10 1 false 0 0 0 (span 15 1) absent absent
+    ++ facts 18 10 1 false 0 1 0 (span 27 1) absent absent
+    ++ facts 30 5 1 false 1 0 0 absent (span 45 1) absent
+    ++ facts 48 10 2 false 0 0 0 (span 57 1) absent absent)
     -- first bytes above 32 bits, in groups with OCCURS 0 and with DEPENDING ON
     ∷ detailed
     "05 P PIC X(2) OCCURS 1000000000. 05 G OCCURS 0. 10 P PIC X(2) OCCURS 1000000000. 10 H OCCURS 0 TO 1 DEPENDING ON N. 15 P PIC X(2) OCCURS 1000000000. 15 Q PIC X."
-    (told 0 5 0 false 0 0 0 (span 9 4) absent absent
-    ++ told 33 5 0 false 4 2000000000 0 absent absent absent
-    ++ told 48 10 1 false 0 2000000000 0 (span 57 4) absent absent
-    ++ told 81 10 1 false 2 4000000000 0 absent absent (span 113 1)
-    ++ told 116 15 2 false 0 4000000000 0 (span 125 4) absent absent
-    ++ told 149 15 2 false 0 6000000000 0 (span 158 1) absent absent)
+    (facts 0 5 0 false 0 0 0 (span 9 4) absent absent
+    ++ facts 33 5 0 false 4 2000000000 0 absent absent absent
+    ++ facts 48 10 1 false 0 2000000000 0 (span 57 4) absent absent
+    ++ facts 81 10 1 false 2 4000000000 0 absent absent (span 113 1)
+    ++ facts 116 15 2 false 0 4000000000 0 (span 125 4) absent absent
+    ++ facts 149 15 2 false 0 6000000000 0 (span 158 1) absent absent)
     ∷ []
 
 -- every row of the table is right

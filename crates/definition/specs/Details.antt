@@ -1,7 +1,7 @@
 -- The details of the listing's entries, an answer of our own: what the listing does not show of them. Each entry has 47 bytes, in the order of
 -- the listing. Numbers are little-endian, 4 bytes unless said.
 -- Assumes nothing.
-use Prim.Native.Nat.{ℕ, zero, suc, _+_}
+use Prim.Native.Nat.{ℕ, zero, suc, _+_, max}
 use mathlib.Core.Path.{_≡_}
 use mathlib.Core.Bool.{true, false}
 use mathlib.Core.List.{List, [], _∷_, _++_}
@@ -64,6 +64,11 @@ firstOf (some g) = g .first
 abbrev pub Inside : List Detail → List Detail → Type 0
 Inside before [] = Unit {0}
 Inside before (x ∷ xs) = (x .first ≡ firstOf (around (x .depth) before) + x .own .offset) × Inside (x ∷ before) xs
+
+-- how many lists deep a list is, itself included: for a listing at most 130, so a depth takes one byte
+abbrev pub height : Entries → ℕ
+height end = 0
+height (entry e members later) = max (suc (height members)) (height later)
 
 -- before folding: a redefiner has no slack; any other item stands after its slack, which begins where the latest earlier item of its list
 -- without REDEFINES ends, or where its list does

@@ -4,7 +4,7 @@
 ghost use Prim.Native.Nat.{ℕ};
 ghost use mathlib.Core.Path.{_≡_};
 ghost use mathlib.Core.List.{[]};
-ghost use Rattle.definition.specs.Calls.{left, layoutCall, maskCall, pictureAnswer, ownerCall, recordCheck, checkOf, ownerAnswerOf, pictureOf, writingOf};
+ghost use Rattle.definition.specs.Calls.{left, layoutCall, detailsCall, maskCall, pictureAnswer, ownerCall, recordCheck, checkOf, ownerAnswerOf, pictureOf, writingOf};
 use definition::Check;
 use definition::OwnerAnswer;
 use definition::PicAnswer;
@@ -42,6 +42,35 @@ pub fn layout_listing(text: &[u8], work: &mut [u32], out: &mut [u8]) -> Writing
                 top,
                 out,
             );
+            rows::clear(work);
+            return answer;
+        }
+        RecordLaid::Refused(r) => {
+            rows::clear(work);
+            return Writing::Refused(r);
+        }
+    }
+}
+
+// The details of the listing's entries: 47 bytes for each, in the order of the listing, numbers little-endian. The position of the statement
+// (4), its level (1), the entry's depth (1), 1 for a group made by folding (1), the number of entries below it (4), its first byte in the
+// record (8), the slack bytes directly before it (4), and start and length of its picture, its REDEFINES and its DEPENDING ON as the statement
+// has them (8 each, 0 where absent). A group made by folding has its base's position and level, and 0 for slack and the three places.
+// Answer, output and work memory are as in `layout_listing`, and so are the refusals: 31 has the length of the details.
+// The contract rules out a program that takes an entry's offset for its first byte, and one that gives a fold its base's slack.
+pub fn layout_details(text: &[u8], work: &mut [u32], out: &mut [u8]) -> Writing
+    ensures { λ r. ⌜ left (writingOf r) (now (out .exit)) (now (work .exit)) ≡ detailsCall (now (text .entry)) (now (out .entry)) (now (work .entry)) ⌝ }
+{
+    let mut entries = [0u32; 8400];
+    match record::read_record(text, work, &mut entries) {
+        RecordLaid::Record {
+            from,
+            to,
+            length,
+            count,
+            top,
+        } => {
+            let answer = details::write_details(text, work, &entries, from, to, count, out);
             rows::clear(work);
             return answer;
         }

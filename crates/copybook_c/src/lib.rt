@@ -3,7 +3,7 @@
 ghost use mathlib.Core.Path.{_≡_};
 ghost use mathlib.Core.Bool.{_||_};
 ghost use Rattle.definition.specs.Basic.{if_then_else_};
-ghost use Rattle.definition.specs.Calls.{layoutCall, pictureAnswer, maskCall, ownerCall, recordCheck};
+ghost use Rattle.definition.specs.Calls.{layoutCall, detailsCall, pictureAnswer, maskCall, ownerCall, recordCheck};
 ghost use Rattle.kinds.specs.Usages.{usageAt, signClauseAt};
 ghost use Rattle.numbers.specs.Numbers.{noUsage, noSign, marked};
 ghost use Rattle.numbers.specs.Numbers.{returned, writingNumbers, pictureNumbers, ownerNumbers, answered};
@@ -25,6 +25,24 @@ pub extern "C" fn copybook_layout(
     ensures { λ _. ⌜ now (work .exit) ≡ layoutCall (now (text .entry)) (now (out .entry)) (now (work .entry)) .work ⌝ }
 {
     let w = copybook::layout_listing(text, work, out);
+    numbers::hand_on(w, answer)
+}
+
+// The details of the listing's entries, as `copybook::layout_details` says. To `answer`, 2 numbers, as `copybook_layout`.
+// The contract rules out the same two wrong calls as that of `copybook_layout`.
+#[no_mangle]
+pub extern "C" fn copybook_details(
+    text: &[u8],
+    work: &mut [u32],
+    out: &mut [u8],
+    answer: &mut [u64],
+) -> u32
+    ensures { λ r. ⌜ r ≡ returned (detailsCall (now (text .entry)) (now (out .entry)) (now (work .entry)) .answer) ⌝ }
+    ensures { λ _. ⌜ now (answer .exit) ≡ answered (writingNumbers (detailsCall (now (text .entry)) (now (out .entry)) (now (work .entry)) .answer)) (now (answer .entry)) ⌝ }
+    ensures { λ _. ⌜ now (out .exit) ≡ detailsCall (now (text .entry)) (now (out .entry)) (now (work .entry)) .output ⌝ }
+    ensures { λ _. ⌜ now (work .exit) ≡ detailsCall (now (text .entry)) (now (out .entry)) (now (work .entry)) .work ⌝ }
+{
+    let w = copybook::layout_details(text, work, out);
     numbers::hand_on(w, answer)
 }
 

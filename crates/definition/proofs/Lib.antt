@@ -13,6 +13,7 @@ pub mod Pieces
 pub mod Alignment
 pub mod Slack
 pub mod Cover
+pub mod DetailLaws
 pub mod Seek
 pub mod Walk
 pub mod Told

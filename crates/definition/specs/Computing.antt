@@ -10,7 +10,8 @@ use Rattle.definition.specs.Layout.{lay}
 use Rattle.definition.specs.Record.{recordLength, variable, endsFit, unfolded, layout}
 use Rattle.definition.specs.Listing.{entryBytes, entriesBytes, listing}
 use Rattle.definition.specs.Owner.{laid, ownerFrom, overlaid}
-use Rattle.definition.specs.Calls.{firstWide, textChecks, entryChecks, recordFields, entries, layoutListing, pictureAnswer, pictureMask, ownerIn, byteOwner}
+use Rattle.definition.specs.Calls.{firstWide, textChecks, entryChecks, recordFields, entries, layoutListing, layoutDetails, pictureAnswer, pictureMask, ownerIn, byteOwner}
+use Rattle.definition.specs.Details.{detailsIn, detailBytes, detailsBytes}
 
 unfoldable pub computing : Unit {0}
 unfolding
@@ -18,5 +19,6 @@ unfolding
     above notAbove forest higher stillOpen parents parentsIn fields trimStart trim beforeClose repeat expand legal tally beforePoint afterPoint mask kinded symbols picture
     append find hasMember redefiners widest foldCheck foldedList foldedBelow lay recordLength variable endsFit unfolded layout entryBytes entriesBytes listing
     laid ownerFrom overlaid
-    firstWide textChecks entryChecks recordFields entries layoutListing pictureAnswer pictureMask ownerIn byteOwner
+    detailsIn detailBytes detailsBytes
+    firstWide textChecks entryChecks recordFields entries layoutListing layoutDetails pictureAnswer pictureMask ownerIn byteOwner
 computing = tt

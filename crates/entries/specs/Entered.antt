@@ -86,7 +86,7 @@ itemsFrom t k (suc n) = itemAt t k ∷ itemsFrom t (suc k) n
 -- an entry at another offset, as a member of a union
 abbrev pub moved : ℕ → Entry → Entry
 moved offset e =
-    record { at = e .at; name = e .name; offset = offset; width = e .width; kind = e .kind; picture = e .picture; occurs = e .occurs; depending = e .depending; redefines = absent }
+    record { at = e .at; level = e .level; name = e .name; offset = offset; width = e .width; kind = e .kind; picture = e .picture; occurs = e .occurs; depending = e .depending; redefines = absent; over = e .over; slack = e .slack; folded = e .folded }
 
 abbrev pub ownOf : List ℕ → Item → Entry
 ownOf w x =

@@ -366,8 +366,10 @@ fn moved_to(e: Entry, offset: usize) -> Entry
     let picture = e.picture;
     let occurs = e.occurs;
     let depending = e.depending;
+    let over = e.over;
     Entry {
         at: e.at,
+        level: e.level,
         name: name,
         offset: offset,
         width: e.width,
@@ -376,6 +378,9 @@ fn moved_to(e: Entry, offset: usize) -> Entry
         occurs: occurs,
         depending: depending,
         redefines: Span { start: 0, len: 0 },
+        over: over,
+        slack: e.slack,
+        folded: e.folded,
     }
 }
 
@@ -448,7 +453,7 @@ pub fn varies(work: &[u32], entries: &[u32], n: usize) -> bool
 }
 
 // Where an entry starts in its list.
-fn offset_of(work: &[u32], x: Item) -> usize
+pub fn offset_of(work: &[u32], x: Item) -> usize
     requires { ⌜ Sound (now work) x × (x .offset < 4294967296) ⌝ }
     ensures { λ r. ⌜ (r ≡ ownOf (now (work .entry)) x .offset) × (r < 4294967296) ⌝ }
 {

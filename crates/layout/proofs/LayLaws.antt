@@ -159,7 +159,7 @@ pub item-within : (text w : List ℕ) (i j depth last cursor : ℕ) {c e : ℕ} 
 item-within text w i j depth last cursor h q =
     let g = item-given w i last cursor (bareItem text depth (seenAt w last) cursor (statementAt w i) (rowsForest w (suc i) j)) q in
     let y = item-is text depth (seenAt w last) cursor (statementAt w i) (rowsForest w (suc i) j) (g .is) in
-    let n = subst (λ (z : Entry). entryEnd z ≤ 2147483647) (y .own) (within (entryOf (statementAt w i) (y .contents) (y .offset)) (y .fits) .ends) in
+    let n = subst (λ (z : Entry). entryEnd z ≤ 2147483647) (y .own) (within (entryOf (statementAt w i) (y .contents) (y .offset) (y .slack)) (y .fits) .ends) in
     record { moves = subst (λ (z : ℕ). z ≤ 2147483647) (g .moves) (advance-within cursor (g .laid .own) h n); ends = subst (λ (z : ℕ). z ≤ 2147483647) (g .ends) n }
 
 -- ---------------------------------------------------------------- one item

@@ -3,7 +3,7 @@ ghost use mathlib.Core.Path.{_≡_};
 ghost use Prim.Native.Nat.{_+_, _*_, _-_, _≤_, _<_};
 ghost use lib.ListN.{length};
 ghost use Rattle.definition.specs.Basic.{if_then_else_, given, fewest};
-ghost use Rattle.definition.specs.Layout.{content, start};
+ghost use Rattle.definition.specs.Layout.{content, start, slackFrom};
 ghost use Rattle.definition.specs.Calls.{pictureOf, checkOf};
 ghost use Rattle.definition.specs.Statement.{usageOf, signOf};
 ghost use Rattle.definition.specs.Tree.{Forest.leaf};
@@ -83,6 +83,21 @@ fn start_of(
         }
     }
     Start::At(cursor)
+}
+
+// The slack directly before an item: the bytes from the cursor to the item, and none before a redefiner.
+fn slack_from(cursor: usize, s: Statement, offset: usize) -> usize
+    ensures { λ r. ⌜ r ≡ slackFrom cursor s offset ⌝ }
+{
+    let clauses = s.clauses;
+    let redefines = clauses.redefines;
+    if 0 < redefines.len {
+        return 0;
+    }
+    if offset < cursor {
+        return 0;
+    }
+    offset - cursor
 }
 
 // The cursor after an entry: a REDEFINES never moves it.
@@ -174,7 +189,7 @@ fn place(
     let s = rows::statement_at(work, i);
     match start_of(text, work, s, c, last, cursor) {
         Start::At(offset) => {
-            let e = places::entry_of(s, c, offset);
+            let e = places::entry_of(s, c, offset, slack_from(cursor, s, offset));
             match places::entry_end(e) {
                 Ending::At(end) => {
                     places::put_place(work, i, last, below, e);

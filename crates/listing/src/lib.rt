@@ -1,11 +1,11 @@
-// The bytes of the layout listing, put into a lent output from a place on: numbers, the record's head, one entry. A byte
+// The bytes of the layout listing, put into a lent output from a place on: numbers, places, the record's head, one entry. A byte
 // past the output's end is counted and not written, so that on an empty output the same functions only count. Each answers
 // the place after its bytes. Leans on `definition` and `kinds`.
 ghost use Prim.Native.Nat.{_%_};
 ghost use mathlib.Core.Path.{_≡_};
 ghost use mathlib.Core.List.{[], _∷_};
 ghost use lib.ListN.{set};
-ghost use Rattle.definition.specs.Basic.{le4};
+ghost use Rattle.definition.specs.Basic.{le4, le8};
 ghost use Rattle.definition.specs.Fold.{union};
 ghost use Rattle.definition.specs.Listing.{flag, signByte, storageByte, spanBytes, occursBytes, details, entryBytes};
 ghost use Rattle.listing.specs.Puts.{Countable, Put, headBytes, placeBytes};
@@ -55,8 +55,17 @@ pub fn put4(out: &mut [u8], at: usize, x: usize) -> usize
     put_low(out, fourth, x / 16777216)
 }
 
+// A number in eight bytes, the lowest first.
+pub fn put8(out: &mut [u8], at: usize, x: usize) -> usize
+    requires { ⌜ Countable at (le8 x) ⌝ }
+    ensures { λ r. ⌜ Put (now (out .entry)) at (le8 x) r (now (out .exit)) ⌝ }
+{
+    let next = put4(out, at, x);
+    put4(out, next, x / 4294967296)
+}
+
 // A place in the text: its start, its length.
-fn put_span(out: &mut [u8], at: usize, w: Span) -> usize
+pub fn put_span(out: &mut [u8], at: usize, w: Span) -> usize
     requires { ⌜ Countable at (spanBytes w) ⌝ }
     ensures { λ r. ⌜ Put (now (out .entry)) at (spanBytes w) r (now (out .exit)) ⌝ }
 {
@@ -240,6 +249,7 @@ pub fn union_of(e: Entry, width: usize) -> Entry
     let name = e.name;
     Entry {
         at: e.at,
+        level: e.level,
         name: name,
         offset: e.offset,
         width: width,
@@ -248,5 +258,8 @@ pub fn union_of(e: Entry, width: usize) -> Entry
         occurs: Occurs::Once,
         depending: Span { start: 0, len: 0 },
         redefines: Span { start: 0, len: 0 },
+        over: Span { start: 0, len: 0 },
+        slack: 0,
+        folded: true,
     }
 }

@@ -12,18 +12,19 @@ use Rattle.definition.specs.declared.Entry.{Entry}
 use Rattle.definition.specs.declared.Pictured.{Pictured}
 use Rattle.definition.specs.Tree.{Forest, leaf, item, above, notAbove, forest}
 use Rattle.definition.specs.Fold.{Entries, end, entry}
+use Rattle.definition.specs.Picture.{pictured}
 use Rattle.definition.specs.Layout.{entryOf}
 use Rattle.definition.specs.Owner.{size}
 use Rattle.definition.specs.Search.{entries#}
 use Rattle.definition.proofs.Lists.{tested}
 use Rattle.kinds.specs.Kinds.{kindCode, kindAt, Bytes}
-use Rattle.rows.specs.Columns.{ROW, AT, NAME, PICTURE, DEPENDING, REDEFINES, SAID, LOW, HIGH, OFFSET, WIDTH, KIND, BEFORE, BASE}
+use Rattle.rows.specs.Columns.{ROW, LEVEL, AT, NAME, PICTURE, DEPENDING, REDEFINES, SAID, LOW, HIGH, OFFSET, WIDTH, KIND, BEFORE, SLACK, BASE}
 use Rattle.rows.specs.Table.{cell, statementAt, statementsFrom}
 use Rattle.rows.proofs.TableLaws.{statement-same, length-statements}
 use Rattle.places.specs.Places.{putPlace, putPlaces, entryIn, rowsForest, entriesIn, Linked}
 use Rattle.places.specs.Ends.{ChildrenEnd}
 use Rattle.kinds.proofs.Back.{kind-back}
-use Rattle.places.proofs.PlaceLaws.{length-place, length-places, kept-place, kept-places, before-places, first-offset, first-width, first-kind, first-last}
+use Rattle.places.proofs.PlaceLaws.{length-place, length-places, kept-place, kept-places, before-places, first-offset, first-width, first-kind, first-last, first-slack}
 use Rattle.places.proofs.RowLaws.{forest-split}
 
 -- ---------------------------------------------------------------- sizes
@@ -48,8 +49,9 @@ size-stretch w a b = size-forest (statementsFrom w a (b - a)) ∙ length-stateme
 -- an entry has its statement's words, and a kind that its number gives back
 pub record EntryOf (s : Statement) (e : Entry) : Type 0 where
   pub place : ℕ
+  pub slack : ℕ
   pub contents : Pictured
-  pub is : e ≡ entryOf s contents place
+  pub is : e ≡ entryOf s contents place slack
   pub bytes : Bytes (contents .kind)
 
 -- a list of entries has an entry for each statement of a forest, in its shape
@@ -101,6 +103,7 @@ rows-same w w′ h k (item s kids later) r =
 pub entry-same : (w w′ : List ℕ) (k : ℕ) → ((c : ℕ) → c < BASE → cell w k c ≡ cell w′ k c) → entryIn w k ≡ entryIn w′ k
 entry-same w w′ k h =
     cc (
+      h LEVEL (lit< tt),
       h AT (lit< tt),
       h NAME (lit< tt),
       h PICTURE (lit< tt),
@@ -112,6 +115,7 @@ entry-same w w′ k h =
       h OFFSET (lit< tt),
       h WIDTH (lit< tt),
       h KIND (lit< tt),
+      h SLACK (lit< tt),
     )
 
 -- and the entries of a list from its rows
@@ -135,15 +139,17 @@ entry-held :
     cell w k OFFSET ≡ e .offset →
     cell w k WIDTH ≡ e .width →
     cell w k KIND ≡ kindCode (e .kind) →
+    cell w k SLACK ≡ e .slack →
     entryIn w k ≡ e
-entry-held w k s e o h a b c =
+entry-held w k s e o h a b c d =
     let kind : kindAt (cell w k KIND) ≡ o .contents .kind =
     ap kindAt (c ∙ ap (λ (x : Entry). kindCode (x .kind)) (o .is)) ∙ kind-back (o .contents .kind) (o .bytes) in
     let a′ : cell w k OFFSET ≡ o .place = a ∙ ap (λ (x : Entry). x .offset) (o .is) in
     let b′ : cell w k WIDTH ≡ o .contents .width = b ∙ ap (λ (x : Entry). x .width) (o .is) in
-    let made : Statement → Entry = λ x. record { at = x .at; name = x .name; offset = cell w k OFFSET; width = cell w k WIDTH; kind = kindAt (cell w k KIND); picture = x .clauses .picture; occurs = x .clauses .occurs; depending = x .clauses .depending; redefines = x .clauses .redefines } in
+    let d′ : cell w k SLACK ≡ o .slack = d ∙ ap (λ (x : Entry). x .slack) (o .is) in
+    let made : Statement → Entry = λ x. entryOf x (pictured (kindAt (cell w k KIND)) (cell w k WIDTH)) (cell w k OFFSET) (cell w k SLACK) in
     let same : entryIn w k ≡ made s = ap made h in
-    let whole : made s ≡ entryOf s (o .contents) (o .place) = cc (kind, a′, b′) in
+    let whole : made s ≡ entryOf s (o .contents) (o .place) (o .slack) = cc (kind, a′, b′, d′) in
     same ∙ whole ∙ sym (o .is)
 
 -- ---------------------------------------------------------------- a row, its children and the rest
@@ -196,7 +202,7 @@ places-held (item s kids later) (entry e members more) w k last o r fits =
     let s₂ : (j : ℕ) → statementAt w j ≡ statementAt w₂ j = λ j. s₁ j ∙ statement-same w₁ j w₂ (λ c l. sym (kept-places members w₁ (suc k) 0 j c l)) in
     let s₃ : statementAt w₃ k ≡ s = statement-same w₃ k w₂ (λ c l. kept-places more w₂ n (suc k) k c l) ∙ sym (s₂ k) ∙ r .0 in
     let own : entryIn w₃ k ≡ e =
-    entry-held w₃ k s e (o .0) s₃ (first-offset e members more w k last room) (first-width e members more w k last room) (first-kind e members more w k last room) in
+    entry-held w₃ k s e (o .0) s₃ (first-offset e members more w k last room) (first-width e members more w k last room) (first-kind e members more w k last room) (first-slack e members more w k last room) in
     let inner = places-held kids members w₁ (suc k) 0 (o .1) (rows-same w w₁ s₁ (suc k) kids (r .1)) (omega (arith, l₁)) in
     let rest = places-held later more w₂ (suc k + size kids) (suc k) (o .2) (rows-same w w₂ s₂ (suc k + size kids) later (r .2)) (omega (arith, l₂)) in
     let rest′ : Held w₃ (suc k + size kids) (suc k) later more = subst (λ (x : ℕ). Held (putPlaces w₂ x (suc k) more) (suc k + size kids) (suc k) later more) (sym at) rest in

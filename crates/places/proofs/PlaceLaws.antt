@@ -16,7 +16,7 @@ use Rattle.definition.specs.Fold.{Entries, end, entry}
 use Rattle.definition.specs.Search.{entries#}
 use Rattle.definition.proofs.Lists.{order}
 use Rattle.kinds.specs.Kinds.{kindCode}
-use Rattle.rows.specs.Columns.{ROW, NAME, REDEFINES, OFFSET, WIDTH, KIND, BEFORE, BELOW}
+use Rattle.rows.specs.Columns.{ROW, NAME, REDEFINES, OFFSET, WIDTH, KIND, BEFORE, BELOW, SLACK}
 use Rattle.rows.specs.Table.{cell, statementAt, statementsFrom}
 use Rattle.rows.proofs.TableLaws.{getD-below, getD-above, getD-in, statement-same}
 use Rattle.places.specs.Places.{placeCells, putPlace, putPlaces, placeAt, leftOut, seenFrom}
@@ -41,7 +41,7 @@ module _ (w : List ℕ) (a last below : ℕ) (e : Entry) where
   length-place = length-sets w (ROW * a + OFFSET) (placeCells e last below)
 
   -- its five columns
-  place-in : ROW * a + ROW ≤ length w → (c : ℕ) → c < 5 → cell (putPlace w a last below e) a (OFFSET + c) ≡ getD (placeCells e last below) c 0
+  place-in : ROW * a + ROW ≤ length w → (c : ℕ) → c < 6 → cell (putPlace w a last below e) a (OFFSET + c) ≡ getD (placeCells e last below) c 0
   unfolding putPlace
   place-in h c l = getD-in (placeCells e last below) w (ROW * a + OFFSET) c (ROW * a + (OFFSET + c)) (omega arith) l (omega arith)
 
@@ -132,7 +132,7 @@ place-late (entry e members later) w a b last m n d h =
 
 -- the first place of a list is read back
 module _ (e : Entry) (members later : Entries) (w : List ℕ) (a last : ℕ) (fits : ROW * a + ROW ≤ length w) where
-  first-place : (c : ℕ) → c < 5 → cell (putPlaces w a last (entry e members later)) a (OFFSET + c) ≡ getD (placeCells e last (entries# members)) c 0
+  first-place : (c : ℕ) → c < 6 → cell (putPlaces w a last (entry e members later)) a (OFFSET + c) ≡ getD (placeCells e last (entries# members)) c 0
   unfolding putPlaces
   first-place c l =
       let w₁ = putPlace w a last (entries# members) e in
@@ -154,6 +154,9 @@ module _ (e : Entry) (members later : Entries) (w : List ℕ) (a last : ℕ) (fi
 
   pub first-below : cell (putPlaces w a last (entry e members later)) a BELOW ≡ entries# members
   first-below = first-place 4 (lit< tt)
+
+  pub first-slack : cell (putPlaces w a last (entry e members later)) a SLACK ≡ e .slack
+  first-slack = first-place 5 (lit< tt)
 
 -- ---------------------------------------------------------------- the earlier siblings
 

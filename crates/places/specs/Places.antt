@@ -1,7 +1,7 @@
--- What the layout adds to the rows of the table: columns OFFSET to BELOW of row k hold the offset, the width and the kind of its entry, the previous
--- sibling (0 for none, else its row and 1) and the number of rows below it.
+-- What the layout adds to the rows of the table: columns OFFSET to SLACK of row k hold the offset, the width and the kind of its entry, the
+-- previous sibling (0 for none, else its row and 1), the number of rows below it, and the slack before it.
 -- Assumes nothing.
-use Prim.Native.Nat.{ℕ, zero, suc, _+_, _*_, _-_, _<_}
+use Prim.Native.Nat.{ℕ, zero, suc, _+_, _*_, _-_, _%_}
 use mathlib.Core.Path.{_≡_}
 use mathlib.Core.Bool.{Bool, true, false, _&&_}
 use mathlib.Core.List.{List, [], _∷_}
@@ -16,15 +16,15 @@ use Rattle.definition.specs.Fold.{Entries, end, entry, sameName, Place}
 use Rattle.definition.specs.Owner.{size}
 use Rattle.definition.specs.Search.{entries#}
 use Rattle.kinds.specs.Kinds.{kindCode, kindAt}
-use Rattle.rows.specs.Columns.{ROW, AT, NAME, REDEFINES, OFFSET, WIDTH, KIND, BEFORE}
+use Rattle.rows.specs.Columns.{ROW, LEVEL, AT, NAME, REDEFINES, OFFSET, WIDTH, KIND, BEFORE, SLACK}
 use Rattle.rows.specs.Table.{spanAt, cell, clausesAt, statementsFrom}
 use Rattle.places.specs.declared.Target.{Target}
 
 -- ---------------------------------------------------------------- places
 
--- columns OFFSET to BELOW
+-- columns OFFSET to SLACK
 abbrev pub placeCells : Entry → ℕ → ℕ → List ℕ
-placeCells e last below = e .offset ∷ e .width ∷ kindCode (e .kind) ∷ last ∷ below ∷ []
+placeCells e last below = e .offset ∷ e .width ∷ kindCode (e .kind) ∷ last ∷ below ∷ e .slack ∷ []
 
 -- w with the place of an entry in row k, after the sibling `last`
 unfoldable pub putPlace : List ℕ → ℕ → ℕ → ℕ → Entry → List ℕ
@@ -47,6 +47,7 @@ entryIn w k =
     let c = clausesAt w k in
     record {
       at = cell w k AT;
+      level = cell w k LEVEL % 256;
       name = spanAt (cell w k NAME);
       offset = cell w k OFFSET;
       width = cell w k WIDTH;
@@ -55,6 +56,9 @@ entryIn w k =
       occurs = c .occurs;
       depending = c .depending;
       redefines = c .redefines;
+      over = c .redefines;
+      slack = cell w k SLACK;
+      folded = false;
     }
 
 -- the name and the offset of the entry in row k

@@ -21,6 +21,7 @@ use rows::NAME;
 use rows::OFFSET;
 use rows::REDEFINES;
 use rows::ROW;
+use rows::SLACK;
 use rows::WIDTH;
 
 // The part of the text that a span fills, cut off at the text's end.
@@ -55,9 +56,9 @@ pub fn same_names(text: &[u8], a: Span, b: Span) -> bool
     true
 }
 
-// An item's place into row k: its offset, width and kind, the sibling before it (its row and 1, or 0) and the rows below it.
+// An item's place into row k: its offset, width and kind, the sibling before it (its row and 1, or 0), the rows below it and its slack.
 pub fn put_place(work: &mut [u32], k: usize, last: usize, below: usize, e: Entry)
-    requires { ⌜ (ROW * k + ROW ≤ length (now work)) × (last < 4294967296) × (below < 4294967296) × (e .offset < 4294967296) × (e .width < 4294967296) ⌝ }
+    requires { ⌜ (ROW * k + ROW ≤ length (now work)) × (last < 4294967296) × (below < 4294967296) × (e .offset < 4294967296) × (e .width < 4294967296) × (e .slack < 4294967296) ⌝ }
     ensures { λ _. ⌜ now (work .exit) ≡ putPlace (now (work .entry)) k last below e ⌝ }
 {
     let at = ROW * k + OFFSET;
@@ -67,6 +68,7 @@ pub fn put_place(work: &mut [u32], k: usize, last: usize, below: usize, e: Entry
     work[at + 2] = kinds::kind_code(kind);
     work[at + 3] = last as u32;
     work[at + 4] = below as u32;
+    work[at + 5] = e.slack as u32;
 }
 
 // The end of the children of row i, among the rows up to `to`.
@@ -155,9 +157,9 @@ pub fn find_target(text: &[u8], work: &[u32], target: Span, last: usize, bases: 
     Target::Nothing
 }
 
-// An item's entry.
-pub fn entry_of(s: Statement, c: Pictured, offset: usize) -> Entry
-    ensures { λ r. ⌜ r ≡ entryOf s c offset ⌝ }
+// An item's entry, after so much slack.
+pub fn entry_of(s: Statement, c: Pictured, offset: usize, slack: usize) -> Entry
+    ensures { λ r. ⌜ r ≡ entryOf s c offset slack ⌝ }
 {
     let clauses = s.clauses;
     let name = s.name;
@@ -168,6 +170,7 @@ pub fn entry_of(s: Statement, c: Pictured, offset: usize) -> Entry
     let redefines = clauses.redefines;
     Entry {
         at: s.at,
+        level: s.level,
         name,
         offset,
         width: c.width,
@@ -176,6 +179,9 @@ pub fn entry_of(s: Statement, c: Pictured, offset: usize) -> Entry
         occurs,
         depending,
         redefines,
+        over: redefines,
+        slack,
+        folded: false,
     }
 }
 
@@ -190,7 +196,12 @@ pub fn entry_at(work: &[u32], k: usize) -> Entry
         kind,
         width: wide(work[ROW * k + WIDTH]),
     };
-    entry_of(s, c, wide(work[ROW * k + OFFSET]))
+    entry_of(
+        s,
+        c,
+        wide(work[ROW * k + OFFSET]),
+        wide(work[ROW * k + SLACK]),
+    )
 }
 
 // How often an item stands.

@@ -69,7 +69,7 @@ bare-sized text (item s kids later) depth seen cursor reach e =
     let i = item-is text depth seen cursor s kids e₁ in
     let members = bare-sized text kids (suc depth) [] 0 0 (i .inner-laid) in
     let rest = bare-sized text later depth (placeOf (x .own) ∷ seen) (advance cursor (x .own)) (max reach (entryEnd (x .own))) e₂ in
-    let own : total (x .own) ≤ 2147483647 = subst (λ (y : Entry). total y ≤ 2147483647) (i .own) (total-within (entryOf s (i .contents) (i .offset)) (i .fits)) in
+    let own : total (x .own) ≤ 2147483647 = subst (λ (y : Entry). total y ≤ 2147483647) (i .own) (total-within (entryOf s (i .contents) (i .offset) (i .slack)) (i .fits)) in
     subst (λ (l : Laid). SizedAll (l .entries)) (given-same h₂) (own, subst SizedAll (i .members) members, rest)
 
 -- and no row that holds one

@@ -199,7 +199,7 @@ statements-put (d ∷ ds) (s ∷ ss) w a e h fits =
     let more = statements-put ds ss w₁ (suc a) (omega arith) (omega (arith, length-putRow w a d s)) (fits .1) in
     ap₂ (λ (x : Statement) (xs : List Statement). x ∷ xs) first more
 
--- and their depths
+-- and their parents
 pub parents-put :
     (ds : List ℕ) (ss : List Statement) (w : List ℕ) (a : ℕ) →
     length ds ≡ length ss →

@@ -62,6 +62,10 @@ BEFORE = 13
 abbrev pub BELOW : ℕ
 BELOW = 14
 
+-- the slack bytes directly before it
+abbrev pub SLACK : ℕ
+SLACK = 15
+
 -- the base that it redefines: its row and 1, or 0 for none
 abbrev pub BASE : ℕ
-BASE = 15
+BASE = 16

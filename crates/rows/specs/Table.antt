@@ -91,7 +91,7 @@ cells parent s = s .level ∷ parent ∷ s .at ∷ spanCode (s .name) ∷ clause
 unfoldable pub putRow : List ℕ → ℕ → ℕ → Statement → List ℕ
 putRow w k parent s = sets w (ROW * k) (cells parent s)
 
--- w with statements, and their depths, from row k on
+-- w with statements, and their parents, from row k on
 unfoldable pub putRows : List ℕ → ℕ → List ℕ → List Statement → List ℕ
 putRows w k ds [] = w
 putRows w k [] (s ∷ ss) = w
@@ -125,7 +125,7 @@ clausesAt w k =
 abbrev pub statementAt : List ℕ → ℕ → Statement
 statementAt w k = record { level = cell w k LEVEL % 256; at = cell w k AT; name = spanAt (cell w k NAME); clauses = clausesAt w k }
 
--- n statements from row k on, and their depths
+-- n statements from row k on, and their parents
 unfoldable pub statementsFrom : List ℕ → ℕ → ℕ → List Statement
 statementsFrom w k zero = []
 statementsFrom w k (suc n) = statementAt w k ∷ statementsFrom w (suc k) n

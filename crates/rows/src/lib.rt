@@ -46,7 +46,9 @@ pub const BEFORE: usize = 13;
 
 pub const BELOW: usize = 14;
 
-pub const BASE: usize = 15;
+pub const SLACK: usize = 15;
+
+pub const BASE: usize = 16;
 
 // Work memory to zero.
 pub fn clear(work: &mut [u32])

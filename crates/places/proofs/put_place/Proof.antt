@@ -17,7 +17,7 @@ use Rattle.places.proofs.put_place.Tie as tie
 one-run :
     (w : List ℕ) (k last below : ℕ) (e : Entry) {n : ℕ} →
     n ≡ kindCode (e .kind) →
-    set (set (set (set (set w (ROW * k + OFFSET) (e .offset)) (ROW * k + OFFSET + 1) (e .width)) (ROW * k + OFFSET + 2) n) (ROW * k + OFFSET + 3) last) (ROW * k + OFFSET + 4) below
+    set (set (set (set (set (set w (ROW * k + OFFSET) (e .offset)) (ROW * k + OFFSET + 1) (e .width)) (ROW * k + OFFSET + 2) n) (ROW * k + OFFSET + 3) last) (ROW * k + OFFSET + 4) below) (ROW * k + OFFSET + 5) (e .slack)
     ≡ putPlace w k last below e
 unfolding putPlace
 one-run w k last below e q = rw q (simp towards-suc)
@@ -33,6 +33,12 @@ slice-write-work-4 c = simp length-set (omega arith)
 
 slice-write-work-5 : tie.Need-slice-write-work-5
 slice-write-work-5 c = simp length-set (omega arith)
+
+slice-write-work-6 : tie.Need-slice-write-work-6
+slice-write-work-6 c = simp length-set (omega arith)
+
+same-length : tie.Need-same-length
+same-length c = simp length-set
 
 returns : tie.Need-returns
 returns c = search one-run
@@ -63,4 +69,8 @@ put-place-spec =
     (λ c. search needs)
     slice-write-work-5
     (λ c. search needs)
+    (λ c. search needs)
+    (λ c. search needs)
+    slice-write-work-6
+    same-length
     returns)

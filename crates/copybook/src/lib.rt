@@ -70,9 +70,9 @@ pub fn layout_details(text: &[u8], work: &mut [u32], out: &mut [u8]) -> Writing
             count,
             top,
         } => {
-            let answer = details::write_details(text, work, &entries, from, to, count, out);
+            let written = details::write_details(text, work, &entries, from, to, count, out);
             rows::clear(work);
-            return answer;
+            return written;
         }
         RecordLaid::Refused(r) => {
             rows::clear(work);

@@ -1,16 +1,13 @@
--- A table whose columns below 18 are as they were holds what it held; and the pass that fills column 18.
+-- A table whose columns below BASE are as they were holds what it held; the pass that marks the bases, and what it leaves.
 -- Assumes nothing.
 use Prim.Native.Nat.{ℕ, zero, suc, _+_, _*_, _-_, _≤_, _<_}
 use mathlib.Core.Path.{_≡_, refl, sym, ap, ap₂, subst, _∙_}
-use mathlib.Core.Bool.{true}
 use mathlib.Core.List.{List, _∷_}
 use mathlib.Core.Logic.{⊎-elim}
-use native.Mathlib.Numerals.{add-one}
 use native.Mathlib.Omega.{arith}
-use lib.Dec.{lit<, eqb}
-use lib.ListN.{length, getD, set, length-set}
+use lib.Dec.{lit<, ltb}
+use lib.ListN.{length, set, length-set}
 use lib.Seq.{getD-set-other, getD-set-same}
-use borrow.Author.Tests.{eq-eqb, ne-eqb}
 use Rattle.definition.specs.declared.Span.{Span}
 use Rattle.definition.specs.declared.Entry.{Entry}
 use Rattle.definition.specs.declared.Statement.{Statement}
@@ -19,14 +16,14 @@ use Rattle.definition.specs.Tree.{Forest, leaf, item, forest}
 use Rattle.definition.specs.Fold.{total}
 use Rattle.definition.specs.Owner.{size}
 use Rattle.definition.proofs.Lists.{order}
-use Rattle.rows.specs.Columns.{ROW, REDEFINES, BEFORE, BASE}
-use Rattle.rows.specs.Table.{cell, spanAt, statementAt, statementsFrom}
+use Rattle.rows.specs.Columns.{ROW, REDEFINES, BEFORE, BELOW, BASE, NEXT}
+use Rattle.rows.specs.Table.{cell, spanAt, statementsFrom}
 use Rattle.rows.proofs.TableLaws.{statement-same}
-use Rattle.places.specs.Places.{rowFrom, entryIn, entriesIn, rowsForest}
+use Rattle.places.specs.Places.{rowFrom, entriesIn, rowsForest}
 use Rattle.places.proofs.EntriesLaws.{size-stretch, entry-same, entries-same}
-use Rattle.record.specs.Marks.{Column, Chained, Counted, baseOf, hit, hits, Kept, Countable, RowTallied, Tallied}
-use Rattle.folded.specs.Shown.{baseFrom, listIn, Sized, Tree}
-use Rattle.record.proofs.MarkLaws.{base-within, hits-most, hits-append, hits-low, marked-all}
+use Rattle.record.specs.Marks.{Column, Chained, Counted, baseOf, markRow, firstFrom, Kept, BasesMarked, Unlinked, UnionsLinked}
+use Rattle.folded.specs.Shown.{baseFrom, unionOf, listIn, Sized, Tree}
+use Rattle.record.proofs.MarkLaws.{base-within, base-bare, first-same, marked-all, base-above}
 
 -- a column that is the same in two tables
 pub column-same :
@@ -38,7 +35,7 @@ column-same c value w w′ leaf k last h x = tt
 column-same c value w w′ (item s kids later) k last h x =
     (sym (h k (omega arith)) ∙ x .0, column-same c value w w′ kids (suc k) 0 (λ j l. h j (omega arith)) (x .1), column-same c value w w′ later (suc k + size kids) (suc k) (λ j l. h j (omega arith)) (x .2))
 
-module _ {w w′ : List ℕ} (h : Kept w w′) where
+module _ {w w′ : List ℕ} (h : Kept BASE w w′) where
   statements-kept : (k n : ℕ) → statementsFrom w k n ≡ statementsFrom w′ k n
   unfolding statementsFrom
   statements-kept k zero = refl
@@ -59,7 +56,7 @@ module _ {w w′ : List ℕ} (h : Kept w w′) where
   sized-kept a b s =
       record { totals = λ k l u. subst (λ (e : Entry). total e ≤ 2147483647) (entry-same w w′ k (λ c m. sym (h .same k c m))) (s .totals k l u) }
 
-  -- and so do the bases
+  -- and so are the bases
   base-kept : (t : List ℕ) (target : Span) (n last : ℕ) → baseFrom t target w′ n last ≡ baseFrom t target w n last
   unfolding rowFrom
   base-kept t target zero last = refl
@@ -73,145 +70,103 @@ module _ {w w′ : List ℕ} (h : Kept w w′) where
       ap₂ (λ (a b : ℕ). if given (spanAt a) then baseFrom t (spanAt a) w′ k b else 0) (h .same k 6 (lit< tt)) (h .same k 16 (lit< tt))
       ∙ ap (λ (x : ℕ). if given (spanAt (cell w k REDEFINES)) then x else 0) (base-kept t (spanAt (cell w k REDEFINES)) k (cell w k BEFORE))
 
-  hit-kept : (t : List ℕ) (i k : ℕ) → hit t w′ i k ≡ hit t w i k
-  hit-kept t i k = ap (λ (x : ℕ). if eqb x (suc i) then 1 else 0) (base-of-kept t k)
+pub kept-self : (c : ℕ) (w : List ℕ) → Kept c w w
+kept-self c w = record { long = refl; same = λ k d l. refl }
 
-  hits-kept : (t : List ℕ) (i k n : ℕ) → hits t w′ i k n ≡ hits t w i k n
-  unfolding hits
-  hits-kept t i k zero = refl
-  hits-kept t i k (suc n) = omega (arith, hit-kept t i k, hits-kept t i (suc k) n)
+pub kept-on : {c : ℕ} {w w′ w″ : List ℕ} → Kept c w w′ → Kept c w′ w″ → Kept c w w″
+kept-on a b = record { long = b .long ∙ a .long; same = λ k d l. b .same k d l ∙ a .same k d l }
 
-pub kept-self : (w : List ℕ) → Kept w w
-kept-self w = record { long = refl; same = λ k c l. refl }
+pub kept-low : {c : ℕ} (d : ℕ) {w w′ : List ℕ} → d ≤ c → Kept c w w′ → Kept d w w′
+kept-low d l h = record { long = h .long; same = λ k e m. h .same k e (omega arith) }
 
-kept-on : {w w′ w″ : List ℕ} → Kept w w′ → Kept w′ w″ → Kept w w″
-kept-on a b = record { long = b .long ∙ a .long; same = λ k c l. b .same k c l ∙ a .same k c l }
+-- ---------------------------------------------------------------- a number stored in a column
 
--- ---------------------------------------------------------------- one row
+module _ (w : List ℕ) (a c v : ℕ) (small : c < ROW) where
+  pub kept-set : Kept c w (set w (ROW * a + c) v)
+  kept-set = record { long = length-set w (ROW * a + c) v; same = λ k d l. getD-set-other w (ROW * a + c) (ROW * k + d) v 0 (λ e. omega arith) }
 
--- a number stored in column 18
-kept-set : (w : List ℕ) (a v : ℕ) → Kept w (set w (ROW * a + BASE) v)
-kept-set w a v =
-    record { long = length-set w (ROW * a + BASE) v; same = λ k c l. getD-set-other w (ROW * a + BASE) (ROW * k + c) v 0 (λ e. omega arith) }
+  pub set-other : (i : ℕ) → (i ≡ a → ⊥) → cell (set w (ROW * a + c) v) i c ≡ cell w i c
+  set-other i h = getD-set-other w (ROW * a + c) (ROW * i + c) v 0 (λ e. h (omega arith))
 
-set-other : (w : List ℕ) (a v i : ℕ) → (i ≡ a → ⊥) → cell (set w (ROW * a + BASE) v) i BASE ≡ cell w i BASE
-set-other w a v i h = getD-set-other w (ROW * a + BASE) (ROW * i + BASE) v 0 (λ e. h (omega arith))
+  pub set-own : ROW * a + ROW ≤ length w → cell (set w (ROW * a + c) v) a c ≡ v
+  set-own h = getD-set-same w (ROW * a + c) v 0 (omega arith)
 
-set-own : (w : List ℕ) (a v : ℕ) → ROW * a + ROW ≤ length w → cell (set w (ROW * a + BASE) v) a BASE ≡ v
-set-own w a v h = getD-set-same w (ROW * a + BASE) v 0 (omega arith)
+-- ---------------------------------------------------------------- the bases
 
-module _ (t w : List ℕ) (from k : ℕ) (fits : ROW * k + ROW ≤ length w) {b : ℕ} (p : b ≡ baseOf t w k) where
-  -- the row that is counted up
-  pub base-small : k < 4294967296 → b < 4294967296
-  base-small h = omega (arith, p, base-within t w k)
+module _ (t w : List ℕ) (k : ℕ) where
+  abbrev based : List ℕ
+  based = set w (ROW * k + BASE) (baseOf t w k)
 
-  pub can-count : Countable w from k → from < b → (ROW * (b - 1) + ROW ≤ length (set w (ROW * k + BASE) b)) × (cell (set w (ROW * k + BASE) b) (b - 1) BASE < 4294967295)
-  can-count c h =
-      let m = base-within t w k in
-      let long = length-set w (ROW * k + BASE) b in
-      let low = c .small (b - 1) (omega arith) (omega (arith, p, m)) in
-      (omega (arith, p, m, long), omega (arith, low, set-other w k b (b - 1) (λ e. omega (arith, p, m))))
+  marked-kept : Kept BASE w (markRow t w k)
+  marked-kept = kept-on (kept-set w k BASE (baseOf t w k) (lit< tt)) (kept-low BASE (omega arith) (kept-set based k NEXT 0 (lit< tt)))
 
-  no-hit : (i : ℕ) → (b ≡ suc i → ⊥) → hit t w i k ≡ 0
-  no-hit i h = rw (ne-eqb (baseOf t w k) (suc i) (λ e. h (p ∙ e)))
+  marked-base : (i : ℕ) → cell (markRow t w k) i BASE ≡ cell based i BASE
+  marked-base i = kept-set based k NEXT 0 (lit< tt) .same i BASE (lit< tt)
 
-  -- a row from `from` on is counted up
-  pub tallied-up : from < b → {w′ : List ℕ} → w′ ≡ set (set w (ROW * k + BASE) b) (ROW * (b - 1) + BASE) (cell (set w (ROW * k + BASE) b) (b - 1) BASE + 1) → RowTallied t w from k w′
-  tallied-up h e =
-      let w₁ = set w (ROW * k + BASE) b in
-      let v = cell w₁ (b - 1) BASE + 1 in
-      let m = base-within t w k in
-      let long = length-set w (ROW * k + BASE) b in
-      let at : b ≡ suc (b - 1) = omega arith in
-      let own : cell (set w₁ (ROW * (b - 1) + BASE) v) k BASE ≡ baseOf t w k = set-other w₁ (b - 1) v k (λ x. omega (arith, p, m)) ∙ set-own w k b fits ∙ p in
-      subst (RowTallied t w from k) (sym e)
-      (record {
-        kept = kept-on (kept-set w k b) (kept-set w₁ (b - 1) v);
-        own = own;
-        others =
-            λ i l u.
-            ⊎-elim
-            (λ (x : i < b - 1).
-            set-other w₁ (b - 1) v i (λ y. omega arith) ∙ set-other w k b i (λ y. omega arith) ∙ (let z = no-hit i (λ y. omega arith) in omega (arith, z)))
-            (λ (x : b - 1 ≤ i).
-            ⊎-elim
-            (λ (y : b - 1 < i).
-            set-other w₁ (b - 1) v i (λ x. omega arith) ∙ set-other w k b i (λ x. omega arith) ∙ (let z = no-hit i (λ x. omega arith) in omega (arith, z)))
-            (λ (y : i ≤ b - 1).
-            let same : b - 1 ≡ i = omega arith in
-            let one : hit t w i k ≡ 1 = rw (eq-eqb (baseOf t w k) (suc i) (sym p ∙ at ∙ ap suc same)) in
-            subst (λ (n : ℕ). cell (set w₁ (ROW * (b - 1) + BASE) v) n BASE ≡ cell w n BASE + 1) same
-            (set-own w₁ (b - 1) v (omega (arith, p, m, long)) ∙ ap (λ (x : ℕ). x + 1) (set-other w k b (b - 1) (λ x. omega (arith, p, m))))
-            ∙ (omega (arith, one)))
-            (order (b - 1) i))
-            (order i (b - 1));
-      })
+  -- row k is marked, and no other
+  own-base : ROW * k + ROW ≤ length w → cell (markRow t w k) k BASE ≡ baseOf t w k
+  own-base h = marked-base k ∙ set-own w k BASE (baseOf t w k) (lit< tt) h
 
-  -- none is
-  pub tallied-alone : b ≤ from → RowTallied t w from k (set w (ROW * k + BASE) b)
-  tallied-alone h =
-      record {
-        kept = kept-set w k b;
-        own = set-own w k b fits ∙ p;
-        others = λ i l u. set-other w k b i (λ x. omega arith) ∙ (let z = no-hit i (λ x. omega arith) in omega (arith, z));
-      }
+  own-next : ROW * k + ROW ≤ length w → cell (markRow t w k) k NEXT ≡ 0
+  own-next h = set-own based k NEXT 0 (lit< tt) (omega (arith, length-set w (ROW * k + BASE) (baseOf t w k)))
 
--- ---------------------------------------------------------------- the loop
+  other-base : (i : ℕ) → (i ≡ k → ⊥) → cell (markRow t w k) i BASE ≡ cell w i BASE
+  other-base i h = marked-base i ∙ set-other w k BASE (baseOf t w k) (lit< tt) i h
 
--- what the loop keeps: what a row holds and what the rows from k on add
-pub record Tallying (t w : List ℕ) (from to k : ℕ) (now : List ℕ) : Type 0 where
+  other-next : (i : ℕ) → (i ≡ k → ⊥) → cell (markRow t w k) i NEXT ≡ cell w i NEXT
+  other-next i h =
+      set-other based k NEXT 0 (lit< tt) i h
+      ∙ getD-set-other w (ROW * k + BASE) (ROW * i + NEXT) (baseOf t w k) 0 (λ e. omega arith)
+
+-- what the loop keeps: the rows up to k are marked
+pub record Marking (t w : List ℕ) (from to k : ℕ) (now : List ℕ) : Type 0 where
   pub fits : ROW * to ≤ length w
   pub few : to ≤ 800
-  pub low : from ≤ k
-  pub kept : Kept w now
-  pub counts : (i : ℕ) → from ≤ i → i < k → cell now i BASE + hits t w i k (to - k) ≡ baseOf t w i + hits t w i from (to - from)
+  pub done : BasesMarked t w from k now
 
-pub tallying-starts : (t w : List ℕ) (from to : ℕ) → ROW * to ≤ length w → to ≤ 800 → Tallying t w from to from w
-tallying-starts t w from to f h =
-    record { fits = f; few = h; low = omega arith; kept = kept-self w; counts = λ i l u. absurd (omega arith) }
+pub marking-starts : (t w : List ℕ) (from to : ℕ) → ROW * to ≤ length w → to ≤ 800 → Marking t w from to from w
+marking-starts t w from to f h =
+    record { fits = f; few = h; done = record { kept = kept-self BASE w; bases = λ i l u. absurd (omega arith); nexts = λ i l u. absurd (omega arith) } }
 
-module _ {t w : List ℕ} {from to k : ℕ} {now : List ℕ} (inv : Tallying t w from to k now) where
-  pub tallying-row : k < to → (ROW * k + ROW ≤ length now) × (k < 4294967296) × Countable now from k
-  tallying-row h =
-      (omega (arith, inv .fits, inv .kept .long), omega (arith, inv .few), record { small = λ i l u. omega (arith, inv .counts i l u, hits-most t w i from (to - from), base-within t w i, inv .few) })
+module _ {t w : List ℕ} {from to k : ℕ} {now : List ℕ} (inv : Marking t w from to k now) where
+  pub marking-row : k < to → (ROW * k + ROW ≤ length now) × (k < 4294967296)
+  marking-row h = (omega (arith, inv .fits, inv .done .kept .long), omega (arith, inv .few))
 
-  pub tallying-on : k < to → {w′ : List ℕ} → RowTallied t now from k w′ → Tallying t w from to (k + 1) w′
-  unfolding hits
-  tallying-on h {w′} r =
+  pub marking-on : k < to → {w′ : List ℕ} → w′ ≡ markRow t now k → Marking t w from to (k + 1) w′
+  marking-on h {w′} e =
+      let fits = marking-row h .0 in
+      let d = inv .done in
       record {
         fits = inv .fits;
         few = inv .few;
-        low = omega (arith, inv .low);
-        kept = kept-on (inv .kept) (r .kept);
-        counts =
-            subst (λ (n : ℕ). (i : ℕ) → from ≤ i → i < n → cell w′ i BASE + hits t w i n (to - n) ≡ baseOf t w i + hits t w i from (to - from)) (sym (add-one k)) (λ i l u.
-            ⊎-elim
-            (λ (x : i < k).
-            let here : hits t w i k (to - k) ≡ hit t w i k + hits t w i (suc k) (to - suc k) = ap (hits t w i k) (let e : to - k ≡ suc (to - suc k) = omega arith in e) in
-            omega (arith, r .others i l x, hit-kept (inv .kept) t i k, inv .counts i l x, here))
-            (λ (x : k ≤ i).
-            let same : k ≡ i = omega arith in
-            let all : hits t w k from (to - from) ≡ hits t w k from (suc k - from) + hits t w k (suc k) (to - suc k) =
-            ap (hits t w k from) (let e : to - from ≡ suc k - from + (to - suc k) = omega (arith, inv .low) in e)
-            ∙ hits-append t w k from (suc k - from) (to - suc k)
-            ∙ ap (λ (n : ℕ). hits t w k from (suc k - from) + hits t w k n (to - suc k)) (let e : from + (suc k - from) ≡ suc k = omega (arith, inv .low) in e) in
-            let none = hits-low t w k from (suc k - from) (omega (arith, inv .low)) in
-            subst (λ (n : ℕ). cell w′ n BASE + hits t w n (suc k) (to - suc k) ≡ baseOf t w n + hits t w n from (to - from)) same (omega (arith, r .own, base-of-kept (inv .kept) t k, all, none)))
-            (order i k));
+        done =
+            subst (BasesMarked t w from (k + 1)) (sym e)
+            (record {
+              kept = kept-on (d .kept) (marked-kept t now k);
+              bases =
+                  λ i l u.
+                  ⊎-elim
+                  (λ (x : i < k). other-base t now k i (λ y. omega arith) ∙ d .bases i l x)
+                  (λ (x : k ≤ i).
+                  subst (λ (n : ℕ). cell (markRow t now k) n BASE ≡ baseOf t w n) (let same : k ≡ i = omega arith in same) (own-base t now k fits ∙ base-of-kept (d .kept) t k))
+                  (order i k);
+              nexts =
+                  λ i l u.
+                  ⊎-elim
+                  (λ (x : i < k). other-next t now k i (λ y. omega arith) ∙ d .nexts i l x)
+                  (λ (x : k ≤ i). subst (λ (n : ℕ). cell (markRow t now k) n NEXT ≡ 0) (let same : k ≡ i = omega arith in same) (own-next t now k fits))
+                  (order i k);
+            });
       }
 
-  pub tallying-ends : to ≤ k → Tallied t w from to now
-  unfolding hits
-  tallying-ends h =
-      record {
-        kept = inv .kept;
-        counts =
-            λ i l u.
-            let none : hits t w i k (to - k) ≡ 0 = ap (hits t w i k) (let e : to - k ≡ 0 = omega arith in e) in
-            omega (arith, inv .counts i l (omega arith), none);
-      }
+  pub marking-ends : to ≤ k → BasesMarked t w from to now
+  marking-ends h =
+      record { kept = inv .done .kept; bases = λ i l u. inv .done .bases i l (omega arith); nexts = λ i l u. inv .done .nexts i l (omega arith) }
 
--- ---------------------------------------------------------------- a table that was marked
+-- ---------------------------------------------------------------- a table that was marked and linked
+
+pub linked-kept : {text w w₁ w₂ : List ℕ} {a b : ℕ} → BasesMarked text w a b w₁ → UnionsLinked w₁ a b w₂ → Kept BASE w w₂
+linked-kept m n = kept-on (m .kept) (kept-low BASE (omega arith) (n .kept))
 
 -- a laid table: every row names the sibling before it, counts the rows below it, and none is too large
 pub record Ready (w : List ℕ) (a b : ℕ) : Type 0 where
@@ -220,16 +175,48 @@ pub record Ready (w : List ℕ) (a b : ℕ) : Type 0 where
   pub counted : Counted w a 0 (rowsForest w a b)
   pub sized : Sized w a b
 
-module _ (text : List ℕ) {w w′ : List ℕ} (a b : ℕ) (low : a ≤ b) (r : Ready w a b) (m : Tallied text w a b w′) where
-  pub marked-tree : Tree text w′ a b
-  marked-tree =
-      let f = rowsForest w′ a b in
-      let many : size f ≡ b - a = size-stretch w′ a b in
+module _ (text : List ℕ) {w w₁ : List ℕ} (a b : ℕ) (low : a ≤ b) (r : Ready w a b) (m : BasesMarked text w a b w₁) where
+  many : (x : List ℕ) → a + size (rowsForest x a b) ≡ b
+  many x = omega (arith, size-stretch x a b)
+
+  chained : Chained w₁ a 0 (rowsForest w₁ a b)
+  chained = column-kept (m .kept) BEFORE (λ before kids. before) a b (lit< tt) (r .chained)
+
+  held : (i : ℕ) → a ≤ i → i < b → cell w₁ i BASE ≡ baseOf text w₁ i
+  held i l u = m .bases i l u ∙ sym (base-of-kept (m .kept) text i)
+
+  -- no row names a next one
+  pub unlinked : b ≤ 800 → Unlinked w₁ a b
+  unlinked few =
       record {
         fits = omega (arith, r .fits, m .kept .long);
+        few = few;
+        nexts = m .nexts;
+        back = λ i l u. omega (arith, held i l u, base-within text w₁ i);
+        bases =
+            λ i l u p.
+            let x = base-above text w₁ a b held (rowsForest w₁ a b) chained (many w₁) i l u p in
+            let k = cell w₁ i BASE - 1 in
+            let at : baseOf text w₁ i ≡ suc k = omega (arith, held i l u) in
+            (x, held k (omega arith) (omega (arith, held i l u, base-within text w₁ i)) ∙ base-bare text w₁ i k at);
+      }
+
+  -- each names the next of its union then
+  pub marked-tree : {w₂ : List ℕ} → UnionsLinked w₁ a b w₂ → Tree text w₂ a b
+  marked-tree {w₂} n =
+      let k₁ = kept-low BASE (omega arith) (n .kept) in
+      let kept = linked-kept m n in
+      let same : (i : ℕ) → cell w₁ i BASE ≡ cell w₂ i BASE = λ i. sym (n .kept .same i BASE (lit< tt)) in
+      record {
+        fits = omega (arith, r .fits, kept .long);
         marked =
-            marked-all text w′ f a (column-kept (m .kept) 16 (λ before kids. before) a b (lit< tt) (r .chained))
-            (column-kept (m .kept) 17 (λ before kids. size kids) a b (lit< tt) (r .counted))
-            (λ i l u. omega (arith, m .counts i l (omega (arith, many)), base-of-kept (m .kept) text i, hits-kept (m .kept) text i a (b - a), ap (hits text w′ i a) many));
-        sized = sized-kept (m .kept) a b (r .sized);
+            marked-all text w₂ a b (λ i l u. sym (same i) ∙ held i l u ∙ sym (base-of-kept k₁ text i)) (rowsForest w₂ a b)
+            (column-kept kept BEFORE (λ before kids. before) a b (lit< tt) (r .chained))
+            (column-kept kept BELOW (λ before kids. size kids) a b (lit< tt) (r .counted))
+            (many w₂)
+            (λ i l u.
+            n .nexts i l u
+            ∙ ap (λ (x : ℕ). firstFrom w₁ (if ltb 0 x then x else suc i) (suc i) (b - suc i)) (same i)
+            ∙ first-same w₁ w₂ same (unionOf w₂ i) (suc i) (b - suc i));
+        sized = sized-kept kept a b (r .sized);
       }

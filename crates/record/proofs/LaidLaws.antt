@@ -29,7 +29,7 @@ use Rattle.reading.proofs.ReadingLaws.{Stored}
 use Rattle.definition.specs.Calls.{checkOf}
 use Rattle.definition.specs.Record.{recordLength, endsFit, unfolded}
 use Rattle.places.specs.Places.{putPlace, putPlaces, seenFrom, entryIn, entriesIn, rowsForest}
-use Rattle.layout.specs.Outcomes.{stopped, after, layTable}
+use Rattle.layout.specs.Outcomes.{layTable}
 use Rattle.layout.specs.declared.LaidList.{LaidList}
 use Rattle.places.specs.Ends.{ChildrenEnd}
 use Rattle.layout.specs.Steps.{listOf}
@@ -39,8 +39,8 @@ use Rattle.layout.proofs.LayLaws.{LaidRows, laid-rows, stopped-was}
 use Rattle.places.proofs.RowLaws.{children-end, forest-split, forest-empty}
 use Rattle.places.proofs.PlaceLaws.{length-place, length-places, before-places, statements-places, first-last, first-below}
 use Rattle.folded.specs.Shown.{listIn}
-use Rattle.record.specs.Marks.{Column, Chained, Counted, Tallied}
-use Rattle.record.proofs.KeptLaws.{column-same, forest-kept, list-kept, Ready, marked-tree}
+use Rattle.record.specs.Marks.{Column, Chained, Counted, BasesMarked, UnionsLinked}
+use Rattle.record.proofs.KeptLaws.{column-same, forest-kept, list-kept, linked-kept, Ready, marked-tree}
 use Rattle.record.specs.declared.RecordLaid.{RecordLaid}
 use Rattle.record.specs.Laying.{FieldsFrom, fieldsOf, laidOf, Listed, RecordIs, recordOf}
 
@@ -250,13 +250,13 @@ module _ (text w : List ℕ) (a b : ℕ) where
       unfolding _>>=_
       fold-refused {r} e = checked (Check.Refused r) e
 
-      module _ (e : c ≡ Check.Passed) {w₂ : List ℕ} (m : Tallied text w₁ a b w₂) {d : Check} (q : checkOf d ≡ endsFit (foldedAll text (listIn w₂ a b))) where
-        passed : (x : Check) → d ≡ x → laidOf text (give (rowsForest w a b)) ≡ (checkOf x >>= λ _. give (listIn w₂ a b))
+      module _ (e : c ≡ Check.Passed) {w₂ w₃ : List ℕ} (m : BasesMarked text w₁ a b w₂) (n′ : UnionsLinked w₂ a b w₃) {d : Check} (q : checkOf d ≡ endsFit (foldedAll text (listIn w₃ a b))) where
+        passed : (x : Check) → d ≡ x → laidOf text (give (rowsForest w a b)) ≡ (checkOf x >>= λ _. give (listIn w₃ a b))
         unfolding _>>=_
         passed x f =
             checked Check.Passed e
-            ∙ ap (λ (es : Entries). endsFit (foldedAll text es) >>= λ _. give es) (list-kept (m .kept) a b)
-            ∙ ap (λ (y : Answer (Unit {0})). y >>= λ _. give (listIn w₂ a b)) (sym q ∙ ap checkOf f)
+            ∙ ap (λ (es : Entries). endsFit (foldedAll text es) >>= λ _. give es) (list-kept (linked-kept m n′) a b)
+            ∙ ap (λ (y : Answer (Unit {0})). y >>= λ _. give (listIn w₃ a b)) (sym q ∙ ap checkOf f)
 
         -- 29
         pub end-refused : {r : Refusal} → d ≡ Check.Refused r → laidOf text (give (rowsForest w a b)) ≡ refuse r
@@ -270,15 +270,15 @@ module _ (text w : List ℕ) (a b : ℕ) where
             ROW * b ≤ length w →
             b ≤ 800 →
             {l : ℕ} →
-            l ≡ recordLength (foldedAll text (listIn w₂ a b)) →
-            Listed text (give (rowsForest w a b)) w₂ a b l
+            l ≡ recordLength (foldedAll text (listIn w₃ a b)) →
+            Listed text (give (rowsForest w a b)) w₃ a b l
         unfolding _>>=_
         laid-listed f h fits few long =
             let ready = laid-ready text w a b 0 h fits n in
             record {
-              fields = ap give (same-fields text w a b 0 h fits n ∙ forest-kept (m .kept) a b);
+              fields = ap give (same-fields text w a b 0 h fits n ∙ forest-kept (linked-kept m n′) a b);
               is = passed Check.Passed f;
-              tree = marked-tree text a b h ready m;
+              tree = marked-tree text a b h ready m n′;
               few = few;
               long = long;
             }

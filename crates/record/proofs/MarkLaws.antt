@@ -1,116 +1,44 @@
--- How many rows redefine a row: the rows count backwards, each finding its base, and the definition counts forwards, from each base to the next of
--- its name. The two agree.
+-- What the rows name: each row finds its base from it back, and a base is told of the first row that found it. The definition goes forwards, from
+-- a base to the next of its name. Among the rows from one on, the first that names a base is the first later sibling that does.
 -- Assumes nothing.
 use Prim.Native.Nat.{ℕ, zero, suc, _+_, _-_, _≤_, _<_}
 use mathlib.Core.Path.{_≡_, refl, sym, ap, ap₂, subst, _∙_}
 use mathlib.Core.Bool.{Bool, true, false}
 use mathlib.Core.List.{List}
+use mathlib.Core.Logic.{⊎-elim}
 use native.Mathlib.Omega.{arith}
-use lib.Dec.{eqb}
-use borrow.Author.Tests.{ne-eqb}
+use lib.Dec.{eqb, ltb}
+use borrow.Author.Tests.{lt-ltb, le-ltb, ne-eqb}
 use Rattle.definition.specs.declared.Span.{Span}
 use Rattle.definition.specs.Basic.{if_then_else_, given}
 use Rattle.definition.specs.Tree.{Forest, leaf, item}
-use Rattle.definition.specs.Fold.{sameName, redefiners}
-use Rattle.definition.specs.Listing.{members#}
+use Rattle.definition.specs.Fold.{sameName}
 use Rattle.definition.specs.Owner.{size}
-use Rattle.definition.proofs.LayoutLaws.{redefiners-hit, redefiners-miss, redefiners-ends, redefiners-next}
-use Rattle.rows.specs.Columns.{NAME, REDEFINES, BEFORE, BASE}
+use Rattle.definition.proofs.Lists.{order}
+use Rattle.rows.specs.Columns.{NAME, REDEFINES, BEFORE, BASE, NEXT}
 use Rattle.rows.specs.Table.{cell, spanAt}
-use Rattle.places.specs.Places.{isTarget, rowFrom, placeAt, entryIn, entriesIn}
+use Rattle.places.specs.Places.{isTarget, rowFrom}
 use Rattle.places.proofs.SearchLaws.{if-most, row-low, row-most}
 use Rattle.layout.proofs.SizeLaws.{never}
-use Rattle.folded.specs.Shown.{baseFrom, Open, Marked}
-use Rattle.folded.proofs.BaseLaws.{if-not, back, back-none, back-step, swapped, opens, passes, differs, closes}
-use Rattle.record.specs.Marks.{Chained, Counted, baseOf, hit, hits}
+use Rattle.folded.specs.Shown.{baseFrom, baseAfter, unionOf, nextIn, Marked}
+use Rattle.folded.proofs.BaseLaws.{if-not, back, back-none, back-step}
+use Rattle.record.specs.Marks.{Chained, Counted, baseOf, firstFrom}
 
 if-neither : (b : Bool) {x y z : ℕ} → (b ≡ true → x ≡ z → ⊥) → (y ≡ z → ⊥) → (if b then x else y) ≡ z → ⊥
 if-neither true p q e = p refl e
 if-neither false p q e = q e
 
+-- ---------------------------------------------------------------- the base of a row
+
 module _ (t w : List ℕ) where
-  -- the base of a row, after the sibling `last`
-  base-own : (k last : ℕ) → cell w k BEFORE ≡ last → last ≤ k → baseOf t w k ≡ (if given (spanAt (cell w k REDEFINES)) then back t w (spanAt (cell w k REDEFINES)) last else 0)
+  -- after the sibling `last`
+  base-own : (k last : ℕ) → cell w k BEFORE ≡ last → last ≤ k → baseOf t w k ≡ baseAfter t w k last
   base-own k last e l =
       let r = spanAt (cell w k REDEFINES) in
       ap (λ (x : ℕ). if given r then x else 0) (ap (baseFrom t r w k) e ∙ row-low t w r true k last l)
 
   pub base-within : (k : ℕ) → baseOf t w k ≤ k
   base-within k = let r = spanAt (cell w k REDEFINES) in if-most (given r) (row-most t w r true k (cell w k BEFORE)) (omega arith)
-
-  -- ---------------------------------------------------------------- rows that redefine another
-
-  no-hit : (i k : ℕ) → (baseOf t w k ≡ suc i → ⊥) → hit t w i k ≡ 0
-  no-hit i k h = ap (λ (b : Bool). if b then 1 else 0) (ne-eqb (baseOf t w k) (suc i) h)
-
-  low-hit : (i k : ℕ) → k ≤ i → hit t w i k ≡ 0
-  low-hit i k h = no-hit i k (λ e. omega (arith, base-within k))
-
-  pub hit-most : (i k : ℕ) → hit t w i k ≤ 1
-  hit-most i k = if-most (eqb (baseOf t w k) (suc i)) (omega arith) (omega arith)
-
-  pub hits-most : (i k n : ℕ) → hits t w i k n ≤ n
-  unfolding hits
-  hits-most i k zero = omega arith
-  hits-most i k (suc n) = omega (arith, hit-most i k, hits-most i (suc k) n)
-
-  pub hits-append : (i k m n : ℕ) → hits t w i k (m + n) ≡ hits t w i k m + hits t w i (k + m) n
-  unfolding hits
-  hits-append i k zero n = ap₂ (hits t w i) (let e : k ≡ k + 0 = omega arith in e) (let e : 0 + n ≡ n = omega arith in e) ∙ omega arith
-  hits-append i k (suc m) n =
-      ap (hits t w i k) (let e : suc m + n ≡ suc (m + n) = omega arith in e)
-      ∙ ap (λ (x : ℕ). hit t w i k + x) (hits-append i (suc k) m n)
-      ∙ ap (λ (x : ℕ). hit t w i k + (hits t w i (suc k) m + hits t w i x n)) (let e : suc k + m ≡ k + suc m = omega arith in e)
-      ∙ omega arith
-
-  -- no row up to i redefines it
-  pub hits-low : (i k n : ℕ) → k + n ≤ suc i → hits t w i k n ≡ 0
-  unfolding hits
-  hits-low i k zero h = refl
-  hits-low i k (suc n) h = omega (arith, low-hit i k (omega arith), hits-low i (suc k) n (omega arith))
-
-  -- the rows of a forest that redefine row i
-  abbrev hitsIn : ℕ → ℕ → Forest → ℕ
-  hitsIn i k leaf = 0
-  hitsIn i k (item s kids later) = hit t w i k + (hitsIn i (suc k) kids + hitsIn i (suc k + size kids) later)
-
-  hits-forest : (f : Forest) (i k : ℕ) → hits t w i k (size f) ≡ hitsIn i k f
-  unfolding hits
-  hits-forest leaf i k = refl
-  hits-forest (item s kids later) i k =
-      let a = hits-forest kids i (suc k) in
-      let b = hits-forest later i (suc k + size kids) in
-      omega (arith, hits-append i (suc k) (size kids) (size later), a, b)
-
-  high-forest : (f : Forest) (i k : ℕ) → k + size f ≤ i → hitsIn i k f ≡ 0
-  high-forest leaf i k h = refl
-  high-forest (item s kids later) i k h =
-      omega (arith, low-hit i k (omega arith), high-forest kids i (suc k) (omega arith), high-forest later i (suc k + size kids) (omega arith))
-
-  -- no row of a list redefines row i, where no search from before the list finds it
-  none-forest :
-      (f : Forest) (i k last : ℕ) →
-      Chained w k last f →
-      last ≤ k →
-      i < k →
-      ((target : Span) → back t w target last ≡ suc i → ⊥) →
-      hitsIn i k f ≡ 0
-  none-forest leaf i k last ch l h apart = refl
-  none-forest (item s kids later) i k last ch l h apart =
-      let r = spanAt (cell w k REDEFINES) in
-      let own = no-hit i k (λ e. if-not′ (given r) (apart r) (sym (base-own k last (ch .0) l) ∙ e)) in
-      let inner = none-forest kids i (suc k) 0 (ch .1) (omega arith) (omega arith) (λ target e. zero-suc i (sym (back-none t w target) ∙ e)) in
-      let rest =
-      none-forest later i (suc k + size kids) (suc k) (ch .2) (omega arith) (omega arith)
-      (λ target e. if-not (isTarget t target true w k) (λ q. omega arith) (λ _. apart target) (sym (back-step t w target k last (ch .0) l) ∙ e)) in
-      omega (arith, own, inner, rest)
-    where
-      zero-suc : (i : ℕ) → 0 ≡ suc i → ⊥
-      zero-suc i e = omega arith
-
-      if-not′ : (b : Bool) {x z : ℕ} → (x ≡ suc z → ⊥) → (if b then x else 0) ≡ suc z → ⊥
-      if-not′ true p e = p e
-      if-not′ false p e = omega arith
 
   -- no row redefines a redefiner
   never-found : (i : ℕ) → given (spanAt (cell w i REDEFINES)) ≡ true → (target : Span) (n last : ℕ) → baseFrom t target w n last ≡ suc i → ⊥
@@ -127,141 +55,228 @@ module _ (t w : List ℕ) where
           let g′ : given (spanAt (cell w k REDEFINES)) ≡ true = subst (λ (n : ℕ). given (spanAt (cell w n REDEFINES)) ≡ true) same g in
           never (sym (ap (λ (b : Bool). if b then false else sameName t target (spanAt (cell w k NAME))) g′) ∙ h)
 
-  redefiner-forest : (f : Forest) (i k : ℕ) → given (spanAt (cell w i REDEFINES)) ≡ true → hitsIn i k f ≡ 0
-  redefiner-forest leaf i k g = refl
-  redefiner-forest (item s kids later) i k g =
-      let r = spanAt (cell w k REDEFINES) in
-      let own = no-hit i k (λ e. if-given (given r) (never-found i g r k (cell w k BEFORE)) e) in
-      omega (arith, own, redefiner-forest kids i (suc k) g, redefiner-forest later i (suc k + size kids) g)
+  -- so a base has no base
+  pub base-bare : (k i : ℕ) → baseOf t w k ≡ suc i → baseOf t w i ≡ 0
+  base-bare k i e = by-kind (given (spanAt (cell w i REDEFINES))) refl
     where
-      if-given : (b : Bool) {x z : ℕ} → (x ≡ suc z → ⊥) → (if b then x else 0) ≡ suc z → ⊥
-      if-given true p e = p e
-      if-given false p e = omega arith
+      found : (b : Bool) → (if b then baseFrom t (spanAt (cell w k REDEFINES)) w k (cell w k BEFORE) else 0) ≡ suc i → baseFrom t (spanAt (cell w k REDEFINES)) w k (cell w k BEFORE) ≡ suc i
+      found true x = x
+      found false x = absurd (omega arith)
 
-  -- ---------------------------------------------------------------- the definition's count
+      by-kind : (g : Bool) → given (spanAt (cell w i REDEFINES)) ≡ g → baseOf t w i ≡ 0
+      by-kind true g = absurd (never-found i g (spanAt (cell w k REDEFINES)) k (cell w k BEFORE) (found (given (spanAt (cell w k REDEFINES))) e))
+      by-kind false g = ap (λ (b : Bool). if b then baseFrom t (spanAt (cell w i REDEFINES)) w i (cell w i BEFORE) else 0) g
 
-  -- the rows of a list that redefine row i are its redefiners
-  count-forest :
-      (f : Forest) (i k last : ℕ) →
+-- ---------------------------------------------------------------- the first row that names a base
+
+module _ (w : List ℕ) (u : ℕ) where
+  -- rows of which none names it
+  first-skip : (k m n : ℕ) → firstFrom w u k m ≡ 0 → firstFrom w u k (m + n) ≡ firstFrom w u (k + m) n
+  unfolding firstFrom
+  first-skip k zero n h = ap₂ (firstFrom w u) (let e : k ≡ k + 0 = omega arith in e) (let e : 0 + n ≡ n = omega arith in e)
+  first-skip k (suc m) n h =
+      let on = first-skip (suc k) m n in
+      ap (firstFrom w u k) (let e : suc m + n ≡ suc (m + n) = omega arith in e)
+      ∙ go (eqb (cell w k BASE) u) h on
+      ∙ ap (λ (x : ℕ). firstFrom w u x n) (let e : suc k + m ≡ k + suc m = omega arith in e)
+    where
+      go :
+          (b : Bool) →
+          (if b then suc k else firstFrom w u (suc k) m) ≡ 0 →
+          (firstFrom w u (suc k) m ≡ 0 → firstFrom w u (suc k) (m + n) ≡ firstFrom w u (suc k + m) n) →
+          (if b then suc k else firstFrom w u (suc k) (m + n)) ≡ firstFrom w u (suc k + m) n
+      go true h on = absurd (omega arith)
+      go false h on = on h
+
+  first-stop : (k m n : ℕ) → firstFrom w u (k + m) n ≡ 0 → firstFrom w u k (m + n) ≡ firstFrom w u k m
+  unfolding firstFrom
+  first-stop k zero n h = ap₂ (firstFrom w u) (let e : k ≡ k + 0 = omega arith in e) (let e : 0 + n ≡ n = omega arith in e) ∙ h
+  first-stop k (suc m) n h =
+      ap (firstFrom w u k) (let e : suc m + n ≡ suc (m + n) = omega arith in e)
+      ∙ ap (λ (x : ℕ). if eqb (cell w k BASE) u then suc k else x)
+      (first-stop (suc k) m n (ap (λ (x : ℕ). firstFrom w u x n) (let e : suc k + m ≡ k + suc m = omega arith in e) ∙ h))
+
+-- by the rows' bases alone
+pub first-same : (w w′ : List ℕ) → ((i : ℕ) → cell w i BASE ≡ cell w′ i BASE) → (u k n : ℕ) → firstFrom w u k n ≡ firstFrom w′ u k n
+unfolding firstFrom
+first-same w w′ h u k zero = refl
+first-same w w′ h u k (suc n) = ap₂ (λ (x y : ℕ). if eqb x u then suc k else y) (h k) (first-same w w′ h u (suc k) n)
+
+-- ---------------------------------------------------------------- every row
+
+-- where the rows from `from` up to `to` hold their bases
+module _ (t w : List ℕ) (from to : ℕ) (held : (i : ℕ) → from ≤ i → i < to → cell w i BASE ≡ baseOf t w i) where
+  base-held : (k last : ℕ) → cell w k BEFORE ≡ last → last ≤ k → from ≤ k → k < to → cell w k BASE ≡ baseAfter t w k last
+  base-held k last e l low high = held k low high ∙ base-own t w k last e l
+
+  -- no row of a list names a base that no search from before the list finds
+  none-forest :
+      (f : Forest) (u k last : ℕ) →
       Chained w k last f →
       last ≤ k →
-      i < k →
-      Open t w i last →
-      hitsIn i k f ≡ members# (redefiners t (placeAt w i) (entriesIn w k f))
-  unfolding entriesIn redefiners
-  count-forest leaf i k last ch l h o = refl
-  count-forest (item s kids later) i k last ch l h o =
+      from ≤ k →
+      k + size f ≤ to →
+      0 < u →
+      u ≤ k →
+      ((target : Span) → back t w target last ≡ u → ⊥) →
+      firstFrom w u k (size f) ≡ 0
+  unfolding firstFrom
+  none-forest leaf u k last ch l low high p h apart = refl
+  none-forest (item s kids later) u k last ch l low high p h apart =
       let r = spanAt (cell w k REDEFINES) in
-      let n = suc k + size kids in
-      let inner = none-forest kids i (suc k) 0 (ch .1) (omega arith) (omega arith) (λ target e. zero-suc i (sym (back-none t w target) ∙ e)) in
-      let rest = count-forest later i n (suc k) (ch .2) (omega arith) (omega arith) in
-      let none = none-forest later i n (suc k) (ch .2) (omega arith) (omega arith) in
-      let base = placeAt w i in
-      let e = entryIn w k in
-      let es = entriesIn w (suc k) kids in
-      let more = entriesIn w n later in
-      let own : eqb (baseOf t w k) (suc i) ≡ eqb (if given r then back t w r last else 0) (suc i) = ap (λ (x : ℕ). eqb x (suc i)) (base-own k last (ch .0) l) in
-      go (given r) refl (sameName t (spanAt (cell w i NAME)) r) refl (sameName t (spanAt (cell w i NAME)) (spanAt (cell w k NAME))) refl inner rest none own
+      let own : eqb (cell w k BASE) u ≡ false = ne-eqb (cell w k BASE) u (λ e. not-given (given r) (apart r) (sym (base-held k last (ch .0) l low (omega arith)) ∙ e)) in
+      let inner = none-forest kids u (suc k) 0 (ch .1) (omega arith) (omega arith) (omega arith) p (omega arith) (λ target e. omega (arith, back-none t w target)) in
+      let rest =
+      none-forest later u (suc k + size kids) (suc k) (ch .2) (omega arith) (omega arith) (omega arith) p (omega arith)
+      (λ target e. if-not (isTarget t target true w k) (λ q. omega arith) (λ _. apart target) (sym (back-step t w target k last (ch .0) l) ∙ e)) in
+      ap (λ (b : Bool). if b then suc k else firstFrom w u (suc k) (size kids + size later)) own
+      ∙ first-skip w u (suc k) (size kids) (size later) inner
+      ∙ rest
     where
-      zero-suc : (i : ℕ) → 0 ≡ suc i → ⊥
-      zero-suc i e = omega arith
+      not-given : (b : Bool) {x : ℕ} → (x ≡ u → ⊥) → (if b then x else 0) ≡ u → ⊥
+      not-given true q e = q e
+      not-given false q e = omega arith
 
-      go :
-          (g : Bool) →
-          given (spanAt (cell w k REDEFINES)) ≡ g →
-          (a : Bool) →
-          sameName t (spanAt (cell w i NAME)) (spanAt (cell w k REDEFINES)) ≡ a →
-          (b : Bool) →
-          sameName t (spanAt (cell w i NAME)) (spanAt (cell w k NAME)) ≡ b →
-          hitsIn i (suc k) kids ≡ 0 →
-          (Open t w i (suc k) → hitsIn i (suc k + size kids) later ≡ members# (redefiners t (placeAt w i) (entriesIn w (suc k + size kids) later))) →
-          (((target : Span) → back t w target (suc k) ≡ suc i → ⊥) → hitsIn i (suc k + size kids) later ≡ 0) →
-          eqb (baseOf t w k) (suc i) ≡ eqb (if given (spanAt (cell w k REDEFINES)) then back t w (spanAt (cell w k REDEFINES)) last else 0) (suc i) →
-          hit t w i k + (hitsIn i (suc k) kids + hitsIn i (suc k + size kids) later)
-          ≡ members# (redefiners t (placeAt w i) (entriesIn w k (item s kids later)))
-      go true g a p b q inner rest none own =
-          let found : eqb (baseOf t w k) (suc i) ≡ a =
-          own ∙ ap (λ (x : Bool). eqb (if x then back t w (spanAt (cell w k REDEFINES)) last else 0) (suc i)) g ∙ o (spanAt (cell w k REDEFINES)) ∙ swapped t w (spanAt (cell w k REDEFINES)) (spanAt (cell w i NAME)) ∙ p in
-          redefined a p g found inner (rest (passes t w i k last (ch .0) l o g))
-        where
-          redefined :
-              (a : Bool) →
-              sameName t (spanAt (cell w i NAME)) (spanAt (cell w k REDEFINES)) ≡ a →
-              given (spanAt (cell w k REDEFINES)) ≡ true →
-              eqb (baseOf t w k) (suc i) ≡ a →
-              hitsIn i (suc k) kids ≡ 0 →
-              hitsIn i (suc k + size kids) later ≡ members# (redefiners t (placeAt w i) (entriesIn w (suc k + size kids) later)) →
-              hit t w i k + (hitsIn i (suc k) kids + hitsIn i (suc k + size kids) later)
-              ≡ members# (redefiners t (placeAt w i) (entriesIn w k (item s kids later)))
-          redefined true p g found inner rest =
-              let one : hit t w i k ≡ 1 = ap (λ (x : Bool). if x then 1 else 0) found in
-              let whole = ap members# (redefiners-hit t (placeAt w i) (entryIn w k) (entriesIn w (suc k) kids) (entriesIn w (suc k + size kids) later) g p) in
-              omega (arith, one, inner, rest, whole)
-          redefined false p g found inner rest =
-              let zero : hit t w i k ≡ 0 = ap (λ (x : Bool). if x then 1 else 0) found in
-              let whole = ap members# (redefiners-miss t (placeAt w i) (entryIn w k) (entriesIn w (suc k) kids) (entriesIn w (suc k + size kids) later) g p) in
-              omega (arith, zero, inner, rest, whole)
-      go false g a p true q inner rest none own =
-          let zero : hit t w i k ≡ 0 = ap (λ (x : Bool). if x then 1 else 0) (own ∙ ap (λ (x : Bool). eqb (if x then back t w (spanAt (cell w k REDEFINES)) last else 0) (suc i)) g ∙ ne-eqb 0 (suc i) (λ x. omega arith)) in
-          let whole = ap members# (redefiners-ends t (placeAt w i) (entryIn w k) (entriesIn w (suc k) kids) (entriesIn w (suc k + size kids) later) g q) in
-          omega (arith, zero, inner, none (closes t w i k last (ch .0) l h o g q), whole)
-      go false g a p false q inner rest none own =
-          let zero : hit t w i k ≡ 0 = ap (λ (x : Bool). if x then 1 else 0) (own ∙ ap (λ (x : Bool). eqb (if x then back t w (spanAt (cell w k REDEFINES)) last else 0) (suc i)) g ∙ ne-eqb 0 (suc i) (λ x. omega arith)) in
-          let whole = ap members# (redefiners-next t (placeAt w i) (entryIn w k) (entriesIn w (suc k) kids) (entriesIn w (suc k + size kids) later) g q) in
-          omega (arith, zero, inner, rest (differs t w i k last (ch .0) l h o g q), whole)
+  -- the rows of a list, and of those below it, name none before the list, where no search from before it finds one
+  above-forest :
+      (f : Forest) (k last low : ℕ) →
+      Chained w k last f →
+      last ≤ k →
+      low ≤ k →
+      from ≤ k →
+      k + size f ≤ to →
+      ((target : Span) → back t w target last ≤ low → back t w target last ≡ 0) →
+      (i : ℕ) →
+      k ≤ i →
+      i < k + size f →
+      cell w i BASE ≤ low →
+      cell w i BASE ≡ 0
+  above-forest leaf k last low ch l b lo hi none i p q h = absurd (omega arith)
+  above-forest (item s kids later) k last low ch l b lo hi none i p q h =
+      let inner = above-forest kids (suc k) 0 low (ch .1) (omega arith) (omega arith) (omega arith) (omega arith) (λ target _. back-none t w target) i in
+      let rest =
+      above-forest later (suc k + size kids) (suc k) low (ch .2) (omega arith) (omega arith) (omega arith) (omega arith)
+      (λ target e. back-step t w target k last (ch .0) l ∙ later-none (isTarget t target true w k) (none target) (subst (λ (x : ℕ). x ≤ low) (back-step t w target k last (ch .0) l) e)) i in
+      ⊎-elim
+      (λ (x : k < i). ⊎-elim (λ (y : i < suc k + size kids). inner (omega arith) y h) (λ (y : suc k + size kids ≤ i). rest y (omega arith) h) (order i (suc k + size kids)))
+      (λ (x : i ≤ k). subst (λ (n : ℕ). cell w n BASE ≤ low → cell w n BASE ≡ 0) (let e : k ≡ i = omega arith in e) own h)
+      (order k i)
+    where
+      later-none : (b : Bool) {x : ℕ} → (x ≤ low → x ≡ 0) → (if b then suc k else x) ≤ low → (if b then suc k else x) ≡ 0
+      later-none true q e = absurd (omega arith)
+      later-none false q e = q e
 
-  -- ---------------------------------------------------------------- every row
+      if-none : (b : Bool) {x : ℕ} → (x ≤ low → x ≡ 0) → (if b then x else 0) ≤ low → (if b then x else 0) ≡ 0
+      if-none true q e = q e
+      if-none false q e = refl
 
-  -- rows that hold how many rows redefine them are marked
+      own : cell w k BASE ≤ low → cell w k BASE ≡ 0
+      own e =
+          let r = spanAt (cell w k REDEFINES) in
+          let is = base-held k last (ch .0) l lo (omega arith) in
+          is ∙ if-none (given r) (none r) (subst (λ (x : ℕ). x ≤ low) is e)
+
+  -- the first row of a list that names a base stands in the list, and not below it
+  first-forest :
+      (f : Forest) (u k last : ℕ) →
+      Chained w k last f →
+      last ≤ k →
+      from ≤ k →
+      k + size f ≤ to →
+      0 < u →
+      u ≤ k →
+      firstFrom w u k (size f) ≡ nextIn w u k f
+  unfolding firstFrom nextIn
+  first-forest leaf u k last ch l low high p h = refl
+  first-forest (item s kids later) u k last ch l low high p h =
+      let inner = none-forest kids u (suc k) 0 (ch .1) (omega arith) (omega arith) (omega arith) p (omega arith) (λ target e. omega (arith, back-none t w target)) in
+      ap (λ (x : ℕ). if eqb (cell w k BASE) u then suc k else x)
+      (first-skip w u (suc k) (size kids) (size later) inner
+      ∙ first-forest later u (suc k + size kids) (suc k) (ch .2) (omega arith) (omega arith) (omega arith) p (omega arith))
+
+  union-low : (i : ℕ) → 0 < unionOf w i
+  union-low i = go (cell w i BASE)
+    where
+      go : (b : ℕ) → 0 < (if ltb 0 b then b else suc i)
+      go b = ⊎-elim (λ (x : 0 < b). subst (λ (y : Bool). 0 < (if y then b else suc i)) (sym (lt-ltb 0 b x)) x) (λ (x : b ≤ 0). subst (λ (y : Bool). 0 < (if y then b else suc i)) (sym (le-ltb 0 b x)) (omega arith)) (order 0 b)
+
+  union-most : (i : ℕ) → from ≤ i → i < to → unionOf w i ≤ suc i
+  union-most i low high = if-most (ltb 0 (cell w i BASE)) (omega (arith, held i low high, base-within t w i)) (omega arith)
+
+  -- rows that name the first of the rows after them that stands in their union are marked
   marked-forest :
       (f : Forest) (k last : ℕ) →
       Chained w k last f →
       Counted w k last f →
       last ≤ k →
-      ((i : ℕ) → k ≤ i → i < k + size f → cell w i BASE ≡ baseOf t w i + hitsIn i k f) →
+      from ≤ k →
+      k + size f ≤ to →
+      ((i : ℕ) → k ≤ i → i < k + size f → cell w i NEXT ≡ firstFrom w (unionOf w i) (suc i) (k + size f - suc i)) →
       Marked t w k last f
-  marked-forest leaf k last ch co l h = tt
-  marked-forest (item s kids later) k last ch co l h =
+  marked-forest leaf k last ch co l low high h = tt
+  marked-forest (item s kids later) k last ch co l low high h =
       let n = suc k + size kids in
-      let inner = marked-forest kids (suc k) 0 (ch .1) (co .1) (omega arith) in
-      let rest = marked-forest later n (suc k) (ch .2) (co .2) (omega arith) in
-      let row = h k (omega arith) (omega arith) in
-      let own = low-hit k k (omega arith) in
-      let below = none-forest kids k (suc k) 0 (ch .1) (omega arith) (omega arith) (λ target e. zero-suc k (sym (back-none t w target) ∙ e)) in
-      let after = count-forest later k n (suc k) (ch .2) (omega arith) (omega arith) in (
+      let inner = marked-forest kids (suc k) 0 (ch .1) (co .1) (omega arith) (omega arith) (omega arith) in
+      let rest = marked-forest later n (suc k) (ch .2) (co .2) (omega arith) (omega arith) (omega arith) in
+      let u = unionOf w k in
+      let most = union-most k low (omega arith) in
+      let below = none-forest kids u (suc k) 0 (ch .1) (omega arith) (omega arith) (omega arith) (union-low k) most (λ target e. omega (arith, back-none t w target, union-low k)) in
+      let after = first-forest later u n (suc k) (ch .2) (omega arith) (omega arith) (omega arith) (union-low k) (omega (arith, most)) in (
         record {
           before = ch .0;
           below = co .0;
-          count = λ g. (let none : baseOf t w k ≡ 0 = ap (λ (b : Bool). if b then baseFrom t (spanAt (cell w k REDEFINES)) w k (cell w k BEFORE) else 0) g in omega (arith, row, none, own, below, after (opens t w k k last (ch .0) l refl g)));
-          under =
-              λ g.
-              (let some = base-own k last (ch .0) l ∙ ap (λ (b : Bool). if b then back t w (spanAt (cell w k REDEFINES)) last else 0) g in
-              omega (arith, row, some, redefiner-forest (item s kids later) k k g));
+          base = base-held k last (ch .0) l low (omega arith);
+          next =
+              h k (omega arith) (omega arith)
+              ∙ ap (firstFrom w u (suc k)) (let e : k + size (item s kids later) - suc k ≡ size kids + size later = omega arith in e)
+              ∙ first-skip w u (suc k) (size kids) (size later) below
+              ∙ after;
         },
         inner
             (λ i a b.
-            omega (
-              arith,
-              h i (omega arith) (omega arith),
-              low-hit i k (omega arith),
-              none-forest later i n (suc k) (ch .2) (omega arith) (omega arith) (λ target e. omega (arith, row-most t w target true (suc k) (suc k))),
-            )),
-        rest (λ i a b. omega (arith, h i (omega arith) (omega arith), low-hit i k (omega arith), high-forest kids i (suc k) (omega arith))),
+            h i (omega arith) (omega arith)
+            ∙ ap (firstFrom w (unionOf w i) (suc i)) (let e : k + size (item s kids later) - suc i ≡ n - suc i + size later = omega arith in e)
+            ∙ first-stop w (unionOf w i) (suc i) (n - suc i) (size later)
+            (ap (λ (x : ℕ). firstFrom w (unionOf w i) x (size later)) (let e : suc i + (n - suc i) ≡ n = omega arith in e)
+            ∙ none-forest later (unionOf w i) n (suc k) (ch .2) (omega arith) (omega arith) (omega arith) (union-low i) (omega (arith, union-most i (omega arith) (omega arith)))
+            (λ target e. omega (arith, row-most t w target true (suc k) (suc k), union-high i a b)))),
+        rest (λ i a b. h i (omega arith) (omega arith) ∙ ap (firstFrom w (unionOf w i) (suc i)) (let e : k + size (item s kids later) - suc i ≡ n + size later - suc i = omega arith in e)),
       )
     where
-      zero-suc : (i : ℕ) → 0 ≡ suc i → ⊥
-      zero-suc i e = omega arith
+      -- a row below row k stands in a union below row k
+      union-high : (i : ℕ) → suc k ≤ i → i < suc k + size kids → suc k < unionOf w i
+      union-high i a b =
+          ⊎-elim
+          (λ (x : 0 < cell w i BASE).
+          subst (λ (y : Bool). suc k < (if y then cell w i BASE else suc i)) (sym (lt-ltb 0 (cell w i BASE) x))
+          (⊎-elim (λ (y : suc k < cell w i BASE). y)
+          (λ (y : cell w i BASE ≤ suc k).
+          absurd (let z = above-forest kids (suc k) 0 (suc k) (ch .1) (omega arith) (omega arith) (omega arith) (omega arith) (λ target _. back-none t w target) i a b y in omega (arith, z)))
+          (order (suc k) (cell w i BASE))))
+          (λ (x : cell w i BASE ≤ 0). subst (λ (y : Bool). suc k < (if y then cell w i BASE else suc i)) (sym (le-ltb 0 (cell w i BASE) x)) (omega arith))
+          (order 0 (cell w i BASE))
 
   pub marked-all :
-      (f : Forest) (k : ℕ) →
-      Chained w k 0 f →
-      Counted w k 0 f →
-      ((i : ℕ) → k ≤ i → i < k + size f → cell w i BASE ≡ baseOf t w i + hits t w i k (size f)) →
-      Marked t w k 0 f
-  marked-all f k ch co h = marked-forest f k 0 ch co (omega arith) (λ i a b. h i a b ∙ ap (λ (n : ℕ). baseOf t w i + n) (hits-forest f i k))
+      (f : Forest) →
+      Chained w from 0 f →
+      Counted w from 0 f →
+      from + size f ≡ to →
+      ((i : ℕ) → from ≤ i → i < to → cell w i NEXT ≡ firstFrom w (unionOf w i) (suc i) (to - suc i)) →
+      Marked t w from 0 f
+  marked-all f ch co e h =
+      marked-forest f from 0 ch co (omega arith) (omega arith) (omega (arith, e))
+      (λ i a b. h i a (omega (arith, e)) ∙ ap (λ (x : ℕ). firstFrom w (unionOf w i) (suc i) (x - suc i)) (sym e))
 
-  -- and each counts the rows below it
-  pub marked-counted : (f : Forest) (k last : ℕ) → Marked t w k last f → Counted w k last f
-  marked-counted leaf k last m = tt
-  marked-counted (item s kids later) k last m =
-      (m .0 .below, marked-counted kids (suc k) 0 (m .1), marked-counted later (suc k + size kids) (suc k) (m .2))
+  -- a row names one of these rows
+  pub base-above : (f : Forest) → Chained w from 0 f → from + size f ≡ to → (i : ℕ) → from ≤ i → i < to → 0 < cell w i BASE → from < cell w i BASE
+  base-above f ch e i a b p =
+      ⊎-elim (λ (y : from < cell w i BASE). y)
+      (λ (y : cell w i BASE ≤ from).
+      absurd (let z = above-forest f from 0 from ch (omega arith) (omega arith) (omega arith) (omega (arith, e)) (λ target _. back-none t w target) i a (omega (arith, e)) y in omega (arith, z)))
+      (order from (cell w i BASE))
+
+-- and each counts the rows below it
+pub marked-counted : (t w : List ℕ) (f : Forest) (k last : ℕ) → Marked t w k last f → Counted w k last f
+marked-counted t w leaf k last m = tt
+marked-counted t w (item s kids later) k last m =
+    (m .0 .below, marked-counted t w kids (suc k) 0 (m .1), marked-counted t w later (suc k + size kids) (suc k) (m .2))

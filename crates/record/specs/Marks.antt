@@ -1,17 +1,17 @@
--- What columns 16 to 18 of the table hold: a row names the sibling before it and counts the rows below it; a redefiner names its base (its row
--- and 1, or 0 for none), and a base counts its redefiners.
+-- What the columns from BEFORE on hold: a row names the sibling before it, counts the rows below it, names its base, and names the next row
+-- of its union.
 -- Assumes nothing.
-use Prim.Native.Nat.{ℕ, zero, suc, _+_, _-_, _≤_, _<_}
+use Prim.Native.Nat.{ℕ, zero, suc, _+_, _*_, _-_, _≤_, _<_}
 use mathlib.Core.Path.{_≡_}
 use mathlib.Core.List.{List}
-use lib.Dec.{eqb}
-use lib.ListN.{length}
+use lib.Dec.{eqb, ltb}
+use lib.ListN.{length, set}
 use Rattle.definition.specs.Basic.{if_then_else_, given}
 use Rattle.definition.specs.Tree.{Forest, leaf, item}
 use Rattle.definition.specs.Owner.{size}
-use Rattle.rows.specs.Columns.{REDEFINES, BEFORE, BELOW, BASE}
+use Rattle.rows.specs.Columns.{ROW, REDEFINES, BEFORE, BELOW, BASE, NEXT}
 use Rattle.rows.specs.Table.{cell, spanAt}
-use Rattle.folded.specs.Shown.{baseFrom}
+use Rattle.folded.specs.Shown.{baseFrom, unionOf}
 
 -- column c of each row of a list, and of the lists below it, holds what `value` says of the sibling before the row and of the forest below it
 abbrev pub Column : ℕ → (ℕ → Forest → ℕ) → List ℕ → ℕ → ℕ → Forest → Type 0
@@ -31,31 +31,41 @@ Counted w k last f = Column BELOW (λ before kids. size kids) w k last f
 abbrev pub baseOf : List ℕ → List ℕ → ℕ → ℕ
 baseOf text w k = if given (spanAt (cell w k REDEFINES)) then baseFrom text (spanAt (cell w k REDEFINES)) w k (cell w k BEFORE) else 0
 
--- 1 where row k redefines row i
-abbrev pub hit : List ℕ → List ℕ → ℕ → ℕ → ℕ
-hit text w i k = if eqb (baseOf text w k) (suc i) then 1 else 0
+-- w with its base in row k, and no next row
+abbrev pub markRow : List ℕ → List ℕ → ℕ → List ℕ
+markRow text w k = set (set w (ROW * k + BASE) (baseOf text w k)) (ROW * k + NEXT) 0
 
--- how many of the n rows from k on redefine row i
-unfoldable pub hits : List ℕ → List ℕ → ℕ → ℕ → ℕ → ℕ
-hits text w i k zero = 0
-hits text w i k (suc n) = hit text w i k + hits text w i (suc k) n
+-- w with row k before what its base names
+abbrev pub linkRow : List ℕ → ℕ → List ℕ
+linkRow w k =
+    let b = cell w k BASE in
+    if ltb 0 b then set (set w (ROW * k + NEXT) (cell w (b - 1) NEXT)) (ROW * (b - 1) + NEXT) (k + 1) else w
 
--- the columns below 18 are as they were
-pub record Kept (w w′ : List ℕ) : Type 0 where
+-- the first of the n rows from k on that names the base u: its row and 1, or 0 for none
+unfoldable pub firstFrom : List ℕ → ℕ → ℕ → ℕ → ℕ
+firstFrom w u k zero = 0
+firstFrom w u k (suc n) = if eqb (cell w k BASE) u then suc k else firstFrom w u (suc k) n
+
+-- the columns below c are as they were
+pub record Kept (c : ℕ) (w w′ : List ℕ) : Type 0 where
   pub long : length w′ ≡ length w
-  pub same : (k c : ℕ) → c < BASE → cell w′ k c ≡ cell w k c
+  pub same : (k d : ℕ) → d < c → cell w′ k d ≡ cell w k d
 
--- the rows from `from` up to k can be counted up once more
-pub record Countable (w : List ℕ) (from k : ℕ) : Type 0 where
-  pub small : (i : ℕ) → from ≤ i → i < k → cell w i BASE < 4294967295
+-- each row from `from` up to `to` holds its base, and no next row
+pub record BasesMarked (text w : List ℕ) (from to : ℕ) (w′ : List ℕ) : Type 0 where
+  pub kept : Kept BASE w w′
+  pub bases : (i : ℕ) → from ≤ i → i < to → cell w′ i BASE ≡ baseOf text w i
+  pub nexts : (i : ℕ) → from ≤ i → i < to → cell w′ i NEXT ≡ 0
 
--- row k holds its base, and the row that it redefines has one more
-pub record RowTallied (text w : List ℕ) (from k : ℕ) (w′ : List ℕ) : Type 0 where
-  pub kept : Kept w w′
-  pub own : cell w′ k BASE ≡ baseOf text w k
-  pub others : (i : ℕ) → from ≤ i → i < k → cell w′ i BASE ≡ cell w i BASE + hit text w i k
+-- no row from `from` up to `to` names a next one; a base is an earlier of these rows, and has no base
+pub record Unlinked (w : List ℕ) (from to : ℕ) : Type 0 where
+  pub fits : ROW * to ≤ length w
+  pub few : to ≤ 800
+  pub nexts : (i : ℕ) → from ≤ i → i < to → cell w i NEXT ≡ 0
+  pub back : (i : ℕ) → from ≤ i → i < to → cell w i BASE ≤ i
+  pub bases : (i : ℕ) → from ≤ i → i < to → 0 < cell w i BASE → (from < cell w i BASE) × (cell w (cell w i BASE - 1) BASE ≡ 0)
 
--- each row from `from` up to `to` holds its base, and how many of these rows redefine it: one of the two is 0
-pub record Tallied (text w : List ℕ) (from to : ℕ) (w′ : List ℕ) : Type 0 where
-  pub kept : Kept w w′
-  pub counts : (i : ℕ) → from ≤ i → i < to → cell w′ i BASE ≡ baseOf text w i + hits text w i from (to - from)
+-- each row from `from` up to `to` names the next of its union
+pub record UnionsLinked (w : List ℕ) (from to : ℕ) (w′ : List ℕ) : Type 0 where
+  pub kept : Kept NEXT w w′
+  pub nexts : (i : ℕ) → from ≤ i → i < to → cell w′ i NEXT ≡ firstFrom w (unionOf w i) (suc i) (to - suc i)

@@ -74,3 +74,7 @@ BELOW = 17
 -- the base that it redefines: its row and 1, or 0 for none
 abbrev pub BASE : ℕ
 BASE = 18
+
+-- the next row of its union, a base's first redefiner or a redefiner's next one: its row and 1, or 0 for none
+abbrev pub NEXT : ℕ
+NEXT = 19

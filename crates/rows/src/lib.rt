@@ -58,6 +58,8 @@ pub const BELOW: usize = 17;
 
 pub const BASE: usize = 18;
 
+pub const NEXT: usize = 19;
+
 // Work memory to zero.
 pub fn clear(work: &mut [u32])
     ensures { λ _. ⌜ now (work .exit) ≡ cleared (now (work .entry)) ⌝ }

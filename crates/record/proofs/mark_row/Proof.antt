@@ -1,40 +1,36 @@
--- `record::mark_row` meets its contract: a row before it is counted up, or none is.
+-- `record::mark_row` meets its contract.
 -- Assumes nothing.
 use borrow.Author.Needs.{needs}
-use Rattle.record.proofs.KeptLaws.{base-small, can-count, tallied-up, tallied-alone}
+use Prim.Native.Nat.{ℕ, _+_, _*_, _<_}
+use mathlib.Core.Path.{_≡_, ap}
+use mathlib.Core.List.{List}
+use native.Mathlib.Omega.{arith}
+use lib.ListN.{set, length-set}
+use Rattle.rows.specs.Columns.{ROW, BASE, NEXT}
+use Rattle.record.specs.Marks.{baseOf, markRow}
+use Rattle.record.proofs.MarkLaws.{base-within}
 use Rattle.record.proofs.mark_row.Statement.{statement}
 use Rattle.record.proofs.mark_row.Tie as tie
+
+module _ (t w : List ℕ) (k : ℕ) {b : ℕ} (p : b ≡ baseOf t w k) where
+  small : k < 4294967296 → b < 4294967296
+  small h = omega (arith, p, base-within t w k)
+
+  marked : set (set w (ROW * k + BASE) b) (ROW * k + NEXT) 0 ≡ markRow t w k
+  marked = ap (λ (x : ℕ). set (set w (ROW * k + BASE) x) (ROW * k + NEXT) 0) p
 
 cast-work : tie.Need-cast-work
 cast-work c =
     let s = c .before .before .before .before in
     let a = s .args in
-    let small = base-small (a .text .now) (a .work .now) (a .from) (a .k) (s .pre .0) (c .base-of .ensures) (s .pre .1) in
-    search (needs, small)
+    let fits = small (a .text .now) (a .work .now) (a .k) (c .base-of .ensures) (s .pre .1) in
+    search (needs, fits)
 
-count-up-requires : tie.Need-count-up-requires
-count-up-requires c κs =
-    let s = c .before .before .before .before .before .before in
-    let a = s .args in
-    can-count (a .text .now) (a .work .now) (a .from) (a .k) (s .pre .0) (c .before .before .base-of .ensures) (s .pre .2) (c .before .if1 .taken)
-
-same-length : tie.Need-same-length
-same-length c =
-    let s = c .before .before .before .before .before .before .before .before .before in
-    let a = s .args in
-    tallied-up (a .text .now) (a .work .now) (a .from) (a .k) (s .pre .0) (c .before .before .before .before .before .base-of .ensures) (c .before .before .before .before .if1 .taken) (c .before .before .count-up .ensures) .kept .long
+slice-write-work-2 : tie.Need-slice-write-work-2
+slice-write-work-2 c = simp length-set (omega arith)
 
 returns : tie.Need-returns
-returns c =
-    let s = c .before .before .before .before .before .before .before .before .before in
-    let a = s .args in
-    tallied-up (a .text .now) (a .work .now) (a .from) (a .k) (s .pre .0) (c .before .before .before .before .before .base-of .ensures) (c .before .before .before .before .if1 .taken) (c .before .before .count-up .ensures)
-
-returns-2 : tie.Need-returns-2
-returns-2 c =
-    let s = c .before .before .before .before .before in
-    let a = s .args in
-    tallied-alone (a .text .now) (a .work .now) (a .from) (a .k) (s .pre .0) (c .before .base-of .ensures) (c .if1 .left)
+returns c = search marked
 
 pub mark-row-spec : {M : Type 1} → statement M
 mark-row-spec =
@@ -47,8 +43,8 @@ mark-row-spec =
     (λ c. search needs)
     (λ c. search needs)
     (λ c. search needs)
-    count-up-requires
-    same-length
-    returns
     (λ c. search needs)
-    returns-2)
+    (λ c. search needs)
+    slice-write-work-2
+    (λ c. search needs)
+    returns)

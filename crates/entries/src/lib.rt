@@ -21,6 +21,7 @@ use definition::Refusal;
 use definition::Span;
 use folded::Standing;
 use rows::AT;
+use rows::DEPENDING;
 use rows::NAME;
 use rows::NEXT;
 use rows::OFFSET;
@@ -410,13 +411,16 @@ pub fn put_entries(work: &[u32], entries: &[u32], n: usize, out: &mut [u8], at: 
     place
 }
 
-// Whether an entry has a DEPENDING ON.
+// Whether an entry has a DEPENDING ON: that of its row, and none for a union.
 fn depends(work: &[u32], x: Item) -> bool
     requires { ⌜ Sound (now work) x ⌝ }
     ensures { λ r. ⌜ r ≡ given (ownOf (now (work .entry)) x .depending) ⌝ }
 {
-    let e = own_of(work, x);
-    let depending = e.depending;
+    if 1 < x.mark {
+        return false;
+    }
+    let row = x.row;
+    let depending = rows::span_at(work[ROW * row + DEPENDING]);
     0 < depending.len
 }
 
@@ -453,13 +457,13 @@ fn item_end(work: &[u32], x: Item) -> usize
     ensures { λ r. ⌜ r ≡ entryEnd (ownOf (now (work .entry)) x) ⌝ }
 {
     let offset = offset_of(work, x);
-    let e = own_of(work, x);
-    let depending = e.depending;
-    if 0 < depending.len {
+    if 1 < x.mark {
+        return offset + x.width;
+    }
+    if depends(work, x) {
         return offset;
     }
-    let occurs = e.occurs;
-    offset + e.width * places::times_of(occurs) as usize
+    offset + folded::row_total(work, x.row)
 }
 
 // Where entry k ends, if it stands at the top; else 0.

@@ -40,9 +40,7 @@ pub fn row_total(work: &[u32], k: usize) -> usize
     requires { ⌜ SizedRow (now work) k ⌝ }
     ensures { λ r. ⌜ Measured (total (entryIn (now (work .entry)) k)) r ⌝ }
 {
-    let s = rows::statement_at(work, k);
-    let clauses = s.clauses;
-    let occurs = clauses.occurs;
+    let occurs = rows::occurs_in(work, k);
     places::wide(work[ROW * k + WIDTH]) * places::times_of(occurs) as usize
 }
 

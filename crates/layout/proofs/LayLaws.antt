@@ -86,7 +86,7 @@ seen-step :
 seen-step w i last x fits l h =
     let es = entry (x .own) (x .members) end in
     let w′ = putPlaces w i last es in
-    let name : spanAt (cell w′ i NAME) ≡ x .own .name = ap spanAt (kept-places es w i last i 3 (lit< tt)) ∙ h in
+    let name : spanAt (cell w′ i NAME) ≡ x .own .name = ap spanAt (kept-places es w i last i NAME (lit< tt)) ∙ h in
     let offset : cell w′ i OFFSET ≡ x .own .offset = first-offset (x .own) (x .members) end w i last fits in
     let before : seenFrom false w′ i (cell w′ i BEFORE) ≡ seenAt w last =
     ap (seenFrom false w′ i) (first-last (x .own) (x .members) end w i last fits)

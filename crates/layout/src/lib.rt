@@ -7,7 +7,6 @@ ghost use Rattle.definition.specs.Layout.{content, start};
 ghost use Rattle.definition.specs.Calls.{pictureOf, checkOf};
 ghost use Rattle.definition.specs.Statement.{usageOf, signOf};
 ghost use Rattle.definition.specs.Tree.{Forest.leaf};
-ghost use Rattle.definition.specs.Picture.{isBinary};
 ghost use Rattle.places.specs.Places.{seenAt, basesAt, entryIn, entriesIn, Linked, rowsForest};
 ghost use Rattle.layout.specs.Outcomes.{placeRow, layItem, layTable};
 ghost use Rattle.layout.specs.Steps.{startOf, itemOf, listOf, Room, checkEntry};
@@ -31,29 +30,6 @@ use places::Target;
 use rows::AT;
 use rows::OFFSET;
 use rows::ROW;
-
-// Whether a kind is binary.
-fn is_binary(kind: FieldKind) -> bool
-    ensures { λ r. ⌜ r ≡ isBinary kind ⌝ }
-{
-    match kind {
-        FieldKind::Text => false,
-        FieldKind::Int { signed, sign } => false,
-        FieldKind::Binary { signed } => true,
-        FieldKind::Decimal {
-            precision,
-            scale,
-            repr,
-            sign,
-        } => false,
-        FieldKind::Edited {
-            precision,
-            scale,
-            signed,
-        } => false,
-        FieldKind::Group => false,
-    }
-}
 
 // The first multiple of the width from the cursor on.
 fn aligned(cursor: usize, width: usize) -> usize
@@ -102,7 +78,7 @@ fn start_of(
     }
     if clauses.sync {
         let kind = c.kind;
-        if is_binary(kind) {
+        if kinds::is_binary(kind) {
             return Start::At(aligned(cursor, c.width));
         }
     }

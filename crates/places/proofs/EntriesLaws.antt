@@ -16,12 +16,13 @@ use Rattle.definition.specs.Layout.{entryOf}
 use Rattle.definition.specs.Owner.{size}
 use Rattle.definition.specs.Search.{entries#}
 use Rattle.definition.proofs.Lists.{tested}
-use Rattle.rows.specs.Columns.{ROW, OFFSET, WIDTH, KIND, BEFORE, BASE}
+use Rattle.kinds.specs.Kinds.{kindCode, kindAt, Bytes}
+use Rattle.rows.specs.Columns.{ROW, AT, NAME, PICTURE, DEPENDING, REDEFINES, SAID, LOW, HIGH, OFFSET, WIDTH, KIND, BEFORE, BASE}
 use Rattle.rows.specs.Table.{cell, statementAt, statementsFrom}
 use Rattle.rows.proofs.TableLaws.{statement-same, length-statements}
-use Rattle.places.specs.Places.{kindCode, kindOfCode, Bytes, putPlace, putPlaces, entryIn, rowsForest, entriesIn, Linked}
+use Rattle.places.specs.Places.{putPlace, putPlaces, entryIn, rowsForest, entriesIn, Linked}
 use Rattle.places.specs.Ends.{ChildrenEnd}
-use Rattle.places.proofs.KindLaws.{kind-back}
+use Rattle.kinds.proofs.Back.{kind-back}
 use Rattle.places.proofs.PlaceLaws.{length-place, length-places, kept-place, kept-places, before-places, first-offset, first-width, first-kind, first-last}
 use Rattle.places.proofs.RowLaws.{forest-split}
 
@@ -100,17 +101,17 @@ rows-same w w′ h k (item s kids later) r =
 pub entry-same : (w w′ : List ℕ) (k : ℕ) → ((c : ℕ) → c < BASE → cell w k c ≡ cell w′ k c) → entryIn w k ≡ entryIn w′ k
 entry-same w w′ k h =
     cc (
-      h 2 (lit< tt),
-      h 3 (lit< tt),
-      h 4 (lit< tt),
-      h 5 (lit< tt),
-      h 6 (lit< tt),
-      h 10 (lit< tt),
-      h 11 (lit< tt),
-      h 12 (lit< tt),
-      h 13 (lit< tt),
-      h 14 (lit< tt),
-      h 15 (lit< tt),
+      h AT (lit< tt),
+      h NAME (lit< tt),
+      h PICTURE (lit< tt),
+      h DEPENDING (lit< tt),
+      h REDEFINES (lit< tt),
+      h SAID (lit< tt),
+      h LOW (lit< tt),
+      h HIGH (lit< tt),
+      h OFFSET (lit< tt),
+      h WIDTH (lit< tt),
+      h KIND (lit< tt),
     )
 
 -- and the entries of a list from its rows
@@ -136,11 +137,11 @@ entry-held :
     cell w k KIND ≡ kindCode (e .kind) →
     entryIn w k ≡ e
 entry-held w k s e o h a b c =
-    let kind : kindOfCode (cell w k KIND) ≡ o .contents .kind =
-    ap kindOfCode (c ∙ ap (λ (x : Entry). kindCode (x .kind)) (o .is)) ∙ kind-back (o .contents .kind) (o .bytes) in
+    let kind : kindAt (cell w k KIND) ≡ o .contents .kind =
+    ap kindAt (c ∙ ap (λ (x : Entry). kindCode (x .kind)) (o .is)) ∙ kind-back (o .contents .kind) (o .bytes) in
     let a′ : cell w k OFFSET ≡ o .place = a ∙ ap (λ (x : Entry). x .offset) (o .is) in
     let b′ : cell w k WIDTH ≡ o .contents .width = b ∙ ap (λ (x : Entry). x .width) (o .is) in
-    let made : Statement → Entry = λ x. record { at = x .at; name = x .name; offset = cell w k OFFSET; width = cell w k WIDTH; kind = kindOfCode (cell w k KIND); picture = x .clauses .picture; occurs = x .clauses .occurs; depending = x .clauses .depending; redefines = x .clauses .redefines } in
+    let made : Statement → Entry = λ x. record { at = x .at; name = x .name; offset = cell w k OFFSET; width = cell w k WIDTH; kind = kindAt (cell w k KIND); picture = x .clauses .picture; occurs = x .clauses .occurs; depending = x .clauses .depending; redefines = x .clauses .redefines } in
     let same : entryIn w k ≡ made s = ap made h in
     let whole : made s ≡ entryOf s (o .contents) (o .place) = cc (kind, a′, b′) in
     same ∙ whole ∙ sym (o .is)

@@ -15,10 +15,11 @@ use Rattle.definition.specs.declared.Entry.{Entry}
 use Rattle.definition.specs.Fold.{Entries, end, entry}
 use Rattle.definition.specs.Search.{entries#}
 use Rattle.definition.proofs.Lists.{order}
-use Rattle.rows.specs.Columns.{ROW, OFFSET, WIDTH, KIND, BEFORE, BELOW}
+use Rattle.kinds.specs.Kinds.{kindCode}
+use Rattle.rows.specs.Columns.{ROW, NAME, REDEFINES, OFFSET, WIDTH, KIND, BEFORE, BELOW}
 use Rattle.rows.specs.Table.{cell, statementAt, statementsFrom}
 use Rattle.rows.proofs.TableLaws.{getD-below, getD-above, getD-in, statement-same}
-use Rattle.places.specs.Places.{kindCode, placeCells, putPlace, putPlaces, placeAt, leftOut, seenFrom}
+use Rattle.places.specs.Places.{placeCells, putPlace, putPlaces, placeAt, leftOut, seenFrom}
 
 -- ---------------------------------------------------------------- runs of stores
 
@@ -191,4 +192,4 @@ seen-same bases w w′ zero last h = refl
 seen-same bases w w′ (suc k) last h =
     let back = seen-same bases w w′ k (cell w k BEFORE) (λ j c l m. h j c (omega arith) m) in
     let on = seen-same bases w w′ k last (λ j c l m. h j c (omega arith) m) in
-    cc (h k 3 (omega arith) (lit< tt), h k 6 (omega arith) (lit< tt), h k 13 (omega arith) (lit< tt), h k 16 (omega arith) (lit< tt), back, on)
+    cc (h k NAME (omega arith) (lit< tt), h k REDEFINES (omega arith) (lit< tt), h k OFFSET (omega arith) (lit< tt), h k BEFORE (omega arith) (lit< tt), back, on)

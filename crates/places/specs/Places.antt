@@ -1,7 +1,7 @@
--- What the layout adds to the rows of the table: columns 13 to 17 of row k hold the offset, the width and the kind of its entry, the previous
+-- What the layout adds to the rows of the table: columns OFFSET to BELOW of row k hold the offset, the width and the kind of its entry, the previous
 -- sibling (0 for none, else its row and 1) and the number of rows below it.
 -- Assumes nothing.
-use Prim.Native.Nat.{ℕ, zero, suc, _+_, _*_, _-_, _/_, _%_, _<_}
+use Prim.Native.Nat.{ℕ, zero, suc, _+_, _*_, _-_, _<_}
 use mathlib.Core.Path.{_≡_}
 use mathlib.Core.Bool.{Bool, true, false, _&&_}
 use mathlib.Core.List.{List, [], _∷_}
@@ -9,67 +9,20 @@ use mathlib.Core.Option.{Option, none, some}
 use lib.Dec.{eqb}
 use lib.Seq.{sets}
 use Rattle.definition.specs.declared.Span.{Span}
-use Rattle.definition.specs.declared.SignKind.{SignKind}
-use Rattle.definition.specs.declared.NumRepr.{NumRepr}
-use Rattle.definition.specs.declared.FieldKind.{FieldKind}
 use Rattle.definition.specs.declared.Entry.{Entry}
 use Rattle.definition.specs.Basic.{if_then_else_, given}
 use Rattle.definition.specs.Tree.{Forest, leaf, item, forest}
 use Rattle.definition.specs.Fold.{Entries, end, entry, sameName, Place}
 use Rattle.definition.specs.Owner.{size}
-use Rattle.definition.specs.Listing.{flag, signByte, storageByte}
 use Rattle.definition.specs.Search.{entries#}
+use Rattle.kinds.specs.Kinds.{kindCode, kindAt}
 use Rattle.rows.specs.Columns.{ROW, AT, NAME, REDEFINES, OFFSET, WIDTH, KIND, BEFORE}
 use Rattle.rows.specs.Table.{spanAt, cell, clausesAt, statementsFrom}
 use Rattle.places.specs.declared.Target.{Target}
 
--- ---------------------------------------------------------------- a number for a kind
-
--- the kind's own number, and above it what it holds
-abbrev pub kindCode : FieldKind → ℕ
-kindCode FieldKind.Text = 1
-kindCode (FieldKind.Int signed sign) = 2 + 8 * (flag signed + 2 * signByte sign)
-kindCode (FieldKind.Binary signed) = 3 + 8 * flag signed
-kindCode (FieldKind.Decimal precision scale repr sign) = 4 + 8 * (precision + 256 * (scale + 256 * (storageByte repr + 4 * signByte sign)))
-kindCode (FieldKind.Edited precision scale signed) = 5 + 8 * (precision + 256 * (scale + 256 * flag signed))
-kindCode FieldKind.Group = 6
-
--- a sign from the listing's number
-abbrev pub signOfByte : ℕ → SignKind
-signOfByte n =
-    if eqb n 1 then SignKind.Embedded
-    else if eqb n 2 then SignKind.LeadingSeparate
-    else if eqb n 3 then SignKind.TrailingSeparate
-    else SignKind.Unsigned
-
--- a storage from the listing's number
-abbrev pub storageOfByte : ℕ → NumRepr
-storageOfByte n = if eqb n 1 then NumRepr.Comp3 else if eqb n 2 then NumRepr.Zoned else NumRepr.Display
-
--- a kind from its number
-abbrev pub kindOfCode : ℕ → FieldKind
-kindOfCode n =
-    let k = n % 8 in
-    let d = n / 8 in
-    if eqb k 1 then FieldKind.Text
-    else if eqb k 2 then FieldKind.Int (eqb (d % 2) 1) (signOfByte (d / 2 % 4))
-    else if eqb k 3 then FieldKind.Binary (eqb (d % 2) 1)
-    else if eqb k 4 then FieldKind.Decimal (d % 256) (d / 256 % 256) (storageOfByte (d / 65536 % 4)) (signOfByte (d / 262144 % 4))
-    else if eqb k 5 then FieldKind.Edited (d % 256) (d / 256 % 256) (eqb (d / 65536 % 2) 1)
-    else FieldKind.Group
-
--- a kind that its number gives back: its precision and scale are bytes
-abbrev pub Bytes : FieldKind → Type 0
-Bytes FieldKind.Text = Unit {0}
-Bytes (FieldKind.Int signed sign) = Unit {0}
-Bytes (FieldKind.Binary signed) = Unit {0}
-Bytes (FieldKind.Decimal precision scale repr sign) = (precision < 256) × (scale < 256)
-Bytes (FieldKind.Edited precision scale signed) = (precision < 256) × (scale < 256)
-Bytes FieldKind.Group = Unit {0}
-
 -- ---------------------------------------------------------------- places
 
--- columns 13 to 17
+-- columns OFFSET to BELOW
 abbrev pub placeCells : Entry → ℕ → ℕ → List ℕ
 placeCells e last below = e .offset ∷ e .width ∷ kindCode (e .kind) ∷ last ∷ below ∷ []
 
@@ -97,7 +50,7 @@ entryIn w k =
       name = spanAt (cell w k NAME);
       offset = cell w k OFFSET;
       width = cell w k WIDTH;
-      kind = kindOfCode (cell w k KIND);
+      kind = kindAt (cell w k KIND);
       picture = c .picture;
       occurs = c .occurs;
       depending = c .depending;

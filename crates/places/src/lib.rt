@@ -6,16 +6,12 @@ ghost use lib.ListN.{length};
 ghost use Rattle.definition.specs.Basic.{part};
 ghost use Rattle.definition.specs.Fold.{sameName, find, times};
 ghost use Rattle.definition.specs.Layout.{entryOf};
-ghost use Rattle.definition.specs.Listing.{signByte, storageByte};
-ghost use Rattle.places.specs.Places.{kindCode, signOfByte, storageOfByte, kindOfCode, putPlace, seenFrom, leftOut, isTarget, rowFrom, found, entryIn};
+ghost use Rattle.places.specs.Places.{putPlace, seenFrom, leftOut, isTarget, rowFrom, found, entryIn};
 ghost use Rattle.places.specs.Ends.{ChildrenEnd, endOf, endingOf};
 ghost use Rattle.rows.specs.Columns.{ROW};
 use definition::Entry;
-use definition::FieldKind;
-use definition::NumRepr;
 use definition::Occurs;
 use definition::Pictured;
-use definition::SignKind;
 use definition::Span;
 use definition::Statement;
 use rows::BEFORE;
@@ -59,128 +55,6 @@ pub fn same_names(text: &[u8], a: Span, b: Span) -> bool
     true
 }
 
-// The listing's number of a sign.
-fn sign_byte(s: SignKind) -> u32
-    ensures { λ r. ⌜ (r ≡ signByte s) × (r ≤ 3) ⌝ }
-{
-    match s {
-        SignKind::Unsigned => 0,
-        SignKind::Embedded => 1,
-        SignKind::LeadingSeparate => 2,
-        SignKind::TrailingSeparate => 3,
-    }
-}
-
-// The listing's number of a storage.
-fn storage_byte(s: NumRepr) -> u32
-    ensures { λ r. ⌜ (r ≡ storageByte s) × (r ≤ 2) ⌝ }
-{
-    match s {
-        NumRepr::Display => 0,
-        NumRepr::Comp3 => 1,
-        NumRepr::Zoned => 2,
-    }
-}
-
-// A byte as a number of 32 bits.
-fn byte_code(b: u8) -> u32
-    ensures { λ r. ⌜ (r ≡ b) × (r ≤ 255) ⌝ }
-{
-    b as u32
-}
-
-// A kind as one number.
-pub fn kind_code(kind: FieldKind) -> u32
-    ensures { λ r. ⌜ r ≡ kindCode kind ⌝ }
-{
-    match kind {
-        FieldKind::Text => 1,
-        FieldKind::Int { signed, sign } => 2 + 8 * (rows::flag_of(signed) + 2 * sign_byte(sign)),
-        FieldKind::Binary { signed } => 3 + 8 * rows::flag_of(signed),
-        FieldKind::Decimal {
-            precision,
-            scale,
-            repr,
-            sign,
-        } => 4
-            + 8
-                * (byte_code(precision)
-                    + 256 * (byte_code(scale) + 256 * (storage_byte(repr) + 4 * sign_byte(sign)))),
-        FieldKind::Edited {
-            precision,
-            scale,
-            signed,
-        } => 5
-            + 8 * (byte_code(precision) + 256 * (byte_code(scale) + 256 * rows::flag_of(signed))),
-        FieldKind::Group => 6,
-    }
-}
-
-// The sign that a number holds.
-fn sign_of_byte(n: u32) -> SignKind
-    ensures { λ r. ⌜ r ≡ signOfByte n ⌝ }
-{
-    if n == 1 {
-        return SignKind::Embedded;
-    }
-    if n == 2 {
-        return SignKind::LeadingSeparate;
-    }
-    if n == 3 {
-        return SignKind::TrailingSeparate;
-    }
-    SignKind::Unsigned
-}
-
-// The storage that a number holds.
-fn storage_of_byte(n: u32) -> NumRepr
-    ensures { λ r. ⌜ r ≡ storageOfByte n ⌝ }
-{
-    if n == 1 {
-        return NumRepr::Comp3;
-    }
-    if n == 2 {
-        return NumRepr::Zoned;
-    }
-    NumRepr::Display
-}
-
-// The kind that a number holds.
-pub fn kind_of_code(n: u32) -> FieldKind
-    ensures { λ r. ⌜ r ≡ kindOfCode n ⌝ }
-{
-    let k = n % 8;
-    let d = n / 8;
-    if k == 1 {
-        return FieldKind::Text;
-    }
-    if k == 2 {
-        return FieldKind::Int {
-            signed: d % 2 == 1,
-            sign: sign_of_byte(d / 2 % 4),
-        };
-    }
-    if k == 3 {
-        return FieldKind::Binary { signed: d % 2 == 1 };
-    }
-    if k == 4 {
-        return FieldKind::Decimal {
-            precision: (d % 256) as u8,
-            scale: (d / 256 % 256) as u8,
-            repr: storage_of_byte(d / 65536 % 4),
-            sign: sign_of_byte(d / 262144 % 4),
-        };
-    }
-    if k == 5 {
-        return FieldKind::Edited {
-            precision: (d % 256) as u8,
-            scale: (d / 256 % 256) as u8,
-            signed: d / 65536 % 2 == 1,
-        };
-    }
-    FieldKind::Group
-}
-
 // An item's place into row k: its offset, width and kind, the sibling before it (its row and 1, or 0) and the rows below it.
 pub fn put_place(work: &mut [u32], k: usize, last: usize, below: usize, e: Entry)
     requires { ⌜ (ROW * k + ROW ≤ length (now work)) × (last < 4294967296) × (below < 4294967296) × (e .offset < 4294967296) × (e .width < 4294967296) ⌝ }
@@ -190,7 +64,7 @@ pub fn put_place(work: &mut [u32], k: usize, last: usize, below: usize, e: Entry
     let kind = e.kind;
     work[at] = e.offset as u32;
     work[at + 1] = e.width as u32;
-    work[at + 2] = kind_code(kind);
+    work[at + 2] = kinds::kind_code(kind);
     work[at + 3] = last as u32;
     work[at + 4] = below as u32;
 }
@@ -311,7 +185,7 @@ pub fn entry_at(work: &[u32], k: usize) -> Entry
     ensures { λ r. ⌜ r ≡ entryIn (now (work .entry)) k ⌝ }
 {
     let s = rows::statement_at(work, k);
-    let kind = kind_of_code(work[ROW * k + KIND]);
+    let kind = kinds::kind_at(work[ROW * k + KIND]);
     let c = Pictured {
         kind,
         width: wide(work[ROW * k + WIDTH]),

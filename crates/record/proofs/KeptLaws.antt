@@ -16,7 +16,7 @@ use Rattle.definition.specs.Tree.{Forest, leaf, item, forest}
 use Rattle.definition.specs.Fold.{total}
 use Rattle.definition.specs.Owner.{size}
 use Rattle.definition.proofs.Lists.{order}
-use Rattle.rows.specs.Columns.{ROW, REDEFINES, BEFORE, BELOW, BASE, NEXT}
+use Rattle.rows.specs.Columns.{ROW, NAME, REDEFINES, BEFORE, BELOW, BASE, NEXT}
 use Rattle.rows.specs.Table.{cell, spanAt, statementsFrom}
 use Rattle.rows.proofs.TableLaws.{statement-same}
 use Rattle.places.specs.Places.{rowFrom, entriesIn, rowsForest}
@@ -63,11 +63,11 @@ module _ {w w′ : List ℕ} (h : Kept BASE w w′) where
   base-kept t target (suc k) last =
       let back = base-kept t target k (cell w k BEFORE) in
       let on = base-kept t target k last in
-      cc (h .same k 3 (lit< tt), h .same k 6 (lit< tt), h .same k 16 (lit< tt), back, on)
+      cc (h .same k NAME (lit< tt), h .same k REDEFINES (lit< tt), h .same k BEFORE (lit< tt), back, on)
 
   base-of-kept : (t : List ℕ) (k : ℕ) → baseOf t w′ k ≡ baseOf t w k
   base-of-kept t k =
-      ap₂ (λ (a b : ℕ). if given (spanAt a) then baseFrom t (spanAt a) w′ k b else 0) (h .same k 6 (lit< tt)) (h .same k 16 (lit< tt))
+      ap₂ (λ (a b : ℕ). if given (spanAt a) then baseFrom t (spanAt a) w′ k b else 0) (h .same k REDEFINES (lit< tt)) (h .same k BEFORE (lit< tt))
       ∙ ap (λ (x : ℕ). if given (spanAt (cell w k REDEFINES)) then x else 0) (base-kept t (spanAt (cell w k REDEFINES)) k (cell w k BEFORE))
 
 pub kept-self : (c : ℕ) (w : List ℕ) → Kept c w w

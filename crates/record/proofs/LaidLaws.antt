@@ -23,7 +23,7 @@ use Rattle.definition.proofs.Answers.{or-false, through, given-same}
 use Rattle.definition.proofs.Lists.{order}
 use Rattle.definition.specs.Statement.{statements}
 use Rattle.definition.specs.Words.{statementWords}
-use Rattle.rows.specs.Columns.{ROW}
+use Rattle.rows.specs.Columns.{ROW, BEFORE, BELOW}
 use Rattle.rows.specs.Table.{cell, statementAt, statementsFrom}
 use Rattle.reading.proofs.ReadingLaws.{Stored}
 use Rattle.definition.specs.Calls.{checkOf}
@@ -122,11 +122,11 @@ module _
 
 -- every row names the sibling before it
 places-chained : (f : Forest) (es : Entries) (w : List ℕ) (k last : ℕ) → Of f es → ROW * (k + size f) ≤ length w → Chained (putPlaces w k last es) k last f
-places-chained = places-column 16 (λ before kids. before) (lit< tt) (λ e members more w k last kids m fits. first-last e members more w k last fits)
+places-chained = places-column BEFORE (λ before kids. before) (lit< tt) (λ e members more w k last kids m fits. first-last e members more w k last fits)
 
 -- and counts the rows below it
 places-counted : (f : Forest) (es : Entries) (w : List ℕ) (k last : ℕ) → Of f es → ROW * (k + size f) ≤ length w → Counted (putPlaces w k last es) k last f
-places-counted = places-column 17 (λ before kids. size kids) (lit< tt) (λ e members more w k last kids m fits. first-below e members more w k last fits ∙ m)
+places-counted = places-column BELOW (λ before kids. size kids) (lit< tt) (λ e members more w k last kids m fits. first-below e members more w k last fits ∙ m)
 
 -- ---------------------------------------------------------------- a list that was laid
 
@@ -157,8 +157,8 @@ module _ (text w : List ℕ) (a b depth : ℕ) {width : ℕ} {w₁ : List ℕ} (
       let many₁ = size-stretch w₁ a b in
       record {
         fits = subst (λ (x : List ℕ). ROW * b ≤ length x) (n .put) (omega (arith, length-places es w a 0));
-        chained = laid-column 16 (λ before kids. before) (places-chained f es w a 0 of-rows (omega (arith, size-stretch w a b)));
-        counted = laid-column 17 (λ before kids. size kids) (places-counted f es w a 0 of-rows (omega (arith, size-stretch w a b)));
+        chained = laid-column BEFORE (λ before kids. before) (places-chained f es w a 0 of-rows (omega (arith, size-stretch w a b)));
+        counted = laid-column BELOW (λ before kids. size kids) (places-counted f es w a 0 of-rows (omega (arith, size-stretch w a b)));
         sized = record { totals = λ k l u. rows-sized w₁ (rowsForest w₁ a b) a sized k l (omega (arith, many₁)) };
       }
 

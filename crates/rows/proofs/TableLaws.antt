@@ -12,17 +12,17 @@ use lib.Dec.{eqb, lit<}
 use lib.ListN.{length, getD, set, length-set}
 use lib.Seq.{sets, length-sets, getD-set-other, getD-set-same}
 use Rattle.definition.specs.declared.Span.{Span}
-use Rattle.definition.specs.declared.Usage.{Usage}
-use Rattle.definition.specs.declared.UsageClause.{UsageClause}
-use Rattle.definition.specs.declared.SignWords.{SignWords}
 use Rattle.definition.specs.declared.Occurs.{Occurs}
+use Rattle.definition.specs.declared.Clauses.{Clauses}
 use Rattle.definition.specs.declared.Statement.{Statement}
 use Rattle.definition.specs.Basic.{span}
 use Rattle.definition.specs.Listing.{flag}
 use Rattle.definition.specs.Statement.{clausesOf}
 use Rattle.definition.proofs.Lists.{order}
-use Rattle.rows.specs.Columns.{ROW, OFFSET}
-use Rattle.rows.specs.Table.{spanCode, spanAt, usageCode, usageAt, signCode, signAt, markOf, countOf, occursAt}
+use Rattle.kinds.specs.Usages.{usageCode, usageClauseAt, signCode, signWordsAt}
+use Rattle.kinds.proofs.Back.{flag-back, flag-few, usage-back, usage-few, sign-words-back, sign-words-few}
+use Rattle.rows.specs.Columns.{ROW, LEVEL, DEPTH, AT, NAME, PICTURE, DEPENDING, REDEFINES, SAID, LOW, HIGH, OFFSET}
+use Rattle.rows.specs.Table.{spanCode, spanAt, markOf, countOf, occursAt, saidCode}
 use Rattle.rows.specs.Table.{Short, Storable, Storables, cells, putRow, putRows, cell, depthAt, clausesAt, statementAt, statementsFrom, depthsFrom}
 
 -- ---------------------------------------------------------------- the parts, read back
@@ -33,26 +33,31 @@ span-back w h =
     let len : spanCode w % 65536 ≡ w .len = omega arith in
     ap₂ span start len
 
-usage-back : (u : UsageClause) → usageAt (usageCode u) ≡ u
-usage-back UsageClause.Absent = refl
-usage-back (UsageClause.Given Usage.Display) = refl
-usage-back (UsageClause.Given Usage.Comp3) = refl
-usage-back (UsageClause.Given Usage.Comp) = refl
-
-sign-back : (s : SignWords) → signAt (signCode s) ≡ s
-sign-back SignWords.Absent = refl
-sign-back (SignWords.Said false false) = refl
-sign-back (SignWords.Said true false) = refl
-sign-back (SignWords.Said false true) = refl
-sign-back (SignWords.Said true true) = refl
-
-pub flag-back : (b : Bool) → eqb (flag b) 1 ≡ b
-flag-back true = refl
-flag-back false = refl
-
 occurs-back : (o : Occurs) → occursAt (markOf o) (countOf o % 4294967296) (countOf o / 4294967296) ≡ o
 occurs-back Occurs.Once = refl
 occurs-back (Occurs.Times n) = ap Occurs.Times (div-add-mod' n 4294967296)
+
+mark-few : (o : Occurs) → markOf o < 2
+mark-few Occurs.Once = omega arith
+mark-few (Occurs.Times n) = omega arith
+
+-- the parts of what is said
+module _ (c : Clauses) where
+  said-usage : saidCode c % 8 ≡ usageCode (c .usage)
+  said-usage = omega (arith, usage-few (c .usage))
+
+  said-sign : saidCode c / 8 % 8 ≡ signCode (c .sign)
+  said-sign =
+      let d : saidCode c / 8 ≡ signCode (c .sign) + 8 * (flag (c .sync) + 2 * markOf (c .occurs)) = omega (arith, usage-few (c .usage)) in
+      rw d (omega (arith, sign-words-few (c .sign)))
+
+  said-sync : saidCode c / 64 % 2 ≡ flag (c .sync)
+  said-sync =
+      let d : saidCode c / 64 ≡ flag (c .sync) + 2 * markOf (c .occurs) = omega (arith, usage-few (c .usage), sign-words-few (c .sign)) in
+      rw d (omega (arith, flag-few (c .sync)))
+
+  said-mark : saidCode c / 128 ≡ markOf (c .occurs)
+  said-mark = omega (arith, usage-few (c .usage), sign-words-few (c .sign), flag-few (c .sync))
 
 -- ---------------------------------------------------------------- a run of stores
 
@@ -97,10 +102,10 @@ module _ (w : List ℕ) (a depth : ℕ) (s : Statement) where
 -- ---------------------------------------------------------------- one row
 
 module _ (w : List ℕ) (k : ℕ) where
-  -- a statement depends on its 13 columns alone
+  -- a statement depends on its columns alone
   pub statement-same : (w′ : List ℕ) → ((c : ℕ) → c < OFFSET → cell w k c ≡ cell w′ k c) → statementAt w k ≡ statementAt w′ k
   statement-same w′ h =
-      cc (h 0 (lit< tt), h 2 (lit< tt), h 3 (lit< tt), h 4 (lit< tt), h 5 (lit< tt), h 6 (lit< tt), h 7 (lit< tt), h 8 (lit< tt), h 9 (lit< tt), h 10 (lit< tt), h 11 (lit< tt), h 12 (lit< tt))
+      cc (h LEVEL (lit< tt), h AT (lit< tt), h NAME (lit< tt), h PICTURE (lit< tt), h DEPENDING (lit< tt), h REDEFINES (lit< tt), h SAID (lit< tt), h LOW (lit< tt), h HIGH (lit< tt))
 
   -- columns that are a statement's hold the statement
   module _ (depth : ℕ) (s : Statement) (h : (c : ℕ) → c < OFFSET → cell w k c ≡ getD (cells depth s) c 0) (fits : Storable s) where
@@ -110,16 +115,16 @@ module _ (w : List ℕ) (k : ℕ) where
         let b = fits .placed .clauses in
         let same : clausesAt w k ≡ clausesOf (c .picture) (c .usage) (c .sign) (c .sync) (c .occurs) (c .depending) (c .redefines) =
         cc (
-          ap spanAt (h 4 (lit< tt)) ∙ span-back (c .picture) (b .picture),
-          ap usageAt (h 7 (lit< tt)) ∙ usage-back (c .usage),
-          ap signAt (h 8 (lit< tt)) ∙ sign-back (c .sign),
-          ap (λ (n : ℕ). eqb n 1) (h 9 (lit< tt)) ∙ flag-back (c .sync),
-          h 10 (lit< tt),
-          h 11 (lit< tt),
-          h 12 (lit< tt),
+          ap spanAt (h PICTURE (lit< tt)) ∙ span-back (c .picture) (b .picture),
+          ap (λ (n : ℕ). usageClauseAt (n % 8)) (h SAID (lit< tt)) ∙ ap usageClauseAt (said-usage c) ∙ usage-back (c .usage),
+          ap (λ (n : ℕ). signWordsAt (n / 8 % 8)) (h SAID (lit< tt)) ∙ ap signWordsAt (said-sign c) ∙ sign-words-back (c .sign),
+          ap (λ (n : ℕ). eqb (n / 64 % 2) 1) (h SAID (lit< tt)) ∙ ap (λ (n : ℕ). eqb n 1) (said-sync c) ∙ flag-back (c .sync),
+          ap (λ (n : ℕ). n / 128) (h SAID (lit< tt)) ∙ said-mark c,
+          h LOW (lit< tt),
+          h HIGH (lit< tt),
           occurs-back (c .occurs),
-          ap spanAt (h 5 (lit< tt)) ∙ span-back (c .depending) (b .depending),
-          ap spanAt (h 6 (lit< tt)) ∙ span-back (c .redefines) (b .redefines),
+          ap spanAt (h DEPENDING (lit< tt)) ∙ span-back (c .depending) (b .depending),
+          ap spanAt (h REDEFINES (lit< tt)) ∙ span-back (c .redefines) (b .redefines),
         ) in
         same
 
@@ -127,9 +132,9 @@ module _ (w : List ℕ) (k : ℕ) where
     statement-held =
         let same : statementAt w k ≡ record { level = s .level; at = s .at; name = s .name; clauses = s .clauses } =
         cc (
-          ap (λ (n : ℕ). n % 256) (h 0 (lit< tt)) ∙ mod-eq-of-lt (fits .level),
-          h 2 (lit< tt),
-          ap spanAt (h 3 (lit< tt)) ∙ span-back (s .name) (fits .placed .name),
+          ap (λ (n : ℕ). n % 256) (h LEVEL (lit< tt)) ∙ mod-eq-of-lt (fits .level),
+          h AT (lit< tt),
+          ap spanAt (h NAME (lit< tt)) ∙ span-back (s .name) (fits .placed .name),
           clauses-held,
         ) in
         same
@@ -140,7 +145,7 @@ module _ (w : List ℕ) (a depth : ℕ) (s : Statement) where
   statement-put h fits = statement-held (putRow w a depth s) a depth s (cell-put w a depth s h) fits
 
   pub depth-put : ROW * a + ROW ≤ length w → depthAt (putRow w a depth s) a ≡ depth
-  depth-put h = cell-put w a depth s h 1 (lit< tt)
+  depth-put h = cell-put w a depth s h DEPTH (lit< tt)
 
   -- and the other rows are as before
   pub statement-other : (k : ℕ) → (k ≡ a → ⊥) → statementAt (putRow w a depth s) k ≡ statementAt w k

@@ -22,7 +22,7 @@ AT = 2
 abbrev pub NAME : ℕ
 NAME = 3
 
--- its clauses: three places in the text, the usage, the sign and SYNC
+-- its clauses: three places in the text; usage, sign, SYNC and whether it has OCCURS in one number
 abbrev pub PICTURE : ℕ
 PICTURE = 4
 
@@ -32,49 +32,40 @@ DEPENDING = 5
 abbrev pub REDEFINES : ℕ
 REDEFINES = 6
 
-abbrev pub USAGE : ℕ
-USAGE = 7
+abbrev pub SAID : ℕ
+SAID = 7
 
-abbrev pub SIGN : ℕ
-SIGN = 8
-
-abbrev pub SYNC : ℕ
-SYNC = 9
-
--- whether it has OCCURS, and the count's lower and upper 32 bits
-abbrev pub OCCURS : ℕ
-OCCURS = 10
-
+-- the count of OCCURS, its lower and its upper 32 bits
 abbrev pub LOW : ℕ
-LOW = 11
+LOW = 8
 
 abbrev pub HIGH : ℕ
-HIGH = 12
+HIGH = 9
 
 -- ---------------------------------------------------------------- the layout
 
 -- its offset in its list, its width, its kind as one number
 abbrev pub OFFSET : ℕ
-OFFSET = 13
+OFFSET = 10
 
 abbrev pub WIDTH : ℕ
-WIDTH = 14
+WIDTH = 11
 
 abbrev pub KIND : ℕ
-KIND = 15
+KIND = 12
 
 -- the sibling before it: its row and 1, or 0 for none
 abbrev pub BEFORE : ℕ
-BEFORE = 16
+BEFORE = 13
 
 -- how many rows stand below it
 abbrev pub BELOW : ℕ
-BELOW = 17
+BELOW = 14
 
 -- the base that it redefines: its row and 1, or 0 for none
 abbrev pub BASE : ℕ
-BASE = 18
+BASE = 15
 
 -- the next row of its union, a base's first redefiner or a redefiner's next one: its row and 1, or 0 for none
 abbrev pub NEXT : ℕ
-NEXT = 19
+NEXT = 16

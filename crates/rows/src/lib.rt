@@ -5,17 +5,13 @@ ghost use mathlib.Core.List.{[], _∷_};
 ghost use lib.ListN.{length};
 ghost use lib.Seq.{sets};
 ghost use Rattle.definition.specs.Calls.{cleared};
-ghost use Rattle.definition.specs.Listing.{flag};
 ghost use Rattle.rows.specs.Columns.{ROW};
-ghost use Rattle.rows.specs.Table.{spanCode, spanAt, usageCode, usageAt, signCode, signAt, markOf, countOf, occursAt};
+ghost use Rattle.rows.specs.Table.{spanCode, spanAt, markOf, countOf, occursAt, saidCode, occursIn};
 ghost use Rattle.rows.specs.Table.{Short, Brief, Placed, clauseCells, putRow, clausesAt, statementAt};
 use definition::Clauses;
 use definition::Occurs;
-use definition::SignWords;
 use definition::Span;
 use definition::Statement;
-use definition::Usage;
-use definition::UsageClause;
 
 // The columns of a row, as `specs/Columns` has them.
 pub const ROW: usize = 20;
@@ -34,31 +30,25 @@ pub const DEPENDING: usize = 5;
 
 pub const REDEFINES: usize = 6;
 
-pub const USAGE: usize = 7;
+pub const SAID: usize = 7;
 
-pub const SIGN: usize = 8;
+pub const LOW: usize = 8;
 
-pub const SYNC: usize = 9;
+pub const HIGH: usize = 9;
 
-pub const OCCURS: usize = 10;
+pub const OFFSET: usize = 10;
 
-pub const LOW: usize = 11;
+pub const WIDTH: usize = 11;
 
-pub const HIGH: usize = 12;
+pub const KIND: usize = 12;
 
-pub const OFFSET: usize = 13;
+pub const BEFORE: usize = 13;
 
-pub const WIDTH: usize = 14;
+pub const BELOW: usize = 14;
 
-pub const KIND: usize = 15;
+pub const BASE: usize = 15;
 
-pub const BEFORE: usize = 16;
-
-pub const BELOW: usize = 17;
-
-pub const BASE: usize = 18;
-
-pub const NEXT: usize = 19;
+pub const NEXT: usize = 16;
 
 // Work memory to zero.
 pub fn clear(work: &mut [u32])
@@ -89,100 +79,8 @@ pub fn span_at(n: u32) -> Span
     }
 }
 
-// A usage as a number.
-fn usage_code(u: UsageClause) -> u32
-    ensures { λ r. ⌜ r ≡ usageCode u ⌝ }
-{
-    match u {
-        UsageClause::Absent => 0,
-        UsageClause::Given(v) => match v {
-            Usage::Display => 1,
-            Usage::Comp3 => 2,
-            Usage::Comp => 3,
-        },
-    }
-}
-
-// The usage that a number holds.
-fn usage_at(n: u32) -> UsageClause
-    ensures { λ r. ⌜ r ≡ usageAt n ⌝ }
-{
-    if n == 1 {
-        return UsageClause::Given(Usage::Display);
-    }
-    if n == 2 {
-        return UsageClause::Given(Usage::Comp3);
-    }
-    if n == 3 {
-        return UsageClause::Given(Usage::Comp);
-    }
-    UsageClause::Absent
-}
-
-// What is said of the sign as a number.
-fn sign_code(s: SignWords) -> u32
-    ensures { λ r. ⌜ r ≡ signCode s ⌝ }
-{
-    match s {
-        SignWords::Absent => 0,
-        SignWords::Said { leading, separate } => {
-            if leading {
-                if separate {
-                    return 4;
-                }
-                return 2;
-            }
-            if separate {
-                return 3;
-            }
-            1
-        }
-    }
-}
-
-// What is said of the sign, from its number.
-fn sign_at(n: u32) -> SignWords
-    ensures { λ r. ⌜ r ≡ signAt n ⌝ }
-{
-    if n == 1 {
-        return SignWords::Said {
-            leading: false,
-            separate: false,
-        };
-    }
-    if n == 2 {
-        return SignWords::Said {
-            leading: true,
-            separate: false,
-        };
-    }
-    if n == 3 {
-        return SignWords::Said {
-            leading: false,
-            separate: true,
-        };
-    }
-    if n == 4 {
-        return SignWords::Said {
-            leading: true,
-            separate: true,
-        };
-    }
-    SignWords::Absent
-}
-
-// 1 for true, 0 for false; no more than a small number for the sums that it stands in.
-pub fn flag_of(b: bool) -> u32
-    ensures { λ r. ⌜ (r ≡ flag b) × (r ≤ 1) ⌝ }
-{
-    if b {
-        return 1;
-    }
-    0
-}
-
 // Whether OCCURS is said, as a number.
-fn occurs_mark(o: Occurs) -> u32
+fn occurs_mark(o: Occurs) -> u8
     ensures { λ r. ⌜ r ≡ markOf o ⌝ }
 {
     match o {
@@ -222,16 +120,25 @@ fn put_four(work: &mut [u32], at: usize, a: u32, b: u32, c: u32, d: u32)
     work[at + 3] = d;
 }
 
+// Usage, sign, SYNC and whether OCCURS is said, as one number.
+fn said_code(c: Clauses) -> u32
+    ensures { λ r. ⌜ r ≡ saidCode c ⌝ }
+{
+    let usage = c.usage;
+    let sign = c.sign;
+    let occurs = c.occurs;
+    let marks = kinds::wide(kinds::flag_byte(c.sync)) + 2 * kinds::wide(occurs_mark(occurs));
+    kinds::wide(kinds::usage_code(usage)) + 8 * (kinds::wide(kinds::sign_code(sign)) + 8 * marks)
+}
+
 // The columns of the clauses, from a place on.
 fn put_clauses(work: &mut [u32], at: usize, c: Clauses)
-    requires { ⌜ (at + 9 ≤ length (now work)) × Brief c ⌝ }
+    requires { ⌜ (at + 6 ≤ length (now work)) × Brief c ⌝ }
     ensures { λ _. ⌜ now (work .exit) ≡ sets (now (work .entry)) at (clauseCells c) ⌝ }
 {
     let picture = c.picture;
     let depending = c.depending;
     let redefines = c.redefines;
-    let usage = c.usage;
-    let sign = c.sign;
     let occurs = c.occurs;
     let count = occurs_count(occurs);
     put_four(
@@ -240,17 +147,10 @@ fn put_clauses(work: &mut [u32], at: usize, c: Clauses)
         span_code(picture),
         span_code(depending),
         span_code(redefines),
-        usage_code(usage),
+        said_code(c),
     );
-    put_four(
-        work,
-        at + 4,
-        sign_code(sign),
-        flag_of(c.sync),
-        occurs_mark(occurs),
-        (count % 4294967296) as u32,
-    );
-    work[at + 8] = (count / 4294967296) as u32;
+    work[at + 4] = (count % 4294967296) as u32;
+    work[at + 5] = (count / 4294967296) as u32;
 }
 
 // A statement and its depth into row k.
@@ -272,21 +172,30 @@ pub fn put_row(work: &mut [u32], k: usize, depth: u32, s: Statement)
     put_clauses(work, base + 4, clauses);
 }
 
+// The OCCURS of the statement in row k.
+pub fn occurs_in(work: &[u32], k: usize) -> Occurs
+    requires { ⌜ ROW * k + ROW ≤ length (now work) ⌝ }
+    ensures { λ r. ⌜ r ≡ occursIn (now (work .entry)) k ⌝ }
+{
+    occurs_at(
+        work[ROW * k + SAID] / 128,
+        work[ROW * k + LOW],
+        work[ROW * k + HIGH],
+    )
+}
+
 // The clauses of the statement in row k.
 fn clauses_at(work: &[u32], k: usize) -> Clauses
     requires { ⌜ ROW * k + ROW ≤ length (now work) ⌝ }
     ensures { λ r. ⌜ r ≡ clausesAt (now (work .entry)) k ⌝ }
 {
+    let said = work[ROW * k + SAID];
     Clauses {
         picture: span_at(work[ROW * k + PICTURE]),
-        usage: usage_at(work[ROW * k + USAGE]),
-        sign: sign_at(work[ROW * k + SIGN]),
-        sync: work[ROW * k + SYNC] == 1,
-        occurs: occurs_at(
-            work[ROW * k + OCCURS],
-            work[ROW * k + LOW],
-            work[ROW * k + HIGH],
-        ),
+        usage: kinds::usage_clause_at((said % 8) as u8),
+        sign: kinds::sign_words_at((said / 8 % 8) as u8),
+        sync: said / 64 % 2 == 1,
+        occurs: occurs_in(work, k),
         depending: span_at(work[ROW * k + DEPENDING]),
         redefines: span_at(work[ROW * k + REDEFINES]),
     }

@@ -9,16 +9,17 @@ use Rattle.definition.specs.declared.FieldKind.{FieldKind}
 use Rattle.definition.specs.declared.Entry.{Entry}
 use Rattle.definition.specs.Picture.{pictured}
 use Rattle.definition.specs.Layout.{entryOf}
+use Rattle.kinds.specs.Kinds.{kindAt}
 use Rattle.rows.specs.Columns.{OFFSET, WIDTH, KIND}
 use Rattle.rows.specs.Table.{cell, statementAt}
-use Rattle.places.specs.Places.{kindOfCode, entryIn}
+use Rattle.places.specs.Places.{entryIn}
 use Rattle.places.proofs.entry_at.Statement.{statement}
 use Rattle.places.proofs.entry_at.Tie as tie
 
 in-row :
     (w : List ℕ) (k : ℕ) {s : Statement} {kind : FieldKind} {width offset : ℕ} {e : Entry} →
     s ≡ statementAt w k →
-    kind ≡ kindOfCode (cell w k KIND) →
+    kind ≡ kindAt (cell w k KIND) →
     width ≡ cell w k WIDTH →
     offset ≡ cell w k OFFSET →
     e ≡ entryOf s (pictured kind width) offset →

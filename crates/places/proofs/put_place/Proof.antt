@@ -8,8 +8,9 @@ use native.Mathlib.Numerals.{towards-suc}
 use native.Mathlib.Omega.{arith}
 use lib.ListN.{set, length-set}
 use Rattle.definition.specs.declared.Entry.{Entry}
+use Rattle.kinds.specs.Kinds.{kindCode}
 use Rattle.rows.specs.Columns.{ROW, OFFSET}
-use Rattle.places.specs.Places.{kindCode, putPlace}
+use Rattle.places.specs.Places.{putPlace}
 use Rattle.places.proofs.put_place.Statement.{statement}
 use Rattle.places.proofs.put_place.Tie as tie
 

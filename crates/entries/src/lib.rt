@@ -199,7 +199,7 @@ fn build_redefiners(
     let mut k = places::wide(work[ROW * i + NEXT]);
     while 0 < k {
         let row = k - 1;
-        let m = folded::next_of(work, row, to);
+        let m = places::next_of(work, row, to);
         r = build_item(text, work, row, m, true, start, entries, r, depth);
         k = places::wide(work[ROW * row + NEXT]);
     }
@@ -302,7 +302,7 @@ fn build_list(
     let mut i = from;
     let mut last = 0;
     while i < to {
-        let j = folded::next_of(work, i, to);
+        let j = places::next_of(work, i, to);
         r = build_shown(text, work, i, j, to, last, entries, r, depth);
         last = i + 1;
         i = j;

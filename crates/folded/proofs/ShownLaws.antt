@@ -14,14 +14,14 @@ use Rattle.definition.specs.Fold.{Entries, end, entry, append, Place, sameName,
 use Rattle.definition.specs.Owner.{size}
 use Rattle.definition.specs.Search.{entries#}
 use Rattle.definition.proofs.LayoutLaws.{redefiners-hit, redefiners-miss, redefiners-ends, redefiners-next}
-use Rattle.rows.specs.Columns.{ROW, NAME, REDEFINES, OFFSET, BEFORE, BELOW, BASE, NEXT}
+use Rattle.rows.specs.Columns.{ROW, NAME, REDEFINES, OFFSET, BEFORE, BASE, NEXT}
 use Rattle.rows.specs.Table.{cell, spanAt, statementAt, statementsFrom}
-use Rattle.places.specs.Places.{seenFrom, basesAt, placeAt, entryIn, entriesIn, Linked, rowsForest}
-use Rattle.places.specs.Ends.{ChildrenEnd}
-use Rattle.places.proofs.EntriesLaws.{next-row, entries-step, linked-step}
+use Rattle.places.specs.Places.{seenFrom, basesAt, baseFrom, baseAfter, placeAt, entryIn, entriesIn, Linked, rowsForest}
+use Rattle.places.specs.Ends.{ChildrenEnd, Numbered}
+use Rattle.places.proofs.EntriesLaws.{next-row, entries-step, linked-step, linked-numbered}
 use Rattle.layout.proofs.FoldLaws.{bases-after}
 use Rattle.places.proofs.RowLaws.{children-end, forest-split, forest-empty}
-use Rattle.folded.specs.Shown.{listIn, redefinersIn, foldedRest, shownAt, baseFrom, baseAfter, unionOf, nextIn, IsBase, Numbered, Known, Marked}
+use Rattle.folded.specs.Shown.{listIn, redefinersIn, foldedRest, shownAt, unionOf, nextIn, IsBase, Known, Marked}
 use Rattle.folded.proofs.BaseLaws.{base-found}
 use Rattle.folded.proofs.FoldedLaws.{append-end, append-append, list-step}
 
@@ -41,7 +41,6 @@ entries-size w (item s kids later) k = omega (arith, entries-size w kids (suc k)
 -- what row i holds, whose children end at j, and its siblings at `to`
 pub record RowIs (t w : List ℕ) (i j to last : ℕ) : Type 0 where
   pub before : cell w i BEFORE ≡ last
-  pub next : suc i + cell w i BELOW ≡ j
   pub base : cell w i BASE ≡ baseAfter t w i last
   pub chain : cell w i NEXT ≡ nextIn w (unionOf w i) j (rowsForest w j to)
 
@@ -59,20 +58,17 @@ module _ (w : List ℕ) (i to j : ℕ) (h : ChildrenEnd w i to j) where
       let all = subst (Marked t w i last) (forest-split w i to j h) l in
       let next = next-row w i to j h in
       let row = all .0 in
-      let below : suc i + cell w i BELOW ≡ j = ap (λ (n : ℕ). suc i + n) (row .below) ∙ next in
       let chain : cell w i NEXT ≡ nextIn w (unionOf w i) j (rowsForest w j to) = row .next ∙ ap (λ (n : ℕ). nextIn w (unionOf w i) n (rowsForest w j to)) next in
-      (record { before = row .before; next = below; base = row .base; chain = chain }, all .1, subst (λ (n : ℕ). Marked t w n (suc i) (rowsForest w j to)) next (all .2))
+      (record { before = row .row .before; base = row .row .base; chain = chain }, all .1, subst (λ (n : ℕ). Marked t w n (suc i) (rowsForest w j to)) next (all .2))
 
-pub marked-linked : (t w : List ℕ) (f : Forest) (k last : ℕ) → Marked t w k last f → Linked w k last f
+pub marked-linked : (t w : List ℕ) (f : Forest) (k last : ℕ) → Marked t w k last f → Linked t w k last f
 marked-linked t w leaf k last h = tt
-marked-linked t w (item s kids later) k last h = (h .0 .before, marked-linked t w later (suc k + size kids) (suc k) (h .2))
+marked-linked t w (item s kids later) k last h =
+    (h .0 .row, marked-linked t w kids (suc k) 0 (h .1), marked-linked t w later (suc k + size kids) (suc k) (h .2))
 
 -- a row of a list counts the rows below it
 pub marked-numbered : (t w : List ℕ) (i to last : ℕ) → ROW * to ≤ length w → i < to → Marked t w i last (rowsForest w i to) → Numbered w i to
-marked-numbered t w i to last fits h m =
-    let j = suc i + higher (statementAt w i .level) (statementsFrom w (suc i) (to - suc i)) in
-    let c : ChildrenEnd w i to j = children-end w i to h in
-    record { low = h; fits = fits; is = subst (ChildrenEnd w i to) (sym (marked-step w i to j c t last m .0 .next)) c }
+marked-numbered t w i to last fits h m = linked-numbered t w i to last fits h (marked-linked t w (rowsForest w i to) i last m)
 
 -- and a redefiner knows whether it has a base
 pub marked-known : (t w : List ℕ) (i to last : ℕ) → ROW * to ≤ length w → last ≤ i → i < to → Marked t w i last (rowsForest w i to) → Known t w i last
@@ -139,10 +135,10 @@ rest-step t w i to last j h e l =
 pub record Walking (t w : List ℕ) (from to i last : ℕ) (done : Entries) : Type 0 where
   pub low : from ≤ i
   pub back : last ≤ i
-  pub linked : Linked w i last (rowsForest w i to)
+  pub linked : Linked t w i last (rowsForest w i to)
   pub same : foldedAll t (listIn w from to) ≡ append done (foldedRest t w i to last)
 
-pub walking-starts : (t w : List ℕ) (from to : ℕ) → Linked w from 0 (rowsForest w from to) → Walking t w from to from 0 end
+pub walking-starts : (t w : List ℕ) (from to : ℕ) → Linked t w from 0 (rowsForest w from to) → Walking t w from to from 0 end
 unfolding seenFrom append
 walking-starts t w from to h = record { low = omega arith; back = omega arith; linked = h; same = refl }
 
@@ -159,7 +155,7 @@ module _ {t w : List ℕ} {from to i last : ℕ} {done : Entries} (inv : Walking
     -- row i is next
     pub walking-here : foldedAll t (listIn w from to) ≡ append done (append (shownAt t w i j to last) (foldedRest t w j to (suc i)))
     walking-here =
-        inv .same ∙ ap (append done) (rest-step t w i to last j h (linked-step w i to j h last (inv .linked) .0) (inv .back))
+        inv .same ∙ ap (append done) (rest-step t w i to last j h (linked-step w i to j h t last (inv .linked) .0 .before) (inv .back))
 
     -- row i is done
     pub walking-on : Walking t w from to j (i + 1) (append done (shownAt t w i j to last))
@@ -168,6 +164,6 @@ module _ {t w : List ℕ} {from to i last : ℕ} {done : Entries} (inv : Walking
         record {
           low = omega (arith, h .low, inv .low);
           back = omega (arith, h .low);
-          linked = subst (λ (n : ℕ). Linked w j n (rowsForest w j to)) (sym (add-one i)) (linked-step w i to j h last (inv .linked) .1);
+          linked = subst (λ (n : ℕ). Linked t w j n (rowsForest w j to)) (sym (add-one i)) (linked-step w i to j h t last (inv .linked) .2);
           same = subst (λ (n : ℕ). foldedAll t (listIn w from to) ≡ append (append done (shownAt t w i j to last)) (foldedRest t w j to n)) (sym (add-one i)) rest;
         }

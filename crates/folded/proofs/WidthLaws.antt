@@ -20,11 +20,12 @@ use Rattle.rows.specs.Table.{cell, spanAt, statementAt, statementsFrom}
 use Rattle.places.proofs.RowLaws.{children-end, forest-empty, forest-split}
 use Rattle.places.proofs.EntriesLaws.{next-row}
 use Rattle.layout.proofs.SizeLaws.{never}
-use Rattle.places.specs.Places.{isTarget, entryIn, rowsForest}
-use Rattle.places.specs.Ends.{ChildrenEnd}
+use Rattle.places.specs.Places.{isTarget, baseAfter, entryIn, rowsForest}
+use Rattle.places.specs.Ends.{ChildrenEnd, Numbered}
+use Rattle.places.proofs.SearchLaws.{back, back-step}
 use Rattle.folded.specs.declared.Standing.{Standing}
-use Rattle.folded.specs.Shown.{standing, listIn, redefinersIn, shownAt, baseAfter, unionOf, nextIn, Open, IsBase, Numbered, Known, Marked, Sized, Tree, Branch, Base, SizedRow}
-use Rattle.folded.proofs.BaseLaws.{if-not, back, back-step, opens, passes, differs, closes, swapped}
+use Rattle.folded.specs.Shown.{standing, listIn, redefinersIn, shownAt, unionOf, nextIn, Open, IsBase, Known, Marked, Sized, Tree, Branch, Base, SizedRow}
+use Rattle.folded.proofs.BaseLaws.{if-not, opens, passes, differs, closes, swapped}
 use Rattle.folded.proofs.ShownLaws.{RowIs, marked-step, marked-linked, marked-numbered, marked-known, redefined-none, redefined-hit, redefined-miss, redefined-ends, redefined-next, Walking, walking-starts, walking-on}
 
 -- ---------------------------------------------------------------- parts of a table
@@ -176,10 +177,10 @@ unfolding nextIn
 none-names t w leaf i k last m l h apart = refl
 none-names t w (item s kids later) i k last m l h apart =
     let r = spanAt (cell w k REDEFINES) in
-    let own : eqb (cell w k BASE) (suc i) ≡ false = ne-eqb (cell w k BASE) (suc i) (λ e. not-given (given r) (apart r) (sym (m .0 .base) ∙ e)) in
+    let own : eqb (cell w k BASE) (suc i) ≡ false = ne-eqb (cell w k BASE) (suc i) (λ e. not-given (given r) (apart r) (sym (m .0 .row .base) ∙ e)) in
     let rest =
     none-names t w later i (suc k + size kids) (suc k) (m .2) (omega arith) (omega arith)
-    (λ target e. if-not (isTarget t target true w k) (λ q. omega arith) (λ _. apart target) (sym (back-step t w target k last (m .0 .before) l) ∙ e)) in
+    (λ target e. if-not (isTarget t target true w k) (λ q. omega arith) (λ _. apart target) (sym (back-step t w target k last (m .0 .row .before) l) ∙ e)) in
     ap (λ (b : Bool). if b then suc k else nextIn w (suc i) (suc k + size kids) later) own ∙ rest
   where
     not-given : (b : Bool) {x z : ℕ} → (x ≡ suc z → ⊥) → (if b then x else 0) ≡ suc z → ⊥

@@ -12,10 +12,9 @@ use Rattle.definition.specs.Basic.{if_then_else_, given}
 use Rattle.definition.specs.Tree.{Forest, leaf, item}
 use Rattle.definition.specs.Fold.{Entries, end, entry, total, sameName, sameSpelling, Place, placeOf, find, redefiners, withRedefiners, hasBase, foldedList, foldedBelow, foldedAll}
 use Rattle.definition.specs.Owner.{size}
-use Rattle.rows.specs.Columns.{ROW, NAME, REDEFINES, BEFORE, BELOW, BASE, NEXT}
+use Rattle.rows.specs.Columns.{ROW, NAME, REDEFINES, BASE, NEXT}
 use Rattle.rows.specs.Table.{cell, spanAt}
-use Rattle.places.specs.Places.{rowFrom, basesAt, placeAt, entryIn, entriesIn, rowsForest}
-use Rattle.places.specs.Ends.{ChildrenEnd}
+use Rattle.places.specs.Places.{basesAt, baseFrom, placeAt, entryIn, entriesIn, rowsForest, RowLinked}
 use Rattle.folded.specs.declared.Standing.{Standing}
 
 -- ---------------------------------------------------------------- one entry
@@ -59,14 +58,6 @@ shownAt text w i j to last =
 
 -- ---------------------------------------------------------------- what the table is to be
 
--- among the first n rows, the latest base of that name from the sibling `last` back: its row and 1, or 0 for none
-abbrev pub baseFrom : List ℕ → Span → List ℕ → ℕ → ℕ → ℕ
-baseFrom text target w n last = rowFrom text target true w n last
-
--- the base that row k redefines, after the sibling `last`: its row and 1, or 0 for none
-abbrev pub baseAfter : List ℕ → List ℕ → ℕ → ℕ → ℕ
-baseAfter text w k last = if given (spanAt (cell w k REDEFINES)) then baseFrom text (spanAt (cell w k REDEFINES)) w last last else 0
-
 -- the union that row k stands in, by its base: the base's row and 1
 abbrev pub unionOf : List ℕ → ℕ → ℕ
 unionOf w k = if ltb 0 (cell w k BASE) then cell w k BASE else suc k
@@ -84,23 +75,15 @@ Open text w i last = (target : Span) → eqb (baseFrom text target w last last) 
 abbrev pub IsBase : List ℕ → ℕ → Type 0
 IsBase w i = given (spanAt (cell w i REDEFINES)) ≡ false
 
--- row i is there, before `to`, and counts the rows below it
-pub record Numbered (w : List ℕ) (i to : ℕ) : Type 0 where
-  pub low : i < to
-  pub fits : ROW * to ≤ length w
-  pub is : ChildrenEnd w i to (suc i + cell w i BELOW)
-
 -- row i is there, after the sibling `last`, and a redefiner knows whether it has a base
 pub record Known (text w : List ℕ) (i last : ℕ) : Type 0 where
   pub fits : ROW * i + ROW ≤ length w
   pub back : last ≤ i
   pub is : given (spanAt (cell w i REDEFINES)) ≡ true → hasBase (find text (spanAt (cell w i REDEFINES)) (basesAt w last)) ≡ ltb 0 (cell w i BASE)
 
--- a row names the sibling before it, counts the rows below it, and names its base and the next row of its union among the later siblings
+-- a row is linked, and names the next row of its union among the later siblings
 pub record RowMarked (text w : List ℕ) (k last : ℕ) (kids later : Forest) : Type 0 where
-  pub before : cell w k BEFORE ≡ last
-  pub below : cell w k BELOW ≡ size kids
-  pub base : cell w k BASE ≡ baseAfter text w k last
+  pub row : RowLinked text w k last kids
   pub next : cell w k NEXT ≡ nextIn w (unionOf w k) (suc k + size kids) later
 
 -- each row of a list, and of the lists below it, does

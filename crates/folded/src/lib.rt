@@ -3,11 +3,9 @@ ghost use mathlib.Core.Path.{_≡_};
 ghost use Prim.Native.Nat.{_+_, _*_};
 ghost use Rattle.definition.specs.Fold.{total, sameSpelling, hasMember, foldedAll};
 ghost use Rattle.places.specs.Places.{entryIn, basesAt};
-ghost use Rattle.places.specs.Ends.{ChildrenEnd};
-ghost use Rattle.folded.specs.Shown.{standing, listIn, shownNamed, Numbered, Known, Tree, SizedRow, Measured};
+ghost use Rattle.folded.specs.Shown.{standing, listIn, shownNamed, Known, Tree, SizedRow, Measured};
 use definition::Span;
 use rows::BASE;
-use rows::BELOW;
 use rows::NAME;
 use rows::REDEFINES;
 use rows::ROW;
@@ -42,14 +40,6 @@ pub fn row_total(work: &[u32], k: usize) -> usize
 {
     let occurs = rows::occurs_in(work, k);
     places::wide(work[ROW * k + WIDTH]) * places::times_of(occurs) as usize
-}
-
-// The end of the children of row i, which counts the rows below it.
-pub fn next_of(work: &[u32], i: usize, to: usize) -> usize
-    requires { ⌜ Numbered (now work) i to ⌝ }
-    ensures { λ r. ⌜ ChildrenEnd (now (work .entry)) i to r ⌝ }
-{
-    i + 1 + places::wide(work[ROW * i + BELOW])
 }
 
 // Whether two names are spelled the same; an absent one means FILLER.
@@ -93,7 +83,7 @@ pub fn has_member(text: &[u8], work: &[u32], from: usize, to: usize, name: Span)
             return true;
         }
         last = i + 1;
-        i = next_of(work, i, to);
+        i = places::next_of(work, i, to);
     }
     false
 }

@@ -21,7 +21,7 @@ use Rattle.record.proofs.KeptLaws.{kept-self, kept-on, kept-set, set-ot
 pub record Linking (w : List ℕ) (from to k : ℕ) (now : List ℕ) : Type 0 where
   pub start : Unlinked w from to
   pub high : k ≤ to
-  pub kept : Kept NEXT w now
+  pub kept : Kept w now
   pub opened : (i : ℕ) → from ≤ i → i < k → cell w i BASE ≡ 0 → cell now i NEXT ≡ firstFrom w (suc i) k (to - k)
   pub done : (i : ℕ) → from ≤ i → k ≤ i → i < to → cell now i NEXT ≡ firstFrom w (unionOf w i) (suc i) (to - suc i)
 
@@ -31,7 +31,7 @@ linking-starts w from to h =
     record {
       start = h;
       high = omega arith;
-      kept = kept-self NEXT w;
+      kept = kept-self w;
       opened = λ i l u e. h .nexts i l u ∙ ap (firstFrom w (suc i) to) (let z : 0 ≡ to - to = omega arith in z);
       done = λ i l u v. absurd (omega arith);
     }
@@ -95,16 +95,16 @@ module _ {w : List ℕ} {from to m : ℕ} {now : List ℕ} (inv : Linking w from
         (omega (arith, x .0), subst (λ (n : ℕ). cell w n BASE ≡ 0) (let z : cell w m BASE - 1 ≡ row = omega arith in z) (x .1))
 
     others : (i : ℕ) → (i ≡ row → ⊥) → (i ≡ m → ⊥) → cell w₂ i NEXT ≡ cell now i NEXT
-    others i p q = set-other w₁ row NEXT (m + 1) (lit< tt) i p ∙ set-other now m NEXT (cell now row NEXT) (lit< tt) i q
+    others i p q = set-other w₁ row (m + 1) i p ∙ set-other now m (cell now row NEXT) i q
 
     base-names : cell w₂ row NEXT ≡ suc m
     base-names =
-        set-own w₁ row NEXT (m + 1) (lit< tt) (omega (arith, length-set now (ROW * m + NEXT) (cell now row NEXT), room, before)) ∙ omega arith
+        set-own w₁ row (m + 1) (omega (arith, length-set now (ROW * m + NEXT) (cell now row NEXT), room, before)) ∙ omega arith
 
     own-names : cell w₂ m NEXT ≡ firstFrom w (suc row) (suc m) (to - suc m)
     own-names =
-        set-other w₁ row NEXT (m + 1) (lit< tt) m (λ x. omega (arith, before))
-        ∙ set-own now m NEXT (cell now row NEXT) (lit< tt) room
+        set-other w₁ row (m + 1) m (λ x. omega (arith, before))
+        ∙ set-own now m (cell now row NEXT) room
         ∙ inv .opened row (based-start .0) (omega (arith, before)) (based-start .1)
 
     based : Linking w from to m w₂
@@ -112,7 +112,7 @@ module _ {w : List ℕ} {from to m : ℕ} {now : List ℕ} (inv : Linking w from
         record {
           start = inv .start;
           high = omega (arith, inv .high);
-          kept = kept-on (inv .kept) (kept-on (kept-set now m NEXT (cell now row NEXT) (lit< tt)) (kept-set w₁ row NEXT (m + 1) (lit< tt)));
+          kept = kept-on (inv .kept) (kept-on (kept-set now m (cell now row NEXT)) (kept-set w₁ row (m + 1)));
           opened =
               λ i l u z.
               by-row i u

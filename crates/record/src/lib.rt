@@ -8,7 +8,7 @@ ghost use Rattle.places.specs.Places.{rowsForest};
 ghost use Rattle.layout.specs.Steps.{Room};
 ghost use Rattle.rows.specs.Columns.{ROW, BASE};
 ghost use Rattle.rows.specs.Table.{cell};
-ghost use Rattle.record.specs.Marks.{baseOf, markRow, BasesMarked, linkRow, Unlinked, UnionsLinked};
+ghost use Rattle.record.specs.Marks.{linkRow, Unlinked, UnionsLinked};
 ghost use Rattle.record.specs.Laying.{FieldsFrom, RecordIs, fieldsOf};
 use definition::Check;
 use definition::Refusal;
@@ -21,44 +21,6 @@ use rows::REDEFINES;
 use rows::ROW;
 
 // ---------------------------------------------------------------- the redefiners linked
-
-// The base that row k redefines: its row and 1, or 0 for none.
-fn base_of(text: &[u8], work: &[u32], k: usize) -> usize
-    requires { ⌜ ROW * k + ROW ≤ length (now work) ⌝ }
-    ensures { λ r. ⌜ r ≡ baseOf (now (text .entry)) (now (work .entry)) k ⌝ }
-{
-    let redefines = rows::span_at(work[ROW * k + REDEFINES]);
-    if 0 < redefines.len {
-        let last = places::wide(work[ROW * k + BEFORE]);
-        if k < last {
-            return 0;
-        }
-        return places::find_row(text, work, redefines, last, true);
-    }
-    0
-}
-
-// Row k holds the base that it redefines, or 0, and no next row yet.
-fn mark_row(text: &[u8], work: &mut [u32], k: usize)
-    requires { ⌜ (ROW * k + ROW ≤ length (now work)) × (k < 4294967296) ⌝ }
-    ensures { λ _. ⌜ now (work .exit) ≡ markRow (now (text .entry)) (now (work .entry)) k ⌝ }
-{
-    let base = base_of(text, work, k);
-    work[ROW * k + BASE] = base as u32;
-    work[ROW * k + NEXT] = 0;
-}
-
-// Has each row from `from` up to `to` hold its base, and no next row yet.
-fn mark_redefiners(text: &[u8], work: &mut [u32], from: usize, to: usize)
-    requires { ⌜ (ROW * to ≤ length (now work)) × (to ≤ 800) ⌝ }
-    ensures { λ _. ⌜ BasesMarked (now (text .entry)) (now (work .entry)) from to (now (work .exit)) ⌝ }
-{
-    let mut k = from;
-    while k < to {
-        mark_row(text, work, k);
-        k += 1;
-    }
-}
 
 // Row k before the rows of its union so far: its base names it then.
 fn link_row(work: &mut [u32], k: usize)
@@ -128,7 +90,6 @@ pub fn lay_fields(
     match layout::lay_list(text, work, from, to, 64) {
         LaidList::Done { width, last } => match layout::fold_check(text, work, from, to) {
             Check::Passed => {
-                mark_redefiners(text, work, from, to);
                 link_unions(work, from, to);
                 let made = entries::make_entries(text, work, from, to, entries);
                 let count = made.next;

@@ -5,7 +5,7 @@ pub mod WordLaws
 pub mod PictureLaws
 pub mod StatementLaws
 pub mod TreeLaws
-pub mod DepthLaws
+pub mod ParentLaws
 pub mod LayoutLaws
 pub mod ListingLaws
 pub mod CallsLaws

@@ -21,9 +21,9 @@ use Rattle.definition.specs.Statement.{clausesOf}
 use Rattle.definition.proofs.Lists.{order}
 use Rattle.kinds.specs.Usages.{usageCode, usageClauseAt, signCode, signWordsAt}
 use Rattle.kinds.proofs.Back.{flag-back, flag-few, usage-back, usage-few, sign-words-back, sign-words-few}
-use Rattle.rows.specs.Columns.{ROW, LEVEL, DEPTH, AT, NAME, PICTURE, DEPENDING, REDEFINES, SAID, LOW, HIGH, OFFSET}
+use Rattle.rows.specs.Columns.{ROW, LEVEL, PARENT, AT, NAME, PICTURE, DEPENDING, REDEFINES, SAID, LOW, HIGH, OFFSET}
 use Rattle.rows.specs.Table.{spanCode, spanAt, markOf, countOf, occursAt, saidCode}
-use Rattle.rows.specs.Table.{Short, Storable, Storables, cells, putRow, putRows, cell, depthAt, clausesAt, statementAt, statementsFrom, depthsFrom}
+use Rattle.rows.specs.Table.{Short, Storable, Storables, cells, putRow, putRows, cell, parentAt, clausesAt, statementAt, statementsFrom, parentsFrom}
 
 -- ---------------------------------------------------------------- the parts, read back
 
@@ -77,26 +77,26 @@ getD-in (v ∷ vs) l i (suc c) j e h fits = getD-in vs (set l i v) (suc i) c j (
 
 -- ---------------------------------------------------------------- columns
 
-module _ (w : List ℕ) (a depth : ℕ) (s : Statement) where
-  pub length-putRow : length (putRow w a depth s) ≡ length w
+module _ (w : List ℕ) (a parent : ℕ) (s : Statement) where
+  pub length-putRow : length (putRow w a parent s) ≡ length w
   unfolding putRow
-  length-putRow = length-sets w (ROW * a) (cells depth s)
+  length-putRow = length-sets w (ROW * a) (cells parent s)
 
   -- a stored column, the columns of a row that no statement takes, and the columns of another row
-  cell-put : ROW * a + ROW ≤ length w → (c : ℕ) → c < OFFSET → cell (putRow w a depth s) a c ≡ getD (cells depth s) c 0
+  cell-put : ROW * a + ROW ≤ length w → (c : ℕ) → c < OFFSET → cell (putRow w a parent s) a c ≡ getD (cells parent s) c 0
   unfolding putRow
-  cell-put h c l = getD-in (cells depth s) w (ROW * a) c (ROW * a + c) refl l (omega arith)
+  cell-put h c l = getD-in (cells parent s) w (ROW * a) c (ROW * a + c) refl l (omega arith)
 
-  pub cell-beyond : (c : ℕ) → OFFSET ≤ c → cell (putRow w a depth s) a c ≡ cell w a c
+  pub cell-beyond : (c : ℕ) → OFFSET ≤ c → cell (putRow w a parent s) a c ≡ cell w a c
   unfolding putRow
-  cell-beyond c l = getD-above (cells depth s) w (ROW * a) (ROW * a + c) (omega arith)
+  cell-beyond c l = getD-above (cells parent s) w (ROW * a) (ROW * a + c) (omega arith)
 
-  pub cell-other : (k : ℕ) → (k ≡ a → ⊥) → (c : ℕ) → c < ROW → cell (putRow w a depth s) k c ≡ cell w k c
+  pub cell-other : (k : ℕ) → (k ≡ a → ⊥) → (c : ℕ) → c < ROW → cell (putRow w a parent s) k c ≡ cell w k c
   unfolding putRow
   cell-other k n c l =
       ⊎-elim
-      (λ (less : k < a). getD-below (cells depth s) w (ROW * a) (ROW * k + c) (omega arith))
-      (λ (more : a ≤ k). getD-above (cells depth s) w (ROW * a) (ROW * k + c) (omega arith))
+      (λ (less : k < a). getD-below (cells parent s) w (ROW * a) (ROW * k + c) (omega arith))
+      (λ (more : a ≤ k). getD-above (cells parent s) w (ROW * a) (ROW * k + c) (omega arith))
       (order k a)
 
 -- ---------------------------------------------------------------- one row
@@ -108,7 +108,7 @@ module _ (w : List ℕ) (k : ℕ) where
       cc (h LEVEL (lit< tt), h AT (lit< tt), h NAME (lit< tt), h PICTURE (lit< tt), h DEPENDING (lit< tt), h REDEFINES (lit< tt), h SAID (lit< tt), h LOW (lit< tt), h HIGH (lit< tt))
 
   -- columns that are a statement's hold the statement
-  module _ (depth : ℕ) (s : Statement) (h : (c : ℕ) → c < OFFSET → cell w k c ≡ getD (cells depth s) c 0) (fits : Storable s) where
+  module _ (parent : ℕ) (s : Statement) (h : (c : ℕ) → c < OFFSET → cell w k c ≡ getD (cells parent s) c 0) (fits : Storable s) where
     clauses-held : clausesAt w k ≡ s .clauses
     clauses-held =
         let c = s .clauses in
@@ -139,17 +139,17 @@ module _ (w : List ℕ) (k : ℕ) where
         ) in
         same
 
-module _ (w : List ℕ) (a depth : ℕ) (s : Statement) where
-  -- a stored statement is read back, and its depth
-  pub statement-put : ROW * a + ROW ≤ length w → Storable s → statementAt (putRow w a depth s) a ≡ s
-  statement-put h fits = statement-held (putRow w a depth s) a depth s (cell-put w a depth s h) fits
+module _ (w : List ℕ) (a parent : ℕ) (s : Statement) where
+  -- a stored statement is read back, and its parent
+  pub statement-put : ROW * a + ROW ≤ length w → Storable s → statementAt (putRow w a parent s) a ≡ s
+  statement-put h fits = statement-held (putRow w a parent s) a parent s (cell-put w a parent s h) fits
 
-  pub depth-put : ROW * a + ROW ≤ length w → depthAt (putRow w a depth s) a ≡ depth
-  depth-put h = cell-put w a depth s h DEPTH (lit< tt)
+  pub parent-put : ROW * a + ROW ≤ length w → parentAt (putRow w a parent s) a ≡ parent
+  parent-put h = cell-put w a parent s h PARENT (lit< tt)
 
   -- and the other rows are as before
-  pub statement-other : (k : ℕ) → (k ≡ a → ⊥) → statementAt (putRow w a depth s) k ≡ statementAt w k
-  statement-other k n = statement-same (putRow w a depth s) k w (λ c l. cell-other w a depth s k n c (omega arith))
+  pub statement-other : (k : ℕ) → (k ≡ a → ⊥) → statementAt (putRow w a parent s) k ≡ statementAt w k
+  statement-other k n = statement-same (putRow w a parent s) k w (λ c l. cell-other w a parent s k n c (omega arith))
 
 -- a number stored in a column that no statement takes leaves the statements alone
 module _ (w : List ℕ) (a c v : ℕ) (low : OFFSET ≤ c) (high : c < ROW) where
@@ -200,19 +200,19 @@ statements-put (d ∷ ds) (s ∷ ss) w a e h fits =
     ap₂ (λ (x : Statement) (xs : List Statement). x ∷ xs) first more
 
 -- and their depths
-pub depths-put :
+pub parents-put :
     (ds : List ℕ) (ss : List Statement) (w : List ℕ) (a : ℕ) →
     length ds ≡ length ss →
     ROW * (a + length ss) ≤ length w →
-    depthsFrom (putRows w a ds ss) a (length ss) ≡ ds
-unfolding putRows depthsFrom
-depths-put [] [] w a e h = refl
-depths-put (d ∷ ds) [] w a e h = absurd (omega arith)
-depths-put [] (s ∷ ss) w a e h = absurd (omega arith)
-depths-put (d ∷ ds) (s ∷ ss) w a e h =
+    parentsFrom (putRows w a ds ss) a (length ss) ≡ ds
+unfolding putRows parentsFrom
+parents-put [] [] w a e h = refl
+parents-put (d ∷ ds) [] w a e h = absurd (omega arith)
+parents-put [] (s ∷ ss) w a e h = absurd (omega arith)
+parents-put (d ∷ ds) (s ∷ ss) w a e h =
     let w₁ = putRow w a d s in
-    let first = cell-before ds ss w₁ (suc a) a (omega arith) 1 (lit< tt) ∙ depth-put w a d s (omega arith) in
-    let more = depths-put ds ss w₁ (suc a) (omega arith) (omega (arith, length-putRow w a d s)) in
+    let first = cell-before ds ss w₁ (suc a) a (omega arith) 1 (lit< tt) ∙ parent-put w a d s (omega arith) in
+    let more = parents-put ds ss w₁ (suc a) (omega arith) (omega (arith, length-putRow w a d s)) in
     ap₂ (λ (x : ℕ) (xs : List ℕ). x ∷ xs) first more
 
 pub length-statements : (w : List ℕ) (a n : ℕ) → length (statementsFrom w a n) ≡ n

@@ -9,12 +9,12 @@ ROW = 20
 
 -- ---------------------------------------------------------------- the statement
 
--- its level; how many levels are open around it; the place of its first word; its name
+-- its level; its parent, the row and 1, or 0 for none; the place of its first word; its name
 abbrev pub LEVEL : ℕ
 LEVEL = 0
 
-abbrev pub DEPTH : ℕ
-DEPTH = 1
+abbrev pub PARENT : ℕ
+PARENT = 1
 
 abbrev pub AT : ℕ
 AT = 2

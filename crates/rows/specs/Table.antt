@@ -15,7 +15,7 @@ use Rattle.definition.specs.Basic.{if_then_else_, span}
 use Rattle.definition.specs.Listing.{flag}
 use Rattle.definition.specs.Statement.{clausesOf}
 use Rattle.kinds.specs.Usages.{usageCode, usageClauseAt, signCode, signWordsAt}
-use Rattle.rows.specs.Columns.{ROW, LEVEL, DEPTH, AT, NAME, PICTURE, DEPENDING, REDEFINES, SAID, LOW, HIGH}
+use Rattle.rows.specs.Columns.{ROW, LEVEL, PARENT, AT, NAME, PICTURE, DEPENDING, REDEFINES, SAID, LOW, HIGH}
 
 -- ---------------------------------------------------------------- a number for each part
 
@@ -73,7 +73,7 @@ Storables (s ∷ ss) = Storable s × Storables ss
 
 -- ---------------------------------------------------------------- rows
 
--- the columns of the clauses, and of a statement at a depth
+-- the columns of the clauses, and of a statement at a parent
 abbrev pub clauseCells : Clauses → List ℕ
 clauseCells c =
     spanCode (c .picture)
@@ -85,11 +85,11 @@ clauseCells c =
     ∷ []
 
 abbrev pub cells : ℕ → Statement → List ℕ
-cells depth s = s .level ∷ depth ∷ s .at ∷ spanCode (s .name) ∷ clauseCells (s .clauses)
+cells parent s = s .level ∷ parent ∷ s .at ∷ spanCode (s .name) ∷ clauseCells (s .clauses)
 
 -- w with a statement in row k
 unfoldable pub putRow : List ℕ → ℕ → ℕ → Statement → List ℕ
-putRow w k depth s = sets w (ROW * k) (cells depth s)
+putRow w k parent s = sets w (ROW * k) (cells parent s)
 
 -- w with statements, and their depths, from row k on
 unfoldable pub putRows : List ℕ → ℕ → List ℕ → List Statement → List ℕ
@@ -101,9 +101,9 @@ putRows w k (d ∷ ds) (s ∷ ss) = putRows (putRow w k d s) (suc k) ds ss
 abbrev pub cell : List ℕ → ℕ → ℕ → ℕ
 cell w k c = getD w (ROW * k + c) 0
 
--- the depth of the statement in row k
-abbrev pub depthAt : List ℕ → ℕ → ℕ
-depthAt w k = cell w k DEPTH
+-- the parent of the statement in row k
+abbrev pub parentAt : List ℕ → ℕ → ℕ
+parentAt w k = cell w k PARENT
 
 -- the OCCURS of the statement in row k
 abbrev pub occursIn : List ℕ → ℕ → Occurs
@@ -130,6 +130,6 @@ unfoldable pub statementsFrom : List ℕ → ℕ → ℕ → List Statement
 statementsFrom w k zero = []
 statementsFrom w k (suc n) = statementAt w k ∷ statementsFrom w (suc k) n
 
-unfoldable pub depthsFrom : List ℕ → ℕ → ℕ → List ℕ
-depthsFrom w k zero = []
-depthsFrom w k (suc n) = depthAt w k ∷ depthsFrom w (suc k) n
+unfoldable pub parentsFrom : List ℕ → ℕ → ℕ → List ℕ
+parentsFrom w k zero = []
+parentsFrom w k (suc n) = parentAt w k ∷ parentsFrom w (suc k) n

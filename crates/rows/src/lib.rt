@@ -18,7 +18,7 @@ pub const ROW: usize = 20;
 
 pub const LEVEL: usize = 0;
 
-pub const DEPTH: usize = 1;
+pub const PARENT: usize = 1;
 
 pub const AT: usize = 2;
 
@@ -153,10 +153,10 @@ fn put_clauses(work: &mut [u32], at: usize, c: Clauses)
     work[at + 5] = (count / 4294967296) as u32;
 }
 
-// A statement and its depth into row k.
-pub fn put_row(work: &mut [u32], k: usize, depth: u32, s: Statement)
+// A statement and its parent, the row and 1, or 0 for none, into row k.
+pub fn put_row(work: &mut [u32], k: usize, parent: u32, s: Statement)
     requires { ⌜ (ROW * k + ROW ≤ length (now work)) × Placed s ⌝ }
-    ensures { λ _. ⌜ now (work .exit) ≡ putRow (now (work .entry)) k depth s ⌝ }
+    ensures { λ _. ⌜ now (work .exit) ≡ putRow (now (work .entry)) k parent s ⌝ }
 {
     let base = ROW * k;
     let name = s.name;
@@ -165,7 +165,7 @@ pub fn put_row(work: &mut [u32], k: usize, depth: u32, s: Statement)
         work,
         base,
         s.level as u32,
-        depth,
+        parent,
         s.at as u32,
         span_code(name),
     );

@@ -14,7 +14,7 @@ use definition::UsageClause;
 use reading::RowsRead;
 use replay::Reached;
 use replay::Tally;
-use rows::DEPTH;
+use rows::PARENT;
 use rows::ROW;
 
 // What stands in work memory before a call.
@@ -104,7 +104,7 @@ fn clauses(list: &[u8], p: Reached, c: Clauses) -> Reached
     span(list, p, redefines)
 }
 
-// Goes on where the next words are the statement in row k and its depth.
+// Goes on where the next words are the statement in row k and its parent.
 fn row(list: &[u8], p: Reached, work: &[u32], k: usize) -> Reached
     requires { ⌜ Inside (now list) p × (ROW * k + ROW ≤ length (now work)) ⌝ }
     ensures { λ r. ⌜ Inside (now (list .entry)) r ⌝ }
@@ -114,7 +114,7 @@ fn row(list: &[u8], p: Reached, work: &[u32], k: usize) -> Reached
     let c = s.clauses;
     let p = replay::byte(list, p, s.level);
     let p = replay::number(list, p, s.at as u64);
-    let p = replay::number(list, p, wide(work[ROW * k + DEPTH]));
+    let p = replay::number(list, p, wide(work[ROW * k + PARENT]));
     let p = span(list, p, name);
     clauses(list, p, c)
 }

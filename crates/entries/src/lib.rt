@@ -13,17 +13,17 @@ ghost use Rattle.definition.specs.Search.{entries#};
 ghost use Rattle.places.specs.Places.{entryIn};
 ghost use Rattle.folded.specs.Shown.{shownAt, Known, Tree, Branch, Base, SizedRow};
 ghost use Rattle.entries.specs.Entered.{flatBytes, flatVaries, topEnd, flatLength, flatFits, shownOf, itemCells, itemAt, itemsFrom, moved, ownOf, shownAll, Sound, Rows, Entered};
-ghost use Rattle.entries.specs.Building.{listed, itemIn, redefined, unionIn, ownMember, within, Room, Built, ownItem, unionItem, Small, Open, Closed};
+ghost use Rattle.entries.specs.Building.{listed, itemIn, redefined, unionIn, ownMember, Room, Built, ownItem, unionItem, Small, Open, Closed};
 ghost use Rattle.rows.specs.Columns.{ROW};
 use definition::Check;
 use definition::Entry;
 use definition::Refusal;
 use definition::Span;
-use folded::Relation;
 use folded::Standing;
 use rows::AT;
 use rows::DEPENDING;
 use rows::NAME;
+use rows::NEXT;
 use rows::OFFSET;
 use rows::ROW;
 use rows::WIDTH;
@@ -180,7 +180,7 @@ fn build_item(
     close_item(work, i, member, start, entries, b, inner, depth)
 }
 
-// Builds the redefiners of row i among the rows from j up to `to`.
+// Builds the redefiners of row i among the rows from j up to `to`: each names the next.
 fn build_redefiners(
     text: &[u8],
     work: &[u32],
@@ -195,21 +195,13 @@ fn build_redefiners(
     ensures { λ r. ⌜ Built (now (work .entry)) (now (entries .entry)) b depth (redefined (now (text .entry)) (now (work .entry)) i j to) r (now (entries .exit)) ⌝ }
 {
     let start = places::wide(work[ROW * i + OFFSET]);
-    let mut left = folded::redefiner_count(text, work, i, j, to);
     let mut r = b;
-    let mut k = j;
-    while 0 < left {
-        let m = folded::next_of(work, k, to);
-        match folded::relation_to(text, work, i, k) {
-            Relation::Redefiner => {
-                r = build_item(text, work, k, m, true, start, entries, r, depth);
-                left -= 1;
-                k = m;
-            }
-            Relation::Other => {
-                k = m;
-            }
-        }
+    let mut k = places::wide(work[ROW * i + NEXT]);
+    while 0 < k {
+        let row = k - 1;
+        let m = places::next_of(work, row, to);
+        r = build_item(text, work, row, m, true, start, entries, r, depth);
+        k = places::wide(work[ROW * row + NEXT]);
     }
     r
 }
@@ -270,7 +262,7 @@ fn build_shown(
             return build_item(text, work, i, j, false, 0, entries, b, depth);
         }
         Standing::Base => {
-            if 0 < folded::redefiner_count(text, work, i, j, to) {
+            if 0 < work[ROW * i + NEXT] {
                 let at = b.next + 1;
                 let inner = build_members(
                     text,
@@ -310,7 +302,7 @@ fn build_list(
     let mut i = from;
     let mut last = 0;
     while i < to {
-        let j = folded::next_of(work, i, to);
+        let j = places::next_of(work, i, to);
         r = build_shown(text, work, i, j, to, last, entries, r, depth);
         last = i + 1;
         i = j;

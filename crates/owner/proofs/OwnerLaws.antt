@@ -37,10 +37,8 @@ use Rattle.places.proofs.EntriesLaws.{size-stretch, Rows, rows-forest}
 use Rattle.places.proofs.RowLaws.{stretch-cons, stretch-none}
 use Rattle.folded.proofs.ShownLaws.{entries-size}
 use Rattle.record.specs.Laying.{laidOf, Listed}
-use Rattle.folded.specs.Shown.{listIn, SizedRow, Measured}
-use Rattle.record.specs.Marks.{Counted}
-use Rattle.record.proofs.MarkLaws.{marked-counted}
-use Rattle.owner.specs.Walked.{overlays, rowAt, tableRows, Walkable}
+use Rattle.folded.specs.Shown.{listIn, Marked, SizedRow, Measured}
+use Rattle.owner.specs.Walked.{overlays, rowAt, tableRows, Counted, Walkable}
 
 -- ---------------------------------------------------------------- a REDEFINES or a DEPENDING ON
 
@@ -121,22 +119,28 @@ table-none : (w : List ℕ) (to k : ℕ) → to ≤ k → tableRows w k (to - k)
 unfolding tableRows
 table-none w to k h = ap (tableRows w k) (let e : to - k ≡ 0 = omega arith in e)
 
+-- marked rows count the rows below them
+marked-counted : (t w : List ℕ) (f : Forest) (k last : ℕ) → Marked t w k last f → Counted w k f
+marked-counted t w leaf k last m = tt
+marked-counted t w (item s kids later) k last m =
+    (m .0 .row .below, marked-counted t w kids (suc k) 0 (m .1), marked-counted t w later (suc k + size kids) (suc k) (m .2))
+
 -- the rows of the listing are those of the table, where each counts the rows below it
-rows-table : (w : List ℕ) (f : Forest) (k last : ℕ) → Counted w k last f → rows (entriesIn w k f) ≡ tableRows w k (size f)
+rows-table : (w : List ℕ) (f : Forest) (k : ℕ) → Counted w k f → rows (entriesIn w k f) ≡ tableRows w k (size f)
 unfolding rows entriesIn tableRows
-rows-table w leaf k last c = refl
-rows-table w (item s kids later) k last c =
+rows-table w leaf k c = refl
+rows-table w (item s kids later) k c =
     let own : rowOf (entryIn w k) (entries# (entriesIn w (suc k) kids)) ≡ rowAt w k = ap (rowOf (entryIn w k)) (entries-size w kids (suc k) ∙ sym (c .0)) in
-    let inner = rows-table w kids (suc k) 0 (c .1) in
-    let rest = rows-table w later (suc k + size kids) (suc k) (c .2) in
+    let inner = rows-table w kids (suc k) (c .1) in
+    let rest = rows-table w later (suc k + size kids) (c .2) in
     (λ i. own i ∷ (inner i ++ rest i)) ∙ ap (λ (l : List Row). rowAt w k ∷ l) (sym (table-append w (size kids) (size later) (suc k)))
 
 -- the rows below a row end where its list ends, or before
-rows-nested : (w : List ℕ) (f : Forest) (k last : ℕ) → Counted w k last f → (m : ℕ) → k ≤ m → m < k + size f → suc m + cell w m BELOW ≤ k + size f
-rows-nested w leaf k last c m l u = absurd (omega arith)
-rows-nested w (item s kids later) k last c m l u =
-    let inner = rows-nested w kids (suc k) 0 (c .1) m in
-    let rest = rows-nested w later (suc k + size kids) (suc k) (c .2) m in
+rows-nested : (w : List ℕ) (f : Forest) (k : ℕ) → Counted w k f → (m : ℕ) → k ≤ m → m < k + size f → suc m + cell w m BELOW ≤ k + size f
+rows-nested w leaf k c m l u = absurd (omega arith)
+rows-nested w (item s kids later) k c m l u =
+    let inner = rows-nested w kids (suc k) (c .1) m in
+    let rest = rows-nested w later (suc k + size kids) (c .2) m in
     ⊎-elim
     (λ (p : k < m).
     ⊎-elim
@@ -168,7 +172,7 @@ pub record At (w : List ℕ) (from to position k first q : ℕ) : Type 0 where
 
 pub walk-starts : {w : List ℕ} {from to position : ℕ} → Walkable w from to → At w from to position from 0 position
 walk-starts {w} {from} {to} {position} h =
-    let all = rows-table w (rowsForest w from to) from 0 (h .counted) ∙ ap (tableRows w from) (size-stretch w from to) in
+    let all = rows-table w (rowsForest w from to) from (h .counted) ∙ ap (tableRows w from) (size-stretch w from to) in
     let e : 0 ≡ from - from = omega arith in
     record {
       held = h;
@@ -187,7 +191,7 @@ module _ {w : List ℕ} {from to position k first q : ℕ} (a : At w from to pos
   pub row-nested : k < to → k + 1 + cell w k BELOW ≤ to
   row-nested h =
       let many = size-stretch w from to in
-      omega (arith, many, rows-nested w (rowsForest w from to) from 0 (a .held .counted) k (a .low) (omega (arith, many)))
+      omega (arith, many, rows-nested w (rowsForest w from to) from (a .held .counted) k (a .low) (omega (arith, many)))
 
   at-row : k < to → walk 0 0 0 (rows (listIn w from to)) position ≡ walk 0 (k - from) first (rowAt w k ∷ tableRows w (suc k) (to - suc k)) q
   at-row h = a .same ∙ ap (λ (l : List Row). walk 0 (k - from) first l q) (table-next w to k h)

@@ -4,10 +4,10 @@ ghost use mathlib.Core.Path.{_≡_};
 ghost use Prim.Native.Nat.{_+_, _*_, _≤_, _<_, max};
 ghost use lib.ListN.{length};
 ghost use Rattle.definition.specs.Basic.{part};
-ghost use Rattle.definition.specs.Fold.{sameName, find, times};
+ghost use Rattle.definition.specs.Fold.{sameName, times};
 ghost use Rattle.definition.specs.Layout.{entryOf};
-ghost use Rattle.places.specs.Places.{putPlace, seenFrom, leftOut, isTarget, rowFrom, found, entryIn};
-ghost use Rattle.places.specs.Ends.{ChildrenEnd, endOf, endingOf};
+ghost use Rattle.places.specs.Places.{putPlace, leftOut, isTarget, rowFrom, targetFrom, entryIn};
+ghost use Rattle.places.specs.Ends.{ChildrenEnd, Numbered, endOf, endingOf};
 ghost use Rattle.rows.specs.Columns.{ROW};
 use definition::Entry;
 use definition::Occurs;
@@ -15,6 +15,7 @@ use definition::Pictured;
 use definition::Span;
 use definition::Statement;
 use rows::BEFORE;
+use rows::BELOW;
 use rows::KIND;
 use rows::LEVEL;
 use rows::NAME;
@@ -56,10 +57,11 @@ pub fn same_names(text: &[u8], a: Span, b: Span) -> bool
     true
 }
 
-// An item's place into row k: its offset, width and kind, the sibling before it (its row and 1, or 0), the rows below it and its slack.
-pub fn put_place(work: &mut [u32], k: usize, last: usize, below: usize, e: Entry)
-    requires { ⌜ (ROW * k + ROW ≤ length (now work)) × (last < 4294967296) × (below < 4294967296) × (e .offset < 4294967296) × (e .width < 4294967296) × (e .slack < 4294967296) ⌝ }
-    ensures { λ _. ⌜ now (work .exit) ≡ putPlace (now (work .entry)) k last below e ⌝ }
+// An item's place into row k: its offset, width and kind, the sibling before it, the rows below it, its slack, its base,
+// and no next row of its union.
+pub fn put_place(work: &mut [u32], k: usize, last: usize, below: usize, base: usize, e: Entry)
+    requires { ⌜ (ROW * k + ROW ≤ length (now work)) × (last < 4294967296) × (below < 4294967296) × (base < 4294967296) × (e .offset < 4294967296) × (e .width < 4294967296) × (e .slack < 4294967296) ⌝ }
+    ensures { λ _. ⌜ now (work .exit) ≡ putPlace (now (work .entry)) k last below base e ⌝ }
 {
     let at = ROW * k + OFFSET;
     let kind = e.kind;
@@ -69,6 +71,15 @@ pub fn put_place(work: &mut [u32], k: usize, last: usize, below: usize, e: Entry
     work[at + 3] = last as u32;
     work[at + 4] = below as u32;
     work[at + 5] = e.slack as u32;
+    work[at + 6] = base as u32;
+    work[at + 7] = 0;
+}
+
+// A number of 32 bits as a place.
+pub fn wide(n: u32) -> usize
+    ensures { λ r. ⌜ (r ≡ n) × (r < 4294967296) ⌝ }
+{
+    n as usize
 }
 
 // The end of the children of row i, among the rows up to `to`.
@@ -87,17 +98,12 @@ pub fn end_of(work: &[u32], i: usize, to: usize) -> usize
     j
 }
 
-// The offset that a name stands for, or that it stands for none.
-pub enum Target {
-    At(usize),
-    Nothing,
-}
-
-// A number of 32 bits as a place.
-pub fn wide(n: u32) -> usize
-    ensures { λ r. ⌜ (r ≡ n) × (r < 4294967296) ⌝ }
+// The end of the children of row i, which counts the rows below it.
+pub fn next_of(work: &[u32], i: usize, to: usize) -> usize
+    requires { ⌜ Numbered (now work) i to ⌝ }
+    ensures { λ r. ⌜ ChildrenEnd (now (work .entry)) i to r ⌝ }
 {
-    n as usize
+    i + 1 + wide(work[ROW * i + BELOW])
 }
 
 // Whether the search passes over row k: one for bases passes over a redefiner.
@@ -144,17 +150,15 @@ pub fn find_row(text: &[u8], work: &[u32], target: Span, last: usize, bases: boo
     0
 }
 
-// The offset of the sibling or base that is found so.
-pub fn find_target(text: &[u8], work: &[u32], target: Span, last: usize, bases: bool) -> Target
+// The sibling that a REDEFINES names, from `last` back: its row and 1, or 0 for none.
+pub fn target_of(text: &[u8], work: &[u32], redefines: Span, last: usize) -> usize
     requires { ⌜ ROW * last ≤ length (now work) ⌝ }
-    ensures { λ r. ⌜ found r ≡ find (now (text .entry)) target (seenFrom bases (now (work .entry)) last last) ⌝ }
+    ensures { λ r. ⌜ (r ≡ targetFrom (now (text .entry)) redefines (now (work .entry)) last) × (r ≤ last) ⌝ }
 {
-    let k = find_row(text, work, target, last, bases);
-    if 0 < k {
-        let row = k - 1;
-        return Target::At(wide(work[ROW * row + OFFSET]));
+    if 0 < redefines.len {
+        return find_row(text, work, redefines, last, false);
     }
-    Target::Nothing
+    0
 }
 
 // An item's entry, after so much slack.

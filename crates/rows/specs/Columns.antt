@@ -69,3 +69,7 @@ SLACK = 15
 -- the base that it redefines: its row and 1, or 0 for none
 abbrev pub BASE : ℕ
 BASE = 16
+
+-- the next row of its union, a base's first redefiner or a redefiner's next one: its row and 1, or 0 for none
+abbrev pub NEXT : ℕ
+NEXT = 17

@@ -50,6 +50,8 @@ pub const SLACK: usize = 15;
 
 pub const BASE: usize = 16;
 
+pub const NEXT: usize = 17;
+
 // Work memory to zero.
 pub fn clear(work: &mut [u32])
     ensures { λ _. ⌜ now (work .exit) ≡ cleared (now (work .entry)) ⌝ }

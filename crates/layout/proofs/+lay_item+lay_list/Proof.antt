@@ -119,8 +119,8 @@ module _ (t w : List ℕ) (i j left last cursor : ℕ) where
     inner-halts w₁ p q = inner-stop t w i j (64 - left) last cursor (omega arith) (omega arith) (called p ∙ ap (λ (x : LaidList). listOf x w₁) q)
 
     module _ {width : ℕ} {w₁ : List ℕ} (n : LaidRows t w (suc i) j (suc (64 - left)) width w₁) where
-      linked : Linked w₁ (i + 1) 0 (rowsForest w₁ (i + 1) j)
-      linked = subst (λ (x : ℕ). Linked w₁ x 0 (rowsForest w₁ x j)) (sym (add-one i)) (n .held .linked)
+      linked : Linked t w₁ (i + 1) 0 (rowsForest w₁ (i + 1) j)
+      linked = subst (λ (x : ℕ). Linked t w₁ x 0 (rowsForest w₁ x j)) (sym (add-one i)) (n .held .linked)
 
       fold-halts : {a : Check} {r : Refusal} → checkOf a ≡ foldCheck t [] (entriesIn w₁ (i + 1) (rowsForest w₁ (i + 1) j)) → a ≡ Check.Refused r → halted r ≡ layItem t w i j (64 - left) last cursor
       fold-halts p q =

@@ -13,7 +13,7 @@ use Rattle.definition.specs.declared.Entry.{Entry}
 use Rattle.definition.specs.Basic.{if_then_else_, given, fewest, Answer, refuse, give, _>>=_}
 use Rattle.definition.specs.Tree.{Forest, leaf, item}
 use Rattle.definition.specs.Fold.{Entries, end, entry, Place, placeOf, times, total, entryEnd, sameName, redefiners, withRedefiners, foldCheck, foldedList, foldedBelow, foldedAll}
-use Rattle.definition.specs.Layout.{Laid, content, start, entryOf, tooLarge, advance, shallow, lay}
+use Rattle.definition.specs.Layout.{Laid, content, start, slackFrom, entryOf, tooLarge, advance, shallow, lay}
 use Rattle.definition.specs.Record.{recordLength, unfolded, layout}
 use Rattle.definition.specs.Owner.{slack, Piece, piece, extent, repeated, size, orNone, storage, isAligned, slackBefore, once, laidItem, laid, overlaid}
 use Rattle.definition.specs.Placed.{contentOf, entryAt, placed}
@@ -122,14 +122,16 @@ module _ (text : List ℕ) where
     pub has : Pictured
     pub offset : ℕ
     pub rest : Laid
+    pub nested : shallow (suc depth) kids ≡ give tt
     pub inner-laid : lay text (suc depth) [] 0 0 kids ≡ give inner
     pub checked : foldCheck text [] (inner .entries) ≡ give tt
     pub contains : content text s kids (inner .width) ≡ give has
     pub begins : start text s has seen cursor ≡ give offset
-    pub small : tooLarge (entryOf s has offset) ≡ false
+    pub small : tooLarge (entryOf s has offset (slackFrom cursor s offset)) ≡ false
     pub later-laid :
-        lay text depth (placeOf (entryOf s has offset) ∷ seen) (advance cursor (entryOf s has offset)) (max reach (entryEnd (entryOf s has offset))) later ≡ give rest
-    pub result : l ≡ record { entries = entry (entryOf s has offset) (inner .entries) (rest .entries); width = rest .width }
+        let e = entryOf s has offset (slackFrom cursor s offset) in
+        lay text depth (placeOf e ∷ seen) (advance cursor e) (max reach (entryEnd e)) later ≡ give rest
+    pub result : l ≡ record { entries = entry (entryOf s has offset (slackFrom cursor s offset)) (inner .entries) (rest .entries); width = rest .width }
 
   pub item-laid :
       (depth : ℕ) (seen : List Place) (cursor reach : ℕ) (s : Statement) (kids later : Forest) (l : Laid) →
@@ -137,7 +139,7 @@ module _ (text : List ℕ) where
       ItemLaid depth seen cursor reach s kids later l
   unfolding lay
   item-laid depth seen cursor reach s kids later l h =
-      through _ _ h λ _ _ h₁.
+      through _ _ h λ _ e₁ h₁.
       through _ _ h₁ λ inner e₂ h₂.
       through _ _ h₂ λ _ e₃ h₃.
       through _ _ h₃ λ has e₄ h₄.
@@ -149,11 +151,12 @@ module _ (text : List ℕ) where
         has = has;
         offset = offset;
         rest = rest;
+        nested = e₁;
         inner-laid = e₂;
         checked = e₃;
         contains = e₄;
         begins = e₅;
-        small = not-refused (tooLarge (entryOf s has offset)) 29 (s .at) e₆;
+        small = not-refused (tooLarge (entryOf s has offset (slackFrom cursor s offset))) 29 (s .at) e₆;
         later-laid = e₇;
         result = sym (given-same h₇);
       }
@@ -163,14 +166,16 @@ module _ (text : List ℕ) where
       (depth : ℕ) (seen : List Place) (k place : ℕ) (s : Statement) (kids later : Forest) (l : Laid) (r : ItemLaid depth seen place place s kids later l) →
       PlainStatement s →
       Agrees (suc k) 0 kids (r .inner) →
-      entryOf s (r .has) (r .offset) ≡ entryAt text k place s kids (laid text (suc k) 0 kids)
+      entryOf s (r .has) (r .offset) (slackFrom place s (r .offset)) ≡ entryAt text k place s kids (laid text (suc k) 0 kids)
   item-agrees depth seen k place s kids later l r ps ih =
       let laidKids = laid text (suc k) 0 kids in
       let same-has = content-given s kids (r .inner .width) (r .has) (r .contains) ∙ ap (contentOf text s kids) (ih .width ∙ zero-add (extent laidKids)) in
       let same-offset =
       given-same
       (sym (r .begins) ∙ ap (λ (c : Pictured). start text s c seen place) same-has ∙ start-given k place seen s kids (extent laidKids) (ps .redefines)) in
-      ap₂ (entryOf s) same-has same-offset
+      let between : slackFrom place s (r .offset) ≡ extent (slackBefore text k place s kids) =
+      ap (λ (b : Bool). if b then 0 else r .offset - place) (ps .redefines) ∙ omega (arith, same-offset) in
+      (λ i. entryOf s (same-has i) (same-offset i) (between i))
 
   -- a plain forest: the layout's entries are those that the owner rule places, and its width is what the owner rule lays
   pub lay-placed :
@@ -186,7 +191,7 @@ module _ (text : List ℕ) where
       let r = item-laid depth seen place place s kids later l h in
       let ih = lay-placed kids (suc depth) [] (suc k) 0 (r .inner) (p .1) (r .inner-laid) in
       let a = item-agrees depth seen k place s kids later l r (p .0) ih in
-      let e = entryOf s (r .has) (r .offset) in
+      let e = entryOf s (r .has) (r .offset) (slackFrom place s (r .offset)) in
       let own = laidItem text k place s kids (laid text (suc k) 0 kids) in
       let ends : entryEnd e ≡ place + extent own = ap entryEnd a ∙ item-end k place s kids (laid text (suc k) 0 kids) (p .0) in
       let moved : advance place e ≡ place + extent own = ap (λ (b : Bool). if b then place else entryEnd e) (p .0 .redefines) ∙ ends in

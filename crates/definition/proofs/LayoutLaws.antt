@@ -13,7 +13,7 @@ use Rattle.definition.specs.declared.Entry.{Entry}
 use Rattle.definition.specs.Basic.{given, Answer, give, _>>=_, refused, refuseIf}
 use Rattle.definition.specs.Tree.{Forest, leaf, item}
 use Rattle.definition.specs.Fold.{Entries, end, entry, append, total, entryEnd, largest, sameName, sameSpelling, Place, placeOf, find, hasMember, rebased, redefiners, widest, withRedefiners, foldCheck, foldedList, foldedBelow, foldedAll}
-use Rattle.definition.specs.Layout.{shallow, content, start, entryOf, tooLarge, advance, Laid, lay}
+use Rattle.definition.specs.Layout.{shallow, content, start, slackFrom, entryOf, tooLarge, advance, Laid, lay}
 use Rattle.definition.specs.Record.{recordLength, variable, endsFit}
 
 module _ (text : List ℕ) where
@@ -151,9 +151,10 @@ module _ (text : List ℕ) where
         foldCheck text [] (inner .entries) >>= λ _.
         content text s kids (inner .width) >>= λ c.
         start text s c seen cursor >>= λ offset.
-        refuseIf (tooLarge (entryOf s c offset)) 29 (s .at) >>= λ _.
-        lay text depth (placeOf (entryOf s c offset) ∷ seen) (advance cursor (entryOf s c offset)) (max reach (entryEnd (entryOf s c offset))) later >>= λ l.
-        give (record { entries = entry (entryOf s c offset) (inner .entries) (l .entries); width = l .width }))
+        let e = entryOf s c offset (slackFrom cursor s offset) in
+        refuseIf (tooLarge e) 29 (s .at) >>= λ _.
+        lay text depth (placeOf e ∷ seen) (advance cursor e) (max reach (entryEnd e)) later >>= λ l.
+        give (record { entries = entry e (inner .entries) (l .entries); width = l .width }))
     unfolding lay
     lay-item s kids later = refl
 

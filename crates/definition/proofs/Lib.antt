@@ -5,7 +5,7 @@ pub mod WordLaws
 pub mod PictureLaws
 pub mod StatementLaws
 pub mod TreeLaws
-pub mod DepthLaws
+pub mod ParentLaws
 pub mod LayoutLaws
 pub mod ListingLaws
 pub mod CallsLaws
@@ -13,6 +13,7 @@ pub mod Pieces
 pub mod Alignment
 pub mod Slack
 pub mod Cover
+pub mod DetailLaws
 pub mod Seek
 pub mod Walk
 pub mod Told

@@ -167,7 +167,7 @@ pub record Slackened (text : List ℕ) (first width : ℕ) : Type 0 where
   pub base : ℕ
   pub reached : ℕ
   pub isOne : isAligned text statement ≡ true
-  pub told-so : slackened ≡ entryOf statement (storage text statement) (slackened .offset)
+  pub told-so : slackened ≡ entryOf statement (storage text statement) (slackened .offset) (slackened .offset - reached)
   pub from : first ≡ base + reached
   pub upTo : first + width ≡ base + slackened .offset
   pub fewest : Fewest (slackened .width) reached width
@@ -186,7 +186,7 @@ module _ (n first width : ℕ) where
   module _ (text : List ℕ) where
     by-aligned :
         (s : Statement) (kids : Forest) (members : Entries) (e : Entry) (base reached : ℕ) →
-        e ≡ entryOf s (contentOf text s kids (recordLength members)) (e .offset) →
+        e ≡ entryOf s (contentOf text s kids (recordLength members)) (e .offset) (e .offset - reached) →
         Starts (aligned text s kids) (e .width) reached (e .offset) →
         first ≡ base + reached →
         width ≡ e .offset - reached →

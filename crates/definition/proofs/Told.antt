@@ -50,9 +50,10 @@ module _ (text : List ℕ) where
       let n = times (s .clauses .occurs) in
       let own = before ++ repeated n one in
       let wide : recordLength (placed text (suc k) 0 kids) ≡ extent inner = omega (arith, placed-length text (suc k) 0 kids (p .1)) in
+      let between : extent before ≡ place + extent before - place = omega arith in
       let reached : place + extent own ≡ place + extent before + contentOf text s kids (extent inner) .width * n =
       omega (arith, extent-append before (repeated n one), extent-repeated n one, ap (λ (x : ℕ). x * n) (once-width text k s kids inner)) in (
-        ap (λ (x : ℕ). entryOf s (contentOf text s kids x) (place + extent before)) (sym wide),
+        ap₂ (λ (x y : ℕ). entryOf s (contentOf text s kids x) (place + extent before) y) (sym wide) between,
         starts-placed k place s kids (extent inner),
         tells-placed kids (suc k) 0 (p .1),
         subst (λ (x : ℕ). Tells text x later (placed text (suc k + size kids) (place + extent own) later)) reached (tells-placed later (suc k + size kids) (place + extent own) (p .2)),

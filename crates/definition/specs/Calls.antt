@@ -1,4 +1,4 @@
--- The calls: the layout listing, the picture answer, the mask, the byte owner and the record check, each from what the caller hands in to
+-- The calls: the layout listing, its details, the picture answer, the mask, the byte owner and the record check, each from what the caller hands in to
 -- what the call answers and leaves. Checks run in the order of document 01's table; a line of a `do` is a check or a stage.
 -- Assumes nothing.
 use Prim.Native.Nat.{ℕ, zero, suc, _+_}
@@ -24,6 +24,7 @@ use Rattle.definition.specs.Fold.{Entries}
 use Rattle.definition.specs.Record.{recordLength, layout}
 use Rattle.definition.specs.Listing.{listing}
 use Rattle.definition.specs.Owner.{pieces, ownerOf, overlaid}
+use Rattle.definition.specs.Details.{entriesDetails}
 
 -- ---------------------------------------------------------------- the reader
 
@@ -68,6 +69,12 @@ unfoldable pub layoutListing : List ℕ → ℕ → ℕ → Answer (List ℕ)
 layoutListing text work room = do
   es ← entries text work
   fitting room (listing es)
+
+-- the details of its entries
+unfoldable pub layoutDetails : List ℕ → ℕ → ℕ → Answer (List ℕ)
+layoutDetails text work room = do
+  es ← entries text work
+  fitting room (entriesDetails es)
 
 -- the picture answer
 unfoldable pub pictureAnswer : Usage → SignClause → List ℕ → Answer Pictured
@@ -133,6 +140,10 @@ afterWriting a out work = record { answer = written a; output = outputAfter a ou
 -- the layout listing of a text, with an output and work memory lent
 abbrev pub layoutCall : List ℕ → List ℕ → List ℕ → After ℕ
 layoutCall text out work = afterWriting (layoutListing text (length work) (length out)) out work
+
+-- the details of its entries, with an output and work memory lent
+abbrev pub detailsCall : List ℕ → List ℕ → List ℕ → After ℕ
+detailsCall text out work = afterWriting (layoutDetails text (length work) (length out)) out work
 
 -- the mask of a picture, with an output lent
 abbrev pub maskCall : Usage → List ℕ → List ℕ → After ℕ

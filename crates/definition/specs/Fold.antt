@@ -79,7 +79,7 @@ hasMember text w (entry e members later) = if sameSpelling text w (e .name) then
 -- an entry as a member of the group that starts at the offset
 abbrev pub rebased : ℕ → Entry → Entry
 rebased start e =
-    record { at = e .at; name = e .name; offset = e .offset - start; width = e .width; kind = e .kind; picture = e .picture; occurs = e .occurs; depending = e .depending; redefines = absent }
+    record { at = e .at; level = e .level; name = e .name; offset = e .offset - start; width = e .width; kind = e .kind; picture = e .picture; occurs = e .occurs; depending = e .depending; redefines = absent; over = e .over; slack = e .slack; folded = e .folded }
 
 -- the entries that redefine a base: those of its name before the next base of that name
 unfoldable pub redefiners : List ℕ → Place → Entries → Entries
@@ -96,10 +96,10 @@ unfoldable pub widest : Entries → ℕ
 widest end = 0
 widest (entry e members later) = max (total e) (widest later)
 
--- the group that stands for a base and its redefiners
+-- the group that stands for a base and its redefiners: it has its base's place, and no clause or slack of its own
 abbrev pub union : Entry → ℕ → Entry
 union e width =
-    record { at = e .at; name = e .name; offset = e .offset; width = width; kind = FieldKind.Group; picture = absent; occurs = Occurs.Once; depending = absent; redefines = absent }
+    record { at = e .at; level = e .level; name = e .name; offset = e .offset; width = width; kind = FieldKind.Group; picture = absent; occurs = Occurs.Once; depending = absent; redefines = absent; over = absent; slack = 0; folded = true }
 
 -- the members of that group: the base, or its own members where it counts as already folded, then the redefiners
 abbrev pub unionMembers : List ℕ → Entry → Entries → Entries → Entries

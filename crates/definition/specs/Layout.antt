@@ -4,7 +4,7 @@
 -- Departures from COBOL: alignment restarts in each group; 8-byte binary items align to 8, IBM's to 4; a REDEFINES may name any earlier
 -- sibling, and is not aligned; slack is not added between the occurrences of a group.
 -- Assumes nothing.
-use Prim.Native.Nat.{ℕ, zero, suc, _+_, max}
+use Prim.Native.Nat.{ℕ, zero, suc, _+_, _-_, max}
 use mathlib.Core.Bool.{Bool, true, false, _&&_, _||_, not}
 use mathlib.Core.List.{List, [], _∷_}
 use mathlib.Core.Option.{Option, none, some}
@@ -43,9 +43,14 @@ start text s c seen cursor =
     else if s .clauses .sync && isBinary (c .kind) then give (cursor + fewest (c .width) cursor)
     else give cursor
 
-abbrev pub entryOf : Statement → Pictured → ℕ → Entry
-entryOf s c offset =
-    record { at = s .at; name = s .name; offset = offset; width = c .width; kind = c .kind; picture = s .clauses .picture; occurs = s .clauses .occurs; depending = s .clauses .depending; redefines = s .clauses .redefines }
+-- the slack directly before an item: the bytes from the cursor to the item, and none before a redefiner
+abbrev pub slackFrom : ℕ → Statement → ℕ → ℕ
+slackFrom cursor s offset = if given (s .clauses .redefines) then 0 else offset - cursor
+
+-- the entry of an item at an offset, after so much slack
+abbrev pub entryOf : Statement → Pictured → ℕ → ℕ → Entry
+entryOf s c offset slack =
+    record { at = s .at; level = s .level; name = s .name; offset = offset; width = c .width; kind = c .kind; picture = s .clauses .picture; occurs = s .clauses .occurs; depending = s .clauses .depending; redefines = s .clauses .redefines; over = s .clauses .redefines; slack = slack; folded = false }
 
 -- 29: kept count, aligned cursor, width × count or end above the largest number
 abbrev pub tooLarge : Entry → Bool
@@ -70,7 +75,7 @@ lay text depth seen cursor reach (item s kids later) = do
   _ ← foldCheck text [] (inner .entries)
   c ← content text s kids (inner .width)
   offset ← start text s c seen cursor
-  let e = entryOf s c offset
+  let e = entryOf s c offset (slackFrom cursor s offset)
   _ ← refuseIf (tooLarge e) 29 (s .at)
   l ← lay text depth (placeOf e ∷ seen) (advance cursor e) (max reach (entryEnd e)) later
   give (record { entries = entry e (inner .entries) (l .entries); width = l .width })

@@ -8,9 +8,10 @@ pub mod Layout
 pub mod Record
 pub mod Listing
 pub mod Owner
+pub mod Search
+pub mod Details
 pub mod Calls
 pub mod Computing
 pub mod Catches
 pub mod Placed
-pub mod Search
 pub mod Demand

@@ -165,9 +165,12 @@ pub struct Statement {
     pub clauses: Clauses,
 }
 
-// An entry of the listing; `at` is that of its statement.
+// An entry of the listing. `at` and `level` are its statement's; `over` is its REDEFINES as the statement has it, which
+// the listing leaves out of a member of a fold; `slack` counts the slack bytes directly before it; `folded` is true of a
+// group made by folding.
 pub struct Entry {
     pub at: usize,
+    pub level: u8,
     pub name: Span,
     pub offset: usize,
     pub width: usize,
@@ -176,6 +179,9 @@ pub struct Entry {
     pub occurs: Occurs,
     pub depending: Span,
     pub redefines: Span,
+    pub over: Span,
+    pub slack: usize,
+    pub folded: bool,
 }
 
 // What a byte of a record belongs to: a piece, that is one occurrence of the elementary item whose entry has that number,

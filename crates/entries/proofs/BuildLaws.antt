@@ -13,6 +13,7 @@ use Rattle.definition.specs.Fold.{Entries, end, entry, append, total, rebased, 
 use Rattle.definition.specs.Listing.{flag, members#}
 use Rattle.definition.specs.Search.{entries#}
 use Rattle.definition.proofs.Lists.{sets-append}
+use Rattle.rows.specs.Columns.{ROW, OFFSET, WIDTH}
 use Rattle.rows.specs.Table.{cell, spanAt}
 use Rattle.places.specs.Places.{entryIn}
 use Rattle.folded.specs.Shown.{SizedRow, Measured}
@@ -54,14 +55,14 @@ module _ (i : ℕ) {out : List ℕ} {b inner : Block} {depth : ℕ} where
       )
 
 module _ (w : List ℕ) (i : ℕ) {out : List ℕ} {b inner : Block} {depth : ℕ} where
-  module _ (member : Bool) (start : ℕ) {m a o v width : ℕ} (q : m ≡ flag member) (p : a ≡ cell w i 13) (s : o ≡ a - start) (u : v ≡ cell w i 14) where
+  module _ (member : Bool) (start : ℕ) {m a o v width : ℕ} (q : m ≡ flag member) (p : a ≡ cell w i OFFSET) (s : o ≡ a - start) (u : v ≡ cell w i WIDTH) where
     pub closed-own :
         {r : Block} {after : List ℕ} →
         Measured (total (entryIn w i)) width →
         Closed out b inner (record { row = i; mark = m; offset = o; width = v; members = inner .count; below = inner .next - b .next - 1; depth = depth }) width r after →
         Closed out b inner (ownItem w i member start b inner depth) (total (entryIn w i)) r after
     closed-own {r} t h =
-        let offset : o ≡ cell w i 13 - start = s ∙ ap (λ (n : ℕ). n - start) p in
+        let offset : o ≡ cell w i OFFSET - start = s ∙ ap (λ (n : ℕ). n - start) p in
         record {
           put = h .put ∙ (λ k. sets out (7 * b .next) (i ∷ q k ∷ offset k ∷ u k ∷ inner .count ∷ (inner .next - b .next - 1) ∷ depth ∷ []));
           next = h .next;
@@ -72,7 +73,7 @@ module _ (w : List ℕ) (i : ℕ) {out : List ℕ} {b inner : Block} {depth : �
 
   pub closed-union :
       {a : ℕ} {r : Block} {after : List ℕ} →
-      a ≡ cell w i 13 →
+      a ≡ cell w i OFFSET →
       Closed out b inner (record { row = i; mark = 2; offset = a; width = inner .widest; members = inner .count; below = inner .next - b .next - 1; depth = depth }) (inner .widest) r after →
       Closed out b inner (unionItem w i b inner depth) (inner .widest) r after
   closed-union p h =
@@ -250,7 +251,7 @@ module _ (b : Block) (d : ℕ) {w out : List ℕ} {ms : Entries} {inner : Block}
         built-entry (standsAs member start (entryIn w i)) (ownItem w i member start b inner d) (sound-own f member start) (own-shown member start) (own-total member start) c
 
     pub built-union :
-        20 * i + 20 ≤ length w →
+        ROW * i + ROW ≤ length w →
         {r : Block} {after : List ℕ} → Closed mid b inner (unionItem w i b inner d) (inner .widest) r after → Built w out b d (entry (union (entryIn w i) (widest ms)) ms end) r after
     built-union f c =
         let wide : inner .widest ≡ widest ms = omega (arith, p .most) in

@@ -24,13 +24,13 @@ use Rattle.entries.specs.Entered.{Shown, flatBytes, flatVaries, topEnd, 
 abbrev pub rest : List ℕ → List ℕ → ℕ → ℕ → List Shown
 rest w t n k = shownAll w (itemsFrom t k (n - k))
 
-abbrev all : List ℕ → List ℕ → ℕ → List Shown
+abbrev pub all : List ℕ → List ℕ → ℕ → List Shown
 all w t n = shownAll w (itemsFrom t 0 n)
 
 from-start : (n : ℕ) → n ≡ n - 0
 from-start n = omega arith
 
-rest-all : (w t : List ℕ) (n : ℕ) → all w t n ≡ rest w t n 0
+pub rest-all : (w t : List ℕ) (n : ℕ) → all w t n ≡ rest w t n 0
 rest-all w t n = ap (λ (m : ℕ). shownAll w (itemsFrom t 0 m)) (from-start n)
 
 -- the loop is at k, and the rest is sound
@@ -43,7 +43,7 @@ pub at-starts : (w t : List ℕ) (n : ℕ) → 7 * n ≤ length t → Rows w (it
 at-starts w t n f h = record { low = omega arith; fits = f; rows = subst (λ (m : ℕ). Rows w (itemsFrom t 0 m)) (from-start n) h }
 
 module _ {w t : List ℕ} {n k : ℕ} (inv : At w t n k) where
-  none-left : n ≤ k → rest w t n k ≡ []
+  pub none-left : n ≤ k → rest w t n k ≡ []
   unfolding itemsFrom shownAll
   none-left h = ap (λ (m : ℕ). shownAll w (itemsFrom t k m)) (let e : n - k ≡ 0 = omega arith in e)
 

@@ -10,6 +10,7 @@ use Rattle.definition.specs.declared.Entry.{Entry}
 use Rattle.definition.specs.Fold.{Entries, end, entry, hasMember, rebased, redefiners, unionMembers, union, widest, foldedBelow, foldedAll}
 use Rattle.definition.specs.Listing.{flag, members#}
 use Rattle.definition.specs.Search.{entries#}
+use Rattle.rows.specs.Columns.{NAME, OFFSET, WIDTH}
 use Rattle.rows.specs.Table.{cell, spanAt}
 use Rattle.places.specs.Places.{placeAt, entryIn}
 use Rattle.folded.specs.Shown.{listIn, redefinersIn}
@@ -43,7 +44,7 @@ unionIn text w i j to =
 
 -- a member of row i has its name
 abbrev pub ownMember : List ℕ → List ℕ → ℕ → ℕ → Bool
-ownMember text w i j = hasMember text (spanAt (cell w i 3)) (foldedAll text (listIn w (suc i) j))
+ownMember text w i j = hasMember text (spanAt (cell w i NAME)) (foldedAll text (listIn w (suc i) j))
 
 -- ---------------------------------------------------------------- blocks
 
@@ -79,12 +80,12 @@ pub record Built (w out : List ℕ) (b : Block) (depth : ℕ) (es : Entries) (r 
 -- row i by itself or as a member of the union that starts there
 abbrev pub ownItem : List ℕ → ℕ → Bool → ℕ → Block → Block → ℕ → Item
 ownItem w i member start b inner depth =
-    record { row = i; mark = flag member; offset = cell w i 13 - start; width = cell w i 14; members = inner .count; below = inner .next - b .next - 1; depth = depth }
+    record { row = i; mark = flag member; offset = cell w i OFFSET - start; width = cell w i WIDTH; members = inner .count; below = inner .next - b .next - 1; depth = depth }
 
 -- the union of row i with its redefiners
 abbrev pub unionItem : List ℕ → ℕ → Block → Block → ℕ → Item
 unionItem w i b inner depth =
-    record { row = i; mark = 2; offset = cell w i 13; width = inner .widest; members = inner .count; below = inner .next - b .next - 1; depth = depth }
+    record { row = i; mark = 2; offset = cell w i OFFSET; width = inner .widest; members = inner .count; below = inner .next - b .next - 1; depth = depth }
 
 -- every number of an item fits in 32 bits
 pub record Small (x : Item) : Type 0 where

@@ -15,6 +15,7 @@ use Rattle.definition.specs.Listing.{members#, entryBytes}
 use Rattle.definition.specs.Search.{entries#}
 use Rattle.places.specs.Places.{entryIn}
 use Rattle.folded.specs.Shown.{listIn}
+use Rattle.rows.specs.Columns.{ROW, DEPENDING}
 use Rattle.entries.specs.declared.Item.{Item}
 
 -- ---------------------------------------------------------------- the listing's entries, one after the other
@@ -85,7 +86,7 @@ itemsFrom t k (suc n) = itemAt t k ∷ itemsFrom t (suc k) n
 -- an entry at another offset, as a member of a union
 abbrev pub moved : ℕ → Entry → Entry
 moved offset e =
-    record { at = e .at; name = e .name; offset = offset; width = e .width; kind = e .kind; picture = e .picture; occurs = e .occurs; depending = e .depending; redefines = absent }
+    record { at = e .at; level = e .level; name = e .name; offset = offset; width = e .width; kind = e .kind; picture = e .picture; occurs = e .occurs; depending = e .depending; redefines = absent; over = e .over; slack = e .slack; folded = e .folded }
 
 abbrev pub ownOf : List ℕ → Item → Entry
 ownOf w x =
@@ -102,7 +103,7 @@ shownAll w (x ∷ xs) = shownOf w x ∷ shownAll w xs
 
 -- an item names a row that is there, and is not too large
 pub record Sound (w : List ℕ) (x : Item) : Type 0 where
-  pub there : 20 * x .row + 20 ≤ length w
+  pub there : ROW * x .row + ROW ≤ length w
   pub small : total (ownOf w x) ≤ 2147483647
 
 abbrev pub Rows : List ℕ → List Item → Type 0

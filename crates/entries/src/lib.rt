@@ -13,13 +13,20 @@ ghost use Rattle.definition.specs.Search.{entries#};
 ghost use Rattle.places.specs.Places.{entryIn};
 ghost use Rattle.folded.specs.Shown.{shownAt, Known, Tree, Branch, Base, SizedRow};
 ghost use Rattle.entries.specs.Entered.{flatBytes, flatVaries, topEnd, flatLength, flatFits, shownOf, itemCells, itemAt, itemsFrom, moved, ownOf, shownAll, Sound, Rows, Entered};
-ghost use Rattle.entries.specs.Building.{listed, itemIn, redefined, unionIn, ownMember, within, Room, Built, ownItem, unionItem, Small, Open, Closed};
+ghost use Rattle.entries.specs.Building.{listed, itemIn, redefined, unionIn, ownMember, Room, Built, ownItem, unionItem, Small, Open, Closed};
+ghost use Rattle.rows.specs.Columns.{ROW};
 use definition::Check;
 use definition::Entry;
 use definition::Refusal;
 use definition::Span;
-use folded::Relation;
 use folded::Standing;
+use rows::AT;
+use rows::DEPENDING;
+use rows::NAME;
+use rows::NEXT;
+use rows::OFFSET;
+use rows::ROW;
+use rows::WIDTH;
 
 // An entry in the table: the row that it names, whether it is that row's own entry (0), the same as a member of a union (1) or the union (2);
 // offset and width; how many members it has and how many entries stand below it; how deep it stands.
@@ -106,8 +113,8 @@ fn close_item(
     let x = Item {
         row: i,
         mark: mark_of(member),
-        offset: less(places::wide(work[20 * i + 13]), start),
-        width: places::wide(work[20 * i + 14]),
+        offset: less(places::wide(work[ROW * i + OFFSET]), start),
+        width: places::wide(work[ROW * i + WIDTH]),
         members: inner.count,
         below: inner.next - b.next - 1,
         depth: depth,
@@ -124,13 +131,13 @@ fn close_union(
     inner: Block,
     depth: usize,
 ) -> Block
-    requires { ⌜ (20 * i + 20 ≤ length (now work)) × Open (now entries) b inner depth i ⌝ }
+    requires { ⌜ (ROW * i + ROW ≤ length (now work)) × Open (now entries) b inner depth i ⌝ }
     ensures { λ r. ⌜ Closed (now (entries .entry)) b inner (unionItem (now (work .entry)) i b inner depth) (inner .widest) r (now (entries .exit)) ⌝ }
 {
     let x = Item {
         row: i,
         mark: 2,
-        offset: places::wide(work[20 * i + 13]),
+        offset: places::wide(work[ROW * i + OFFSET]),
         width: inner.widest,
         members: inner.count,
         below: inner.next - b.next - 1,
@@ -173,7 +180,7 @@ fn build_item(
     close_item(work, i, member, start, entries, b, inner, depth)
 }
 
-// Builds the redefiners of row i among the rows from j up to `to`.
+// Builds the redefiners of row i among the rows from j up to `to`: each names the next.
 fn build_redefiners(
     text: &[u8],
     work: &[u32],
@@ -187,22 +194,14 @@ fn build_redefiners(
     requires { ⌜ Base (now text) (now work) i j to × Room (now entries) b depth (entries# (redefined (now text) (now work) i j to)) to ⌝ }
     ensures { λ r. ⌜ Built (now (work .entry)) (now (entries .entry)) b depth (redefined (now (text .entry)) (now (work .entry)) i j to) r (now (entries .exit)) ⌝ }
 {
-    let start = places::wide(work[20 * i + 13]);
-    let mut left = folded::redefiner_count(text, work, i, j, to);
+    let start = places::wide(work[ROW * i + OFFSET]);
     let mut r = b;
-    let mut k = j;
-    while 0 < left {
-        let m = folded::next_of(work, k, to);
-        match folded::relation_to(text, work, i, k) {
-            Relation::Redefiner => {
-                r = build_item(text, work, k, m, true, start, entries, r, depth);
-                left -= 1;
-                k = m;
-            }
-            Relation::Other => {
-                k = m;
-            }
-        }
+    let mut k = places::wide(work[ROW * i + NEXT]);
+    while 0 < k {
+        let row = k - 1;
+        let m = places::next_of(work, row, to);
+        r = build_item(text, work, row, m, true, start, entries, r, depth);
+        k = places::wide(work[ROW * row + NEXT]);
     }
     r
 }
@@ -212,7 +211,7 @@ fn has_own(text: &[u8], work: &[u32], i: usize, j: usize, to: usize) -> bool
     requires { ⌜ Base (now text) (now work) i j to ⌝ }
     ensures { λ r. ⌜ r ≡ ownMember (now (text .entry)) (now (work .entry)) i j ⌝ }
 {
-    let name = rows::span_at(work[20 * i + 3]);
+    let name = rows::span_at(work[ROW * i + NAME]);
     folded::has_member(text, work, i + 1, j, name)
 }
 
@@ -235,7 +234,7 @@ fn build_members(
         let next = build_list(text, work, i + 1, j, entries, b, depth);
         return build_redefiners(text, work, i, j, to, entries, next, depth);
     }
-    let start = places::wide(work[20 * i + 13]);
+    let start = places::wide(work[ROW * i + OFFSET]);
     let next = build_item(text, work, i, j, true, start, entries, b, depth);
     build_redefiners(text, work, i, j, to, entries, next, depth)
 }
@@ -263,7 +262,7 @@ fn build_shown(
             return build_item(text, work, i, j, false, 0, entries, b, depth);
         }
         Standing::Base => {
-            if 0 < folded::redefiner_count(text, work, i, j, to) {
+            if 0 < work[ROW * i + NEXT] {
                 let at = b.next + 1;
                 let inner = build_members(
                     text,
@@ -303,7 +302,7 @@ fn build_list(
     let mut i = from;
     let mut last = 0;
     while i < to {
-        let j = folded::next_of(work, i, to);
+        let j = places::next_of(work, i, to);
         r = build_shown(text, work, i, j, to, last, entries, r, depth);
         last = i + 1;
         i = j;
@@ -359,8 +358,10 @@ fn moved_to(e: Entry, offset: usize) -> Entry
     let picture = e.picture;
     let occurs = e.occurs;
     let depending = e.depending;
+    let over = e.over;
     Entry {
         at: e.at,
+        level: e.level,
         name: name,
         offset: offset,
         width: e.width,
@@ -369,12 +370,15 @@ fn moved_to(e: Entry, offset: usize) -> Entry
         occurs: occurs,
         depending: depending,
         redefines: Span { start: 0, len: 0 },
+        over: over,
+        slack: e.slack,
+        folded: e.folded,
     }
 }
 
 // The entry that an item stands for.
 pub fn own_of(work: &[u32], x: Item) -> Entry
-    requires { ⌜ 20 * x .row + 20 ≤ length (now work) ⌝ }
+    requires { ⌜ ROW * x .row + ROW ≤ length (now work) ⌝ }
     ensures { λ r. ⌜ r ≡ ownOf (now (work .entry)) x ⌝ }
 {
     let e = places::entry_at(work, x.row);
@@ -412,13 +416,16 @@ pub fn put_entries(work: &[u32], entries: &[u32], n: usize, out: &mut [u8], at: 
     place
 }
 
-// Whether an entry has a DEPENDING ON.
+// Whether an entry has a DEPENDING ON: that of its row, and none for a union.
 fn depends(work: &[u32], x: Item) -> bool
     requires { ⌜ Sound (now work) x ⌝ }
     ensures { λ r. ⌜ r ≡ given (ownOf (now (work .entry)) x .depending) ⌝ }
 {
-    let e = own_of(work, x);
-    let depending = e.depending;
+    if 1 < x.mark {
+        return false;
+    }
+    let row = x.row;
+    let depending = rows::span_at(work[ROW * row + DEPENDING]);
     0 < depending.len
 }
 
@@ -438,7 +445,7 @@ pub fn varies(work: &[u32], entries: &[u32], n: usize) -> bool
 }
 
 // Where an entry starts in its list.
-fn offset_of(work: &[u32], x: Item) -> usize
+pub fn offset_of(work: &[u32], x: Item) -> usize
     requires { ⌜ Sound (now work) x × (x .offset < 4294967296) ⌝ }
     ensures { λ r. ⌜ (r ≡ ownOf (now (work .entry)) x .offset) × (r < 4294967296) ⌝ }
 {
@@ -446,7 +453,7 @@ fn offset_of(work: &[u32], x: Item) -> usize
         return x.offset;
     }
     let row = x.row;
-    places::wide(work[20 * row + 13])
+    places::wide(work[ROW * row + OFFSET])
 }
 
 // Where an entry ends: its offset and what it reserves.
@@ -455,13 +462,13 @@ fn item_end(work: &[u32], x: Item) -> usize
     ensures { λ r. ⌜ r ≡ entryEnd (ownOf (now (work .entry)) x) ⌝ }
 {
     let offset = offset_of(work, x);
-    let e = own_of(work, x);
-    let depending = e.depending;
-    if 0 < depending.len {
+    if 1 < x.mark {
+        return offset + x.width;
+    }
+    if depends(work, x) {
         return offset;
     }
-    let occurs = e.occurs;
-    offset + e.width * places::times_of(occurs) as usize
+    offset + folded::row_total(work, x.row)
 }
 
 // Where entry k ends, if it stands at the top; else 0.
@@ -497,7 +504,7 @@ fn position_of(work: &[u32], entries: &[u32], k: usize) -> usize
 {
     let x = item_at(entries, k);
     let row = x.row;
-    places::wide(work[20 * row + 2])
+    places::wide(work[ROW * row + AT])
 }
 
 // Refusal 29 for the first end at the top above 2,147,483,647.

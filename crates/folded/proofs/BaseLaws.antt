@@ -10,11 +10,12 @@ use borrow.Author.Tests.{lt-ltb, eq-eqb, ne-eqb}
 use Rattle.definition.specs.declared.Span.{Span}
 use Rattle.definition.specs.Basic.{if_then_else_, given, uppers}
 use Rattle.definition.specs.Fold.{find, sameName, nameOf, hasBase}
+use Rattle.rows.specs.Columns.{NAME, REDEFINES, BEFORE}
 use Rattle.rows.specs.Table.{cell, spanAt}
-use Rattle.places.specs.Places.{isTarget, rowFrom, seenFrom}
-use Rattle.places.proofs.SearchLaws.{offsetOf, row-low, row-here, row-most, row-found}
+use Rattle.places.specs.Places.{seenFrom, offsetOf, baseFrom}
+use Rattle.places.proofs.SearchLaws.{row-most, row-found, back, back-step}
 use Rattle.layout.proofs.SizeLaws.{never, same-sym, same-first}
-use Rattle.folded.specs.Shown.{baseFrom, Open}
+use Rattle.folded.specs.Shown.{Open}
 
 pub if-not : (b : Bool) {x y z : ℕ} → (x ≡ z → ⊥) → (b ≡ false → y ≡ z → ⊥) → (if b then x else y) ≡ z → ⊥
 if-not true p q e = p e
@@ -32,68 +33,55 @@ module _ (t w : List ℕ) where
         go zero = refl
         go (suc k) = sym (lt-ltb 0 (suc k) (omega arith))
 
-    -- what is found from the sibling `last` back
-    abbrev pub back : ℕ → ℕ
-    back last = baseFrom t target w last last
-
-    pub back-none : back 0 ≡ 0
-    unfolding rowFrom
-    back-none = refl
-
-    pub back-step : (k last : ℕ) → cell w k 16 ≡ last → last ≤ k → back (suc k) ≡ (if isTarget t target true w k then suc k else back last)
-    back-step k last e l =
-        row-here t w target true k
-        ∙ ap (λ (x : ℕ). if isTarget t target true w k then suc k else x) (ap (baseFrom t target w k) e ∙ row-low t w target true k last l)
-
   -- ---------------------------------------------------------------- a base that a search finds
 
   pub swapped : (a b : Span) → sameName t a b ≡ sameName t b a
   swapped a b = same-sym (uppers (nameOf t a)) (uppers (nameOf t b))
 
-  module _ (i k last : ℕ) (e : cell w k 16 ≡ last) (l : last ≤ k) where
+  module _ (i k last : ℕ) (e : cell w k BEFORE ≡ last) (l : last ≤ k) where
     -- the base's own row
-    pub opens : i ≡ k → given (spanAt (cell w k 6)) ≡ false → Open t w k (suc k)
+    pub opens : i ≡ k → given (spanAt (cell w k REDEFINES)) ≡ false → Open t w k (suc k)
     opens q g target =
-        ap (λ (n : ℕ). eqb n (suc k)) (back-step target k last e l)
-        ∙ ap (λ (b : Bool). eqb (if (if b then false else sameName t target (spanAt (cell w k 3))) then suc k else back target last) (suc k)) g
-        ∙ go (sameName t target (spanAt (cell w k 3)))
+        ap (λ (n : ℕ). eqb n (suc k)) (back-step t w target k last e l)
+        ∙ ap (λ (b : Bool). eqb (if (if b then false else sameName t target (spanAt (cell w k NAME))) then suc k else back t w target last) (suc k)) g
+        ∙ go (sameName t target (spanAt (cell w k NAME)))
       where
-        go : (b : Bool) → eqb (if b then suc k else back target last) (suc k) ≡ b
+        go : (b : Bool) → eqb (if b then suc k else back t w target last) (suc k) ≡ b
         go true = eq-eqb (suc k) (suc k) refl
-        go false = ne-eqb (back target last) (suc k) (λ x. omega (arith, row-most t w target true last last))
+        go false = ne-eqb (back t w target last) (suc k) (λ x. omega (arith, row-most t w target true last last))
 
     -- a redefiner leaves it open
-    pub passes : Open t w i last → given (spanAt (cell w k 6)) ≡ true → Open t w i (suc k)
+    pub passes : Open t w i last → given (spanAt (cell w k REDEFINES)) ≡ true → Open t w i (suc k)
     passes o g target =
-        ap (λ (n : ℕ). eqb n (suc i)) (back-step target k last e l)
-        ∙ ap (λ (b : Bool). eqb (if (if b then false else sameName t target (spanAt (cell w k 3))) then suc k else back target last) (suc i)) g
+        ap (λ (n : ℕ). eqb n (suc i)) (back-step t w target k last e l)
+        ∙ ap (λ (b : Bool). eqb (if (if b then false else sameName t target (spanAt (cell w k NAME))) then suc k else back t w target last) (suc i)) g
         ∙ o target
 
-    module _ (h : i < k) (o : Open t w i last) (g : given (spanAt (cell w k 6)) ≡ false) where
-      here : (target : Span) → back target (suc k) ≡ (if sameName t target (spanAt (cell w k 3)) then suc k else back target last)
+    module _ (h : i < k) (o : Open t w i last) (g : given (spanAt (cell w k REDEFINES)) ≡ false) where
+      here : (target : Span) → back t w target (suc k) ≡ (if sameName t target (spanAt (cell w k NAME)) then suc k else back t w target last)
       here target =
-          back-step target k last e l
-          ∙ ap (λ (b : Bool). if (if b then false else sameName t target (spanAt (cell w k 3))) then suc k else back target last) g
+          back-step t w target k last e l
+          ∙ ap (λ (b : Bool). if (if b then false else sameName t target (spanAt (cell w k NAME))) then suc k else back t w target last) g
 
       -- and so does a base of another name
-      pub differs : sameName t (spanAt (cell w i 3)) (spanAt (cell w k 3)) ≡ false → Open t w i (suc k)
-      differs d target = ap (λ (n : ℕ). eqb n (suc i)) (here target) ∙ go (sameName t target (spanAt (cell w k 3))) refl
+      pub differs : sameName t (spanAt (cell w i NAME)) (spanAt (cell w k NAME)) ≡ false → Open t w i (suc k)
+      differs d target = ap (λ (n : ℕ). eqb n (suc i)) (here target) ∙ go (sameName t target (spanAt (cell w k NAME))) refl
         where
           go :
               (b : Bool) →
-              sameName t target (spanAt (cell w k 3)) ≡ b →
-              eqb (if b then suc k else back target last) (suc i) ≡ sameName t target (spanAt (cell w i 3))
+              sameName t target (spanAt (cell w k NAME)) ≡ b →
+              eqb (if b then suc k else back t w target last) (suc i) ≡ sameName t target (spanAt (cell w i NAME))
           go true q =
               ne-eqb (suc k) (suc i) (λ x. omega arith)
-              ∙ sym (same-first t target (spanAt (cell w k 3)) (spanAt (cell w i 3)) q ∙ swapped (spanAt (cell w k 3)) (spanAt (cell w i 3)) ∙ d)
+              ∙ sym (same-first t target (spanAt (cell w k NAME)) (spanAt (cell w i NAME)) q ∙ swapped (spanAt (cell w k NAME)) (spanAt (cell w i NAME)) ∙ d)
           go false q = o target
 
       -- a base of its name closes it
-      pub closes : sameName t (spanAt (cell w i 3)) (spanAt (cell w k 3)) ≡ true → (target : Span) → back target (suc k) ≡ suc i → ⊥
+      pub closes : sameName t (spanAt (cell w i NAME)) (spanAt (cell w k NAME)) ≡ true → (target : Span) → back t w target (suc k) ≡ suc i → ⊥
       closes d target x =
-          if-not (sameName t target (spanAt (cell w k 3)))
+          if-not (sameName t target (spanAt (cell w k NAME)))
           (λ q. omega arith)
           (λ b q.
-          let same : sameName t target (spanAt (cell w i 3)) ≡ true = sym (o target) ∙ eq-eqb (back target last) (suc i) q in
-          never (sym b ∙ same-first t target (spanAt (cell w i 3)) (spanAt (cell w k 3)) same ∙ d))
+          let same : sameName t target (spanAt (cell w i NAME)) ≡ true = sym (o target) ∙ eq-eqb (back t w target last) (suc i) q in
+          never (sym b ∙ same-first t target (spanAt (cell w i NAME)) (spanAt (cell w k NAME)) same ∙ d))
           (sym (here target) ∙ x)

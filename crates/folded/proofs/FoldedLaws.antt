@@ -1,7 +1,7 @@
 -- Folded lists, entry by entry: a list is what its first entry comes to and then the rest; what is counted or measured of two lists together;
 -- the redefiners of a base.
 -- Assumes nothing.
-use Prim.Native.Nat.{ℕ, suc, _+_, max}
+use Prim.Native.Nat.{ℕ, _+_, max}
 use mathlib.Core.Path.{_≡_, refl, ap, _∙_}
 use mathlib.Core.Bool.{Bool, true, false}
 use mathlib.Core.List.{List, _∷_}
@@ -12,12 +12,10 @@ use Rattle.definition.specs.declared.Entry.{Entry}
 use Rattle.definition.specs.Basic.{if_then_else_, given}
 use Rattle.definition.specs.Fold.{Entries, end, entry, append, sameName, sameSpelling, Place, placeOf, find, hasMember, rebased, redefiners, widest, withRedefiners, foldedList, foldedBelow, foldedAll}
 use Rattle.definition.specs.Listing.{members#}
-use Rattle.definition.proofs.LayoutLaws.{redefiners-hit, redefiners-miss, redefiners-next}
 use Rattle.layout.specs.Bare.{basesAfter}
 use Rattle.layout.proofs.BareLaws.{list-base, list-alone, list-under}
 use Rattle.folded.specs.declared.Standing.{Standing}
-use Rattle.folded.specs.declared.Relation.{Relation}
-use Rattle.folded.specs.Shown.{standing, shownAs, shownNamed, relation}
+use Rattle.folded.specs.Shown.{standing, shownAs, shownNamed}
 
 -- ---------------------------------------------------------------- two lists together
 
@@ -58,11 +56,6 @@ member-append text w (entry e ms later) b = go (sameSpelling text w (e .name)) (
 or-false : (b : Bool) → (if b then true else false) ≡ b
 or-false true = refl
 or-false false = refl
-
--- the redefiners of a base in a list, by what its first entry is to the base and the redefiners in the rest
-abbrev pub byRelation : Relation → Place → Entry → Entries → Entries → Entries
-byRelation Relation.Redefiner base e members more = entry (rebased (base .offset) e) members more
-byRelation Relation.Other base e members more = more
 
 module _ (text : List ℕ) where
   -- a base with its redefiners comes before the later entries
@@ -115,23 +108,6 @@ module _ (text : List ℕ) where
 
   -- ---------------------------------------------------------------- redefiners
 
-  module _ (base : Place) (e : Entry) (members later : Entries) where
-    -- the redefiners in a list, by what its first entry is to the base, where it is no base of the same name
-    pub redefiners-step :
-        (given (e .redefines) ≡ false → sameName text (base .name) (e .name) ≡ false) →
-        redefiners text base (entry e members later) ≡ byRelation (relation text (base .name) e) base e members (redefiners text base later)
-    redefiners-step apart = go (given (e .redefines)) refl (sameName text (base .name) (e .redefines)) refl
-      where
-        go :
-            (g : Bool) →
-            given (e .redefines) ≡ g →
-            (a : Bool) →
-            sameName text (base .name) (e .redefines) ≡ a →
-            redefiners text base (entry e members later) ≡ byRelation (relation text (base .name) e) base e members (redefiners text base later)
-        go true g true h = redefiners-hit text base e members later g h ∙ rw (h, g)
-        go true g false h = redefiners-miss text base e members later g h ∙ rw (h, g)
-        go false g a h = redefiners-next text base e members later g (apart g) ∙ rw g
-
   -- the redefiners among entries whose members are folded
   pub redefiners-below : (base : Place) (es : Entries) → redefiners text base (foldedBelow text es) ≡ foldedBelow text (redefiners text base es)
   unfolding foldedBelow redefiners
@@ -153,8 +129,3 @@ module _ (text : List ℕ) where
       go true false b ih = ih
       go false a true ih = refl
       go false a false ih = ih
-
-  pub count-below : (es : Entries) → members# (foldedBelow text es) ≡ members# es
-  unfolding foldedBelow
-  count-below end = refl
-  count-below (entry e ms later) = ap suc (count-below later)

@@ -2,29 +2,28 @@
 -- Assumes nothing.
 use Prim.Native.Nat.{ℕ, suc, _+_, _*_, _-_, _≤_, _<_}
 use mathlib.Core.Path.{_≡_, refl, sym, ap, subst, _∙_}
-use mathlib.Core.Bool.{true}
+use mathlib.Core.Bool.{Bool, true, false}
 use mathlib.Core.List.{List}
 use native.Mathlib.Numerals.{add-one}
 use native.Mathlib.Omega.{arith}
-use Rattle.definition.specs.Basic.{given}
+use Rattle.definition.specs.Basic.{if_then_else_, given}
 use lib.Dec.{ltb}
 use lib.ListN.{length}
 use Rattle.definition.specs.Tree.{Forest, leaf, item, higher}
-use Rattle.definition.specs.Listing.{members#}
-use Rattle.definition.specs.Fold.{Entries, end, entry, append, Place, sameName, redefiners, foldedList, foldedBelow, foldedAll}
+use Rattle.definition.specs.Fold.{Entries, end, entry, append, Place, sameName, rebased, redefiners, foldedList, foldedBelow, foldedAll}
 use Rattle.definition.specs.Owner.{size}
 use Rattle.definition.specs.Search.{entries#}
-use Rattle.definition.proofs.LayoutLaws.{redefiners-ends}
+use Rattle.definition.proofs.LayoutLaws.{redefiners-hit, redefiners-miss, redefiners-ends, redefiners-next}
+use Rattle.rows.specs.Columns.{ROW, NAME, REDEFINES, OFFSET, BEFORE, BASE, NEXT}
 use Rattle.rows.specs.Table.{cell, spanAt, statementAt, statementsFrom}
-use Rattle.places.specs.Places.{seenFrom, basesAt, placeAt, entryIn, entriesIn, Linked, rowsForest}
-use Rattle.places.specs.Ends.{ChildrenEnd}
-use Rattle.places.proofs.EntriesLaws.{next-row, entries-step, linked-step}
+use Rattle.places.specs.Places.{seenFrom, basesAt, baseFrom, baseAfter, placeAt, entryIn, entriesIn, Linked, rowsForest}
+use Rattle.places.specs.Ends.{ChildrenEnd, Numbered}
+use Rattle.places.proofs.EntriesLaws.{next-row, entries-step, linked-step, linked-numbered}
 use Rattle.layout.proofs.FoldLaws.{bases-after}
 use Rattle.places.proofs.RowLaws.{children-end, forest-split, forest-empty}
-use Rattle.folded.specs.declared.Relation.{Relation}
-use Rattle.folded.specs.Shown.{relation, listIn, redefinersIn, foldedRest, shownAt, baseFrom, IsBase, Numbered, Known, Marked, Kin}
+use Rattle.folded.specs.Shown.{listIn, redefinersIn, foldedRest, shownAt, unionOf, nextIn, IsBase, Known, Marked}
 use Rattle.folded.proofs.BaseLaws.{base-found}
-use Rattle.folded.proofs.FoldedLaws.{append-end, append-append, byRelation, list-step, redefiners-step}
+use Rattle.folded.proofs.FoldedLaws.{append-end, append-append, list-step}
 
 -- ---------------------------------------------------------------- one row
 
@@ -41,10 +40,9 @@ entries-size w (item s kids later) k = omega (arith, entries-size w kids (suc k)
 
 -- what row i holds, whose children end at j, and its siblings at `to`
 pub record RowIs (t w : List ℕ) (i j to last : ℕ) : Type 0 where
-  pub before : cell w i 16 ≡ last
-  pub next : suc i + cell w i 17 ≡ j
-  pub count : IsBase w i → cell w i 18 ≡ members# (redefinersIn t w i j to)
-  pub under : given (spanAt (cell w i 6)) ≡ true → cell w i 18 ≡ baseFrom t (spanAt (cell w i 6)) w last last
+  pub before : cell w i BEFORE ≡ last
+  pub base : cell w i BASE ≡ baseAfter t w i last
+  pub chain : cell w i NEXT ≡ nextIn w (unionOf w i) j (rowsForest w j to)
 
 module _ (w : List ℕ) (i to j : ℕ) (h : ChildrenEnd w i to j) where
   -- row i, its children up to j, and the rest
@@ -60,61 +58,63 @@ module _ (w : List ℕ) (i to j : ℕ) (h : ChildrenEnd w i to j) where
       let all = subst (Marked t w i last) (forest-split w i to j h) l in
       let next = next-row w i to j h in
       let row = all .0 in
-      let below : suc i + cell w i 17 ≡ j = ap (λ (n : ℕ). suc i + n) (row .below) ∙ next in
-      let count : IsBase w i → cell w i 18 ≡ members# (redefinersIn t w i j to) =
-      λ b. row .count b ∙ ap (λ (n : ℕ). members# (redefiners t (placeAt w i) (entriesIn w n (rowsForest w j to)))) next in
-      (record { before = row .before; next = below; count = count; under = row .under }, all .1, subst (λ (n : ℕ). Marked t w n (suc i) (rowsForest w j to)) next (all .2))
+      let chain : cell w i NEXT ≡ nextIn w (unionOf w i) j (rowsForest w j to) = row .next ∙ ap (λ (n : ℕ). nextIn w (unionOf w i) n (rowsForest w j to)) next in
+      (record { before = row .row .before; base = row .row .base; chain = chain }, all .1, subst (λ (n : ℕ). Marked t w n (suc i) (rowsForest w j to)) next (all .2))
 
-pub marked-linked : (t w : List ℕ) (f : Forest) (k last : ℕ) → Marked t w k last f → Linked w k last f
+pub marked-linked : (t w : List ℕ) (f : Forest) (k last : ℕ) → Marked t w k last f → Linked t w k last f
 marked-linked t w leaf k last h = tt
-marked-linked t w (item s kids later) k last h = (h .0 .before, marked-linked t w later (suc k + size kids) (suc k) (h .2))
+marked-linked t w (item s kids later) k last h =
+    (h .0 .row, marked-linked t w kids (suc k) 0 (h .1), marked-linked t w later (suc k + size kids) (suc k) (h .2))
 
 -- a row of a list counts the rows below it
-pub marked-numbered : (t w : List ℕ) (i to last : ℕ) → 20 * to ≤ length w → i < to → Marked t w i last (rowsForest w i to) → Numbered w i to
-marked-numbered t w i to last fits h m =
-    let j = suc i + higher (statementAt w i .level) (statementsFrom w (suc i) (to - suc i)) in
-    let c : ChildrenEnd w i to j = children-end w i to h in
-    record { low = h; fits = fits; is = subst (ChildrenEnd w i to) (sym (marked-step w i to j c t last m .0 .next)) c }
+pub marked-numbered : (t w : List ℕ) (i to last : ℕ) → ROW * to ≤ length w → i < to → Marked t w i last (rowsForest w i to) → Numbered w i to
+marked-numbered t w i to last fits h m = linked-numbered t w i to last fits h (marked-linked t w (rowsForest w i to) i last m)
 
 -- and a redefiner knows whether it has a base
-pub marked-known : (t w : List ℕ) (i to last : ℕ) → 20 * to ≤ length w → last ≤ i → i < to → Marked t w i last (rowsForest w i to) → Known t w i last
+pub marked-known : (t w : List ℕ) (i to last : ℕ) → ROW * to ≤ length w → last ≤ i → i < to → Marked t w i last (rowsForest w i to) → Known t w i last
 marked-known t w i to last fits back h m =
     let j = suc i + higher (statementAt w i .level) (statementsFrom w (suc i) (to - suc i)) in
     let c : ChildrenEnd w i to j = children-end w i to h in
     let row = marked-step w i to j c t last m .0 in
+    let r = spanAt (cell w i REDEFINES) in
     record {
       fits = omega arith;
       back = back;
-      is = λ g. base-found t w (spanAt (cell w i 6)) last last ∙ ap (ltb 0) (sym (row .under g));
+      is =
+          λ g.
+          base-found t w r last last
+          ∙ ap (ltb 0) (sym (row .base ∙ ap (λ (b : Bool). if b then baseFrom t r w last last else 0) g));
     }
 
 -- ---------------------------------------------------------------- redefiners
 
 module _ (t w : List ℕ) (i k to : ℕ) where
-  -- the redefiners of row i from row k on, by what the code found row k to be to it
-  pub redefined-by :
-      Kin t w i k →
-      {n : ℕ} →
-      ChildrenEnd w k to n →
-      {r x : Relation} →
-      r ≡ relation t (spanAt (cell w i 3)) (entryIn w k) →
-      r ≡ x →
-      redefinersIn t w i k to ≡ byRelation x (placeAt w i) (entryIn w k) (listIn w (suc k) n) (redefinersIn t w i n to)
-  redefined-by a {n} h {r} {x} p e =
-      ap (redefiners t (placeAt w i)) (list-split w k to n h)
-      ∙ redefiners-step t (placeAt w i) (entryIn w k) (listIn w (suc k) n) (listIn w n to) (a .apart)
-      ∙ ap (λ (y : Relation). byRelation y (placeAt w i) (entryIn w k) (listIn w (suc k) n) (redefinersIn t w i n to)) (sym p ∙ e)
-
-  -- there is none from the next base of its name on
-  pub redefined-stop :
-      {n : ℕ} → ChildrenEnd w k to n → IsBase w k → sameName t (spanAt (cell w i 3)) (spanAt (cell w k 3)) ≡ true → redefinersIn t w i k to ≡ end
-  redefined-stop {n} h g q =
-      ap (redefiners t (placeAt w i)) (list-split w k to n h)
-      ∙ redefiners-ends t (placeAt w i) (entryIn w k) (listIn w (suc k) n) (listIn w n to) g q
-
   pub redefined-none : to ≤ k → redefinersIn t w i k to ≡ end
   unfolding redefiners
   redefined-none h = ap (redefiners t (placeAt w i)) (list-none w k to h)
+
+  module _ {m : ℕ} (h : ChildrenEnd w k to m) where
+    -- row k and the rest
+    split : redefinersIn t w i k to ≡ redefiners t (placeAt w i) (entry (entryIn w k) (listIn w (suc k) m) (listIn w m to))
+    split = ap (redefiners t (placeAt w i)) (list-split w k to m h)
+
+    -- the redefiners of row i from row k on: row k redefines it, or another row
+    module _ (g : given (spanAt (cell w k REDEFINES)) ≡ true) where
+      pub redefined-hit :
+          sameName t (spanAt (cell w i NAME)) (spanAt (cell w k REDEFINES)) ≡ true →
+          redefinersIn t w i k to ≡ entry (rebased (cell w i OFFSET) (entryIn w k)) (listIn w (suc k) m) (redefinersIn t w i m to)
+      redefined-hit q = split ∙ redefiners-hit t (placeAt w i) (entryIn w k) (listIn w (suc k) m) (listIn w m to) g q
+
+      pub redefined-miss : sameName t (spanAt (cell w i NAME)) (spanAt (cell w k REDEFINES)) ≡ false → redefinersIn t w i k to ≡ redefinersIn t w i m to
+      redefined-miss q = split ∙ redefiners-miss t (placeAt w i) (entryIn w k) (listIn w (suc k) m) (listIn w m to) g q
+
+    -- or it is the next base of its name, or a base of another
+    module _ (g : IsBase w k) where
+      pub redefined-ends : sameName t (spanAt (cell w i NAME)) (spanAt (cell w k NAME)) ≡ true → redefinersIn t w i k to ≡ end
+      redefined-ends q = split ∙ redefiners-ends t (placeAt w i) (entryIn w k) (listIn w (suc k) m) (listIn w m to) g q
+
+      pub redefined-next : sameName t (spanAt (cell w i NAME)) (spanAt (cell w k NAME)) ≡ false → redefinersIn t w i k to ≡ redefinersIn t w i m to
+      redefined-next q = split ∙ redefiners-next t (placeAt w i) (entryIn w k) (listIn w (suc k) m) (listIn w m to) g q
 
 -- ---------------------------------------------------------------- the folded list
 
@@ -122,7 +122,7 @@ module _ (t w : List ℕ) (i k to : ℕ) where
 rest-step :
     (t w : List ℕ) (i to last j : ℕ) →
     ChildrenEnd w i to j →
-    cell w i 16 ≡ last →
+    cell w i BEFORE ≡ last →
     last ≤ i →
     foldedRest t w i to last ≡ append (shownAt t w i j to last) (foldedRest t w j to (suc i))
 unfolding foldedBelow
@@ -135,10 +135,10 @@ rest-step t w i to last j h e l =
 pub record Walking (t w : List ℕ) (from to i last : ℕ) (done : Entries) : Type 0 where
   pub low : from ≤ i
   pub back : last ≤ i
-  pub linked : Linked w i last (rowsForest w i to)
+  pub linked : Linked t w i last (rowsForest w i to)
   pub same : foldedAll t (listIn w from to) ≡ append done (foldedRest t w i to last)
 
-pub walking-starts : (t w : List ℕ) (from to : ℕ) → Linked w from 0 (rowsForest w from to) → Walking t w from to from 0 end
+pub walking-starts : (t w : List ℕ) (from to : ℕ) → Linked t w from 0 (rowsForest w from to) → Walking t w from to from 0 end
 unfolding seenFrom append
 walking-starts t w from to h = record { low = omega arith; back = omega arith; linked = h; same = refl }
 
@@ -155,7 +155,7 @@ module _ {t w : List ℕ} {from to i last : ℕ} {done : Entries} (inv : Walking
     -- row i is next
     pub walking-here : foldedAll t (listIn w from to) ≡ append done (append (shownAt t w i j to last) (foldedRest t w j to (suc i)))
     walking-here =
-        inv .same ∙ ap (append done) (rest-step t w i to last j h (linked-step w i to j h last (inv .linked) .0) (inv .back))
+        inv .same ∙ ap (append done) (rest-step t w i to last j h (linked-step w i to j h t last (inv .linked) .0 .before) (inv .back))
 
     -- row i is done
     pub walking-on : Walking t w from to j (i + 1) (append done (shownAt t w i j to last))
@@ -164,6 +164,6 @@ module _ {t w : List ℕ} {from to i last : ℕ} {done : Entries} (inv : Walking
         record {
           low = omega (arith, h .low, inv .low);
           back = omega (arith, h .low);
-          linked = subst (λ (n : ℕ). Linked w j n (rowsForest w j to)) (sym (add-one i)) (linked-step w i to j h last (inv .linked) .1);
+          linked = subst (λ (n : ℕ). Linked t w j n (rowsForest w j to)) (sym (add-one i)) (linked-step w i to j h t last (inv .linked) .2);
           same = subst (λ (n : ℕ). foldedAll t (listIn w from to) ≡ append (append done (shownAt t w i j to last)) (foldedRest t w j to n)) (sym (add-one i)) rest;
         }

@@ -1,28 +1,32 @@
 -- How wide the rows are in the folded list, and where they end: a row alone, a base with its redefiners; and the parts of a table of rows.
 -- Assumes nothing.
-use Prim.Native.Nat.{ℕ, suc, _+_, _-_, _≤_, _<_}
+use Prim.Native.Nat.{ℕ, zero, suc, _+_, _-_, _≤_, _<_}
 use mathlib.Core.Path.{_≡_, refl, sym, ap, subst, _∙_}
 use lib.Dec.{eqb}
+use borrow.Author.Tests.{lt-ltb, le-ltb, eq-eqb, ne-eqb, eqb-true}
+use Rattle.definition.specs.declared.Span.{Span}
 use mathlib.Core.Bool.{Bool, true, false}
 use mathlib.Core.List.{List}
 use mathlib.Core.Logic.{⊎-elim}
 use native.Mathlib.Numerals.{add-one}
 use native.Mathlib.Omega.{arith}
 use Rattle.definition.specs.Basic.{if_then_else_, given}
-use Rattle.definition.specs.Fold.{Entries, end, entry, append, Place, find, sameName, redefiners, hasBase}
+use Rattle.definition.specs.Fold.{Entries, end, entry, append, Place, find, sameName, rebased, hasBase}
 use Rattle.definition.proofs.Lists.{order}
-use Rattle.definition.specs.Listing.{members#}
-use Rattle.definition.specs.Tree.{higher}
+use Rattle.definition.specs.Tree.{Forest, leaf, item, higher}
+use Rattle.definition.specs.Owner.{size}
+use Rattle.rows.specs.Columns.{NAME, REDEFINES, OFFSET, BASE, NEXT}
 use Rattle.rows.specs.Table.{cell, spanAt, statementAt, statementsFrom}
-use Rattle.places.proofs.RowLaws.{children-end}
+use Rattle.places.proofs.RowLaws.{children-end, forest-empty, forest-split}
+use Rattle.places.proofs.EntriesLaws.{next-row}
 use Rattle.layout.proofs.SizeLaws.{never}
-use Rattle.places.specs.Places.{entryIn, rowsForest}
-use Rattle.places.specs.Ends.{ChildrenEnd}
+use Rattle.places.specs.Places.{isTarget, baseAfter, entryIn, rowsForest}
+use Rattle.places.specs.Ends.{ChildrenEnd, Numbered}
+use Rattle.places.proofs.SearchLaws.{back, back-step}
 use Rattle.folded.specs.declared.Standing.{Standing}
-use Rattle.folded.specs.declared.Relation.{Relation}
-use Rattle.folded.specs.Shown.{standing, relation, redefinersIn, shownAt, Open, IsBase, Numbered, Known, Marked, Sized, Tree, Branch, Base, Kin, SizedRow}
-use Rattle.folded.proofs.BaseLaws.{opens, passes, differs, swapped}
-use Rattle.folded.proofs.ShownLaws.{RowIs, marked-step, marked-linked, marked-numbered, marked-known, redefined-by, redefined-stop, redefined-none, Walking, walking-starts, walking-on}
+use Rattle.folded.specs.Shown.{standing, listIn, redefinersIn, shownAt, unionOf, nextIn, Open, IsBase, Known, Marked, Sized, Tree, Branch, Base, SizedRow}
+use Rattle.folded.proofs.BaseLaws.{if-not, opens, passes, differs, closes, swapped}
+use Rattle.folded.proofs.ShownLaws.{RowIs, marked-step, marked-linked, marked-numbered, marked-known, redefined-none, redefined-hit, redefined-miss, redefined-ends, redefined-next, Walking, walking-starts, walking-on}
 
 -- ---------------------------------------------------------------- parts of a table
 
@@ -48,8 +52,8 @@ module _ {t w : List ℕ} {i j to : ℕ} (b : Branch t w i j to) where
   -- it is a base
   pub branch-base : {s : Standing} (bases : List Place) → s ≡ standing t bases (entryIn w i) → s ≡ Standing.Base → Base t w i j to
   branch-base {s} bases p e =
-      let stands = stands-base (given (spanAt (cell w i 6))) refl (sym p ∙ e) in
-      record { low = b .low; high = b .high; fits = b .fits; count = b .count stands; opened = b .opened stands; branch = b }
+      let stands = stands-base (given (spanAt (cell w i REDEFINES))) refl (sym p ∙ e) in
+      record { low = b .low; high = b .high; fits = b .fits; next = b .next stands; opened = b .opened stands; branch = b }
     where
       is-base : Standing → Bool
       is-base Standing.Under = false
@@ -60,9 +64,9 @@ module _ {t w : List ℕ} {i j to : ℕ} (b : Branch t w i j to) where
       not-either true x = true-false (ap is-base x)
       not-either false x = true-false (ap is-base x)
 
-      stands-base : (g : Bool) → given (spanAt (cell w i 6)) ≡ g → standing t bases (entryIn w i) ≡ Standing.Base → given (spanAt (cell w i 6)) ≡ false
+      stands-base : (g : Bool) → given (spanAt (cell w i REDEFINES)) ≡ g → standing t bases (entryIn w i) ≡ Standing.Base → given (spanAt (cell w i REDEFINES)) ≡ false
       stands-base true q x =
-          let r = spanAt (cell w i 6) in
+          let r = spanAt (cell w i REDEFINES) in
           let a = hasBase (find t r bases) in
           absurd (not-either a (sym (ap (λ (y : Bool). if y then (if a then Standing.Under else Standing.Alone) else Standing.Base) q) ∙ x))
       stands-base false q x = q
@@ -99,6 +103,12 @@ module _ {t w : List ℕ} {from to i last : ℕ} {done : Entries} (inv : Along t
   along-known h = marked-known t w i to last (inv .tree .fits) (inv .back) h (inv .marked)
 
   module _ {j : ℕ} (h : ChildrenEnd w i to j) where
+    own-union : IsBase w i → cell w i BASE ≡ baseAfter t w i last → unionOf w i ≡ suc i
+    own-union g e =
+        let r = spanAt (cell w i REDEFINES) in
+        let none : cell w i BASE ≡ 0 = e ∙ ap (λ (b : Bool). if b then back t w r last else 0) g in
+        ap (λ (b : Bool). if b then cell w i BASE else suc i) (le-ltb 0 (cell w i BASE) (omega (arith, none)))
+
     pub along-branch : Branch t w i j to
     along-branch =
         let row = marked-step w i to j h t last (inv .marked) in
@@ -106,7 +116,7 @@ module _ {t w : List ℕ} {from to i last : ℕ} {done : Entries} (inv : Along t
           low = h .low;
           high = h .high;
           fits = inv .tree .fits;
-          count = row .0 .count;
+          next = λ g. row .0 .chain ∙ ap (λ (u : ℕ). nextIn w u j (rowsForest w j to)) (own-union g (row .0 .base));
           opened = λ g. opens t w i i last (row .0 .before) (inv .back) refl g;
           marked = row .1;
           later = row .2;
@@ -125,103 +135,213 @@ module _ {t w : List ℕ} {from to i last : ℕ} {done : Entries} (inv : Along t
 
 -- ---------------------------------------------------------------- the redefiners of a base
 
--- `left` of them are in the rows from k on
-pub record Counting (t w : List ℕ) (i j to left k : ℕ) : Type 0 where
+-- row `row`, from row k on, is the first that names row i as its base: the redefiners es of row i begin there
+pub record Next (t w : List ℕ) (i k to : ℕ) (es : Entries) (row : ℕ) : Type 0 where
+  pub low : k ≤ row
+  pub high : row < to
+  pub before : ℕ
+  pub back : before ≤ row
+  pub opened : Open t w i before
+  pub marked : Marked t w row before (rowsForest w row to)
+  pub names : cell w row BASE ≡ suc i
+  pub same : es ≡ redefinersIn t w i row to
+
+-- the redefiners es of row i from row k on, by what the chain names: none, or a row and 1
+abbrev pub Onward : List ℕ → List ℕ → ℕ → ℕ → ℕ → Entries → ℕ → Type 0
+Onward t w i k to es zero = es ≡ end
+Onward t w i k to es (suc row) = Next t w i k to es row
+
+onward-from : (t w : List ℕ) (i to : ℕ) {k m : ℕ} {es fs : Entries} (n : ℕ) → k ≤ m → es ≡ fs → Onward t w i m to fs n → Onward t w i k to es n
+onward-from t w i to zero l e h = e ∙ h
+onward-from t w i to (suc row) l e h =
+    record {
+      low = omega (arith, h .low);
+      high = h .high;
+      before = h .before;
+      back = h .back;
+      opened = h .opened;
+      marked = h .marked;
+      names = h .names;
+      same = e ∙ h .same;
+    }
+
+-- no row of a list names row i, where no search from before the list finds it
+none-names :
+    (t w : List ℕ) (f : Forest) (i k last : ℕ) →
+    Marked t w k last f →
+    last ≤ k →
+    i < k →
+    ((target : Span) → back t w target last ≡ suc i → ⊥) →
+    nextIn w (suc i) k f ≡ 0
+unfolding nextIn
+none-names t w leaf i k last m l h apart = refl
+none-names t w (item s kids later) i k last m l h apart =
+    let r = spanAt (cell w k REDEFINES) in
+    let own : eqb (cell w k BASE) (suc i) ≡ false = ne-eqb (cell w k BASE) (suc i) (λ e. not-given (given r) (apart r) (sym (m .0 .row .base) ∙ e)) in
+    let rest =
+    none-names t w later i (suc k + size kids) (suc k) (m .2) (omega arith) (omega arith)
+    (λ target e. if-not (isTarget t target true w k) (λ q. omega arith) (λ _. apart target) (sym (back-step t w target k last (m .0 .row .before) l) ∙ e)) in
+    ap (λ (b : Bool). if b then suc k else nextIn w (suc i) (suc k + size kids) later) own ∙ rest
+  where
+    not-given : (b : Bool) {x z : ℕ} → (x ≡ suc z → ⊥) → (if b then x else 0) ≡ suc z → ⊥
+    not-given true p e = p e
+    not-given false p e = omega arith
+
+module _ (t w : List ℕ) (i to : ℕ) where
+  next-empty : (k : ℕ) → to ≤ k → nextIn w (suc i) k (rowsForest w k to) ≡ 0
+  unfolding nextIn
+  next-empty k h = ap (nextIn w (suc i) k) (forest-empty w k to h)
+
+  next-step : (k m : ℕ) → ChildrenEnd w k to m → nextIn w (suc i) k (rowsForest w k to) ≡ (if eqb (cell w k BASE) (suc i) then suc k else nextIn w (suc i) m (rowsForest w m to))
+  unfolding nextIn
+  next-step k m h =
+      ap (nextIn w (suc i) k) (forest-split w k to m h)
+      ∙ ap (λ (n : ℕ). if eqb (cell w k BASE) (suc i) then suc k else nextIn w (suc i) n (rowsForest w m to)) (next-row w k to m h)
+
+  -- the chain names the first redefiner from row k on, or none
+  onward :
+      (n k last : ℕ) →
+      to - k ≤ n →
+      i < k →
+      last ≤ k →
+      Open t w i last →
+      Marked t w k last (rowsForest w k to) →
+      Onward t w i k to (redefinersIn t w i k to) (nextIn w (suc i) k (rowsForest w k to))
+  onward zero k last f h l o m =
+      subst (Onward t w i k to (redefinersIn t w i k to)) (sym (next-empty k (omega arith))) (redefined-none t w i k to (omega arith))
+  onward (suc n) k last f h l o m =
+      let ih = onward n in
+      ⊎-elim
+      (λ (more : k < to). there more ih)
+      (λ (none : to ≤ k). subst (Onward t w i k to (redefinersIn t w i k to)) (sym (next-empty k none)) (redefined-none t w i k to none))
+      (order k to)
+    where
+      there :
+          k < to →
+          ((j before : ℕ) → to - j ≤ n → i < j → before ≤ j → Open t w i before → Marked t w j before (rowsForest w j to) → Onward t w i j to (redefinersIn t w i j to) (nextIn w (suc i) j (rowsForest w j to))) →
+          Onward t w i k to (redefinersIn t w i k to) (nextIn w (suc i) k (rowsForest w k to))
+      there more ih =
+          let j = suc k + higher (statementAt w k .level) (statementsFrom w (suc k) (to - suc k)) in
+          let c : ChildrenEnd w k to j = children-end w k to more in
+          let row = marked-step w k to j c t last m in
+          let rest = ih j (suc k) (omega (arith, c .low)) (omega (arith, c .low)) (c .low) in
+          let name = spanAt (cell w i NAME) in
+          let r = spanAt (cell w k REDEFINES) in
+          subst (Onward t w i k to (redefinersIn t w i k to)) (sym (next-step k j c))
+          (by-row j c (eqb (cell w k BASE) (suc i)) refl (given r) refl (sameName t name r) refl (sameName t name (spanAt (cell w k NAME))) refl (row .0) (λ o′. rest o′ (row .2)) (none-names t w (rowsForest w j to) i j (suc k) (row .2) (c .low) (omega (arith, c .low))))
+        where
+          by-row :
+              (j : ℕ) →
+              ChildrenEnd w k to j →
+              (x : Bool) →
+              eqb (cell w k BASE) (suc i) ≡ x →
+              (g : Bool) →
+              given (spanAt (cell w k REDEFINES)) ≡ g →
+              (a : Bool) →
+              sameName t (spanAt (cell w i NAME)) (spanAt (cell w k REDEFINES)) ≡ a →
+              (b : Bool) →
+              sameName t (spanAt (cell w i NAME)) (spanAt (cell w k NAME)) ≡ b →
+              RowIs t w k j to last →
+              (Open t w i (suc k) → Onward t w i j to (redefinersIn t w i j to) (nextIn w (suc i) j (rowsForest w j to))) →
+              (((target : Span) → back t w target (suc k) ≡ suc i → ⊥) → nextIn w (suc i) j (rowsForest w j to) ≡ 0) →
+              Onward t w i k to (redefinersIn t w i k to) (if x then suc k else nextIn w (suc i) j (rowsForest w j to))
+          by-row j c true x g p a q b s row rest none =
+              record { low = omega arith; high = more; before = last; back = l; opened = o; marked = m; names = eqb-true (cell w k BASE) (suc i) x; same = refl }
+          by-row j c false x true p a q b s row rest none =
+              let name = spanAt (cell w i NAME) in
+              let r = spanAt (cell w k REDEFINES) in
+              let other : sameName t name r ≡ false =
+              swapped t w name r ∙ sym (o r) ∙ ap (λ (n : ℕ). eqb n (suc i)) (sym (row .base ∙ ap (λ (y : Bool). if y then back t w r last else 0) p)) ∙ x in
+              onward-from t w i to (nextIn w (suc i) j (rowsForest w j to)) (omega (arith, c .low)) (redefined-miss t w i k to c p other) (rest (passes t w i k last (row .before) l o p))
+          by-row j c false x false p a q true s row rest none =
+              subst (Onward t w i k to (redefinersIn t w i k to)) (sym (none (closes t w i k last (row .before) l h o p s))) (redefined-ends t w i k to c p s)
+          by-row j c false x false p a q false s row rest none =
+              onward-from t w i to (nextIn w (suc i) j (rowsForest w j to)) (omega (arith, c .low)) (redefined-next t w i k to c p s) (rest (differs t w i k last (row .before) l h o p s))
+
+-- the redefiners of a base: from row k on, n names the first
+pub record Following (t w : List ℕ) (i j to k n : ℕ) : Type 0 where
   pub base : Base t w i j to
   pub low : j ≤ k
-  pub high : k ≤ to
-  pub before : ℕ
-  pub back : before ≤ k
-  pub opened : Open t w i before
-  pub marked : Marked t w k before (rowsForest w k to)
-  pub is : left ≡ members# (redefinersIn t w i k to)
+  pub rest : Onward t w i k to (redefinersIn t w i k to) n
 
-pub counting-starts : {t w : List ℕ} {i j to left : ℕ} → Base t w i j to → left ≡ members# (redefinersIn t w i j to) → Counting t w i j to left j
-counting-starts {i = i} b e = record { base = b; low = omega arith; high = b .high; before = suc i; back = b .low; opened = b .opened; marked = b .branch .later; is = e }
+pub following-starts : {t w : List ℕ} {i j to : ℕ} → Base t w i j to → {n : ℕ} → n ≡ cell w i NEXT → Following t w i j to j n
+following-starts {t} {w} {i} {j} {to} b e =
+    record {
+      base = b;
+      low = omega arith;
+      rest =
+          subst (Onward t w i j to (redefinersIn t w i j to)) (sym (e ∙ b .next))
+          (onward t w i to (to - j) j (suc i) (omega arith) (b .low) (b .low) (b .opened) (b .branch .later));
+    }
 
-none-left : (es : Entries) → members# es ≡ 0 → es ≡ end
-none-left end h = refl
-none-left (entry e ms later) h = absurd (omega arith)
+module _ (t w : List ℕ) (i k to : ℕ) (es : Entries) where
+  none-named : (n : ℕ) → n ≤ 0 → Onward t w i k to es n → es ≡ end
+  none-named zero h x = x
+  none-named (suc row) h x = absurd (omega arith)
 
-module _ {t w : List ℕ} {i j to left k : ℕ} (inv : Counting t w i j to left k) where
-  pub counting-none : left ≤ 0 → redefinersIn t w i k to ≡ end
-  counting-none h = none-left (redefinersIn t w i k to) (omega (arith, inv .is))
+  row-named : (n : ℕ) → 0 < n → Onward t w i k to es n → Next t w i k to es (n - 1)
+  row-named zero h x = absurd (omega arith)
+  row-named (suc row) h x = subst (Next t w i k to es) (let e : row ≡ suc row - 1 = omega arith in e) x
 
-  module _ (h : 0 < left) where
-    pub counting-more : k < to
-    counting-more =
-        ⊎-elim (λ (l : k < to). l)
-        (λ (l : to ≤ k). absurd (let e : members# (redefinersIn t w i k to) ≡ 0 = ap members# (redefined-none t w i k to l) in omega (arith, inv .is)))
-        (order k to)
+module _ {t w : List ℕ} {i j to k n : ℕ} (inv : Following t w i j to k n) where
+  pub following-none : n ≤ 0 → redefinersIn t w i k to ≡ end
+  following-none h = none-named t w i k to (redefinersIn t w i k to) n h (inv .rest)
 
-    pub counting-numbered : Numbered w k to
-    counting-numbered = marked-numbered t w k to (inv .before) (inv .base .fits) counting-more (inv .marked)
+  pub following-next : 0 < n → Next t w i k to (redefinersIn t w i k to) (n - 1)
+  following-next h = row-named t w i k to (redefinersIn t w i k to) n h (inv .rest)
 
-    pub counting-row : SizedRow w k
-    counting-row =
-        let l = counting-more in
-        record { fits = omega (arith, inv .base .fits); small = inv .base .branch .sized .totals k (omega (arith, inv .low, inv .base .low)) l }
+-- one of them
+module _ {t w : List ℕ} {i j to k n : ℕ} (inv : Following t w i j to k n) {row : ℕ} (x : Next t w i k to (redefinersIn t w i k to) row) where
+  pub next-numbered : Numbered w row to
+  next-numbered = marked-numbered t w row to (x .before) (inv .base .fits) (x .high) (x .marked)
 
-    here : ChildrenEnd w k to (suc k + higher (statementAt w k .level) (statementsFrom w (suc k) (to - suc k)))
-    here = children-end w k to counting-more
+  pub next-sized : SizedRow w row
+  next-sized =
+      record {
+        fits = omega (arith, inv .base .fits, x .high);
+        small = inv .base .branch .sized .totals row (omega (arith, inv .base .low, inv .low, x .low)) (x .high);
+      }
 
-    row-is : RowIs t w k (suc k + higher (statementAt w k .level) (statementsFrom w (suc k) (to - suc k))) to (inv .before)
-    row-is = marked-step w k to _ here t (inv .before) (inv .marked) .0
+  module _ {m : ℕ} (h : ChildrenEnd w row to m) where
+    row-is : RowIs t w row m to (x .before)
+    row-is = marked-step w row to m h t (x .before) (x .marked) .0
 
-    -- no base of its name is met while some are left
-    other-name : IsBase w k → sameName t (spanAt (cell w i 3)) (spanAt (cell w k 3)) ≡ false
-    other-name g = go (sameName t (spanAt (cell w i 3)) (spanAt (cell w k 3))) refl
-      where
-        go : (b : Bool) → sameName t (spanAt (cell w i 3)) (spanAt (cell w k 3)) ≡ b → sameName t (spanAt (cell w i 3)) (spanAt (cell w k 3)) ≡ false
-        go false q = q
-        go true q =
-            let none : members# (redefinersIn t w i k to) ≡ 0 = ap members# (redefined-stop t w i k to here g q) in
-            absurd (omega (arith, inv .is, none))
-
-    pub counting-kin : Kin t w i k
-    counting-kin =
-        let name = spanAt (cell w i 3) in
-        let r = spanAt (cell w k 6) in
-        record {
-          fits = counting-row .fits;
-          named = λ g. swapped t w name r ∙ sym (inv .opened r) ∙ ap (λ (n : ℕ). eqb n (suc i)) (sym (row-is .under g));
-          apart = other-name;
-        }
-
-    still-open : Open t w i (suc k)
-    still-open = go (given (spanAt (cell w k 6))) refl
-      where
-        go : (b : Bool) → given (spanAt (cell w k 6)) ≡ b → Open t w i (suc k)
-        go true g = passes t w i k (inv .before) (row-is .before) (inv .back) (inv .opened) g
-        go false g = differs t w i k (inv .before) (row-is .before) (inv .back) (omega (arith, inv .low, inv .base .low)) (inv .opened) g (other-name g)
-
-  module _ {m : ℕ} (h : ChildrenEnd w k to m) where
-    pub counting-tree : Tree t w (k + 1) m
-    counting-tree =
+    pub next-tree : Tree t w (row + 1) m
+    next-tree =
         record {
           fits = omega (arith, h .high, inv .base .fits);
-          marked = subst (λ (n : ℕ). Marked t w n 0 (rowsForest w n m)) (sym (add-one k)) (marked-step w k to m h t (inv .before) (inv .marked) .1);
-          sized = sized-part (inv .base .branch .sized) (k + 1) m (omega (arith, inv .low, inv .base .low)) (h .high);
+          marked = subst (λ (n : ℕ). Marked t w n 0 (rowsForest w n m)) (sym (add-one row)) (marked-step w row to m h t (x .before) (x .marked) .1);
+          sized = sized-part (inv .base .branch .sized) (row + 1) m (omega (arith, inv .base .low, inv .low, x .low)) (h .high);
         }
 
-    counting-next : 0 < left → {n : ℕ} → n ≡ members# (redefinersIn t w i m to) → Counting t w i j to n m
-    counting-next l e =
+    -- it redefines row i
+    found : baseAfter t w row (x .before) ≡ suc i
+    found = sym (row-is .base) ∙ x .names
+
+    redefines : given (spanAt (cell w row REDEFINES)) ≡ true
+    redefines = go (given (spanAt (cell w row REDEFINES))) refl found
+      where
+        go : (g : Bool) → given (spanAt (cell w row REDEFINES)) ≡ g → (if g then back t w (spanAt (cell w row REDEFINES)) (x .before) else 0) ≡ suc i → given (spanAt (cell w row REDEFINES)) ≡ true
+        go true p e = p
+        go false p e = absurd (omega arith)
+
+    pub next-is : redefinersIn t w i k to ≡ entry (rebased (cell w i OFFSET) (entryIn w row)) (listIn w (suc row) m) (redefinersIn t w i m to)
+    next-is =
+        let name = spanAt (cell w i NAME) in
+        let r = spanAt (cell w row REDEFINES) in
+        let at : back t w r (x .before) ≡ suc i = sym (ap (λ (g : Bool). if g then back t w r (x .before) else 0) redefines) ∙ found in
+        x .same ∙ redefined-hit t w i row to h redefines (swapped t w name r ∙ sym (x .opened r) ∙ eq-eqb (back t w r (x .before)) (suc i) at)
+
+    -- and names the next
+    pub next-on : {n′ : ℕ} → n′ ≡ cell w row NEXT → Following t w i j to m n′
+    next-on e =
+        let union : unionOf w row ≡ suc i =
+        ap (λ (g : Bool). if g then cell w row BASE else suc row) (lt-ltb 0 (cell w row BASE) (omega (arith, x .names))) ∙ x .names in
+        let b = inv .base in
         record {
-          base = inv .base;
-          low = omega (arith, inv .low, h .low);
-          high = h .high;
-          before = suc k;
-          back = h .low;
-          opened = still-open l;
-          marked = marked-step w k to m h t (inv .before) (inv .marked) .2;
-          is = e;
+          base = b;
+          low = omega (arith, inv .low, x .low, h .low);
+          rest =
+              subst (Onward t w i m to (redefinersIn t w i m to)) (sym (e ∙ row-is .chain ∙ ap (λ (u : ℕ). nextIn w u m (rowsForest w m to)) union))
+              (onward t w i to (to - m) m (suc row) (omega arith) (omega (arith, b .low, inv .low, x .low, h .low)) (h .low) (passes t w i row (x .before) (row-is .before) (x .back) (x .opened) redefines) (marked-step w row to m h t (x .before) (x .marked) .2));
         }
-
-    module _ (l : 0 < left) {r : Relation} (p : r ≡ relation t (spanAt (cell w i 3)) (entryIn w k)) where
-      pub counting-hit : r ≡ Relation.Redefiner → Counting t w i j to (left - 1) m
-      counting-hit e =
-          let one : members# (redefinersIn t w i k to) ≡ suc (members# (redefinersIn t w i m to)) = ap members# (redefined-by t w i k to (counting-kin l) h p e) in
-          counting-next l (omega (arith, inv .is, one))
-
-      pub counting-miss : r ≡ Relation.Other → Counting t w i j to left m
-      counting-miss e = counting-next l (inv .is ∙ ap members# (redefined-by t w i k to (counting-kin l) h p e))

@@ -12,12 +12,10 @@ use Rattle.definition.specs.Basic.{if_then_else_, given}
 use Rattle.definition.specs.Tree.{Forest, leaf, item}
 use Rattle.definition.specs.Fold.{Entries, end, entry, total, sameName, sameSpelling, Place, placeOf, find, redefiners, withRedefiners, hasBase, foldedList, foldedBelow, foldedAll}
 use Rattle.definition.specs.Owner.{size}
-use Rattle.definition.specs.Listing.{members#}
+use Rattle.rows.specs.Columns.{ROW, NAME, REDEFINES, BASE, NEXT}
 use Rattle.rows.specs.Table.{cell, spanAt}
-use Rattle.places.specs.Places.{rowFrom, basesAt, placeAt, entryIn, entriesIn, rowsForest}
-use Rattle.places.specs.Ends.{ChildrenEnd}
+use Rattle.places.specs.Places.{basesAt, baseFrom, placeAt, entryIn, entriesIn, rowsForest, RowLinked}
 use Rattle.folded.specs.declared.Standing.{Standing}
-use Rattle.folded.specs.declared.Relation.{Relation}
 
 -- ---------------------------------------------------------------- one entry
 
@@ -38,12 +36,6 @@ abbrev pub shownNamed : List ℕ → Span → Standing → Entry → Bool
 shownNamed text name Standing.Under e = false
 shownNamed text name Standing.Alone e = sameSpelling text name (e .name)
 shownNamed text name Standing.Base e = sameSpelling text name (e .name)
-
--- what a later entry, up to the next base of that name, is to a base: one of its redefiners, or not
-abbrev pub relation : List ℕ → Span → Entry → Relation
-relation text name e =
-    if given (e .redefines) then (if sameName text name (e .redefines) then Relation.Redefiner else Relation.Other)
-    else Relation.Other
 
 -- ---------------------------------------------------------------- rows
 
@@ -66,36 +58,33 @@ shownAt text w i j to last =
 
 -- ---------------------------------------------------------------- what the table is to be
 
--- among the first n rows, the latest base of that name from the sibling `last` back: its row and 1, or 0 for none
-abbrev pub baseFrom : List ℕ → Span → List ℕ → ℕ → ℕ → ℕ
-baseFrom text target w n last = rowFrom text target true w n last
+-- the union that row k stands in, by its base: the base's row and 1
+abbrev pub unionOf : List ℕ → ℕ → ℕ
+unionOf w k = if ltb 0 (cell w k BASE) then cell w k BASE else suc k
+
+-- the first row of a list, from row k on, that names the base u: its row and 1, or 0 for none
+unfoldable pub nextIn : List ℕ → ℕ → ℕ → Forest → ℕ
+nextIn w u k leaf = 0
+nextIn w u k (item s kids later) = if eqb (cell w k BASE) u then suc k else nextIn w u (suc k + size kids) later
 
 -- a search for a name, from the sibling `last` back, finds row i where row i has that name
 abbrev pub Open : List ℕ → List ℕ → ℕ → ℕ → Type 0
-Open text w i last = (target : Span) → eqb (baseFrom text target w last last) (suc i) ≡ sameName text target (spanAt (cell w i 3))
+Open text w i last = (target : Span) → eqb (baseFrom text target w last last) (suc i) ≡ sameName text target (spanAt (cell w i NAME))
 
 -- row i has no REDEFINES
 abbrev pub IsBase : List ℕ → ℕ → Type 0
-IsBase w i = given (spanAt (cell w i 6)) ≡ false
-
--- row i is there, before `to`, and counts the rows below it
-pub record Numbered (w : List ℕ) (i to : ℕ) : Type 0 where
-  pub low : i < to
-  pub fits : 20 * to ≤ length w
-  pub is : ChildrenEnd w i to (suc i + cell w i 17)
+IsBase w i = given (spanAt (cell w i REDEFINES)) ≡ false
 
 -- row i is there, after the sibling `last`, and a redefiner knows whether it has a base
 pub record Known (text w : List ℕ) (i last : ℕ) : Type 0 where
-  pub fits : 20 * i + 20 ≤ length w
+  pub fits : ROW * i + ROW ≤ length w
   pub back : last ≤ i
-  pub is : given (spanAt (cell w i 6)) ≡ true → hasBase (find text (spanAt (cell w i 6)) (basesAt w last)) ≡ ltb 0 (cell w i 18)
+  pub is : given (spanAt (cell w i REDEFINES)) ≡ true → hasBase (find text (spanAt (cell w i REDEFINES)) (basesAt w last)) ≡ ltb 0 (cell w i BASE)
 
--- a row names the sibling before it and counts the rows below it; a base counts its redefiners among the later siblings, and a redefiner names its base
+-- a row is linked, and names the next row of its union among the later siblings
 pub record RowMarked (text w : List ℕ) (k last : ℕ) (kids later : Forest) : Type 0 where
-  pub before : cell w k 16 ≡ last
-  pub below : cell w k 17 ≡ size kids
-  pub count : IsBase w k → cell w k 18 ≡ members# (redefiners text (placeAt w k) (entriesIn w (suc k + size kids) later))
-  pub under : given (spanAt (cell w k 6)) ≡ true → cell w k 18 ≡ baseFrom text (spanAt (cell w k 6)) w last last
+  pub row : RowLinked text w k last kids
+  pub next : cell w k NEXT ≡ nextIn w (unionOf w k) (suc k + size kids) later
 
 -- each row of a list, and of the lists below it, does
 abbrev pub Marked : List ℕ → List ℕ → ℕ → ℕ → Forest → Type 0
@@ -109,7 +98,7 @@ pub record Sized (w : List ℕ) (from to : ℕ) : Type 0 where
 
 -- the rows of a list and of those below it are there, marked, and none too large
 pub record Tree (text w : List ℕ) (from to : ℕ) : Type 0 where
-  pub fits : 20 * to ≤ length w
+  pub fits : ROW * to ≤ length w
   pub marked : Marked text w from 0 (rowsForest w from to)
   pub sized : Sized w from to
 
@@ -117,8 +106,8 @@ pub record Tree (text w : List ℕ) (from to : ℕ) : Type 0 where
 pub record Branch (text w : List ℕ) (i j to : ℕ) : Type 0 where
   pub low : i < j
   pub high : j ≤ to
-  pub fits : 20 * to ≤ length w
-  pub count : IsBase w i → cell w i 18 ≡ members# (redefinersIn text w i j to)
+  pub fits : ROW * to ≤ length w
+  pub next : IsBase w i → cell w i NEXT ≡ nextIn w (suc i) j (rowsForest w j to)
   pub opened : IsBase w i → Open text w i (suc i)
   pub marked : Marked text w (suc i) 0 (rowsForest w (suc i) j)
   pub later : Marked text w j (suc i) (rowsForest w j to)
@@ -128,20 +117,14 @@ pub record Branch (text w : List ℕ) (i j to : ℕ) : Type 0 where
 pub record Base (text w : List ℕ) (i j to : ℕ) : Type 0 where
   pub low : i < j
   pub high : j ≤ to
-  pub fits : 20 * to ≤ length w
-  pub count : cell w i 18 ≡ members# (redefinersIn text w i j to)
+  pub fits : ROW * to ≤ length w
+  pub next : cell w i NEXT ≡ nextIn w (suc i) j (rowsForest w j to)
   pub opened : Open text w i (suc i)
   pub branch : Branch text w i j to
 
--- row k is there, names row i as its base if it redefines it, and is no base of its name
-pub record Kin (text w : List ℕ) (i k : ℕ) : Type 0 where
-  pub fits : 20 * k + 20 ≤ length w
-  pub named : given (spanAt (cell w k 6)) ≡ true → sameName text (spanAt (cell w i 3)) (spanAt (cell w k 6)) ≡ eqb (cell w k 18) (suc i)
-  pub apart : IsBase w k → sameName text (spanAt (cell w i 3)) (spanAt (cell w k 3)) ≡ false
-
 -- row k is there, and is not too large
 pub record SizedRow (w : List ℕ) (k : ℕ) : Type 0 where
-  pub fits : 20 * k + 20 ≤ length w
+  pub fits : ROW * k + ROW ≤ length w
   pub small : total (entryIn w k) ≤ 2147483647
 
 -- ---------------------------------------------------------------- answers

@@ -1,14 +1,15 @@
 // How the rows of a laid and marked table stand in the folded lists.
 ghost use mathlib.Core.Path.{_≡_};
-ghost use Prim.Native.Nat.{_+_, _*_, _≤_};
-ghost use lib.ListN.{length};
+ghost use Prim.Native.Nat.{_+_, _*_};
 ghost use Rattle.definition.specs.Fold.{total, sameSpelling, hasMember, foldedAll};
-ghost use Rattle.definition.specs.Listing.{members#};
 ghost use Rattle.places.specs.Places.{entryIn, basesAt};
-ghost use Rattle.places.specs.Ends.{ChildrenEnd};
-ghost use Rattle.rows.specs.Table.{cell, spanAt};
-ghost use Rattle.folded.specs.Shown.{standing, relation, listIn, redefinersIn, shownNamed, Numbered, Known, Tree, Base, Kin, SizedRow, Measured};
+ghost use Rattle.folded.specs.Shown.{standing, listIn, shownNamed, Known, Tree, SizedRow, Measured};
 use definition::Span;
+use rows::BASE;
+use rows::NAME;
+use rows::REDEFINES;
+use rows::ROW;
+use rows::WIDTH;
 
 // How an entry stands in the folded list.
 pub enum Standing {
@@ -17,20 +18,14 @@ pub enum Standing {
     Base,
 }
 
-// What a later entry is to a base.
-pub enum Relation {
-    Redefiner,
-    Other,
-}
-
 // How the entry of row i stands in the folded list, where the siblings before it go back from `last`.
 pub fn standing_of(text: &[u8], work: &[u32], i: usize, last: usize) -> Standing
     requires { ⌜ Known (now text) (now work) i last ⌝ }
     ensures { λ r. ⌜ r ≡ standing (now (text .entry)) (basesAt (now (work .entry)) last) (entryIn (now (work .entry)) i) ⌝ }
 {
-    let redefines = rows::span_at(work[20 * i + 6]);
+    let redefines = rows::span_at(work[ROW * i + REDEFINES]);
     if 0 < redefines.len {
-        if 0 < work[20 * i + 18] {
+        if 0 < work[ROW * i + BASE] {
             return Standing::Under;
         }
         return Standing::Alone;
@@ -38,46 +33,13 @@ pub fn standing_of(text: &[u8], work: &[u32], i: usize, last: usize) -> Standing
     Standing::Base
 }
 
-// What row k is to the base in row i, while no base of its name stands between them: it names row i as its base, or not.
-pub fn relation_to(text: &[u8], work: &[u32], i: usize, k: usize) -> Relation
-    requires { ⌜ (20 * i + 20 ≤ length (now work)) × Kin (now text) (now work) i k ⌝ }
-    ensures { λ r. ⌜ r ≡ relation (now (text .entry)) (spanAt (cell (now (work .entry)) i 3)) (entryIn (now (work .entry)) k) ⌝ }
-{
-    let redefines = rows::span_at(work[20 * k + 6]);
-    if 0 < redefines.len {
-        if places::wide(work[20 * k + 18]) == i + 1 {
-            return Relation::Redefiner;
-        }
-        return Relation::Other;
-    }
-    Relation::Other
-}
-
 // The bytes of all occurrences of row k.
 pub fn row_total(work: &[u32], k: usize) -> usize
     requires { ⌜ SizedRow (now work) k ⌝ }
     ensures { λ r. ⌜ Measured (total (entryIn (now (work .entry)) k)) r ⌝ }
 {
-    let s = rows::statement_at(work, k);
-    let clauses = s.clauses;
-    let occurs = clauses.occurs;
-    places::wide(work[20 * k + 14]) * places::times_of(occurs) as usize
-}
-
-// The end of the children of row i, which counts the rows below it.
-pub fn next_of(work: &[u32], i: usize, to: usize) -> usize
-    requires { ⌜ Numbered (now work) i to ⌝ }
-    ensures { λ r. ⌜ ChildrenEnd (now (work .entry)) i to r ⌝ }
-{
-    i + 1 + places::wide(work[20 * i + 17])
-}
-
-// How many redefiners row i has among the rows from j up to `to`: it counts them.
-pub fn redefiner_count(text: &[u8], work: &[u32], i: usize, j: usize, to: usize) -> usize
-    requires { ⌜ Base (now text) (now work) i j to ⌝ }
-    ensures { λ r. ⌜ r ≡ members# (redefinersIn (now (text .entry)) (now (work .entry)) i j to) ⌝ }
-{
-    places::wide(work[20 * i + 18])
+    let occurs = rows::occurs_in(work, k);
+    places::wide(work[ROW * k + WIDTH]) * places::times_of(occurs) as usize
 }
 
 // Whether two names are spelled the same; an absent one means FILLER.
@@ -101,7 +63,7 @@ fn shown_named(text: &[u8], work: &[u32], i: usize, last: usize, name: Span) -> 
     requires { ⌜ Known (now text) (now work) i last ⌝ }
     ensures { λ r. ⌜ r ≡ shownNamed (now (text .entry)) name (standing (now (text .entry)) (basesAt (now (work .entry)) last) (entryIn (now (work .entry)) i)) (entryIn (now (work .entry)) i) ⌝ }
 {
-    let own = rows::span_at(work[20 * i + 3]);
+    let own = rows::span_at(work[ROW * i + NAME]);
     match standing_of(text, work, i, last) {
         Standing::Under => false,
         Standing::Alone => same_spellings(text, name, own),
@@ -121,7 +83,7 @@ pub fn has_member(text: &[u8], work: &[u32], from: usize, to: usize, name: Span)
             return true;
         }
         last = i + 1;
-        i = next_of(work, i, to);
+        i = places::next_of(work, i, to);
     }
     false
 }

@@ -21,7 +21,7 @@ use Rattle.definition.specs.Picture.{expand, allDigits, fraction, isText, isMas
 use Rattle.definition.specs.Layout.{content}
 use Rattle.definition.proofs.Answers.{through, given-same, not-refused, or-false}
 use Rattle.definition.proofs.PictureLaws.{tally-le, mask-length}
-use Rattle.places.specs.Places.{Bytes}
+use Rattle.kinds.specs.Kinds.{Bytes}
 
 -- ---------------------------------------------------------------- symbols
 

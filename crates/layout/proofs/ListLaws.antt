@@ -11,7 +11,7 @@ use Rattle.definition.specs.declared.Pictured.{Pictured}
 use Rattle.definition.specs.Basic.{Answer, refuse, give, _>>=_, refuseIf}
 use Rattle.definition.specs.Tree.{Forest, leaf, item}
 use Rattle.definition.specs.Fold.{entry, entryEnd, Place, placeOf, foldCheck}
-use Rattle.definition.specs.Layout.{shallow, content, start, entryOf, tooLarge, advance, Laid, lay}
+use Rattle.definition.specs.Layout.{shallow, content, start, slackFrom, entryOf, tooLarge, advance, Laid, lay}
 use Rattle.definition.proofs.Answers.{through, given-same, not-refused}
 use Rattle.places.proofs.EntriesLaws.{EntryOf, Of}
 use Rattle.places.proofs.EndLaws.{within}
@@ -48,7 +48,7 @@ module _ (text : List ℕ) (depth : ℕ) (seen : List Place) (cursor reach : ℕ
       bind-along (lay text (suc depth) [] 0 0 kids) _ _ restAfter λ inner.
       bind-along (foldCheck text [] (inner .entries)) _ _ restAfter λ _.
       bind-along (content text s kids (inner .width)) _ _ restAfter λ c.
-      place-along (start text s c seen cursor) (λ o. refuseIf (tooLarge (entryOf s c o)) 29 (s .at)) (entryOf s c) (λ e. give (record { own = e; members = inner .entries })) restAfter _ (λ o. refl)
+      place-along (start text s c seen cursor) (λ o. refuseIf (tooLarge (entryOf s c o (slackFrom cursor s o))) 29 (s .at)) (λ o. entryOf s c o (slackFrom cursor s o)) (λ e. give (record { own = e; members = inner .entries })) restAfter _ (λ o. refl)
 
 -- ---------------------------------------------------------------- an item that was laid
 
@@ -60,8 +60,9 @@ pub record ItemIs (text : List ℕ) (depth : ℕ) (s : Statement) (kids : Forest
   pub contents : Pictured
   pub contents-are : content text s kids (inner .width) ≡ give contents
   pub offset : ℕ
-  pub own : entryOf s contents offset ≡ x .own
-  pub fits : tooLarge (entryOf s contents offset) ≡ false
+  pub slack : ℕ
+  pub own : entryOf s contents offset slack ≡ x .own
+  pub fits : tooLarge (entryOf s contents offset slack) ≡ false
 
 pub item-is :
     (text : List ℕ) (depth : ℕ) (seen : List Place) (cursor : ℕ) (s : Statement) (kids : Forest) {x : ItemLaid} →
@@ -84,8 +85,9 @@ item-is text depth seen cursor s kids h =
       contents = c;
       contents-are = e₄;
       offset = o;
+      slack = slackFrom cursor s o;
       own = given-same h₇ ∙ ap (λ (y : ItemLaid). y .own) same;
-      fits = not-refused (tooLarge (entryOf s c o)) 29 (s .at) e₇;
+      fits = not-refused (tooLarge (entryOf s c o (slackFrom cursor s o))) 29 (s .at) e₇;
     }
 
 -- ---------------------------------------------------------------- a laid list
@@ -108,10 +110,10 @@ module _ (text : List ℕ) where
       through _ _ h₁ λ more e₂ h₂.
       let i = item-is text depth seen cursor s kids e₁ in
       let members = bare-is kids (suc depth) [] 0 0 (omega arith) (i .inner-laid) in
-      let ends = within (entryOf s (i .contents) (i .offset)) (i .fits) .ends in
+      let ends = within (entryOf s (i .contents) (i .offset) (i .slack)) (i .fits) .ends in
       let ends′ : entryEnd (x .own) ≤ 2147483647 = subst (λ (y : Entry). entryEnd y ≤ 2147483647) (i .own) ends in
       let rest = bare-is later depth (placeOf (x .own) ∷ seen) (advance cursor (x .own)) (max reach (entryEnd (x .own))) (omega arith) e₂ in
       let own : EntryOf s (x .own) =
-      record { place = i .offset; contents = i .contents; is = sym (i .own); bytes = content-bytes text s kids (i .inner .width) (i .contents-are) } in
+      record { place = i .offset; slack = i .slack; contents = i .contents; is = sym (i .own); bytes = content-bytes text s kids (i .inner .width) (i .contents-are) } in
       subst (BareIs (item s kids later)) (given-same h₂)
       (record { of = (own, subst (Of kids) (i .members) (members .of), rest .of); width = rest .width })

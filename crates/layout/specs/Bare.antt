@@ -11,7 +11,7 @@ use Rattle.definition.specs.declared.Pictured.{Pictured}
 use Rattle.definition.specs.Basic.{if_then_else_, given, Answer, give, _>>=_, refuseIf}
 use Rattle.definition.specs.Tree.{Forest, leaf, item}
 use Rattle.definition.specs.Fold.{Entries, Place, placeOf, foldCheck}
-use Rattle.definition.specs.Layout.{shallow, content, start, entryOf, tooLarge, lay}
+use Rattle.definition.specs.Layout.{shallow, content, start, slackFrom, entryOf, tooLarge, lay}
 
 -- the bases after an entry
 abbrev pub basesAfter : Entry → List Place → List Place
@@ -26,8 +26,9 @@ pub record ItemLaid : Type 0 where
 unfoldable pub placed : List ℕ → Statement → Pictured → List Place → ℕ → Answer Entry
 placed text s c seen cursor = do
   offset ← start text s c seen cursor
-  _ ← refuseIf (tooLarge (entryOf s c offset)) 29 (s .at)
-  give (entryOf s c offset)
+  let e = entryOf s c offset (slackFrom cursor s offset)
+  _ ← refuseIf (tooLarge e) 29 (s .at)
+  give e
 
 -- one item: its inner list, its kind and width, and its place (`BareLaws` says that a list is its first item and the rest)
 unfoldable pub bareItem : List ℕ → ℕ → List Place → ℕ → Statement → Forest → Answer ItemLaid

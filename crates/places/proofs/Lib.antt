@@ -1,4 +1,3 @@
-pub mod KindLaws
 pub mod PlaceLaws
 pub mod SearchLaws
 pub mod RowLaws

@@ -1,15 +1,17 @@
 -- The end of a row's children among the rows, and where an entry ends.
 -- Assumes nothing.
-use Prim.Native.Nat.{ℕ, suc, _+_, _-_, _≤_, _<_}
+use Prim.Native.Nat.{ℕ, suc, _+_, _*_, _-_, _≤_, _<_}
 use mathlib.Core.Path.{_≡_}
 use mathlib.Core.List.{List}
 use mathlib.Core.Option.{Option, none, some}
+use lib.ListN.{length}
 use Rattle.definition.specs.declared.Entry.{Entry}
 use Rattle.definition.specs.Basic.{if_then_else_}
 use Rattle.definition.specs.Tree.{higher}
 use Rattle.definition.specs.Fold.{entryEnd}
 use Rattle.definition.specs.Layout.{tooLarge}
-use Rattle.rows.specs.Table.{statementAt, statementsFrom}
+use Rattle.rows.specs.Columns.{ROW, BELOW}
+use Rattle.rows.specs.Table.{cell, statementAt, statementsFrom}
 use Rattle.places.specs.declared.Ending.{Ending}
 
 -- j is the end of the children of row i, among the rows up to `to`
@@ -17,6 +19,12 @@ pub record ChildrenEnd (w : List ℕ) (i to j : ℕ) : Type 0 where
   pub low : i < j
   pub high : j ≤ to
   pub is : j ≡ suc i + higher (statementAt w i .level) (statementsFrom w (suc i) (to - suc i))
+
+-- row i is there, before `to`, and counts the rows below it
+pub record Numbered (w : List ℕ) (i to : ℕ) : Type 0 where
+  pub low : i < to
+  pub fits : ROW * to ≤ length w
+  pub is : ChildrenEnd w i to (suc i + cell w i BELOW)
 
 -- where an entry ends, unless 29 is due
 abbrev pub endOf : Entry → Option ℕ

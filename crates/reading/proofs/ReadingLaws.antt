@@ -10,26 +10,27 @@ use Rattle.definition.specs.declared.Refusal.{Refusal}
 use Rattle.definition.specs.declared.Statement.{Statement}
 use Rattle.definition.specs.Basic.{Answer, refuse, give, _>>=_}
 use Rattle.definition.specs.Statement.{statements}
-use Rattle.definition.specs.Tree.{stillOpen, depths, forest, nesting}
+use Rattle.definition.specs.Tree.{Open, opened, stillOpen, innermost, parents, parentsIn, forest}
 use Rattle.definition.specs.Words.{statementWords}
-use Rattle.definition.proofs.DepthLaws.{length-depths, depths-nesting}
+use Rattle.definition.proofs.ParentLaws.{length-parents, parents-forest}
 use Rattle.reading.specs.declared.RowsRead.{RowsRead}
-use Rattle.rows.specs.Table.{Storable, Storables, putRow, putRows, statementsFrom, depthsFrom}
+use Rattle.rows.specs.Columns.{ROW}
+use Rattle.rows.specs.Table.{Storable, Storables, putRow, putRows, statementsFrom, parentsFrom}
 use Rattle.reading.specs.Reading.{stopped, ready, outcome, Held, RowsAre}
-use Rattle.rows.proofs.TableLaws.{length-putRows, statements-put, depths-put}
+use Rattle.rows.proofs.TableLaws.{length-putRows, statements-put, parents-put}
 
 -- ---------------------------------------------------------------- one kept statement more
 
 module _ (n : ℕ) (s : Statement) where
   pub outcome-kept :
-      (w levels : List ℕ) (a : Answer (List Statement)) →
-      let outer = stillOpen (s .level) levels in
-      outcome w n levels (a >>= λ ss. give (s ∷ ss)) ≡ outcome (putRow w n (length outer) s) (n + 1) (s .level ∷ outer) a
-  unfolding _>>=_ putRows depths
-  outcome-kept w levels (refuse r) = refl
-  outcome-kept w levels (give ss) =
+      (w : List ℕ) (os : List Open) (a : Answer (List Statement)) →
+      let outer = stillOpen (s .level) os in
+      outcome w n os (a >>= λ ss. give (s ∷ ss)) ≡ outcome (putRow w n (innermost outer) s) (n + 1) (opened (s .level) (suc n) ∷ outer) a
+  unfolding _>>=_ putRows parents
+  outcome-kept w os (refuse r) = refl
+  outcome-kept w os (give ss) =
       let e : n + suc (length ss) ≡ suc n + length ss = omega arith in
-      rw (add-one n) (ap (λ (k : ℕ). ready k (putRows w n (depths levels (s ∷ ss)) (s ∷ ss))) e)
+      rw (add-one n) (ap (λ (k : ℕ). ready k (putRows w n (parents os n (s ∷ ss)) (s ∷ ss))) e)
 
   pub held-kept : Storable s → (a : Answer (List Statement)) → Held (n + 1) a → Held n (a >>= λ ss. give (s ∷ ss))
   unfolding _>>=_
@@ -38,17 +39,17 @@ module _ (n : ℕ) (s : Statement) where
 
 -- ---------------------------------------------------------------- what an answer says
 
--- n rows hold the kept statements and their depths in the forest
+-- n rows hold the kept statements and their parents in the forest
 pub record Stored (text w w′ : List ℕ) (n : ℕ) : Type 0 where
   pub kept : List Statement
   pub are : statements text 0 (statementWords text) ≡ give kept
   pub many : n ≡ length kept
   pub few : n ≤ 800
   pub storable : Storables kept
-  pub rows : w′ ≡ putRows w 0 (depths [] kept) kept
+  pub rows : w′ ≡ putRows w 0 (parents [] 0 kept) kept
   pub long : length w′ ≡ length w
   pub back : statementsFrom w′ 0 n ≡ kept
-  pub deep : depthsFrom w′ 0 n ≡ nesting 0 (forest kept)
+  pub under : parentsFrom w′ 0 n ≡ parentsIn 0 0 (forest kept)
 
 by-refusal : (w : List ℕ) (r : Refusal) (a : Answer (List Statement)) → stopped r ≡ outcome w 0 [] a → a ≡ refuse r
 by-refusal w r (refuse q) p = cc
@@ -65,9 +66,9 @@ module _ {text w w′ : List ℕ} where
     by-answer (refuse r) e p h = absurd (let z : _≡_ {A = ℕ} 0 1 = cc in omega arith)
     by-answer (give ss) e p h =
         let many : n ≡ 0 + length ss = cc in
-        let rows : w′ ≡ putRows w 0 (depths [] ss) ss = cc in
-        let size = length-depths [] ss in
-        let fits : 20 * (0 + length ss) ≤ length w = omega (arith, h .1) in
+        let rows : w′ ≡ putRows w 0 (parents [] 0 ss) ss = cc in
+        let size = length-parents [] 0 ss in
+        let fits : ROW * (0 + length ss) ≤ length w = omega (arith, h .1) in
         let count : n ≡ length ss = omega arith in
         record {
           kept = ss;
@@ -76,9 +77,9 @@ module _ {text w w′ : List ℕ} where
           few = omega (arith, h .1);
           storable = h .0;
           rows = rows;
-          long = rw rows (length-putRows (depths [] ss) ss w 0);
-          back = rw (rows, count) (statements-put (depths [] ss) ss w 0 size fits (h .0));
-          deep = rw (rows, count) (depths-put (depths [] ss) ss w 0 size fits ∙ depths-nesting ss);
+          long = rw rows (length-putRows (parents [] 0 ss) ss w 0);
+          back = rw (rows, count) (statements-put (parents [] 0 ss) ss w 0 size fits (h .0));
+          under = rw (rows, count) (parents-put (parents [] 0 ss) ss w 0 size fits ∙ parents-forest ss);
         }
 
     pub stored : RowsAre text w (RowsRead.Rows n) w′ → Stored text w w′ n

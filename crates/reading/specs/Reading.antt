@@ -1,6 +1,6 @@
 -- What the reading of a whole text into rows says.
 -- Assumes nothing.
-use Prim.Native.Nat.{ℕ, _+_, _≤_}
+use Prim.Native.Nat.{ℕ, suc, _+_, _≤_}
 use mathlib.Core.Path.{_≡_}
 use mathlib.Core.List.{List, [], _∷_}
 use lib.ListN.{length}
@@ -8,18 +8,18 @@ use Rattle.definition.specs.declared.Refusal.{Refusal}
 use Rattle.definition.specs.declared.Statement.{Statement}
 use Rattle.definition.specs.Basic.{Answer, refuse, give}
 use Rattle.definition.specs.Statement.{statements}
-use Rattle.definition.specs.Tree.{stillOpen, depths}
+use Rattle.definition.specs.Tree.{Open, opened, stillOpen, innermost, parents}
 use Rattle.definition.specs.Words.{statementWords}
 use Rattle.reading.specs.declared.OpenLevels.{OpenLevels}
 use Rattle.reading.specs.declared.RowsRead.{RowsRead}
 use Rattle.reading.specs.Levels.{stackOf, Nested}
 use Rattle.rows.specs.Table.{Storable, Storables, putRow, putRows}
 
--- a statement was stored in row n of w, which is then w′, and r are the levels that are open after it
-pub record Added (w : List ℕ) (n : ℕ) (o : OpenLevels) (s : Statement) (w′ : List ℕ) (r : OpenLevels) : Type 0 where
-  pub row : w′ ≡ putRow w n (length (stillOpen (s .level) (stackOf o))) s
-  pub levels : stackOf r ≡ s .level ∷ stillOpen (s .level) (stackOf o)
-  pub nested : Nested r
+-- a statement was stored in row k of w, which is then w′, and r are the levels that are open after it
+pub record Added (w : List ℕ) (k : ℕ) (o : OpenLevels) (s : Statement) (w′ : List ℕ) (r : OpenLevels) : Type 0 where
+  pub row : w′ ≡ putRow w k (innermost (stillOpen (s .level) (stackOf w o))) s
+  pub levels : stackOf w′ r ≡ opened (s .level) (suc k) ∷ stillOpen (s .level) (stackOf w o)
+  pub nested : Nested w′ (suc k) r
   pub storable : Storable s
 
 -- the text is refused, or so many rows stand in work memory
@@ -27,10 +27,10 @@ pub data Outcome : Type 0 where
   stopped : Refusal → Outcome
   ready : ℕ → List ℕ → Outcome
 
--- what the kept statements of a text lead to from row n on, where these levels are open
-abbrev pub outcome : List ℕ → ℕ → List ℕ → Answer (List Statement) → Outcome
-outcome w n levels (refuse r) = stopped r
-outcome w n levels (give ss) = ready (n + length ss) (putRows w n (depths levels ss) ss)
+-- what the kept statements of a text lead to from row n on, where these are open
+abbrev pub outcome : List ℕ → ℕ → List Open → Answer (List Statement) → Outcome
+outcome w n os (refuse r) = stopped r
+outcome w n os (give ss) = ready (n + length ss) (putRows w n (parents os n ss) ss)
 
 -- what an answer says, with work memory as the call leaves it; after a refusal its contents are left open
 abbrev pub outcomeOf : RowsRead → List ℕ → Outcome

@@ -1,68 +1,50 @@
-// A record laid out in work memory: a copybook read, laid and checked, and its redefiners marked.
+// A record laid out in work memory: a copybook read, laid and checked, and its redefiners linked.
 ghost use mathlib.Core.Path.{_≡_};
 ghost use Prim.Native.Nat.{_+_, _*_, _≤_, _<_};
-ghost use lib.ListN.{length, set};
+ghost use lib.ListN.{length};
 ghost use Rattle.definition.specs.Basic.{give};
 ghost use Rattle.definition.specs.Calls.{recordFields};
 ghost use Rattle.places.specs.Places.{rowsForest};
 ghost use Rattle.layout.specs.Steps.{Room};
+ghost use Rattle.rows.specs.Columns.{ROW, BASE};
 ghost use Rattle.rows.specs.Table.{cell};
-ghost use Rattle.record.specs.Marks.{baseOf, Countable, RowTallied, Tallied};
+ghost use Rattle.record.specs.Marks.{linkRow, Unlinked, UnionsLinked};
 ghost use Rattle.record.specs.Laying.{FieldsFrom, RecordIs, fieldsOf};
 use definition::Check;
 use definition::Refusal;
 use layout::LaidList;
 use reading::RowsRead;
+use rows::BASE;
+use rows::BEFORE;
+use rows::NEXT;
+use rows::REDEFINES;
+use rows::ROW;
 
-// ---------------------------------------------------------------- the redefiners counted
+// ---------------------------------------------------------------- the redefiners linked
 
-// The base that row k redefines: its row and 1, or 0 for none.
-fn base_of(text: &[u8], work: &[u32], k: usize) -> usize
-    requires { ⌜ 20 * k + 20 ≤ length (now work) ⌝ }
-    ensures { λ r. ⌜ r ≡ baseOf (now (text .entry)) (now (work .entry)) k ⌝ }
+// Row k before the rows of its union so far: its base names it then.
+fn link_row(work: &mut [u32], k: usize)
+    requires { ⌜ (ROW * k + ROW ≤ length (now work)) × (k < 4294967295) × (cell (now work) k BASE ≤ k) ⌝ }
+    ensures { λ _. ⌜ now (work .exit) ≡ linkRow (now (work .entry)) k ⌝ }
 {
-    let redefines = rows::span_at(work[20 * k + 6]);
-    if 0 < redefines.len {
-        let last = places::wide(work[20 * k + 16]);
-        if k < last {
-            return 0;
-        }
-        return places::find_row(text, work, redefines, last, true);
-    }
-    0
-}
-
-// One redefiner more for row i.
-fn count_up(work: &mut [u32], i: usize)
-    requires { ⌜ (20 * i + 20 ≤ length (now work)) × (cell (now work) i 18 < 4294967295) ⌝ }
-    ensures { λ _. ⌜ now (work .exit) ≡ set (now (work .entry)) (20 * i + 18) (cell (now (work .entry)) i 18 + 1) ⌝ }
-{
-    let at = 20 * i + 18;
-    work[at] = work[at] + 1;
-}
-
-// Row k holds the base that it redefines, or 0, and the base, if it is a row from `from` on, has one redefiner more.
-fn mark_row(text: &[u8], work: &mut [u32], from: usize, k: usize)
-    requires { ⌜ (20 * k + 20 ≤ length (now work)) × (k < 4294967296) × Countable (now work) from k ⌝ }
-    ensures { λ _. ⌜ RowTallied (now (text .entry)) (now (work .entry)) from k (now (work .exit)) ⌝ }
-{
-    let base = base_of(text, work, k);
-    work[20 * k + 18] = base as u32;
-    if from < base {
-        count_up(work, base - 1);
+    let base = places::wide(work[ROW * k + BASE]);
+    if 0 < base {
+        let row = base - 1;
+        work[ROW * k + NEXT] = work[ROW * row + NEXT];
+        work[ROW * row + NEXT] = (k + 1) as u32;
         return;
     }
 }
 
-// Has each row from `from` up to `to` hold its base, or how many of these rows redefine it.
-fn mark_redefiners(text: &[u8], work: &mut [u32], from: usize, to: usize)
-    requires { ⌜ (20 * to ≤ length (now work)) × (to ≤ 800) ⌝ }
-    ensures { λ _. ⌜ Tallied (now (text .entry)) (now (work .entry)) from to (now (work .exit)) ⌝ }
+// Has each row from `from` up to `to` name the next row of its union: from the last row back, for a base is told of its redefiners by them.
+fn link_unions(work: &mut [u32], from: usize, to: usize)
+    requires { ⌜ Unlinked (now work) from to ⌝ }
+    ensures { λ _. ⌜ UnionsLinked (now (work .entry)) from to (now (work .exit)) ⌝ }
 {
-    let mut k = from;
-    while k < to {
-        mark_row(text, work, from, k);
-        k += 1;
+    let mut k = to;
+    while from < k {
+        k -= 1;
+        link_row(work, k);
     }
 }
 
@@ -82,7 +64,7 @@ pub enum RecordLaid {
 
 // The first row of the fields of a record that has n rows: an only root with children is dropped.
 pub fn first_field(work: &[u32], n: usize) -> usize
-    requires { ⌜ 20 * n ≤ length (now work) ⌝ }
+    requires { ⌜ ROW * n ≤ length (now work) ⌝ }
     ensures { λ r. ⌜ FieldsFrom (now (work .entry)) n r ⌝ }
 {
     if n < 2 {
@@ -108,7 +90,7 @@ pub fn lay_fields(
     match layout::lay_list(text, work, from, to, 64) {
         LaidList::Done { width, last } => match layout::fold_check(text, work, from, to) {
             Check::Passed => {
-                mark_redefiners(text, work, from, to);
+                link_unions(work, from, to);
                 let made = entries::make_entries(text, work, from, to, entries);
                 let count = made.next;
                 match entries::ends_fit(work, entries, count) {

@@ -7,7 +7,6 @@ use mathlib.Core.List.{List, [], _∷_, _++_}
 use native.Mathlib.Omega.{arith}
 use native.Mathlib.Nat.{zero-add}
 use lib.ListN.{length, drop, length-append}
-use borrow.Author.Tests.{lt-ltb, le-ltb}
 use Rattle.definition.specs.declared.Writing.{Writing}
 use Rattle.definition.specs.Calls.{fitting, left, afterWriting, writingOf}
 use Rattle.definition.specs.Fold.{Entries}
@@ -17,21 +16,10 @@ use Rattle.places.specs.Places.{rowsForest}
 use Rattle.places.proofs.EntriesLaws.{size-stretch}
 use Rattle.layout.proofs.SizeLaws.{listing-few}
 use Rattle.listing.specs.Puts.{Put, headBytes}
-use Rattle.listing.proofs.PutLaws.{_and_, put-first, listing-parts}
+use Rattle.listing.proofs.PutLaws.{_and_, room, listing-parts}
 use Rattle.folded.specs.Shown.{listIn}
 use Rattle.folded.proofs.ShownLaws.{entries-size}
 use Rattle.writer.specs.Listed.{entriesOf, listingOf}
-
-module _ (bs out : List ℕ) {n : ℕ} (e : n ≡ length bs) where
-  -- 31 where the listing is longer than the output
-  pub no-room :
-      length out < n →
-      left (writingOf (Writing.Refused (record { number = 31; position = 0; needed = n }))) out [] ≡ afterWriting (fitting (length out) bs) out []
-  no-room h = rw (lt-ltb (length out) (length bs) (omega arith), e)
-
-  -- else it stands in front of what was there
-  pub room : n ≤ length out → {m : ℕ} {o : List ℕ} → Put out 0 bs m o → left (writingOf (Writing.Written n)) o [] ≡ afterWriting (fitting (length out) bs) out []
-  room h p = rw (le-ltb (length out) (length bs) (omega arith), e, put-first p (omega arith))
 
 -- a listing has at most 98 bytes for each row, and its head
 listing-most : (text w : List ℕ) (from to : ℕ) → length (listingOf text w from to) ≤ 98 * to + 10

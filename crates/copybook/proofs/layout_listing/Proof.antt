@@ -3,11 +3,11 @@
 use borrow.Author.Needs.{needs}
 use mathlib.Core.Path.{subst}
 use lib.ListN.{length}
-use Rattle.definition.specs.Calls.{recordFields}
+use Rattle.definition.specs.Calls.{recordFields, layoutListing}
 use Rattle.record.specs.declared.RecordLaid.{RecordLaid}
 use Rattle.record.specs.Laying.{RecordIs}
 use Rattle.writer.specs.Listed.{listingOf}
-use Rattle.copybook.proofs.CallLaws.{reader-refuses, record-listed, refused-call, listed-call}
+use Rattle.copybook.proofs.CallLaws.{listing-refused, listing-laid, refused-call, written-call}
 use Rattle.copybook.proofs.layout_listing.Statement.{statement}
 use Rattle.copybook.proofs.layout_listing.Tie as tie
 
@@ -31,15 +31,15 @@ returns c =
     let x = c .before .before .before .before .before .before .before .before .before .before .before in
     let r = c .before .before .before .before .before .before .before .before .before .before .before .before .before .before .before .before .read-record in
     let a = c .before .before .before .before .before .before .before .before .before .before .before .before .before .before .before .before .before .before .before .before .before .before .args in
-    listed-call
-    (a .text .now)
+    written-call
     (a .out .now)
     (a .work .now)
     (r .last .1 .0)
     (c .before .before .clear .ensures)
     (r .kept .1 .0)
+    (layoutListing (a .text .now) (length (a .work .now)) (length (a .out .now)))
     (listingOf (a .text .now) (r .last .1 .0) (x .from .given .0 .0) (x .from .given .0 .1 .0))
-    (record-listed (a .text .now) (length (a .work .now)) (length (a .out .now)) (laid x .0 .is))
+    (listing-laid (a .text .now) (length (a .work .now)) (length (a .out .now)) (laid x .0 .is))
     (c .before .before .before .before .before .before .write-listing .result)
     (c .before .before .before .before .before .before .write-listing .ensures)
 
@@ -50,13 +50,13 @@ returns-2 c =
     let t = a .text .now in
     let n = length (a .work .now) in
     refused-call
-    t
     (a .out .now)
     (a .work .now)
     (r .last .1 .0)
     (c .before .before .clear2 .ensures)
     (r .kept .1 .0)
-    (reader-refuses t n (length (a .out .now)) (subst (λ (y : RecordLaid). RecordIs t (recordFields t n) y (r .last .1 .0) (r .last .1 .1 .0)) (c .before .before .before .before .before .r .given .1) (r .ensures)))
+    (layoutListing t n (length (a .out .now)))
+    (listing-refused t n (length (a .out .now)) (subst (λ (y : RecordLaid). RecordIs t (recordFields t n) y (r .last .1 .0) (r .last .1 .1 .0)) (c .before .before .before .before .before .r .given .1) (r .ensures)))
 
 pub layout-listing-spec : {M : Type 1} → statement M
 layout-listing-spec =

@@ -1,14 +1,19 @@
 -- The proof of the cycle of calls of the walk that builds the table. The measure is the number of rows left.
 -- Assumes nothing.
 use borrow.Author.Needs.{needs}
-use Prim.Native.Nat.{ℕ, _+_, _*_, _-_, _<_}
-use mathlib.Core.Bool.{true}
+use Prim.Native.Nat.{ℕ, _+_, _*_, _-_, _≤_, _<_}
+use mathlib.Core.Path.{_≡_}
+use mathlib.Core.Bool.{true, false}
 use native.Mathlib.Omega.{arith}
-use Rattle.places.specs.Places.{basesAt}
-use Rattle.folded.proofs.WidthLaws.{branch-tree, branch-row, branch-base, along-numbered, along-known, along-branch, counting-numbered, counting-row, counting-kin, counting-tree}
-use Rattle.entries.specs.Building.{listed, itemIn, redefined}
+use Rattle.definition.specs.Fold.{end, entry, widest, union}
+use Rattle.rows.specs.Columns.{NEXT}
+use Rattle.rows.specs.Table.{cell}
+use Rattle.places.specs.Places.{basesAt, entryIn}
+use Rattle.folded.specs.Shown.{shownAt, Base}
+use Rattle.folded.proofs.WidthLaws.{branch-tree, branch-row, branch-base, along-numbered, along-known, along-branch}
+use Rattle.entries.specs.Building.{listed, itemIn, redefined, unionIn}
 use Rattle.entries.proofs.BuildLaws.{built-none, built-as, built-length, room-part, room-within, room-open, built-own, built-union}
-use Rattle.entries.proofs.WalkLaws.{shown-under, shown-alone, shown-base, shown-union, members-folded, members-based, first-room, second-room, both-built, room-as, Listing, listing-starts, listing-ends, listing-room, listing-on, Redefining, redefining-starts, redefining-ends, redefining-passes, redefining-room, redefining-on}
+use Rattle.entries.proofs.WalkLaws.{shown-under, shown-alone, shown-base, shown-union, members-folded, members-based, first-room, second-room, both-built, room-as, Listing, listing-starts, listing-ends, listing-room, listing-on, Redefining, redefining-starts, chainLeft, redefining-ends, redefining-next, redefining-numbered, redefining-row, redefining-tree, redefining-room, redefining-on, redefining-falls}
 use borrow.Fn.Kinds.{In}
 use borrow.Fn.PlainCycle.{Measures, is, falls, and}
 use Rattle.entries.proofs.build_item.Reads as build-item
@@ -29,9 +34,7 @@ use Rattle.entries.proofs.+build_item+build_list+build_members+build_re
 use Rattle.entries.proofs.close_item.Reads as close-item-reads
 use Rattle.entries.proofs.close_union.Reads as close-union-reads
 use Rattle.entries.proofs.has_own.Reads as has-own-reads
-use Rattle.folded.proofs.next_of.Reads as next-of-reads
-use Rattle.folded.proofs.redefiner_count.Reads as redefiner-count-reads
-use Rattle.folded.proofs.relation_to.Reads as relation-to-reads
+use Rattle.places.proofs.next_of.Reads as next-of-reads
 use Rattle.folded.proofs.standing_of.Reads as standing-of-reads
 use Rattle.places.proofs.wide.Reads as wide-reads
 use Rattle.entries.proofs.+build_item+build_list+build_members+build_redefiners+build_shown.{
@@ -118,10 +121,10 @@ abbrev build-members-callees : ℕ → build-members-lts.Claims
 build-members-callees t = (has-own-reads.Asked, has-own-reads.Learnt, build-list-below t, build-list.Post, build-redefiners-below t, build-redefiners.Post, wide-reads.Asked, wide-reads.Learnt, build-item-below t, build-item.Post)
 
 abbrev build-redefiners-callees : ℕ → build-redefiners-lts.Claims
-build-redefiners-callees t = (wide-reads.Asked, wide-reads.Learnt, redefiner-count-reads.Asked, redefiner-count-reads.Learnt, next-of-reads.Asked, next-of-reads.Learnt, relation-to-reads.Asked, relation-to-reads.Learnt, build-item-below t, build-item.Post)
+build-redefiners-callees t = (wide-reads.Asked, wide-reads.Learnt, next-of-reads.Asked, next-of-reads.Learnt, build-item-below t, build-item.Post)
 
 abbrev build-shown-callees : ℕ → build-shown-lts.Claims
-build-shown-callees t = (standing-of-reads.Asked, standing-of-reads.Learnt, build-item-below t, build-item.Post, redefiner-count-reads.Asked, redefiner-count-reads.Learnt, build-members-below t, build-members.Post, close-union-reads.Asked, close-union-reads.Learnt)
+build-shown-callees t = (standing-of-reads.Asked, standing-of-reads.Learnt, build-item-below t, build-item.Post, build-members-below t, build-members.Post, close-union-reads.Asked, close-union-reads.Learnt)
 
 build-item-add-at : (t : ℕ) → build-item-lts.Need-add-at (build-item-callees t) (build-item-at t) build-item.Post
 build-item-add-at t c =
@@ -231,49 +234,46 @@ build-members-returns-2 t c =
     both-built (itemIn (a .text .now) (a .work .now) (a .i) (a .j) true (c .before .before .before .before .before .before .before .before .wide .result)) (redefined (a .text .now) (a .work .now) (a .i) (a .j) (a .to)) (members-based (a .text .now) (a .work .now) (a .i) (a .j) (a .to) (c .before .before .before .before .before .before .before .before .before .before .before .has-own .ensures) (c .before .before .before .before .before .before .before .before .before .before .if1 .left) (c .before .before .before .before .before .before .before .before .wide .ensures .0)) (s .pre .1 .1) (c .before .before .before .before .before .before .build-item .ensures) (c .before .before .build-redefiners2 .ensures)
 
 abbrev build-redefiners-Inv-loop : build-redefiners-lts.InvT-loop
-build-redefiners-Inv-loop text work i j to entries₀ depth start left₀ r₀ k₀ entries left r k =
-    Redefining text work entries₀ entries i j to r₀ depth left r k
+build-redefiners-Inv-loop text work i j to entries₀ depth start r₀ k₀ entries r k =
+    Redefining text work entries₀ entries i j to r₀ depth r k
 
 abbrev build-redefiners-μ-loop : build-redefiners-lts.MeasureT-loop
-build-redefiners-μ-loop text work i j to entries₀ depth start left₀ r₀ k₀ entries left r k = to - k
+build-redefiners-μ-loop text work i j to entries₀ depth start r₀ k₀ entries r k = chainLeft to k
 
-build-redefiners-redefiner-count-requires :
-    (t : ℕ) → build-redefiners-lts.Need-redefiner-count-requires (build-redefiners-callees t)
-    (build-redefiners-at t)
-    build-redefiners.Post
-    build-redefiners-Inv-loop
-    build-redefiners-μ-loop
-build-redefiners-redefiner-count-requires t c κs =
-    let s = c .before .before .before .before .before in
-    s .pre .1 .0
+build-redefiners-shared-slice-read-wide-2 : (t : ℕ) → build-redefiners-lts.Need-shared-slice-read-wide-2 (build-redefiners-callees t) (build-redefiners-at t) build-redefiners.Post build-redefiners-Inv-loop build-redefiners-μ-loop
+build-redefiners-shared-slice-read-wide-2 t c =
+    let s = c .before .before .before .before .before .before in
+    omega (arith, s .pre .1 .0 .low, s .pre .1 .0 .high, s .pre .1 .0 .fits)
 
 build-redefiners-loop-holds : (t : ℕ) → build-redefiners-lts.Need-loop-holds (build-redefiners-callees t) (build-redefiners-at t) build-redefiners.Post build-redefiners-Inv-loop build-redefiners-μ-loop
 build-redefiners-loop-holds t c =
-    let s = c .before .before .before .before .before .before in
+    let s = c .before .before .before .before .before .before .before in
     let a = s .args in
-    redefining-starts (a .text .now) (a .work .now) (a .entries .now) (a .i) (a .j) (a .to) (a .b) (a .depth) (s .pre .1 .0) (c .redefiner-count .ensures) (s .pre .1 .1)
+    redefining-starts (a .text .now) (a .work .now) (a .entries .now) (a .i) (a .j) (a .to) (a .b) (a .depth) (s .pre .1 .0) (c .wide2 .ensures .0) (s .pre .1 .1)
 
 build-redefiners-next-of-requires : (t : ℕ) → build-redefiners-lts.Need-next-of-requires (build-redefiners-callees t) (build-redefiners-at t) build-redefiners.Post build-redefiners-Inv-loop build-redefiners-μ-loop
 build-redefiners-next-of-requires t c κs =
-    counting-numbered (c .before .loop .inv .counting) (c .loop-test .taken)
-
-build-redefiners-relation-to-requires : (t : ℕ) → build-redefiners-lts.Need-relation-to-requires (build-redefiners-callees t) (build-redefiners-at t) build-redefiners.Post build-redefiners-Inv-loop build-redefiners-μ-loop
-build-redefiners-relation-to-requires t c κs =
-    let s = c .before .before .before .before .before .before .before .before .before in
-    (omega (arith, s .pre .1 .0 .low, s .pre .1 .0 .high, s .pre .1 .0 .fits), counting-kin (c .before .before .loop .inv .counting) (c .before .loop-test .taken))
+    redefining-numbered (c .before .loop .inv) (c .loop-test .taken)
 
 build-redefiners-build-item-requires : (t : ℕ) → build-redefiners-lts.Need-build-item-requires (build-redefiners-callees t) (build-redefiners-at t) build-redefiners.Post build-redefiners-Inv-loop build-redefiners-μ-loop
 build-redefiners-build-item-requires t c κs =
-    let s = c .before .before .before .before .before .before .before .before .before .before .before .before .before in
-    (omega (arith, s .pre .0, c .before .before .before .before .before .before .loop .inv .counting .low, c .before .before .before .before .next-of .ensures .low, c .before .before .before .before .next-of .ensures .high), (c .before .before .before .before .next-of .ensures .low, counting-row (c .before .before .before .before .before .before .loop .inv .counting) (c .before .before .before .before .before .loop-test .taken), counting-tree (c .before .before .before .before .before .before .loop .inv .counting) (c .before .before .before .before .next-of .ensures), redefining-room (c .before .before .before .before .before .before .loop .inv) (c .before .before .before .before .next-of .ensures) (c .before .before .before .before .before .loop-test .taken) (c .before .before .before .relation-to .ensures) (c .before .enum-told .given .1) (c .before .before .before .before .before .before .before .before .wide .ensures .0)))
+    let s = c .before .before .before .before .before .before .before .before .before .before .before in
+    let inv = c .before .before .before .loop .inv in
+    let more = c .before .before .loop-test .taken in
+    let m = c .before .next-of .ensures in
+    (omega (arith, s .pre .0, inv .following .low, redefining-next inv more .low, m .low, m .high), (m .low, redefining-row inv more, redefining-tree inv more m, redefining-room inv more m (c .before .before .before .before .before .before .wide .ensures .0)))
+
+build-redefiners-shared-slice-read-wide-3 : (t : ℕ) → build-redefiners-lts.Need-shared-slice-read-wide-3 (build-redefiners-callees t) (build-redefiners-at t) build-redefiners.Post build-redefiners-Inv-loop build-redefiners-μ-loop
+build-redefiners-shared-slice-read-wide-3 t c =
+    omega (arith, redefining-row (c .before .before .before .before .before .before .before .loop .inv) (c .before .before .before .before .before .before .loop-test .taken) .fits)
+
+build-redefiners-loop-less : (t : ℕ) → build-redefiners-lts.Need-loop-less (build-redefiners-callees t) (build-redefiners-at t) build-redefiners.Post build-redefiners-Inv-loop build-redefiners-μ-loop
+build-redefiners-loop-less t c =
+    redefining-falls (c .before .before .before .before .before .before .before .before .loop .inv) (c .before .before .before .before .before .before .before .loop-test .taken) (c .before .before .before .before .before .before .next-of .ensures) (c .wide3 .ensures .0)
 
 build-redefiners-loop-again : (t : ℕ) → build-redefiners-lts.Need-loop-again (build-redefiners-callees t) (build-redefiners-at t) build-redefiners.Post build-redefiners-Inv-loop build-redefiners-μ-loop
 build-redefiners-loop-again t c =
-    redefining-on (c .before .before .before .before .before .before .before .before .before .loop .inv) (c .before .before .before .before .before .before .before .next-of .ensures) (c .before .before .before .before .before .before .before .before .loop-test .taken) (c .before .before .before .before .before .before .relation-to .ensures) (c .before .before .before .before .enum-told .given .1) (c .before .before .before .before .before .before .before .before .before .before .before .wide .ensures .0) (c .before .before .build-item .ensures)
-
-build-redefiners-loop-again-2 : (t : ℕ) → build-redefiners-lts.Need-loop-again-2 (build-redefiners-callees t) (build-redefiners-at t) build-redefiners.Post build-redefiners-Inv-loop build-redefiners-μ-loop
-build-redefiners-loop-again-2 t c =
-    redefining-passes (c .before .before .before .before .before .loop .inv) (c .before .before .before .next-of .ensures) (c .before .before .before .before .loop-test .taken) (c .before .before .relation-to .ensures) (c .enum-told2 .given .1)
+    redefining-on (c .before .before .before .before .before .before .before .before .loop .inv) (c .before .before .before .before .before .before .before .loop-test .taken) (c .before .before .before .before .before .before .next-of .ensures) (c .before .before .before .before .before .before .before .before .before .before .before .wide .ensures .0) (c .before .before .before .before .build-item .ensures) (c .wide3 .ensures .0)
 
 build-redefiners-same-length : (t : ℕ) → build-redefiners-lts.Need-same-length (build-redefiners-callees t) (build-redefiners-at t) build-redefiners.Post build-redefiners-Inv-loop build-redefiners-μ-loop
 build-redefiners-same-length t c =
@@ -306,11 +306,40 @@ build-shown-returns-2 t c =
     let a = s .args in
     built-as (shown-alone (a .text .now) (a .work .now) (a .i) (a .j) (a .to) (a .last) (c .before .before .before .before .before .before .standing-of .ensures) (c .before .before .before .before .enum-told2 .given .1)) (c .before .before .build-item .ensures)
 
-build-shown-redefiner-count-requires : (t : ℕ) → build-shown-lts.Need-redefiner-count-requires (build-shown-callees t) (build-shown-at t) build-shown.Post
-build-shown-redefiner-count-requires t c κs =
+-- a base, where row i is known to be one
+build-shown-based :
+    (t : ℕ) (c : build-shown-lts.After-enum-told3 (build-shown-callees t) (build-shown-at t) build-shown.Post) →
+    let a = c .before .before .before .before .before .before .args in
+    Base (a .text .now) (a .work .now) (a .i) (a .j) (a .to)
+build-shown-based t c =
     let s = c .before .before .before .before .before .before in
     let a = s .args in
     branch-base (s .pre .1 .0) (basesAt (a .work .now) (a .last)) (c .before .before .standing-of .ensures) (c .enum-told3 .given .1)
+
+-- with redefiners, and without
+build-shown-unites :
+    (t : ℕ) (c : build-shown-lts.After-enum-told3 (build-shown-callees t) (build-shown-at t) build-shown.Post) →
+    let a = c .before .before .before .before .before .before .args in
+    0 < cell (a .work .now) (a .i) NEXT →
+    shownAt (a .text .now) (a .work .now) (a .i) (a .j) (a .to) (a .last)
+    ≡ entry (union (entryIn (a .work .now) (a .i)) (widest (unionIn (a .text .now) (a .work .now) (a .i) (a .j) (a .to)))) (unionIn (a .text .now) (a .work .now) (a .i) (a .j) (a .to)) end
+build-shown-unites t c =
+    let a = c .before .before .before .before .before .before .args in
+    shown-union (a .text .now) (a .work .now) (a .i) (a .j) (a .to) (a .last) (c .before .before .standing-of .ensures) (c .enum-told3 .given .1) (build-shown-based t c)
+
+build-shown-stands :
+    (t : ℕ) (c : build-shown-lts.After-enum-told3 (build-shown-callees t) (build-shown-at t) build-shown.Post) →
+    let a = c .before .before .before .before .before .before .args in
+    cell (a .work .now) (a .i) NEXT ≤ 0 →
+    shownAt (a .text .now) (a .work .now) (a .i) (a .j) (a .to) (a .last) ≡ itemIn (a .text .now) (a .work .now) (a .i) (a .j) false 0
+build-shown-stands t c =
+    let a = c .before .before .before .before .before .before .args in
+    shown-base (a .text .now) (a .work .now) (a .i) (a .j) (a .to) (a .last) (c .before .before .standing-of .ensures) (c .enum-told3 .given .1) (build-shown-based t c)
+
+build-shown-shared-slice-read-if1 : (t : ℕ) → build-shown-lts.Need-shared-slice-read-if1 (build-shown-callees t) (build-shown-at t) build-shown.Post
+build-shown-shared-slice-read-if1 t c =
+    let s = c .before .before .before .before .before .before .before in
+    omega (arith, s .pre .1 .0 .low, s .pre .1 .0 .high, s .pre .1 .0 .fits)
 
 build-shown-add-at : (t : ℕ) → build-shown-lts.Need-add-at (build-shown-callees t) (build-shown-at t) build-shown.Post
 build-shown-add-at t c =
@@ -325,32 +354,30 @@ build-shown-add-build-members t c =
 build-shown-build-members-requires : (t : ℕ) → build-shown-lts.Need-build-members-requires (build-shown-callees t) (build-shown-at t) build-shown.Post
 build-shown-build-members-requires t c κs =
     let s = c .before .before .before .before .before .before .before .before .before .before in
-    let a = s .args in
-    (omega (arith, s .pre .0), (branch-base (s .pre .1 .0) (basesAt (a .work .now) (a .last)) (c .before .before .before .before .before .before .standing-of .ensures) (c .before .before .before .before .enum-told3 .given .1), room-within (room-as (shown-union (a .text .now) (a .work .now) (a .i) (a .j) (a .to) (a .last) (c .before .before .before .before .before .before .standing-of .ensures) (c .before .before .before .before .enum-told3 .given .1) (c .before .before .before .redefiner-count .ensures) (c .before .before .if1 .taken)) (s .pre .1 .2))))
+    let base = c .before .before .before .before in
+    (omega (arith, s .pre .0), (build-shown-based t base, room-within (room-as (build-shown-unites t base (c .before .before .if1 .taken)) (s .pre .1 .2))))
 
 build-shown-close-union-requires : (t : ℕ) → build-shown-lts.Need-close-union-requires (build-shown-callees t) (build-shown-at t) build-shown.Post
 build-shown-close-union-requires t c κs =
     let s = c .before .before .before .before .before .before .before .before .before .before .before .before .before .before in
     let a = s .args in
-    (omega (arith, s .pre .1 .0 .low, s .pre .1 .0 .high, s .pre .1 .0 .fits), room-open (a .b) (a .depth) (c .before .before .before .build-members .ensures) (a .i) (omega (arith, s .pre .1 .0 .low, s .pre .1 .0 .high)) (room-as (shown-union (a .text .now) (a .work .now) (a .i) (a .j) (a .to) (a .last) (c .before .before .before .before .before .before .before .before .before .before .standing-of .ensures) (c .before .before .before .before .before .before .before .before .enum-told3 .given .1) (c .before .before .before .before .before .before .before .redefiner-count .ensures) (c .before .before .before .before .before .before .if1 .taken)) (s .pre .1 .2)))
+    (omega (arith, s .pre .1 .0 .low, s .pre .1 .0 .high, s .pre .1 .0 .fits), room-open (a .b) (a .depth) (c .before .before .before .build-members .ensures) (a .i) (omega (arith, s .pre .1 .0 .low, s .pre .1 .0 .high)) (room-as (build-shown-unites t (c .before .before .before .before .before .before .before .before) (c .before .before .before .before .before .before .if1 .taken)) (s .pre .1 .2)))
 
 build-shown-returns-3 : (t : ℕ) → build-shown-lts.Need-returns-3 (build-shown-callees t) (build-shown-at t) build-shown.Post
 build-shown-returns-3 t c =
     let s = c .before .before .before .before .before .before .before .before .before .before .before .before .before .before .before .before .before in
     let a = s .args in
-    built-as (shown-union (a .text .now) (a .work .now) (a .i) (a .j) (a .to) (a .last) (c .before .before .before .before .before .before .before .before .before .before .before .before .before .standing-of .ensures) (c .before .before .before .before .before .before .before .before .before .before .before .enum-told3 .given .1) (c .before .before .before .before .before .before .before .before .before .before .redefiner-count .ensures) (c .before .before .before .before .before .before .before .before .before .if1 .taken)) (built-union (a .b) (a .depth) (c .before .before .before .before .before .before .build-members .ensures) (a .i) (omega (arith, s .pre .1 .0 .low, s .pre .1 .0 .high, s .pre .1 .0 .fits)) (c .before .before .close-union .ensures))
+    built-as (build-shown-unites t (c .before .before .before .before .before .before .before .before .before .before .before) (c .before .before .before .before .before .before .before .before .before .if1 .taken)) (built-union (a .b) (a .depth) (c .before .before .before .before .before .before .build-members .ensures) (a .i) (omega (arith, s .pre .1 .0 .low, s .pre .1 .0 .high, s .pre .1 .0 .fits)) (c .before .before .close-union .ensures))
 
 build-shown-build-item-requires-2 : (t : ℕ) → build-shown-lts.Need-build-item-requires-2 (build-shown-callees t) (build-shown-at t) build-shown.Post
 build-shown-build-item-requires-2 t c κs =
     let s = c .before .before .before .before .before .before .before .before .before in
     let a = s .args in
-    (omega (arith, s .pre .0, s .pre .1 .0 .low, s .pre .1 .0 .high), (s .pre .1 .0 .low, branch-row (s .pre .1 .0), branch-tree (s .pre .1 .0), room-part (a .j) (s .pre .1 .0 .high) (room-as (shown-base (a .text .now) (a .work .now) (a .i) (a .j) (a .to) (a .last) (c .before .before .before .before .before .standing-of .ensures) (c .before .before .before .enum-told3 .given .1) (c .before .before .redefiner-count .ensures) (c .before .if1 .left)) (s .pre .1 .2))))
+    (omega (arith, s .pre .0, s .pre .1 .0 .low, s .pre .1 .0 .high), (s .pre .1 .0 .low, branch-row (s .pre .1 .0), branch-tree (s .pre .1 .0), room-part (a .j) (s .pre .1 .0 .high) (room-as (build-shown-stands t (c .before .before .before) (c .before .if1 .left)) (s .pre .1 .2))))
 
 build-shown-returns-4 : (t : ℕ) → build-shown-lts.Need-returns-4 (build-shown-callees t) (build-shown-at t) build-shown.Post
 build-shown-returns-4 t c =
-    let s = c .before .before .before .before .before .before .before .before .before .before .before .before in
-    let a = s .args in
-    built-as (shown-base (a .text .now) (a .work .now) (a .i) (a .j) (a .to) (a .last) (c .before .before .before .before .before .before .before .before .standing-of .ensures) (c .before .before .before .before .before .before .enum-told3 .given .1) (c .before .before .before .before .before .redefiner-count .ensures) (c .before .before .before .before .if1 .left)) (c .before .before .build-item2 .ensures)
+    built-as (build-shown-stands t (c .before .before .before .before .before .before) (c .before .before .before .before .if1 .left)) (c .before .before .build-item2 .ensures)
 
 pub +build-item+build-list+build-members+build-redefiners+build-shown-spec :
     {M : Type 1} → statement M
@@ -412,18 +439,22 @@ pub +build-item+build-list+build-members+build-redefiners+build-shown-spec :
     (λ c. search needs)
     (λ c. search needs)
     (λ c κs. search needs)
-    (build-redefiners-redefiner-count-requires t)
-    (build-redefiners-loop-holds t)
-    (build-redefiners-next-of-requires t)
-    (build-redefiners-relation-to-requires t)
     (λ c. search needs)
+    (λ c. search needs)
+    (λ c. search needs)
+    (build-redefiners-shared-slice-read-wide-2 t)
+    (λ c κs. search needs)
+    (build-redefiners-loop-holds t)
+    (λ c. search needs)
+    (build-redefiners-next-of-requires t)
     (build-redefiners-build-item-requires t)
     (λ c. search needs)
     (λ c. search needs)
+    (λ c. search needs)
+    (build-redefiners-shared-slice-read-wide-3 t)
+    (λ c κs. search needs)
+    (build-redefiners-loop-less t)
     (build-redefiners-loop-again t)
-    (λ c. search needs)
-    (λ c. search needs)
-    (build-redefiners-loop-again-2 t)
     (build-redefiners-same-length t)
     (build-redefiners-returns t))
     λ t. build-shown-lts.spec (build-shown-callees t)
@@ -437,7 +468,10 @@ pub +build-item+build-list+build-members+build-redefiners+build-shown-spec :
     (λ c. search needs)
     (build-shown-returns-2 t)
     (λ c. search needs)
-    (build-shown-redefiner-count-requires t)
+    (λ c. search needs)
+    (λ c. search needs)
+    (λ c. search needs)
+    (build-shown-shared-slice-read-if1 t)
     (build-shown-add-at t)
     (build-shown-add-build-members t)
     (build-shown-build-members-requires t)

@@ -8,6 +8,7 @@ use mathlib.Core.List.{List}
 use native.Mathlib.Numerals.{add-one}
 use Rattle.definition.specs.declared.Span.{Span}
 use Rattle.definition.specs.Fold.{hasMember, foldedAll}
+use Rattle.rows.specs.Columns.{NAME}
 use Rattle.rows.specs.Table.{cell, spanAt}
 use Rattle.folded.specs.Shown.{listIn}
 use Rattle.folded.proofs.WidthLaws.{own-tree}
@@ -17,7 +18,7 @@ use Rattle.entries.proofs.has_own.Tie as tie
 
 own-is :
     (t w : List ℕ) (i j : ℕ) {name : Span} {o : Bool} →
-    name ≡ spanAt (cell w i 3) →
+    name ≡ spanAt (cell w i NAME) →
     o ≡ hasMember t name (foldedAll t (listIn w (i + 1) j)) →
     o ≡ ownMember t w i j
 own-is t w i j {name} q p =

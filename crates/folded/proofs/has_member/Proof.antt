@@ -11,9 +11,10 @@ use Rattle.definition.specs.declared.Span.{Span}
 use Rattle.definition.specs.Basic.{if_then_else_}
 use Rattle.definition.specs.Fold.{Entries, end, append, hasMember, foldedBelow, foldedAll}
 use Rattle.places.specs.Places.{basesAt, entryIn}
-use Rattle.places.specs.Ends.{ChildrenEnd}
+use Rattle.places.specs.Ends.{ChildrenEnd, Numbered}
 use Rattle.places.proofs.RowLaws.{children-end}
-use Rattle.folded.specs.Shown.{standing, shownNamed, listIn, foldedRest, shownAt, Numbered, Tree}
+use Rattle.rows.specs.Columns.{ROW}
+use Rattle.folded.specs.Shown.{standing, shownNamed, listIn, foldedRest, shownAt, Tree}
 use Rattle.folded.proofs.FoldedLaws.{member-append, shown-named}
 use Rattle.folded.proofs.ShownLaws.{walking-ends, walking-here}
 use Rattle.folded.proofs.WidthLaws.{Along, along-starts, along-numbered, along-known, along-on}
@@ -22,7 +23,7 @@ use Rattle.folded.proofs.has_member.Tie as tie
 
 -- what the loop keeps
 record Left (t w : List ℕ) (from to : ℕ) (name : Span) (i last : ℕ) : Type 0 where
-  fits : 20 * to ≤ length w
+  fits : ROW * to ≤ length w
   back : last ≤ i
   done : Entries
   along : Along t w from to i last done

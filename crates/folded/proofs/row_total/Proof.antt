@@ -5,28 +5,29 @@ use Prim.Native.Nat.{ℕ, _*_, _≤_}
 use mathlib.Core.Path.{_≡_, ap, ap₂, _∙_}
 use mathlib.Core.List.{List}
 use native.Mathlib.Omega.{arith}
-use Rattle.definition.specs.declared.Statement.{Statement}
+use Rattle.definition.specs.declared.Occurs.{Occurs}
 use Rattle.definition.specs.Fold.{times, total}
-use Rattle.rows.specs.Table.{cell, statementAt}
+use Rattle.rows.specs.Columns.{WIDTH}
+use Rattle.rows.specs.Table.{cell, occursIn}
 use Rattle.places.specs.Places.{entryIn}
 use Rattle.folded.specs.Shown.{Measured}
 use Rattle.folded.proofs.row_total.Statement.{statement}
 use Rattle.folded.proofs.row_total.Tie as tie
 
 -- what is multiplied
-module _ (w : List ℕ) (k : ℕ) {s : Statement} {a n : ℕ} (p : s ≡ statementAt w k) (q : a ≡ cell w k 14) (e : n ≡ times (s .clauses .occurs)) where
+module _ (w : List ℕ) (k : ℕ) {o : Occurs} {a n : ℕ} (p : o ≡ occursIn w k) (q : a ≡ cell w k WIDTH) (e : n ≡ times o) where
   product : a * n ≡ total (entryIn w k)
-  product = ap₂ (λ (x y : ℕ). x * y) q (e ∙ ap (λ (x : Statement). times (x .clauses .occurs)) p)
+  product = ap₂ (λ (x y : ℕ). x * y) q (e ∙ ap times p)
 
   measured : total (entryIn w k) ≤ 2147483647 → Measured (total (entryIn w k)) (a * n)
   measured h = record { is = product; small = rw product h }
 
 -- where the factors are known
-known : (c : tie.After-times-of) → Measured (total (entryIn (c .before .before .before .before .before .before .args .work .now) (c .before .before .before .before .before .before .args .k))) (c .before .wide .result * c .times-of .result)
+known : (c : tie.After-times-of) → Measured (total (entryIn (c .before .before .before .before .before .args .work .now) (c .before .before .before .before .before .args .k))) (c .before .wide .result * c .times-of .result)
 known c =
-    let s = c .before .before .before .before in
-    let a = s .before .before .args in
-    measured (a .work .now) (a .k) (s .statement-at .ensures) (c .before .wide .ensures .0) (c .times-of .ensures) (s .before .before .pre .small)
+    let o = c .before .before .before in
+    let s = o .before .before in
+    measured (s .args .work .now) (s .args .k) (o .occurs-in .ensures) (c .before .wide .ensures .0) (c .times-of .ensures) (s .pre .small)
 
 mul-result : tie.Need-mul-result
 mul-result c = omega (arith, known c .small)

@@ -7,6 +7,7 @@ use mathlib.Core.Bool.{Bool, false}
 use mathlib.Core.List.{List}
 use Rattle.definition.specs.declared.Span.{Span}
 use Rattle.definition.specs.Fold.{sameSpelling}
+use Rattle.rows.specs.Columns.{NAME}
 use Rattle.rows.specs.Table.{spanAt, cell}
 use Rattle.places.specs.Places.{entryIn}
 use Rattle.folded.specs.declared.Standing.{Standing}
@@ -18,8 +19,8 @@ module _ (t : List ℕ) (name : Span) (w : List ℕ) (i : ℕ) {s x : Standing} 
   under : s ≡ Standing.Under → false ≡ shownNamed t name x (entryIn w i)
   under e = ap (λ (y : Standing). shownNamed t name y (entryIn w i)) (sym e ∙ p)
 
-  module _ {own : Span} {r : Bool} (q : own ≡ spanAt (cell w i 3)) (h : r ≡ sameSpelling t name own) where
-    spelled : r ≡ sameSpelling t name (spanAt (cell w i 3))
+  module _ {own : Span} {r : Bool} (q : own ≡ spanAt (cell w i NAME)) (h : r ≡ sameSpelling t name own) where
+    spelled : r ≡ sameSpelling t name (spanAt (cell w i NAME))
     spelled = h ∙ ap (sameSpelling t name) q
 
     alone : s ≡ Standing.Alone → r ≡ shownNamed t name x (entryIn w i)

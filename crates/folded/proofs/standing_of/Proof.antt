@@ -9,6 +9,7 @@ use borrow.Author.Tests.{lt-ltb, le-ltb}
 use Rattle.definition.specs.declared.Span.{Span}
 use Rattle.definition.specs.Basic.{if_then_else_, given}
 use Rattle.definition.specs.Fold.{find, hasBase}
+use Rattle.rows.specs.Columns.{REDEFINES, BASE}
 use Rattle.rows.specs.Table.{spanAt, cell}
 use Rattle.places.specs.Places.{basesAt, entryIn}
 use Rattle.folded.specs.declared.Standing.{Standing}
@@ -20,19 +21,19 @@ use Rattle.folded.proofs.standing_of.Tie as tie
 abbrev told : Bool → Bool → Standing
 told g a = if g then (if a then Standing.Under else Standing.Alone) else Standing.Base
 
-module _ (t w : List ℕ) (i last : ℕ) {s : Span} (p : s ≡ spanAt (cell w i 6)) where
+module _ (t w : List ℕ) (i last : ℕ) {s : Span} (p : s ≡ spanAt (cell w i REDEFINES)) where
   module _ (n : Known t w i last) (h : 0 < s .len) where
-    redefines : given (spanAt (cell w i 6)) ≡ true
+    redefines : given (spanAt (cell w i REDEFINES)) ≡ true
     redefines = ap given (sym p) ∙ lt-ltb 0 (s .len) h
 
-    under : 0 < cell w i 18 → Standing.Under ≡ standing t (basesAt w last) (entryIn w i)
-    under v = sym (ap₂ told redefines (n .is redefines ∙ lt-ltb 0 (cell w i 18) v))
+    under : 0 < cell w i BASE → Standing.Under ≡ standing t (basesAt w last) (entryIn w i)
+    under v = sym (ap₂ told redefines (n .is redefines ∙ lt-ltb 0 (cell w i BASE) v))
 
-    alone : cell w i 18 ≤ 0 → Standing.Alone ≡ standing t (basesAt w last) (entryIn w i)
-    alone v = sym (ap₂ told redefines (n .is redefines ∙ le-ltb 0 (cell w i 18) v))
+    alone : cell w i BASE ≤ 0 → Standing.Alone ≡ standing t (basesAt w last) (entryIn w i)
+    alone v = sym (ap₂ told redefines (n .is redefines ∙ le-ltb 0 (cell w i BASE) v))
 
   base : s .len ≤ 0 → Standing.Base ≡ standing t (basesAt w last) (entryIn w i)
-  base h = sym (ap (λ (g : Bool). told g (hasBase (find t (spanAt (cell w i 6)) (basesAt w last)))) (ap given (sym p) ∙ le-ltb 0 (s .len) h))
+  base h = sym (ap (λ (g : Bool). told g (hasBase (find t (spanAt (cell w i REDEFINES)) (basesAt w last)))) (ap given (sym p) ∙ le-ltb 0 (s .len) h))
 
 returns : tie.Need-returns
 returns c = search under

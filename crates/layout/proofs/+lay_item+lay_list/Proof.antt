@@ -18,6 +18,7 @@ use Rattle.definition.specs.Tree.{leaf}
 use Rattle.definition.specs.Picture.{pictured}
 use Rattle.definition.specs.Layout.{content}
 use Rattle.definition.specs.Calls.{pictureOf, checkOf}
+use Rattle.rows.specs.Columns.{AT}
 use Rattle.rows.specs.Table.{cell, statementAt}
 use Rattle.places.specs.Places.{entriesIn, Linked, rowsForest}
 use Rattle.places.specs.Ends.{ChildrenEnd}
@@ -93,9 +94,9 @@ module _ {t w₀ w : List ℕ} {from to depth i last cursor reach : ℕ} (inv : 
 -- ---------------------------------------------------------------- the item
 
 module _ (t w : List ℕ) (i j left last cursor : ℕ) where
-  deep : i + 1 < j → left ≡ 0 → {n : ℕ} → n ≡ cell w (i + 1) 2 → halted (record { number = 20; position = n; needed = 0 }) ≡ layItem t w i j (64 - left) last cursor
+  deep : i + 1 < j → left ≡ 0 → {n : ℕ} → n ≡ cell w (i + 1) AT → halted (record { number = 20; position = n; needed = 0 }) ≡ layItem t w i j (64 - left) last cursor
   deep h z e =
-      ap (λ (x : ℕ). halted (record { number = 20; position = x; needed = 0 })) (e ∙ ap (λ (x : ℕ). cell w x 2) (add-one i))
+      ap (λ (x : ℕ). halted (record { number = 20; position = x; needed = 0 })) (e ∙ ap (λ (x : ℕ). cell w x AT) (add-one i))
       ∙ too-deep t w i j (64 - left) last cursor (omega arith) (omega arith)
 
   module _ (h : i + 1 < j) (z : left ≡ 0 → ⊥) (f : left ≤ 64) where
@@ -118,8 +119,8 @@ module _ (t w : List ℕ) (i j left last cursor : ℕ) where
     inner-halts w₁ p q = inner-stop t w i j (64 - left) last cursor (omega arith) (omega arith) (called p ∙ ap (λ (x : LaidList). listOf x w₁) q)
 
     module _ {width : ℕ} {w₁ : List ℕ} (n : LaidRows t w (suc i) j (suc (64 - left)) width w₁) where
-      linked : Linked w₁ (i + 1) 0 (rowsForest w₁ (i + 1) j)
-      linked = subst (λ (x : ℕ). Linked w₁ x 0 (rowsForest w₁ x j)) (sym (add-one i)) (n .held .linked)
+      linked : Linked t w₁ (i + 1) 0 (rowsForest w₁ (i + 1) j)
+      linked = subst (λ (x : ℕ). Linked t w₁ x 0 (rowsForest w₁ x j)) (sym (add-one i)) (n .held .linked)
 
       fold-halts : {a : Check} {r : Refusal} → checkOf a ≡ foldCheck t [] (entriesIn w₁ (i + 1) (rowsForest w₁ (i + 1) j)) → a ≡ Check.Refused r → halted r ≡ layItem t w i j (64 - left) last cursor
       fold-halts p q =

@@ -9,6 +9,7 @@ use native.Mathlib.Omega.{arith}
 use lib.ListN.{length}
 use Rattle.definition.specs.declared.Span.{Span}
 use Rattle.definition.specs.Basic.{if_then_else_}
+use Rattle.rows.specs.Columns.{ROW, BEFORE}
 use Rattle.rows.specs.Table.{cell}
 use Rattle.places.specs.Places.{isTarget, rowFrom}
 use Rattle.places.proofs.SearchLaws.{row-low, row-over, row-here}
@@ -17,34 +18,34 @@ use Rattle.places.proofs.find_row.Tie as tie
 
 -- the search goes on from k back
 record Left (t w : List ℕ) (target : Span) (bases : Bool) (last k : ℕ) : Type 0 where
-  fits : 20 * last ≤ length w
+  fits : ROW * last ≤ length w
   within : k ≤ last
   same : rowFrom t target bases w last last ≡ rowFrom t target bases w k k
 
-start : {t w : List ℕ} {target : Span} {bases : Bool} {last : ℕ} → 20 * last ≤ length w → Left t w target bases last last
+start : {t w : List ℕ} {target : Span} {bases : Bool} {last : ℕ} → ROW * last ≤ length w → Left t w target bases last last
 start h = record { fits = h; within = omega arith; same = refl }
 
 module _ {t w : List ℕ} {target : Span} {bases : Bool} {last k : ℕ} (inv : Left t w target bases last k) where
   module _ (h : 0 < k) {o : Bool} (p : o ≡ isTarget t target bases w (k - 1)) where
-    here : rowFrom t target bases w last last ≡ (if o then suc (k - 1) else rowFrom t target bases w (k - 1) (cell w (k - 1) 16))
+    here : rowFrom t target bases w last last ≡ (if o then suc (k - 1) else rowFrom t target bases w (k - 1) (cell w (k - 1) BEFORE))
     here =
         inv .same
         ∙ ap (λ (m : ℕ). rowFrom t target bases w m m) (let e : k ≡ suc (k - 1) = omega arith in e)
         ∙ row-here t w target bases (k - 1)
-        ∙ ap (λ (b : Bool). if b then suc (k - 1) else rowFrom t target bases w (k - 1) (cell w (k - 1) 16)) (sym p)
+        ∙ ap (λ (b : Bool). if b then suc (k - 1) else rowFrom t target bases w (k - 1) (cell w (k - 1) BEFORE)) (sym p)
 
     found : o ≡ true → k ≡ rowFrom t target bases w last last
     found e =
         (let q : k ≡ suc (k - 1) = omega arith in q)
-        ∙ sym (here ∙ ap (λ (b : Bool). if b then suc (k - 1) else rowFrom t target bases w (k - 1) (cell w (k - 1) 16)) e)
+        ∙ sym (here ∙ ap (λ (b : Bool). if b then suc (k - 1) else rowFrom t target bases w (k - 1) (cell w (k - 1) BEFORE)) e)
 
-    back : o ≡ false → rowFrom t target bases w last last ≡ rowFrom t target bases w (k - 1) (cell w (k - 1) 16)
-    back e = here ∙ ap (λ (b : Bool). if b then suc (k - 1) else rowFrom t target bases w (k - 1) (cell w (k - 1) 16)) e
+    back : o ≡ false → rowFrom t target bases w last last ≡ rowFrom t target bases w (k - 1) (cell w (k - 1) BEFORE)
+    back e = here ∙ ap (λ (b : Bool). if b then suc (k - 1) else rowFrom t target bases w (k - 1) (cell w (k - 1) BEFORE)) e
 
-    broken : o ≡ false → {n : ℕ} → n ≡ cell w (k - 1) 16 → k - 1 < n → 0 ≡ rowFrom t target bases w last last
-    broken e q l = sym (back e ∙ row-over t w target bases (k - 1) (cell w (k - 1) 16) (omega arith))
+    broken : o ≡ false → {n : ℕ} → n ≡ cell w (k - 1) BEFORE → k - 1 < n → 0 ≡ rowFrom t target bases w last last
+    broken e q l = sym (back e ∙ row-over t w target bases (k - 1) (cell w (k - 1) BEFORE) (omega arith))
 
-    next : o ≡ false → {n : ℕ} → n ≡ cell w (k - 1) 16 → n ≤ k - 1 → Left t w target bases last n
+    next : o ≡ false → {n : ℕ} → n ≡ cell w (k - 1) BEFORE → n ≤ k - 1 → Left t w target bases last n
     next e {n} q l =
         record {
           fits = inv .fits;

@@ -7,6 +7,7 @@ use mathlib.Core.Bool.{Bool, true, false}
 use mathlib.Core.List.{List}
 use Rattle.definition.specs.declared.Span.{Span}
 use Rattle.definition.specs.Fold.{sameName}
+use Rattle.rows.specs.Columns.{NAME}
 use Rattle.rows.specs.Table.{spanAt, cell}
 use Rattle.places.specs.Places.{leftOut, isTarget}
 use Rattle.places.proofs.is_target.Statement.{statement}
@@ -16,7 +17,7 @@ module _ (t : List ℕ) (target : Span) (bases : Bool) (w : List ℕ) (k : ℕ) 
   out : o ≡ true → false ≡ isTarget t target bases w k
   out e = rw (← p, e)
 
-  in-turn : o ≡ false → {s : Span} {r : Bool} → s ≡ spanAt (cell w k 3) → r ≡ sameName t target s → r ≡ isTarget t target bases w k
+  in-turn : o ≡ false → {s : Span} {r : Bool} → s ≡ spanAt (cell w k NAME) → r ≡ sameName t target s → r ≡ isTarget t target bases w k
   in-turn e q h = rw (← p, e) (h ∙ ap (sameName t target) q)
 
 returns : tie.Need-returns

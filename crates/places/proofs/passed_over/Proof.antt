@@ -7,12 +7,13 @@ use mathlib.Core.Bool.{Bool, true}
 use mathlib.Core.List.{List}
 use Rattle.definition.specs.declared.Span.{Span}
 use Rattle.definition.specs.Basic.{given}
+use Rattle.rows.specs.Columns.{REDEFINES}
 use Rattle.rows.specs.Table.{spanAt, cell}
 use Rattle.places.specs.Places.{leftOut}
 use Rattle.places.proofs.passed_over.Statement.{statement}
 use Rattle.places.proofs.passed_over.Tie as tie
 
-redefiner : (bases : Bool) (w : List ℕ) (k : ℕ) {s : Span} → bases ≡ true → s ≡ spanAt (cell w k 6) → given s ≡ leftOut bases w k
+redefiner : (bases : Bool) (w : List ℕ) (k : ℕ) {s : Span} → bases ≡ true → s ≡ spanAt (cell w k REDEFINES) → given s ≡ leftOut bases w k
 redefiner bases w k b e = rw (b, e)
 
 returns : tie.Need-returns

@@ -1,29 +1,51 @@
--- `reading::add_row` meets its contract: as many levels are open as the statement is deep.
+-- `reading::add_row` meets its contract: the innermost level that stays open is the statement's parent.
 -- Assumes nothing.
 use borrow.Author.Needs.{needs}
-use Prim.Native.Nat.{ℕ}
-use mathlib.Core.Path.{_≡_, sym, ap, _∙_}
+use Prim.Native.Nat.{ℕ, suc, _+_, _*_, _≤_}
+use mathlib.Core.Path.{_≡_, sym, ap, subst, _∙_}
 use mathlib.Core.List.{List, _∷_}
+use native.Mathlib.Omega.{arith}
 use lib.ListN.{length}
 use Rattle.definition.specs.declared.Statement.{Statement}
+use Rattle.definition.specs.Tree.{Open, opened, stillOpen, innermost}
+use Rattle.definition.proofs.ParentLaws.{Fit}
+use Rattle.rows.specs.Columns.{ROW, PARENT}
+use Rattle.rows.specs.Table.{Placed, cell, putRow}
+use Rattle.rows.proofs.TableLaws.{length-putRow, parent-put}
 use Rattle.reading.specs.declared.OpenLevels.{OpenLevels}
-use Rattle.reading.specs.Levels.{Closed, Opened}
-use Rattle.rows.specs.Table.{Placed, putRow}
+use Rattle.reading.specs.Levels.{topDown, stackOf, Nested, Closed, Opened}
 use Rattle.reading.specs.Reading.{Added}
-use Rattle.reading.proofs.LevelLaws.{length-down}
+use Rattle.reading.proofs.LevelLaws.{length-down, down-put, fit-more}
 use Rattle.reading.proofs.add_row.Statement.{statement}
 use Rattle.reading.proofs.add_row.Tie as tie
 
-module _ (w : List ℕ) (n : ℕ) {o u r : OpenLevels} {s : Statement} {w′ : List ℕ} where
-  -- what the three calls say together
-  added : Closed o (s .level) u → w′ ≡ putRow w n (u .count) s → Opened u (s .level) r → Placed s → Added w n o s w′ r
-  added closed row opened placed =
+module _ (w : List ℕ) (k : ℕ) (s : Statement) {o u r : OpenLevels} (fits : ROW * k + ROW ≤ length w) (closed : Closed w k o (s .level) u) (opening : Opened u (s .level) k r) where
+  -- the row of the innermost level that stays open, and those around it, are as they were
+  stack-put : stackOf (putRow w k (u .row) s) r ≡ opened (s .level) (suc k) ∷ stackOf w u
+  stack-put =
+      let w′ = putRow w k (u .row) s in
+      opening .is w′
+      ∙ ap (λ (os : List Open). opened (s .level) (suc k) ∷ os)
+      (ap (topDown w′ (u .levels) (u .count)) (parent-put w k (u .row) s fits) ∙ down-put w (u .levels) k (u .row) s (u .count) (u .row) (closed .fit))
+
+  nested-put : Nested (putRow w k (u .row) s) (suc k) r
+  nested-put =
       record {
-        row = row ∙ ap (λ (d : ℕ). putRow w n d s) (sym (length-down (u .levels) (u .count)) ∙ ap length (closed .is));
-        levels = opened .is ∙ ap (λ (ls : List ℕ). s .level ∷ ls) (closed .is);
-        nested = opened .nested;
-        storable = record { level = closed .byte; placed = placed };
+        few = opening .few;
+        fit = subst (Fit (suc k)) (sym stack-put) (omega (arith, closed .few, length-down w (u .levels) (u .count) (u .row)), omega arith, omega arith, fit-more k (stackOf w u) (closed .fit));
+        there = omega (arith, length-putRow w k (u .row) s);
       }
+
+  -- what the three calls say together
+  added : {w′ : List ℕ} → w′ ≡ putRow w k (u .row) s → Placed s → Added w k o s w′ r
+  added e placed =
+      subst (λ (x : List ℕ). Added w k o s x r) (sym e)
+      (record {
+        row = ap (λ (p : ℕ). putRow w k p s) (closed .row ∙ ap innermost (closed .is));
+        levels = stack-put ∙ ap (λ (os : List Open). opened (s .level) (suc k) ∷ os) (closed .is);
+        nested = nested-put;
+        storable = record { level = closed .byte; placed = placed };
+      })
 
 returns : tie.Need-returns
 returns c = search added

@@ -3,7 +3,7 @@
 -- Assumes nothing.
 use borrow.Author.Needs.{needs}
 use Prim.Native.Nat.{ℕ, _+_, _*_, _-_, _≤_, _<_}
-use mathlib.Core.Path.{_≡_, refl, sym, ap, _∙_}
+use mathlib.Core.Path.{_≡_, refl, sym, ap, subst, _∙_}
 use mathlib.Core.Bool.{Bool, true, false}
 use mathlib.Core.List.{List, [], _∷_}
 use native.Mathlib.Nat.{add-zero}
@@ -15,7 +15,9 @@ use Rattle.definition.specs.declared.Span.{Span}
 use Rattle.definition.specs.declared.Statement.{Statement}
 use Rattle.definition.specs.Basic.{Answer, refuse, give, _>>=_}
 use Rattle.definition.specs.Statement.{statements}
+use Rattle.definition.specs.Tree.{Open}
 use Rattle.definition.specs.Words.{sentences, statementWords}
+use Rattle.definition.proofs.ParentLaws.{Fit}
 use Rattle.definition.proofs.StatementLaws.{statements-none, statements-refused, statements-skipped, statements-full, statements-kept}
 use Rattle.definition.proofs.WordLaws.{sentences-end}
 use Rattle.text.specs.Tokens.{between, tokensFrom}
@@ -26,10 +28,12 @@ use Rattle.statement.specs.Reading.{FirstKept, FirstSkipped, FirstStatement}
 use Rattle.statement.proofs.ReadLaws.{kept-read, skipped-read, refused-read, end-read}
 use Rattle.reading.specs.declared.OpenLevels.{OpenLevels}
 use Rattle.reading.specs.declared.RowsRead.{RowsRead}
-use Rattle.reading.specs.Levels.{stackOf, Nested}
+use Rattle.reading.specs.Levels.{topDown, stackOf, NoneOpen, Nested}
+use Rattle.rows.specs.Columns.{ROW}
 use Rattle.rows.specs.Table.{Short, Placed, putRows}
 use Rattle.reading.specs.Reading.{Added, outcome, Held, RowsAre}
 use Rattle.rows.proofs.TableLaws.{length-putRow}
+use Rattle.reading.proofs.LevelLaws.{down-none}
 use Rattle.reading.proofs.ReadingLaws.{outcome-kept, held-kept}
 use Rattle.reading.proofs.read_rows.Statement.{statement}
 use Rattle.reading.proofs.read_rows.Tie as tie
@@ -48,22 +52,23 @@ record Left (t w₀ w : List ℕ) (at : ℕ) (fresh : Bool) (n : ℕ) (o : OpenL
   room : 16384 ≤ length w
   long : length w ≡ length w₀
   few : n ≤ 800
-  nested : Nested o
-  same : outcome w₀ 0 [] (whole t) ≡ outcome w n (stackOf o) (rest t fresh at n)
+  nested : Nested w n o
+  same : outcome w₀ 0 [] (whole t) ≡ outcome w n (stackOf w o) (rest t fresh at n)
   held : Held n (rest t fresh at n) → Held 0 (whole t)
 
 -- before the first statement
-start : {t w : List ℕ} {o : OpenLevels} → length t ≤ 65535 → 16384 ≤ length w → (stackOf o ≡ []) × Nested o → Left t w w 0 true 0 o
+start : {t w : List ℕ} {o : OpenLevels} → length t ≤ 65535 → 16384 ≤ length w → NoneOpen o → Left t w w 0 true 0 o
 unfolding statementWords
 start {t} {w} {o} s r p =
+    let none : stackOf w o ≡ [] = ap (λ (n : ℕ). topDown w (o .levels) n (o .row)) (p .count) ∙ down-none w (o .levels) (o .row) in
     record {
       within = omega arith;
       short = s;
       room = r;
       long = refl;
       few = omega arith;
-      nested = p .1;
-      same = ap (λ (ls : List ℕ). outcome w 0 ls (whole t)) (sym (p .0));
+      nested = record { few = omega (arith, p .count); fit = subst (Fit 0) (sym none) tt; there = omega arith };
+      same = ap (λ (os : List Open). outcome w 0 os (whole t)) (sym none);
       held = λ h. h;
     }
 
@@ -76,7 +81,7 @@ module _ {t w₀ w : List ℕ} {at : ℕ} {fresh : Bool} {n : ℕ} {o : OpenLeve
   refused-so : (q : Refusal) → rest t fresh at n ≡ refuse q → RowsAre t w₀ (RowsRead.Refused q) w
   refused-so q p =
       record {
-        is = sym (inv .same ∙ ap (outcome w n (stackOf o)) p);
+        is = sym (inv .same ∙ ap (outcome w n (stackOf w o)) p);
         held = inv .held (rw p tt);
       }
 
@@ -88,7 +93,7 @@ module _ {t w₀ w : List ℕ} {at : ℕ} {fresh : Bool} {n : ℕ} {o : OpenLeve
         let none = end-read _ t (at + 1) f e in
         let p : rest t fresh at n ≡ give [] = rw (none, sentences-end) (statements-none t n) in
         record {
-          is = sym (inv .same ∙ ap (outcome w n (stackOf o)) p ∙ rw add-zero);
+          is = sym (inv .same ∙ ap (outcome w n (stackOf w o)) p ∙ rw add-zero);
           held = inv .held (rw p (tt, omega (arith, inv .few)));
         }
 
@@ -113,7 +118,7 @@ module _ {t w₀ w : List ℕ} {at : ℕ} {fresh : Bool} {n : ℕ} {o : OpenLeve
             long = inv .long;
             few = inv .few;
             nested = inv .nested;
-            same = inv .same ∙ ap (outcome w n (stackOf o)) p;
+            same = inv .same ∙ ap (outcome w n (stackOf w o)) p;
             held = λ h. inv .held (rw p h);
           }
 
@@ -142,8 +147,8 @@ module _ {t w₀ w : List ℕ} {at : ℕ} {fresh : Bool} {n : ℕ} {o : OpenLeve
             };
           }
 
-      addable : n < 800 → (20 * n + 20 ≤ length w) × Nested o × Placed s
-      addable l = (omega (arith, inv .room), inv .nested, placed)
+      addable : n < 800 → (ROW * n + ROW ≤ length w) × (n < 800) × Nested w n o × Placed s
+      addable l = (omega (arith, inv .room), l, inv .nested, placed)
 
       -- 800 were kept before it
       full : 800 ≤ n → RowsAre t w₀ (RowsRead.Refused (record { number = 14; position = s .at; needed = 0 })) w
@@ -162,8 +167,8 @@ module _ {t w₀ w : List ℕ} {at : ℕ} {fresh : Bool} {n : ℕ} {o : OpenLeve
             room = omega (arith, inv .room);
             long = sized ∙ inv .long;
             few = omega arith;
-            nested = d .nested;
-            same = inv .same ∙ ap (outcome w n (stackOf o)) p ∙ outcome-kept n s w (stackOf o) later ∙ rw (d .row, d .levels);
+            nested = subst (λ (m : ℕ). Nested w′ m o′) (sym (add-one n)) (d .nested);
+            same = inv .same ∙ ap (outcome w n (stackOf w o)) p ∙ outcome-kept n s w (stackOf w o) later ∙ (λ i. outcome (sym (d .row) i) (n + 1) (sym (d .levels) i) later);
             held = λ h. inv .held (rw p (held-kept n s (d .storable) later h));
           }
 

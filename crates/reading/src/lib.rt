@@ -132,12 +132,11 @@ pub fn read_rows(text: &[u8], work: &mut [u32]) -> RowsRead
     requires { ⌜ (length (now text) ≤ 65535) × (16384 ≤ length (now work)) ⌝ }
     ensures { λ r. ⌜ RowsAre (now (text .entry)) (now (work .entry)) r (now (work .exit)) ⌝ }
 {
-    let mut at = 0;
-    let mut fresh = true;
+    let mut from = text::at_start();
     let mut n = 0;
     let mut levels = none_open();
     loop {
-        match statement::read_statement(text, at, fresh) {
+        match statement::read_statement(text, from) {
             StatementRead::Kept(s, next) => {
                 if 800 <= n {
                     return RowsRead::Refused(Refusal {
@@ -148,12 +147,10 @@ pub fn read_rows(text: &[u8], work: &mut [u32]) -> RowsRead
                 }
                 levels = add_row(work, n, levels, s);
                 n += 1;
-                at = next;
-                fresh = false;
+                from = next;
             }
             StatementRead::Skipped(next) => {
-                at = next;
-                fresh = false;
+                from = next;
             }
             StatementRead::Refused(r) => {
                 return RowsRead::Refused(r);

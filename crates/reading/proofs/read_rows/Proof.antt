@@ -4,7 +4,6 @@
 use borrow.Author.Needs.{needs}
 use Prim.Native.Nat.{ℕ, _+_, _*_, _-_, _≤_, _<_}
 use mathlib.Core.Path.{_≡_, refl, sym, ap, subst, _∙_}
-use mathlib.Core.Bool.{Bool, true, false}
 use mathlib.Core.List.{List, [], _∷_}
 use native.Mathlib.Nat.{add-zero}
 use native.Mathlib.Numerals.{add-one}
@@ -20,7 +19,8 @@ use Rattle.definition.specs.Words.{sentences, statementWords}
 use Rattle.definition.proofs.ParentLaws.{Fit}
 use Rattle.definition.proofs.StatementLaws.{statements-none, statements-refused, statements-skipped, statements-full, statements-kept}
 use Rattle.definition.proofs.WordLaws.{sentences-end}
-use Rattle.text.specs.Tokens.{between, tokensFrom}
+use Rattle.text.specs.declared.Stand.{Stand}
+use Rattle.text.specs.Tokens.{atStart, tokensAt}
 use Rattle.statement.specs.declared.StatementRead.{StatementRead}
 use Rattle.statement.specs.declared.StatementRead.the-variants.{Kept, Skipped, Refused, End}
 use Rattle.clauses.specs.Places.{Inside}
@@ -38,60 +38,60 @@ use Rattle.reading.proofs.ReadingLaws.{outcome-kept, held-kept}
 use Rattle.reading.proofs.read_rows.Statement.{statement}
 use Rattle.reading.proofs.read_rows.Tie as tie
 
--- all kept statements, and those of the tokens from a place on where n are kept already
+-- all kept statements, and those of the tokens from where the reader stands, where n are kept already
 abbrev whole : List ℕ → Answer (List Statement)
 whole t = statements t 0 (statementWords t)
 
-abbrev rest : List ℕ → Bool → ℕ → ℕ → Answer (List Statement)
-rest t fresh at n = statements t n (sentences (tokensFrom t (between fresh) at))
+abbrev rest : List ℕ → Stand → ℕ → Answer (List Statement)
+rest t from n = statements t n (sentences (tokensAt t from))
 
 -- n statements were stored
-record Left (t w₀ w : List ℕ) (at : ℕ) (fresh : Bool) (n : ℕ) (o : OpenLevels) : Type 0 where
-  within : at ≤ length t
+record Left (t w₀ w : List ℕ) (from : Stand) (n : ℕ) (o : OpenLevels) : Type 0 where
+  within : from .at ≤ length t
   short : length t ≤ 65535
   room : 16384 ≤ length w
   long : length w ≡ length w₀
   few : n ≤ 800
   nested : Nested w n o
-  same : outcome w₀ 0 [] (whole t) ≡ outcome w n (stackOf w o) (rest t fresh at n)
-  held : Held n (rest t fresh at n) → Held 0 (whole t)
+  same : outcome w₀ 0 [] (whole t) ≡ outcome w n (stackOf w o) (rest t from n)
+  held : Held n (rest t from n) → Held 0 (whole t)
 
 -- before the first statement
-start : {t w : List ℕ} {o : OpenLevels} → length t ≤ 65535 → 16384 ≤ length w → NoneOpen o → Left t w w 0 true 0 o
+start : {t w : List ℕ} {from : Stand} {o : OpenLevels} → length t ≤ 65535 → 16384 ≤ length w → from ≡ atStart → NoneOpen o → Left t w w from 0 o
 unfolding statementWords
-start {t} {w} {o} s r p =
+start {t} {w} {from} {o} s r b p =
     let none : stackOf w o ≡ [] = ap (λ (n : ℕ). topDown w (o .levels) n (o .row)) (p .count) ∙ down-none w (o .levels) (o .row) in
     record {
-      within = omega arith;
+      within = rw b (omega arith);
       short = s;
       room = r;
       long = refl;
       few = omega arith;
       nested = record { few = omega (arith, p .count); fit = subst (Fit 0) (sym none) tt; there = omega arith };
-      same = ap (λ (os : List Open). outcome w 0 os (whole t)) (sym none);
-      held = λ h. h;
+      same = rw b (ap (λ (os : List Open). outcome w 0 os (whole t)) (sym none));
+      held = rw b (λ h. h);
     }
 
 -- a span in a short text is short
 short-inside : (t : List ℕ) (w : Span) → length t ≤ 65535 → Inside t w → Short w
 short-inside t w h i = record { starts = omega arith; runs = omega arith }
 
-module _ {t w₀ w : List ℕ} {at : ℕ} {fresh : Bool} {n : ℕ} {o : OpenLevels} (inv : Left t w₀ w at fresh n o) where
+module _ {t w₀ w : List ℕ} {from : Stand} {n : ℕ} {o : OpenLevels} (inv : Left t w₀ w from n o) where
   -- a refusal of what is left is one of the whole
-  refused-so : (q : Refusal) → rest t fresh at n ≡ refuse q → RowsAre t w₀ (RowsRead.Refused q) w
+  refused-so : (q : Refusal) → rest t from n ≡ refuse q → RowsAre t w₀ (RowsRead.Refused q) w
   refused-so q p =
       record {
         is = sym (inv .same ∙ ap (outcome w n (stackOf w o)) p);
         held = inv .held (rw p tt);
       }
 
-  module _ {r : StatementRead} (f : FirstStatement (tokensFrom t (between fresh) at) t (at + 1) r) where
+  module _ {r : StatementRead} (f : FirstStatement (tokensAt t from) t (from .at + 1) r) where
     -- no statement is left
     done : r ≡ End → RowsAre t w₀ (RowsRead.Rows n) w
     unfolding putRows
     done e =
-        let none = end-read _ t (at + 1) f e in
-        let p : rest t fresh at n ≡ give [] = rw (none, sentences-end) (statements-none t n) in
+        let none = end-read _ t (from .at + 1) f e in
+        let p : rest t from n ≡ give [] = rw (none, sentences-end) (statements-none t n) in
         record {
           is = sym (inv .same ∙ ap (outcome w n (stackOf w o)) p ∙ rw add-zero);
           held = inv .held (rw p (tt, omega (arith, inv .few)));
@@ -100,17 +100,17 @@ module _ {t w₀ w : List ℕ} {at : ℕ} {fresh : Bool} {n : ℕ} {o : OpenLeve
     -- the next statement is refused
     bad : {q : Refusal} → r ≡ Refused q → RowsAre t w₀ (RowsRead.Refused q) w
     bad {q} e =
-        let first = refused-read _ t (at + 1) f e in
+        let first = refused-read _ t (from .at + 1) f e in
         refused-so q (rw (first .all-are) (statements-refused t n _ _ (first .is)))
 
     -- the next statement is skipped
-    module _ {next : ℕ} (e : r ≡ Skipped next) where
-      skipped : FirstSkipped (tokensFrom t (between fresh) at) t (at + 1) next
-      skipped = skipped-read _ t (at + 1) f e
+    module _ {next : Stand} (e : r ≡ Skipped next) where
+      skipped : FirstSkipped (tokensAt t from) t (from .at + 1) next
+      skipped = skipped-read _ t (from .at + 1) f e
 
-      skip : Left t w₀ w next false n o
+      skip : Left t w₀ w next n o
       skip =
-          let p : rest t fresh at n ≡ rest t false next n = rw (skipped .followed .all-are) (statements-skipped t n _ _ (skipped .is)) in
+          let p : rest t from n ≡ rest t next n = rw (skipped .followed .all-are) (statements-skipped t n _ _ (skipped .is)) in
           record {
             within = skipped .followed .within;
             short = inv .short;
@@ -122,15 +122,15 @@ module _ {t w₀ w : List ℕ} {at : ℕ} {fresh : Bool} {n : ℕ} {o : OpenLeve
             held = λ h. inv .held (rw p h);
           }
 
-      skip-less : length t - next < length t - at
+      skip-less : length t - next .at < length t - from .at
       skip-less = let k = skipped .followed in omega arith
 
     -- the next statement is kept
-    module _ {s : Statement} {next : ℕ} (e : r ≡ Kept s next) where
-      kept : FirstKept (tokensFrom t (between fresh) at) t (at + 1) s next
-      kept = kept-read _ t (at + 1) f e
+    module _ {s : Statement} {next : Stand} (e : r ≡ Kept s next) where
+      kept : FirstKept (tokensAt t from) t (from .at + 1) s next
+      kept = kept-read _ t (from .at + 1) f e
 
-      kept-less : length t - next < length t - at
+      kept-less : length t - next .at < length t - from .at
       kept-less = let k = kept .followed in omega arith
 
       -- it can be stored
@@ -155,10 +155,10 @@ module _ {t w₀ w : List ℕ} {at : ℕ} {fresh : Bool} {n : ℕ} {o : OpenLeve
       full l = refused-so (record { number = 14; position = s .at; needed = 0 }) (rw (kept .followed .all-are) (statements-full t n _ _ (kept .is) l))
 
       -- it is the next row
-      add : n < 800 → {w′ : List ℕ} {o′ : OpenLevels} → Added w n o s w′ o′ → Left t w₀ w′ next false (n + 1) o′
+      add : n < 800 → {w′ : List ℕ} {o′ : OpenLevels} → Added w n o s w′ o′ → Left t w₀ w′ next (n + 1) o′
       add l {w′} {o′} d =
-          let later = rest t false next (n + 1) in
-          let p : rest t fresh at n ≡ (later >>= λ ss. give (s ∷ ss)) =
+          let later = rest t next (n + 1) in
+          let p : rest t from n ≡ (later >>= λ ss. give (s ∷ ss)) =
           rw (kept .followed .all-are, add-one n) (statements-kept t n _ _ (kept .is) l) in
           let sized : length w′ ≡ length w = ap length (d .row) ∙ length-putRow w n _ s in
           record {
@@ -173,10 +173,10 @@ module _ {t w₀ w : List ℕ} {at : ℕ} {fresh : Bool} {n : ℕ} {o : OpenLeve
           }
 
 abbrev Inv-loop : tie.InvT-loop
-Inv-loop text work₀ at₀ fresh₀ n₀ levels₀ work at fresh n levels = Left text work₀ work at fresh n levels
+Inv-loop text work₀ from₀ n₀ levels₀ work from n levels = Left text work₀ work from n levels
 
 abbrev μ-loop : tie.MeasureT-loop
-μ-loop text work₀ at₀ fresh₀ n₀ levels₀ work at fresh n levels = length text - at
+μ-loop text work₀ from₀ n₀ levels₀ work from n levels = length text - from .at
 
 loop-holds : tie.Need-loop-holds Inv-loop μ-loop
 loop-holds c = search start
@@ -222,6 +222,7 @@ read-rows-spec =
     (tie.spec
     Inv-loop
     μ-loop
+    (λ c κs. search needs)
     (λ c κs. search needs)
     loop-holds
     (λ c κs. search needs)

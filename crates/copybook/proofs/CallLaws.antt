@@ -17,7 +17,7 @@ use Rattle.definition.specs.Tree.{Forest}
 use Rattle.layout.proofs.BareLaws.{layout-is}
 use Rattle.definition.proofs.DetailLaws.{listing-height}
 use Rattle.places.specs.Places.{rowsForest}
-use Rattle.folded.specs.Shown.{listIn}
+use Rattle.unions.specs.Shown.{listIn}
 use Rattle.record.specs.Laying.{laidOf, Listed}
 
 -- ---------------------------------------------------------------- bytes that tell of the entries

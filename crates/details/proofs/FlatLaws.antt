@@ -13,7 +13,7 @@ use Rattle.definition.specs.Listing.{members#}
 use Rattle.definition.specs.Search.{entries#}
 use Rattle.definition.specs.Details.{Detail, detail, detailsIn, detailBytes, detailsBytes, entriesDetails, height}
 use Rattle.definition.proofs.DetailLaws.{bytes-both, details-length}
-use Rattle.folded.specs.Shown.{listIn}
+use Rattle.unions.specs.Shown.{listIn}
 use Rattle.listing.specs.Puts.{Put}
 use Rattle.entries.specs.Entered.{Shown, flatIn, itemsFrom, shownAll}
 use Rattle.entries.proofs.FlatLaws.{flat-length}

@@ -9,7 +9,7 @@ use Rattle.definition.specs.Basic.{le4}
 use Rattle.definition.specs.Fold.{foldedAll}
 use Rattle.definition.specs.Listing.{flag, spanBytes}
 use Rattle.definition.specs.Details.{Detail, detail, detailBytes, entriesDetails, height}
-use Rattle.folded.specs.Shown.{listIn}
+use Rattle.unions.specs.Shown.{listIn}
 use Rattle.entries.specs.Entered.{Shown, itemAt, itemsFrom, shownAll, Sound, Rows, Entered}
 
 -- ---------------------------------------------------------------- the parts of an entry's details

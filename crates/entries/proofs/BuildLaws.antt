@@ -16,8 +16,8 @@ use Rattle.definition.proofs.Lists.{sets-append}
 use Rattle.rows.specs.Columns.{ROW, OFFSET, WIDTH}
 use Rattle.rows.specs.Table.{cell, spanAt}
 use Rattle.places.specs.Places.{entryIn}
-use Rattle.folded.specs.Shown.{SizedRow, Measured}
-use Rattle.folded.proofs.FoldedLaws.{count-append, widest-append}
+use Rattle.unions.specs.Shown.{SizedRow, Measured}
+use Rattle.unions.proofs.FoldedLaws.{count-append, widest-append}
 use Rattle.entries.specs.declared.Item.{Item}
 use Rattle.entries.specs.declared.Block.{Block}
 use Rattle.entries.specs.Entered.{Shown, flatIn, itemCells, cells, ownOf, shownOf, shownAll, Sound, Rows}

@@ -14,8 +14,8 @@ use Rattle.places.proofs.EntriesLaws.{size-stretch}
 use Rattle.layout.proofs.SizeLaws.{listing-few}
 use Rattle.listing.specs.Puts.{Put, headBytes}
 use Rattle.listing.proofs.PutLaws.{_and_, listing-parts}
-use Rattle.folded.specs.Shown.{listIn}
-use Rattle.folded.proofs.ShownLaws.{entries-size}
+use Rattle.unions.specs.Shown.{listIn}
+use Rattle.unions.proofs.ShownLaws.{entries-size}
 use Rattle.entries.specs.Entered.{flatBytes, flatVaries, flatLength, flatFits, itemsFrom, shownAll, Entered}
 use Rattle.entries.specs.Building.{listed}
 use Rattle.entries.proofs.FlatLaws.{flat-bytes, flat-varies, flat-long, flat-fits}

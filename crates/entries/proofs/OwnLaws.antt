@@ -17,7 +17,7 @@ use Rattle.definition.proofs.Lists.{order}
 use Rattle.rows.specs.Columns.{AT, DEPENDING, OFFSET}
 use Rattle.rows.specs.Table.{cell, spanAt}
 use Rattle.places.specs.Places.{entryIn}
-use Rattle.folded.specs.Shown.{SizedRow, Measured}
+use Rattle.unions.specs.Shown.{SizedRow, Measured}
 use Rattle.entries.specs.declared.Item.{Item}
 use Rattle.definition.specs.Listing.{entryBytes}
 use Rattle.listing.specs.Puts.{Put}

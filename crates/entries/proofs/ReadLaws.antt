@@ -15,8 +15,8 @@ use Rattle.definition.proofs.Lists.{sets-append}
 use Rattle.rows.proofs.TableLaws.{getD-below, getD-in}
 use Rattle.places.specs.Places.{rowsForest}
 use Rattle.places.proofs.EntriesLaws.{size-stretch}
-use Rattle.folded.specs.Shown.{listIn}
-use Rattle.folded.proofs.ShownLaws.{entries-size}
+use Rattle.unions.specs.Shown.{listIn}
+use Rattle.unions.proofs.ShownLaws.{entries-size}
 use Rattle.entries.specs.declared.Item.{Item}
 use Rattle.entries.specs.declared.Block.{Block}
 use Rattle.entries.specs.Entered.{Shown, flatIn, itemCells, cells, itemAt, itemsFrom, shownAll, Rows, Entered}

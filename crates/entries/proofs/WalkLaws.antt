@@ -13,14 +13,15 @@ use Rattle.definition.specs.Fold.{Entries, end, entry, append, rebased, redefin
 use Rattle.definition.specs.Search.{entries#}
 use Rattle.rows.specs.Columns.{OFFSET, NEXT}
 use Rattle.rows.specs.Table.{cell}
-use Rattle.places.specs.Places.{basesAt, placeAt, entryIn}
-use Rattle.places.specs.Ends.{ChildrenEnd, Numbered}
+use Rattle.redefines.specs.Targets.{basesAt, placeAt}
+use Rattle.places.specs.Places.{entryIn}
+use Rattle.places.specs.Children.{ChildrenEnd, Numbered}
 use Rattle.places.proofs.RowLaws.{children-end}
-use Rattle.folded.specs.declared.Standing.{Standing}
-use Rattle.folded.specs.Shown.{standing, shownAs, listIn, redefinersIn, foldedRest, shownAt, Tree, Base, SizedRow}
-use Rattle.folded.proofs.FoldedLaws.{append-end, append-append, redefiners-below}
-use Rattle.folded.proofs.ShownLaws.{walking-here, walking-ends}
-use Rattle.folded.proofs.WidthLaws.{Along, along-starts, along-on, Next, Onward, Following, following-starts, following-none, following-next, next-numbered, next-sized, next-tree, next-is, next-on}
+use Rattle.unions.specs.declared.Standing.{Standing}
+use Rattle.unions.specs.Shown.{standing, shownAs, listIn, redefinersIn, foldedRest, shownAt, Tree, Base, SizedRow}
+use Rattle.unions.proofs.FoldedLaws.{append-end, append-append, redefiners-below}
+use Rattle.unions.proofs.ShownLaws.{walking-here, walking-ends}
+use Rattle.unions.proofs.WidthLaws.{Along, along-starts, along-on, Next, Onward, Following, following-starts, following-none, following-next, next-numbered, next-sized, next-tree, next-is, next-on}
 use Rattle.entries.specs.declared.Block.{Block}
 use Rattle.entries.specs.Building.{listed, itemIn, redefined, unionIn, ownMember, Room, Built}
 use Rattle.entries.proofs.FlatLaws.{size-append}

@@ -12,8 +12,9 @@ use Rattle.definition.specs.Listing.{flag, members#}
 use Rattle.definition.specs.Search.{entries#}
 use Rattle.rows.specs.Columns.{NAME, OFFSET, WIDTH}
 use Rattle.rows.specs.Table.{cell, spanAt}
-use Rattle.places.specs.Places.{placeAt, entryIn}
-use Rattle.folded.specs.Shown.{listIn, redefinersIn}
+use Rattle.redefines.specs.Targets.{placeAt}
+use Rattle.places.specs.Places.{entryIn}
+use Rattle.unions.specs.Shown.{listIn, redefinersIn}
 use Rattle.entries.specs.declared.Item.{Item}
 use Rattle.entries.specs.declared.Block.{Block}
 use Rattle.entries.specs.Entered.{flatIn, itemCells, cells, shownAll, Rows}

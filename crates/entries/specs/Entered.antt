@@ -14,7 +14,7 @@ use Rattle.definition.specs.Fold.{Entries, end, entry, total, entryEnd, largest
 use Rattle.definition.specs.Listing.{members#, entryBytes}
 use Rattle.definition.specs.Search.{entries#}
 use Rattle.places.specs.Places.{entryIn}
-use Rattle.folded.specs.Shown.{listIn}
+use Rattle.unions.specs.Shown.{listIn}
 use Rattle.rows.specs.Columns.{ROW, DEPENDING}
 use Rattle.entries.specs.declared.Item.{Item}
 

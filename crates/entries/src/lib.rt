@@ -11,7 +11,7 @@ ghost use Rattle.definition.specs.Listing.{flag, members#, entryBytes};
 ghost use Rattle.listing.specs.Puts.{Put};
 ghost use Rattle.definition.specs.Search.{entries#};
 ghost use Rattle.places.specs.Places.{entryIn};
-ghost use Rattle.folded.specs.Shown.{shownAt, Known, Tree, Branch, Base, SizedRow};
+ghost use Rattle.unions.specs.Shown.{shownAt, Known, Tree, Branch, Base, SizedRow};
 ghost use Rattle.entries.specs.Entered.{flatBytes, flatVaries, topEnd, flatLength, flatFits, shownOf, itemCells, itemAt, itemsFrom, moved, ownOf, shownAll, Sound, Rows, Entered};
 ghost use Rattle.entries.specs.Building.{listed, itemIn, redefined, unionIn, ownMember, Room, Built, ownItem, unionItem, Small, Open, Closed};
 ghost use Rattle.rows.specs.Columns.{ROW};
@@ -19,7 +19,6 @@ use definition::Check;
 use definition::Entry;
 use definition::Refusal;
 use definition::Span;
-use folded::Standing;
 use rows::AT;
 use rows::DEPENDING;
 use rows::NAME;
@@ -27,6 +26,7 @@ use rows::NEXT;
 use rows::OFFSET;
 use rows::ROW;
 use rows::WIDTH;
+use unions::Standing;
 
 // An entry in the table: the row that it names, whether it is that row's own entry (0), the same as a member of a union (1) or the union (2);
 // offset and width; how many members it has and how many entries stand below it; how deep it stands.
@@ -91,7 +91,7 @@ fn close(entries: &mut [u32], b: Block, inner: Block, x: Item, width: usize) -> 
     Block {
         next: inner.next,
         count: b.count + 1,
-        widest: places::most(b.widest, width),
+        widest: limits::most(b.widest, width),
     }
 }
 
@@ -109,12 +109,12 @@ fn close_item(
     requires { ⌜ SizedRow (now work) i × Open (now entries) b inner depth i ⌝ }
     ensures { λ r. ⌜ Closed (now (entries .entry)) b inner (ownItem (now (work .entry)) i member start b inner depth) (total (entryIn (now (work .entry)) i)) r (now (entries .exit)) ⌝ }
 {
-    let width = folded::row_total(work, i);
+    let width = unions::row_total(work, i);
     let x = Item {
         row: i,
         mark: mark_of(member),
-        offset: less(places::wide(work[ROW * i + OFFSET]), start),
-        width: places::wide(work[ROW * i + WIDTH]),
+        offset: less(rows::wide(work[ROW * i + OFFSET]), start),
+        width: rows::wide(work[ROW * i + WIDTH]),
         members: inner.count,
         below: inner.next - b.next - 1,
         depth: depth,
@@ -137,7 +137,7 @@ fn close_union(
     let x = Item {
         row: i,
         mark: 2,
-        offset: places::wide(work[ROW * i + OFFSET]),
+        offset: rows::wide(work[ROW * i + OFFSET]),
         width: inner.widest,
         members: inner.count,
         below: inner.next - b.next - 1,
@@ -194,14 +194,14 @@ fn build_redefiners(
     requires { ⌜ Base (now text) (now work) i j to × Room (now entries) b depth (entries# (redefined (now text) (now work) i j to)) to ⌝ }
     ensures { λ r. ⌜ Built (now (work .entry)) (now (entries .entry)) b depth (redefined (now (text .entry)) (now (work .entry)) i j to) r (now (entries .exit)) ⌝ }
 {
-    let start = places::wide(work[ROW * i + OFFSET]);
+    let start = rows::wide(work[ROW * i + OFFSET]);
     let mut r = b;
-    let mut k = places::wide(work[ROW * i + NEXT]);
+    let mut k = rows::wide(work[ROW * i + NEXT]);
     while 0 < k {
         let row = k - 1;
         let m = places::next_of(work, row, to);
         r = build_item(text, work, row, m, true, start, entries, r, depth);
-        k = places::wide(work[ROW * row + NEXT]);
+        k = rows::wide(work[ROW * row + NEXT]);
     }
     r
 }
@@ -212,7 +212,7 @@ fn has_own(text: &[u8], work: &[u32], i: usize, j: usize, to: usize) -> bool
     ensures { λ r. ⌜ r ≡ ownMember (now (text .entry)) (now (work .entry)) i j ⌝ }
 {
     let name = rows::span_at(work[ROW * i + NAME]);
-    folded::has_member(text, work, i + 1, j, name)
+    unions::has_member(text, work, i + 1, j, name)
 }
 
 // Builds the members of the union of row i with its redefiners: those of row i, where one of them has its name, or row i
@@ -234,7 +234,7 @@ fn build_members(
         let next = build_list(text, work, i + 1, j, entries, b, depth);
         return build_redefiners(text, work, i, j, to, entries, next, depth);
     }
-    let start = places::wide(work[ROW * i + OFFSET]);
+    let start = rows::wide(work[ROW * i + OFFSET]);
     let next = build_item(text, work, i, j, true, start, entries, b, depth);
     build_redefiners(text, work, i, j, to, entries, next, depth)
 }
@@ -254,7 +254,7 @@ fn build_shown(
     requires { ⌜ Branch (now text) (now work) i j to × Known (now text) (now work) i last × Room (now entries) b depth (entries# (shownAt (now text) (now work) i j to last)) to ⌝ }
     ensures { λ r. ⌜ Built (now (work .entry)) (now (entries .entry)) b depth (shownAt (now (text .entry)) (now (work .entry)) i j to last) r (now (entries .exit)) ⌝ }
 {
-    match folded::standing_of(text, work, i, last) {
+    match unions::standing_of(text, work, i, last) {
         Standing::Under => {
             return b;
         }
@@ -339,13 +339,13 @@ pub fn item_at(entries: &[u32], k: usize) -> Item
     ensures { λ r. ⌜ (r ≡ itemAt (now (entries .entry)) k) × (r .offset < 4294967296) ⌝ }
 {
     Item {
-        row: places::wide(entries[7 * k + 0]),
-        mark: places::wide(entries[7 * k + 1]),
-        offset: places::wide(entries[7 * k + 2]),
-        width: places::wide(entries[7 * k + 3]),
-        members: places::wide(entries[7 * k + 4]),
-        below: places::wide(entries[7 * k + 5]),
-        depth: places::wide(entries[7 * k + 6]),
+        row: rows::wide(entries[7 * k + 0]),
+        mark: rows::wide(entries[7 * k + 1]),
+        offset: rows::wide(entries[7 * k + 2]),
+        width: rows::wide(entries[7 * k + 3]),
+        members: rows::wide(entries[7 * k + 4]),
+        below: rows::wide(entries[7 * k + 5]),
+        depth: rows::wide(entries[7 * k + 6]),
     }
 }
 
@@ -453,7 +453,7 @@ pub fn offset_of(work: &[u32], x: Item) -> usize
         return x.offset;
     }
     let row = x.row;
-    places::wide(work[ROW * row + OFFSET])
+    rows::wide(work[ROW * row + OFFSET])
 }
 
 // Where an entry ends: its offset and what it reserves.
@@ -468,7 +468,7 @@ fn item_end(work: &[u32], x: Item) -> usize
     if depends(work, x) {
         return offset;
     }
-    offset + folded::row_total(work, x.row)
+    offset + unions::row_total(work, x.row)
 }
 
 // Where entry k ends, if it stands at the top; else 0.
@@ -491,7 +491,7 @@ pub fn record_length(work: &[u32], entries: &[u32], n: usize) -> usize
     let mut length = 0;
     let mut k = 0;
     while k < n {
-        length = places::most(length, top_end(work, entries, k));
+        length = limits::most(length, top_end(work, entries, k));
         k += 1;
     }
     length
@@ -504,7 +504,7 @@ fn position_of(work: &[u32], entries: &[u32], k: usize) -> usize
 {
     let x = item_at(entries, k);
     let row = x.row;
-    places::wide(work[ROW * row + AT])
+    rows::wide(work[ROW * row + AT])
 }
 
 // Refusal 29 for the first end at the top above 2,147,483,647.

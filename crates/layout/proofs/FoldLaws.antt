@@ -14,10 +14,11 @@ use Rattle.definition.specs.Tree.{Forest}
 use Rattle.definition.specs.Fold.{Entries, entry, Place, placeOf, find, foldCheck}
 use Rattle.rows.specs.Columns.{ROW, AT, REDEFINES, OFFSET, BEFORE, BASE}
 use Rattle.rows.specs.Table.{cell, spanAt}
-use Rattle.places.specs.Places.{seenFrom, basesAt, offsetOf, baseFrom, baseAfter, entryIn, entriesIn, Linked, rowsForest}
-use Rattle.places.specs.Ends.{ChildrenEnd, Numbered}
+use Rattle.redefines.specs.Targets.{seenFrom, basesAt, offsetOf, baseFrom, baseAfter}
+use Rattle.places.specs.Places.{entryIn, entriesIn, Linked, rowsForest}
+use Rattle.places.specs.Children.{ChildrenEnd, Numbered}
 use Rattle.places.proofs.RowLaws.{forest-empty, children-end}
-use Rattle.places.proofs.SearchLaws.{if-most, row-most, row-found}
+use Rattle.redefines.proofs.SearchLaws.{if-most, row-most, row-found}
 use Rattle.places.proofs.PlaceLaws.{seen-low, seen-out, seen-in}
 use Rattle.places.proofs.EntriesLaws.{entries-step, linked-step, linked-numbered}
 use Rattle.layout.specs.Bare.{basesAfter}

@@ -22,12 +22,13 @@ use Rattle.definition.specs.Owner.{size}
 use Rattle.definition.specs.Search.{entries#}
 use Rattle.rows.specs.Columns.{ROW, AT, NAME, OFFSET, BEFORE}
 use Rattle.rows.specs.Table.{cell, spanAt, statementAt}
-use Rattle.places.specs.Places.{putPlaces, lastOf, placeAt, seenFrom, seenAt, entriesIn, rowsForest}
-use Rattle.places.specs.Ends.{ChildrenEnd}
+use Rattle.places.specs.Places.{putPlaces, lastOf, entriesIn, rowsForest}
+use Rattle.redefines.specs.Targets.{placeAt, seenFrom, seenAt}
+use Rattle.places.specs.Children.{ChildrenEnd}
 use Rattle.places.proofs.PlaceLaws.{kept-places, before-places, statement-places, statements-places, first-offset, first-last, seen-low, seen-in, seen-same}
 use Rattle.places.proofs.RowLaws.{forest-empty, forest-split, children-end}
 use Rattle.places.proofs.EntriesLaws.{size-stretch, rows-forest, Held, places-held, next-row, of-size}
-use Rattle.places.proofs.EndLaws.{within}
+use Rattle.limits.proofs.EndLaws.{within}
 use Rattle.layout.specs.Bare.{ItemLaid, placed, bareItem}
 use Rattle.layout.specs.Outcomes.{stopped, ready, after, layRest, layTable, halted, placing, afterItem, layItem, afterOwn, placeRow}
 use Rattle.layout.proofs.ContentLaws.{leaf-bounded}

@@ -14,7 +14,7 @@ use Rattle.definition.specs.Fold.{entry, entryEnd, Place, placeOf, foldCheck}
 use Rattle.definition.specs.Layout.{shallow, content, start, slackFrom, entryOf, tooLarge, advance, Laid, lay}
 use Rattle.definition.proofs.Answers.{through, given-same, not-refused}
 use Rattle.places.proofs.EntriesLaws.{EntryOf, Of}
-use Rattle.places.proofs.EndLaws.{within}
+use Rattle.limits.proofs.EndLaws.{within}
 use Rattle.layout.specs.Bare.{ItemLaid, placed, bareItem}
 use Rattle.layout.proofs.BareLaws.{bind-along}
 use Rattle.layout.proofs.ContentLaws.{content-bytes}

@@ -9,7 +9,8 @@ use Rattle.definition.specs.Basic.{Answer, refuse, give}
 use Rattle.definition.specs.Fold.{end, entry, entryEnd}
 use Rattle.definition.specs.Layout.{advance, Laid, lay}
 use Rattle.rows.specs.Table.{statementAt}
-use Rattle.places.specs.Places.{putPlace, putPlaces, lastOf, seenAt, baseAfter, rowsForest}
+use Rattle.places.specs.Places.{putPlace, putPlaces, lastOf, rowsForest}
+use Rattle.redefines.specs.Targets.{seenAt, baseAfter}
 use Rattle.layout.specs.Bare.{ItemLaid, placed, bareItem}
 
 -- ---------------------------------------------------------------- a list laid in the table

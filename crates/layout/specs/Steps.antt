@@ -14,7 +14,7 @@ use Rattle.definition.specs.Picture.{isBinary}
 use Rattle.definition.specs.Fold.{Place, find}
 use Rattle.rows.specs.Columns.{ROW, AT, OFFSET, BASE}
 use Rattle.rows.specs.Table.{cell}
-use Rattle.places.specs.Places.{offsetOf}
+use Rattle.redefines.specs.Targets.{offsetOf}
 use Rattle.layout.specs.declared.Start.{Start}
 use Rattle.layout.specs.declared.ItemAnswer.{ItemAnswer}
 use Rattle.layout.specs.declared.LaidList.{LaidList}

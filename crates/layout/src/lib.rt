@@ -7,7 +7,8 @@ ghost use Rattle.definition.specs.Layout.{content, slackFrom};
 ghost use Rattle.definition.specs.Calls.{pictureOf, checkOf};
 ghost use Rattle.definition.specs.Statement.{usageOf, signOf};
 ghost use Rattle.definition.specs.Tree.{Forest.leaf};
-ghost use Rattle.places.specs.Places.{offsetOf, entriesIn, Linked, rowsForest};
+ghost use Rattle.redefines.specs.Targets.{offsetOf};
+ghost use Rattle.places.specs.Places.{entriesIn, Linked, rowsForest};
 ghost use Rattle.layout.specs.Outcomes.{placeRow, layItem, layTable};
 ghost use Rattle.layout.specs.Steps.{startAt, startOf, itemOf, listOf, Room, checkRow};
 ghost use Rattle.definition.specs.Fold.{foldCheck};
@@ -26,7 +27,7 @@ use definition::Span;
 use definition::Statement;
 use definition::Usage;
 use definition::UsageClause;
-use places::Ending;
+use limits::Ending;
 use rows::AT;
 use rows::BASE;
 use rows::OFFSET;
@@ -60,7 +61,7 @@ fn start_of(work: &[u32], s: Statement, c: Pictured, target: usize, cursor: usiz
     if 0 < redefines.len {
         if 0 < target {
             let row = target - 1;
-            return Start::At(places::wide(work[ROW * row + OFFSET]));
+            return Start::At(rows::wide(work[ROW * row + OFFSET]));
         }
         return Start::Refused(Refusal {
             number: 28,
@@ -140,7 +141,7 @@ fn elementary(text: &[u8], s: Statement) -> PicAnswer
         let usage = clauses.usage;
         let sign = clauses.sign;
         return picture::picture_at(
-            places::part_of(text, picture),
+            names::part_of(text, picture),
             s.at,
             usage_of(usage),
             sign_of(sign),
@@ -181,13 +182,13 @@ fn place(
     let s = rows::statement_at(work, i);
     let clauses = s.clauses;
     let redefines = clauses.redefines;
-    let target = places::target_of(text, work, redefines, last);
+    let target = redefines::target_of(text, work, redefines, last);
     match start_of(work, s, c, target, cursor) {
         Start::At(offset) => {
             let e = places::entry_of(s, c, offset, slack_from(cursor, s, offset));
-            match places::entry_end(e) {
+            match limits::entry_end(e) {
                 Ending::At(end) => {
-                    let base = places::find_row(text, work, redefines, target, true);
+                    let base = redefines::find_row(text, work, redefines, target, true);
                     places::put_place(work, i, last, below, base, e);
                     return ItemAnswer::Done {
                         cursor: advanced(cursor, redefines, end),
@@ -214,13 +215,13 @@ fn check_row(work: &[u32], i: usize) -> Check
     requires { ⌜ (ROW * i + ROW ≤ length (now work)) × (cell (now work) i BASE ≤ i) ⌝ }
     ensures { λ r. ⌜ checkOf r ≡ checkRow (now (work .entry)) i ⌝ }
 {
-    let base = places::wide(work[ROW * i + BASE]);
+    let base = rows::wide(work[ROW * i + BASE]);
     if 0 < base {
         let row = base - 1;
         if work[ROW * i + OFFSET] < work[ROW * row + OFFSET] {
             return Check::Refused(Refusal {
                 number: 30,
-                position: places::wide(work[ROW * i + AT]),
+                position: rows::wide(work[ROW * i + AT]),
                 needed: 0,
             });
         }
@@ -267,7 +268,7 @@ fn lay_item(
         if depth_left == 0 {
             return ItemAnswer::Refused(Refusal {
                 number: 20,
-                position: places::wide(work[ROW * first + AT]),
+                position: rows::wide(work[ROW * first + AT]),
                 needed: 0,
             });
         }
@@ -323,7 +324,7 @@ pub fn lay_list(text: &[u8], work: &mut [u32], from: usize, to: usize, depth_lef
             ItemAnswer::Done { cursor: next, end } => {
                 last = i + 1;
                 cursor = next;
-                reach = places::most(reach, end);
+                reach = limits::most(reach, end);
                 i = j;
             }
             ItemAnswer::Refused(r) => {

@@ -35,9 +35,9 @@ use Rattle.places.specs.Places.{entryIn, entriesIn, rowsForest}
 use Rattle.layout.proofs.BareLaws.{layout-is}
 use Rattle.places.proofs.EntriesLaws.{size-stretch, Rows, rows-forest}
 use Rattle.places.proofs.RowLaws.{stretch-cons, stretch-none}
-use Rattle.folded.proofs.ShownLaws.{entries-size}
+use Rattle.unions.proofs.ShownLaws.{entries-size}
 use Rattle.record.specs.Laying.{laidOf, Listed}
-use Rattle.folded.specs.Shown.{listIn, Marked, SizedRow, Measured}
+use Rattle.unions.specs.Shown.{listIn, Marked, SizedRow, Measured}
 use Rattle.owner.specs.Walked.{overlays, rowAt, tableRows, Counted, Walkable}
 
 -- ---------------------------------------------------------------- a REDEFINES or a DEPENDING ON

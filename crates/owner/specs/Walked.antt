@@ -13,7 +13,7 @@ use Rattle.definition.specs.Search.{Row, rowOf}
 use Rattle.rows.specs.Columns.{ROW, DEPENDING, REDEFINES, BELOW}
 use Rattle.rows.specs.Table.{cell}
 use Rattle.places.specs.Places.{entryIn, rowsForest}
-use Rattle.folded.specs.Shown.{Sized}
+use Rattle.unions.specs.Shown.{Sized}
 
 -- a statement has a REDEFINES or a DEPENDING ON
 abbrev pub overlays : Statement → Bool

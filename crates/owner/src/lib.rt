@@ -10,7 +10,7 @@ ghost use Rattle.rows.specs.Columns.{ROW};
 ghost use Rattle.rows.specs.Table.{statementAt};
 ghost use Rattle.places.specs.Places.{rowsForest};
 ghost use Rattle.record.specs.Laying.{Listed};
-ghost use Rattle.folded.specs.Shown.{listIn};
+ghost use Rattle.unions.specs.Shown.{listIn};
 ghost use Rattle.owner.specs.Walked.{overlays, Walkable};
 use definition::Owner;
 use definition::OwnerAnswer;
@@ -63,13 +63,13 @@ pub fn walk_rows(work: &[u32], from: usize, to: usize, position: usize) -> Owner
     let mut first = 0;
     let mut q = position;
     while k < to {
-        let offset = places::wide(work[ROW * k + OFFSET]);
+        let offset = rows::wide(work[ROW * k + OFFSET]);
         if q < offset {
             return Owner::Slack { entry: k - from };
         }
-        let width = places::wide(work[ROW * k + WIDTH]);
-        let below = places::wide(work[ROW * k + BELOW]);
-        let total = folded::row_total(work, k);
+        let width = rows::wide(work[ROW * k + WIDTH]);
+        let below = rows::wide(work[ROW * k + BELOW]);
+        let total = unions::row_total(work, k);
         let r = q - offset;
         if r < total {
             let start = first + offset + r / width * width;

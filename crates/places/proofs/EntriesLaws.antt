@@ -24,11 +24,12 @@ use Rattle.kinds.specs.Kinds.{kindCode, kindAt, Bytes}
 use Rattle.rows.specs.Columns.{ROW, LEVEL, AT, NAME, PICTURE, DEPENDING, REDEFINES, SAID, LOW, HIGH, OFFSET, WIDTH, KIND, BEFORE, BELOW, SLACK, BASE, NEXT}
 use Rattle.rows.specs.Table.{cell, spanAt, statementAt, statementsFrom}
 use Rattle.rows.proofs.TableLaws.{statement-same, length-statements}
-use Rattle.places.specs.Places.{putPlaces, entryIn, isTarget, baseAfter, rowsForest, entriesIn, RowLinked, Linked}
-use Rattle.places.specs.Ends.{ChildrenEnd, Numbered}
+use Rattle.places.specs.Places.{putPlaces, entryIn, rowsForest, entriesIn, RowLinked, Linked}
+use Rattle.redefines.specs.Targets.{isTarget, baseAfter}
+use Rattle.places.specs.Children.{ChildrenEnd, Numbered}
 use Rattle.kinds.proofs.Back.{kind-back}
 use Rattle.places.proofs.PlaceLaws.{length-place, kept-place, before-place, after-place, membersPut, firstPut, length-places, kept-places, before-places, statement-places, first-offset, first-width, first-kind, first-last, first-below, first-slack, first-base}
-use Rattle.places.proofs.SearchLaws.{back, back-none, back-step, after-same}
+use Rattle.redefines.proofs.SearchLaws.{back, back-none, back-step, after-same}
 use Rattle.places.proofs.RowLaws.{children-end, forest-split}
 
 -- ---------------------------------------------------------------- sizes

@@ -19,7 +19,8 @@ use Rattle.kinds.specs.Kinds.{kindCode}
 use Rattle.rows.specs.Columns.{ROW, NAME, REDEFINES, OFFSET, WIDTH, KIND, BEFORE, BELOW, SLACK, BASE, NEXT}
 use Rattle.rows.specs.Table.{cell, statementAt, statementsFrom}
 use Rattle.rows.proofs.TableLaws.{getD-below, getD-above, getD-in, statement-same}
-use Rattle.places.specs.Places.{placeCells, putPlace, putPlaces, baseAfter, placeAt, leftOut, seenFrom}
+use Rattle.places.specs.Places.{placeCells, putPlace, putPlaces}
+use Rattle.redefines.specs.Targets.{baseAfter, placeAt, leftOut, seenFrom}
 
 -- ---------------------------------------------------------------- one place
 

@@ -18,10 +18,10 @@ use Rattle.rows.specs.Columns.{ROW, BASE, NEXT}
 use Rattle.rows.specs.Table.{cell, statementsFrom}
 use Rattle.rows.proofs.TableLaws.{statement-same}
 use Rattle.places.specs.Places.{Linked, entriesIn, rowsForest}
-use Rattle.places.proofs.SearchLaws.{back-none}
+use Rattle.redefines.proofs.SearchLaws.{back-none}
 use Rattle.places.proofs.EntriesLaws.{size-stretch, entry-same, entries-same, linked-same}
 use Rattle.record.specs.Marks.{firstFrom, Kept, Unlinked, UnionsLinked}
-use Rattle.folded.specs.Shown.{unionOf, listIn, Sized, Tree}
+use Rattle.unions.specs.Shown.{unionOf, listIn, Sized, Tree}
 use Rattle.record.proofs.MarkLaws.{first-same, bases-all, marked-all}
 
 module _ {w w′ : List ℕ} (h : Kept w w′) where

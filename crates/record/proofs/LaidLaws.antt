@@ -24,20 +24,21 @@ use Rattle.definition.specs.Statement.{statements}
 use Rattle.definition.specs.Words.{statementWords}
 use Rattle.rows.specs.Columns.{ROW, NEXT}
 use Rattle.rows.specs.Table.{cell, statementAt, statementsFrom}
-use Rattle.reading.proofs.ReadingLaws.{Stored}
+use Rattle.tree.proofs.ReadingLaws.{Stored}
 use Rattle.definition.specs.Calls.{checkOf}
 use Rattle.definition.specs.Record.{recordLength, endsFit, unfolded}
-use Rattle.places.specs.Places.{putPlaces, seenFrom, entryIn, entriesIn, rowsForest}
+use Rattle.places.specs.Places.{putPlaces, entryIn, entriesIn, rowsForest}
+use Rattle.redefines.specs.Targets.{seenFrom}
 use Rattle.layout.specs.Outcomes.{layTable}
 use Rattle.layout.specs.declared.LaidList.{LaidList}
-use Rattle.places.specs.Ends.{ChildrenEnd}
+use Rattle.places.specs.Children.{ChildrenEnd}
 use Rattle.layout.specs.Steps.{listOf}
 use Rattle.places.proofs.EntriesLaws.{size-stretch}
 use Rattle.layout.proofs.ListLaws.{bare-split, item-is}
 use Rattle.layout.proofs.LayLaws.{LaidRows, laid-rows, stopped-was}
 use Rattle.places.proofs.RowLaws.{children-end, forest-split, forest-empty}
 use Rattle.places.proofs.PlaceLaws.{length-places, statements-places, places-next}
-use Rattle.folded.specs.Shown.{listIn}
+use Rattle.unions.specs.Shown.{listIn}
 use Rattle.record.specs.Marks.{UnionsLinked}
 use Rattle.record.proofs.KeptLaws.{forest-kept, list-kept, Ready, marked-tree}
 use Rattle.record.specs.declared.RecordLaid.{RecordLaid}

@@ -13,7 +13,7 @@ use Rattle.definition.specs.Basic.{if_then_else_}
 use Rattle.definition.proofs.Lists.{order}
 use Rattle.rows.specs.Columns.{ROW, BASE, NEXT}
 use Rattle.rows.specs.Table.{cell}
-use Rattle.folded.specs.Shown.{unionOf}
+use Rattle.unions.specs.Shown.{unionOf}
 use Rattle.record.specs.Marks.{linkRow, firstFrom, Kept, Unlinked, UnionsLinked}
 use Rattle.record.proofs.KeptLaws.{kept-self, kept-on, kept-set, set-other, set-own}
 

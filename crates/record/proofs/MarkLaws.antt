@@ -17,11 +17,12 @@ use Rattle.definition.specs.Owner.{size}
 use Rattle.definition.proofs.Lists.{order}
 use Rattle.rows.specs.Columns.{NAME, REDEFINES, BASE, NEXT}
 use Rattle.rows.specs.Table.{cell, spanAt}
-use Rattle.places.specs.Places.{isTarget, RowLinked, Linked}
-use Rattle.places.proofs.SearchLaws.{if-most, row-most, back, back-none, back-step}
+use Rattle.redefines.specs.Targets.{isTarget}
+use Rattle.places.specs.Places.{RowLinked, Linked}
+use Rattle.redefines.proofs.SearchLaws.{if-most, row-most, back, back-none, back-step}
 use Rattle.layout.proofs.SizeLaws.{never}
-use Rattle.folded.specs.Shown.{unionOf, nextIn, Marked}
-use Rattle.folded.proofs.BaseLaws.{if-not}
+use Rattle.unions.specs.Shown.{unionOf, nextIn, Marked}
+use Rattle.unions.proofs.BaseLaws.{if-not}
 use Rattle.record.specs.Marks.{firstFrom}
 
 -- ---------------------------------------------------------------- the first row that names a base

@@ -12,7 +12,7 @@ use Rattle.definition.specs.Record.{recordLength, unfolded}
 use Rattle.places.specs.Places.{rowsForest}
 use Rattle.record.specs.declared.RecordLaid.{RecordLaid}
 use Rattle.definition.specs.Listing.{members#}
-use Rattle.folded.specs.Shown.{listIn, Tree}
+use Rattle.unions.specs.Shown.{listIn, Tree}
 use Rattle.entries.specs.Entered.{Entered}
 
 -- the fields of a record that has n rows are the rows from r on

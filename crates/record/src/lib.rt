@@ -13,12 +13,12 @@ ghost use Rattle.record.specs.Laying.{FieldsFrom, RecordIs, fieldsOf};
 use definition::Check;
 use definition::Refusal;
 use layout::LaidList;
-use reading::RowsRead;
 use rows::BASE;
 use rows::BEFORE;
 use rows::NEXT;
 use rows::REDEFINES;
 use rows::ROW;
+use tree::RowsRead;
 
 // ---------------------------------------------------------------- the redefiners linked
 
@@ -27,7 +27,7 @@ fn link_row(work: &mut [u32], k: usize)
     requires { ⌜ (ROW * k + ROW ≤ length (now work)) × (k < 4294967295) × (cell (now work) k BASE ≤ k) ⌝ }
     ensures { λ _. ⌜ now (work .exit) ≡ linkRow (now (work .entry)) k ⌝ }
 {
-    let base = places::wide(work[ROW * k + BASE]);
+    let base = rows::wide(work[ROW * k + BASE]);
     if 0 < base {
         let row = base - 1;
         work[ROW * k + NEXT] = work[ROW * row + NEXT];
@@ -123,7 +123,7 @@ pub fn lay_record(text: &[u8], work: &mut [u32], entries: &mut [u32]) -> RecordL
     requires { ⌜ (length (now text) ≤ 65535) × (16384 ≤ length (now work)) × (8400 ≤ length (now entries)) ⌝ }
     ensures { λ r. ⌜ RecordIs (now (text .entry)) (fieldsOf (now (text .entry))) r (now (work .exit)) (now (entries .exit)) ⌝ }
 {
-    match reading::read_rows(text, work) {
+    match tree::read_rows(text, work) {
         RowsRead::Rows(n) => {
             let from = first_field(work, n);
             return lay_fields(text, work, entries, from, n);
@@ -140,7 +140,7 @@ pub fn read_record(text: &[u8], work: &mut [u32], entries: &mut [u32]) -> Record
     requires { ⌜ 8400 ≤ length (now entries) ⌝ }
     ensures { λ r. ⌜ RecordIs (now (text .entry)) (recordFields (now (text .entry)) (length (now (work .entry)))) r (now (work .exit)) (now (entries .exit)) ⌝ }
 {
-    match reading::entry_checks(text, work.len()) {
+    match tree::entry_checks(text, work.len()) {
         Check::Passed => {
             return lay_record(text, work, entries);
         }

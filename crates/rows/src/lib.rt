@@ -63,6 +63,13 @@ pub fn clear(work: &mut [u32])
     }
 }
 
+// A number of 32 bits as a place.
+pub fn wide(n: u32) -> usize
+    ensures { λ r. ⌜ (r ≡ n) × (r < 4294967296) ⌝ }
+{
+    n as usize
+}
+
 // A span as one number.
 fn span_code(w: Span) -> u32
     requires { ⌜ Short w ⌝ }

@@ -84,7 +84,7 @@ pub fn read_clauses(text: &[u8], at: usize, from: Stand) -> ClausesRead
     let mut e = Expect::Clause;
     let mut c = clauses::no_clauses();
     loop {
-        match reader::word_at(text, place) {
+        match words::word_at(text, place) {
             Next::Word { start, len, next } => {
                 match clauses::step(
                     e,
@@ -126,7 +126,7 @@ fn skip_statement(text: &[u8], from: Stand) -> Stand
 {
     let mut place = from;
     loop {
-        match reader::word_at(text, place) {
+        match words::word_at(text, place) {
             Next::Word {
                 start: _,
                 len: _,
@@ -155,7 +155,7 @@ fn read_named(text: &[u8], at: usize, level: u8, from: Stand) -> NamedRead
     requires { ⌜ (at < length (now text)) × (from .at ≤ length (now text)) ⌝ }
     ensures { λ r. ⌜ NamedAre (now (text .entry)) at level from r ⌝ }
 {
-    match reader::word_at(text, from) {
+    match words::word_at(text, from) {
         Next::Word { start, len, next } => {
             match read_clauses(text, at, next) {
                 ClausesRead::Done(c, after) => {
@@ -244,7 +244,7 @@ pub fn read_statement(text: &[u8], from: Stand) -> StatementRead
     requires { ⌜ from .at ≤ length (now text) ⌝ }
     ensures { λ r. ⌜ FirstStatement (tokensAt (now (text .entry)) from) (now (text .entry)) (from .at + 1) r ⌝ }
 {
-    match reader::word_at(text, from) {
+    match words::word_at(text, from) {
         Next::Word { start, len, next } => {
             return read_levelled(text, start, len, next);
         }

@@ -11,11 +11,11 @@ use definition::SignWords;
 use definition::Span;
 use definition::Usage;
 use definition::UsageClause;
-use reading::RowsRead;
 use replay::Reached;
 use replay::Tally;
 use rows::PARENT;
 use rows::ROW;
+use tree::RowsRead;
 
 // What stands in work memory before a call.
 const FILL: u32 = 4294967295;
@@ -140,7 +140,7 @@ fn read_answer(list: &[u8], p: Reached, text: &[u8], work: &mut [u32]) -> Reache
     requires { ⌜ Inside (now list) p × (length (now text) ≤ 65535) × (16384 ≤ length (now work)) ⌝ }
     ensures { λ r. ⌜ Inside (now (list .entry)) r ⌝ }
 {
-    match reading::read_rows(text, work) {
+    match tree::read_rows(text, work) {
         RowsRead::Rows(n) => {
             if 800 < n {
                 return Reached::Differs;
@@ -160,7 +160,7 @@ fn answer(list: &[u8], p: Reached, text: &[u8], work: &mut [u32]) -> Reached
     requires { ⌜ Inside (now list) p ⌝ }
     ensures { λ r. ⌜ Inside (now (list .entry)) r ⌝ }
 {
-    match reading::entry_checks(text, work.len()) {
+    match tree::entry_checks(text, work.len()) {
         Check::Passed => {
             if 65535 < text.len() {
                 return Reached::Differs;

@@ -17,8 +17,8 @@ use Rattle.places.proofs.EntriesLaws.{size-stretch}
 use Rattle.layout.proofs.SizeLaws.{listing-few}
 use Rattle.listing.specs.Puts.{Put, headBytes}
 use Rattle.listing.proofs.PutLaws.{_and_, room, listing-parts}
-use Rattle.folded.specs.Shown.{listIn}
-use Rattle.folded.proofs.ShownLaws.{entries-size}
+use Rattle.unions.specs.Shown.{listIn}
+use Rattle.unions.proofs.ShownLaws.{entries-size}
 use Rattle.writer.specs.Listed.{entriesOf, listingOf}
 
 -- a listing has at most 98 bytes for each row, and its head

@@ -8,9 +8,10 @@ use native.Mathlib.Omega.{arith}
 use Rattle.definition.specs.Fold.{end, entry, widest, union}
 use Rattle.rows.specs.Columns.{NEXT}
 use Rattle.rows.specs.Table.{cell}
-use Rattle.places.specs.Places.{basesAt, entryIn}
-use Rattle.folded.specs.Shown.{shownAt, Base}
-use Rattle.folded.proofs.WidthLaws.{branch-tree, branch-row, branch-base, along-numbered, along-known, along-branch}
+use Rattle.redefines.specs.Targets.{basesAt}
+use Rattle.places.specs.Places.{entryIn}
+use Rattle.unions.specs.Shown.{shownAt, Base}
+use Rattle.unions.proofs.WidthLaws.{branch-tree, branch-row, branch-base, along-numbered, along-known, along-branch}
 use Rattle.entries.specs.Building.{listed, itemIn, redefined, unionIn}
 use Rattle.entries.proofs.BuildLaws.{built-none, built-as, built-length, room-part, room-within, room-open, built-own, built-union}
 use Rattle.entries.proofs.WalkLaws.{shown-under, shown-alone, shown-base, shown-union, members-folded, members-based, first-room, second-room, both-built, room-as, Listing, listing-starts, listing-ends, listing-room, listing-on, Redefining, redefining-starts, chainLeft, redefining-ends, redefining-next, redefining-numbered, redefining-row, redefining-tree, redefining-room, redefining-on, redefining-falls}
@@ -35,7 +36,7 @@ use Rattle.entries.proofs.close_item.Reads as close-item-reads
 use Rattle.entries.proofs.close_union.Reads as close-union-reads
 use Rattle.entries.proofs.has_own.Reads as has-own-reads
 use Rattle.places.proofs.next_of.Reads as next-of-reads
-use Rattle.folded.proofs.standing_of.Reads as standing-of-reads
+use Rattle.unions.proofs.standing_of.Reads as standing-of-reads
 use Rattle.places.proofs.wide.Reads as wide-reads
 use Rattle.entries.proofs.+build_item+build_list+build_members+build_redefiners+build_shown.{
   statement,

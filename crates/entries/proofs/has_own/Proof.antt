@@ -10,8 +10,8 @@ use Rattle.definition.specs.declared.Span.{Span}
 use Rattle.definition.specs.Fold.{hasMember, foldedAll}
 use Rattle.rows.specs.Columns.{NAME}
 use Rattle.rows.specs.Table.{cell, spanAt}
-use Rattle.folded.specs.Shown.{listIn}
-use Rattle.folded.proofs.WidthLaws.{own-tree}
+use Rattle.unions.specs.Shown.{listIn}
+use Rattle.unions.proofs.WidthLaws.{own-tree}
 use Rattle.entries.specs.Building.{ownMember}
 use Rattle.entries.proofs.has_own.Statement.{statement}
 use Rattle.entries.proofs.has_own.Tie as tie

@@ -21,7 +21,7 @@ use Rattle.definition.specs.Calls.{pictureOf, checkOf}
 use Rattle.rows.specs.Columns.{AT}
 use Rattle.rows.specs.Table.{cell, statementAt}
 use Rattle.places.specs.Places.{entriesIn, Linked, rowsForest}
-use Rattle.places.specs.Ends.{ChildrenEnd}
+use Rattle.places.specs.Children.{ChildrenEnd}
 use Rattle.layout.specs.declared.ItemAnswer.{ItemAnswer}
 use Rattle.layout.specs.declared.LaidList.{LaidList}
 use Rattle.definition.specs.Fold.{foldCheck}
@@ -39,7 +39,7 @@ use Rattle.layout.proofs.+lay_item+lay_list.Lts-lay_list as lay-list-lt
 use Rattle.layout.proofs.elementary.Reads as elementary-reads
 use Rattle.places.proofs.end_of.Reads as end-of-reads
 use Rattle.layout.proofs.fold_check.Reads as fold-check-reads
-use Rattle.places.proofs.most.Reads as most-reads
+use Rattle.limits.proofs.most.Reads as most-reads
 use Rattle.layout.proofs.place.Reads as place-reads
 use Rattle.places.proofs.wide.Reads as wide-reads
 use Rattle.rows.proofs.statement_at.Reads as statement-at-reads

@@ -9,7 +9,7 @@ use borrow.Author.Tests.{lt-ltb, le-ltb}
 use Rattle.definition.specs.Basic.{give, refused}
 use Rattle.rows.specs.Columns.{AT, OFFSET, BASE}
 use Rattle.rows.specs.Table.{cell}
-use Rattle.places.specs.Places.{offsetOf}
+use Rattle.redefines.specs.Targets.{offsetOf}
 use Rattle.layout.specs.Steps.{checkBase, checkRow}
 use Rattle.layout.proofs.check_row.Statement.{statement}
 use Rattle.layout.proofs.check_row.Tie as tie

@@ -10,7 +10,7 @@ use Rattle.definition.specs.Basic.{refuse}
 use Rattle.definition.specs.Calls.{checkOf}
 use Rattle.definition.specs.Fold.{foldCheck}
 use Rattle.places.specs.Places.{entriesIn, rowsForest}
-use Rattle.places.specs.Ends.{ChildrenEnd}
+use Rattle.places.specs.Children.{ChildrenEnd}
 use Rattle.places.proofs.RowLaws.{children-end}
 use Rattle.layout.specs.Steps.{checkRow}
 use Rattle.layout.proofs.FoldLaws.{Checking, checking-starts, checking-row, checking-numbered, checking-on, checking-refused, checking-ends}

@@ -15,11 +15,12 @@ use Rattle.definition.specs.Picture.{isBinary}
 use Rattle.definition.specs.Fold.{find}
 use Rattle.definition.specs.Layout.{start, slackFrom, entryOf, tooLarge}
 use Rattle.rows.specs.Table.{statementAt}
-use Rattle.places.specs.declared.Ending.{Ending}
-use Rattle.places.specs.Places.{putPlace, seenAt, rowFrom, offsetOf, targetFrom, baseFrom, baseAfter}
-use Rattle.places.proofs.SearchLaws.{row-found, base-on, back-none}
-use Rattle.places.specs.Ends.{endOf, endingOf}
-use Rattle.places.proofs.EndLaws.{ends-at, ends-not}
+use Rattle.limits.specs.declared.Ending.{Ending}
+use Rattle.places.specs.Places.{putPlace}
+use Rattle.redefines.specs.Targets.{seenAt, rowFrom, offsetOf, targetFrom, baseFrom, baseAfter}
+use Rattle.redefines.proofs.SearchLaws.{row-found, base-on, back-none}
+use Rattle.limits.specs.Ends.{endOf, endingOf}
+use Rattle.limits.proofs.EndLaws.{ends-at, ends-not}
 use Rattle.layout.specs.declared.Start.{Start}
 use Rattle.layout.specs.Bare.{placed}
 use Rattle.layout.specs.Outcomes.{halted, placing, afterOwn, placeRow}

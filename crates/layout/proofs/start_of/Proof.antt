@@ -14,7 +14,7 @@ use Rattle.definition.specs.Basic.{fewest, give, refused, orRefuse}
 use Rattle.definition.specs.Picture.{isBinary}
 use Rattle.rows.specs.Columns.{OFFSET}
 use Rattle.rows.specs.Table.{cell}
-use Rattle.places.specs.Places.{offsetOf}
+use Rattle.redefines.specs.Targets.{offsetOf}
 use Rattle.layout.specs.Steps.{startAt}
 use Rattle.layout.proofs.start_of.Statement.{statement}
 use Rattle.layout.proofs.start_of.Tie as tie

@@ -11,7 +11,7 @@ use Rattle.definition.specs.Tree.{higher}
 use Rattle.definition.proofs.TreeLaws.{higher-none, higher-hit, higher-miss}
 use Rattle.rows.specs.Columns.{ROW, LEVEL}
 use Rattle.rows.specs.Table.{statementAt, statementsFrom}
-use Rattle.places.specs.Ends.{ChildrenEnd}
+use Rattle.places.specs.Children.{ChildrenEnd}
 use Rattle.places.proofs.RowLaws.{stretch-cons, stretch-none}
 use Rattle.places.proofs.end_of.Statement.{statement}
 use Rattle.places.proofs.end_of.Tie as tie

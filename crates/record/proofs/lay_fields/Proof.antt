@@ -2,7 +2,7 @@
 -- Assumes nothing.
 use borrow.Author.Needs.{needs}
 use Rattle.layout.proofs.LayLaws.{LaidRows}
-use Rattle.folded.specs.Shown.{Tree}
+use Rattle.unions.specs.Shown.{Tree}
 use mathlib.Core.Path.{_∙_}
 use Rattle.entries.proofs.ListedLaws.{table-long, table-ends}
 use Rattle.record.proofs.KeptLaws.{Ready, unlinked, marked-tree}

@@ -3,9 +3,9 @@
 use borrow.Author.Needs.{needs}
 use mathlib.Core.Path.{subst}
 use native.Mathlib.Omega.{arith}
-use Rattle.reading.specs.declared.RowsRead.{RowsRead}
-use Rattle.reading.specs.Reading.{RowsAre}
-use Rattle.reading.proofs.ReadingLaws.{Stored, stored, turned-down}
+use Rattle.tree.specs.declared.RowsRead.{RowsRead}
+use Rattle.tree.specs.Reading.{RowsAre}
+use Rattle.tree.proofs.ReadingLaws.{Stored, stored, turned-down}
 use Rattle.record.proofs.LaidLaws.{fields-laid, reading-refused}
 use Rattle.record.proofs.lay_record.Statement.{statement}
 use Rattle.record.proofs.lay_record.Tie as tie

@@ -11,6 +11,7 @@ use lib.Seq.{take-append-seam, drop-append-seam}
 use borrow.Author.Tests.{le-ltb}
 use Rattle.definition.specs.declared.Owner.{Owner}
 use Rattle.definition.specs.declared.Writing.{Writing}
+use Rattle.definition.specs.Limits.{leastWork}
 use Rattle.definition.specs.Basic.{Answer, refuse, give, _>>=_, refuseIf}
 use Rattle.definition.specs.Calls.{After, entryChecks, recordFields, fitting, layoutListing, ownerIn, written, outputAfter}
 use Rattle.definition.specs.Listing.{listing}
@@ -45,12 +46,12 @@ fits room bs cs h = by-test (ltb room (length bs)) refl
 -- ---------------------------------------------------------------- the byte owner
 
 -- checks that were passed are passed with any work memory that is enough
-checked : (text : List ℕ) (n m : ℕ) → entryChecks text n ≡ give tt → 16384 ≤ m → entryChecks text m ≡ give tt
+checked : (text : List ℕ) (n m : ℕ) → entryChecks text n ≡ give tt → leastWork ≤ m → entryChecks text m ≡ give tt
 unfolding entryChecks
-checked text n m h room = through _ _ h λ _ t _. ap (λ (a : Answer (Unit {0})). a >>= λ _. refuseIf (ltb m 16384) 3 0) t ∙ give-next tt _ ∙ rw (le-ltb m 16384 room)
+checked text n m h room = through _ _ h λ _ t _. ap (λ (a : Answer (Unit {0})). a >>= λ _. refuseIf (ltb m leastWork) 3 0) t ∙ give-next tt _ ∙ rw (le-ltb m leastWork room)
 
 -- and so the same fields are read
-enough : (text : List ℕ) (n m : ℕ) (f : Forest) → recordFields text n ≡ give f → 16384 ≤ m → recordFields text m ≡ give f
+enough : (text : List ℕ) (n m : ℕ) (f : Forest) → recordFields text n ≡ give f → leastWork ≤ m → recordFields text m ≡ give f
 unfolding recordFields
 enough text n m f h room = through _ _ h λ _ e q. ap (λ (a : Answer (Unit {0})). a >>= λ _. (statements text 0 (statementWords text) >>= λ ss. give (fields (forest ss)))) (checked text n m e room) ∙ give-next tt _ ∙ q
 

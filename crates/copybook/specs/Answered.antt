@@ -10,6 +10,7 @@ use lib.ListN.{length, take, drop}
 use Rattle.definition.specs.declared.Owner.{Owner}
 use Rattle.definition.specs.declared.OwnerAnswer.{OwnerAnswer}
 use Rattle.definition.specs.declared.Writing.{Writing}
+use Rattle.definition.specs.Limits.{leastWork}
 use Rattle.definition.specs.Basic.{Answer, give, refused}
 use Rattle.definition.specs.Calls.{left, layoutCall, ownerCall, ownerAnswerOf, writingOf}
 use Rattle.definition.specs.Demand.{naming, Kept}
@@ -28,7 +29,7 @@ Owning text position work r work′ = left (ownerAnswerOf r) [] work′ ≡ owne
 
 -- every call of `byte_owner` at the position q answers so, whatever work memory of at least 16,384 numbers it is lent
 abbrev pub Owns : List ℕ → ℕ → Answer Owner → Type 0
-Owns text q a = (work : List ℕ) (r : OwnerAnswer) (work′ : List ℕ) → 16384 ≤ length work → Owning text q work r work′ → ownerAnswerOf r ≡ a
+Owns text q a = (work : List ℕ) (r : OwnerAnswer) (work′ : List ℕ) → leastWork ≤ length work → Owning text q work r work′ → ownerAnswerOf r ≡ a
 
 -- what holds after a call of `layout_listing` that wrote n bytes
 pub record Answered (text out work : List ℕ) (n : ℕ) (out′ : List ℕ) : Type 0 where

@@ -10,9 +10,10 @@ use borrow.Author.Tests.{lt-ltb, le-ltb}
 use Rattle.definition.specs.declared.Span.{Span}
 use Rattle.definition.specs.declared.Statement.{Statement}
 use Rattle.definition.specs.declared.Entry.{Entry}
+use Rattle.definition.specs.Limits.{largest}
 use Rattle.definition.specs.Basic.{given, Answer, give, _>>=_, refused, refuseIf}
 use Rattle.definition.specs.Tree.{Forest, leaf, item}
-use Rattle.definition.specs.Fold.{Entries, end, entry, append, total, entryEnd, largest, sameName, sameSpelling, Place, placeOf, find, hasMember, rebased, redefiners, widest, withRedefiners, foldCheck, foldedList, foldedBelow, foldedAll}
+use Rattle.definition.specs.Fold.{Entries, end, entry, append, total, entryEnd, sameName, sameSpelling, Place, placeOf, find, hasMember, rebased, redefiners, widest, withRedefiners, foldCheck, foldedList, foldedBelow, foldedAll}
 use Rattle.definition.specs.Layout.{shallow, content, start, slackFrom, entryOf, tooLarge, advance, Laid, lay}
 use Rattle.definition.specs.Record.{recordLength, variable, endsFit}
 

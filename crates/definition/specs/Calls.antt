@@ -15,6 +15,7 @@ use Rattle.definition.specs.declared.PicAnswer.{PicAnswer}
 use Rattle.definition.specs.declared.Writing.{Writing}
 use Rattle.definition.specs.declared.OwnerAnswer.{OwnerAnswer}
 use Rattle.definition.specs.declared.Check.{Check}
+use Rattle.definition.specs.Limits.{mostBytes, leastWork}
 use Rattle.definition.specs.Basic.{if_then_else_, Answer, refuse, give, _>>=_, refused, refuseIf}
 use Rattle.definition.specs.Words.{statementWords}
 use Rattle.definition.specs.Statement.{statements}
@@ -36,14 +37,14 @@ firstWide p (b ∷ bs) = if ltb 127 b then some p else firstWide (p + 1) bs
 -- 1: text over 65,535 bytes; 2: a byte over 127
 unfoldable pub textChecks : List ℕ → Answer (Unit {0})
 textChecks text = do
-  _ ← refuseIf (ltb 65535 (length text)) 1 0
+  _ ← refuseIf (ltb mostBytes (length text)) 1 0
   elim (firstWide 0 text) [ none ↦ give tt | some p ↦ refused 2 p ]
 
 -- and 3: lent work memory under 16,384 numbers
 unfoldable pub entryChecks : List ℕ → ℕ → Answer (Unit {0})
 entryChecks text work = do
   _ ← textChecks text
-  refuseIf (ltb work 16384) 3 0
+  refuseIf (ltb work leastWork) 3 0
 
 -- the kept statements of a copybook, with `work` numbers of work memory lent, as the fields of the record
 unfoldable pub recordFields : List ℕ → ℕ → Answer Forest

@@ -39,10 +39,6 @@ reserved e = if given (e .depending) then 0 else total e
 abbrev pub entryEnd : Entry → ℕ
 entryEnd e = e .offset + reserved e
 
--- above this number is 29
-abbrev pub largest : ℕ
-largest = 2147483647
-
 -- ---------------------------------------------------------------- names
 
 -- the bytes of a name; an absent one means FILLER

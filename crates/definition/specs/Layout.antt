@@ -13,16 +13,17 @@ use Rattle.definition.specs.declared.FieldKind.{FieldKind}
 use Rattle.definition.specs.declared.Pictured.{Pictured}
 use Rattle.definition.specs.declared.Statement.{Statement}
 use Rattle.definition.specs.declared.Entry.{Entry}
+use Rattle.definition.specs.Limits.{deepest, largest}
 use Rattle.definition.specs.Basic.{if_then_else_, given, part, fewest, Answer, refuse, give, _>>=_, refused, refuseIf, orRefuse}
 use Rattle.definition.specs.Statement.{usageOf, signOf}
 use Rattle.definition.specs.Tree.{Forest, leaf, item}
 use Rattle.definition.specs.Picture.{pictured, isBinary, picture}
-use Rattle.definition.specs.Fold.{Entries, end, entry, times, total, reserved, entryEnd, Place, placeOf, find, foldCheck, largest}
+use Rattle.definition.specs.Fold.{Entries, end, entry, times, total, reserved, entryEnd, Place, placeOf, find, foldCheck}
 
 -- 20: a list too deep, at its first statement; record fields are depth 0
 abbrev pub shallow : ℕ → Forest → Answer (Unit {0})
 shallow depth leaf = give tt
-shallow depth (item s kids later) = refuseIf (ltb 64 depth) 20 (s .at)
+shallow depth (item s kids later) = refuseIf (ltb deepest depth) 20 (s .at)
 
 -- kind and width by the picture
 abbrev pub elementary : List ℕ → Statement → Answer Pictured

@@ -1,4 +1,5 @@
 pub mod Basic
+pub mod Limits
 pub mod Words
 pub mod Statement
 pub mod Tree

@@ -5,9 +5,10 @@ use mathlib.Core.Bool.{Bool, true, false, _||_}
 use mathlib.Core.List.{List, []}
 use lib.Dec.{ltb}
 use Rattle.definition.specs.declared.Entry.{Entry}
+use Rattle.definition.specs.Limits.{largest}
 use Rattle.definition.specs.Basic.{given, Answer, refuse, give, _>>=_, refuseIf}
 use Rattle.definition.specs.Tree.{Forest}
-use Rattle.definition.specs.Fold.{Entries, end, entry, entryEnd, largest, foldCheck, foldedAll}
+use Rattle.definition.specs.Fold.{Entries, end, entry, entryEnd, foldCheck, foldedAll}
 use Rattle.definition.specs.Layout.{lay}
 
 -- the record length is the largest offset plus reserved width over the folded top list

@@ -5,6 +5,7 @@ use mathlib.Core.Path.{_≡_}
 use mathlib.Core.List.{List, [], _∷_, _++_}
 use lib.ListN.{length, getD, set}
 use Rattle.definition.specs.declared.Entry.{Entry}
+use Rattle.definition.specs.Limits.{mostStatements}
 use Rattle.definition.specs.Basic.{le4}
 use Rattle.definition.specs.Fold.{foldedAll}
 use Rattle.definition.specs.Listing.{flag, spanBytes}
@@ -71,6 +72,6 @@ detailsOf text w from to = entriesDetails (foldedAll text (listIn w from to))
 
 -- the table of a record, which was laid
 pub record Tabled (text w t : List ℕ) (from to n : ℕ) : Type 0 where
-  pub few : to ≤ 800
+  pub few : to ≤ mostStatements
   pub table : Entered text w from to t n
   pub deep : height (foldedAll text (listIn w from to)) ≤ 130

@@ -9,6 +9,7 @@ use native.Mathlib.Omega.{arith}
 use lib.ListN.{length, set, length-append}
 use lib.Seq.{sets, length-sets, set-comm}
 use Rattle.definition.specs.declared.Entry.{Entry}
+use Rattle.definition.specs.Limits.{largest}
 use Rattle.definition.specs.Fold.{Entries, end, entry, append, total, rebased, union, widest}
 use Rattle.definition.specs.Listing.{flag, members#}
 use Rattle.definition.specs.Search.{entries#}
@@ -43,8 +44,8 @@ module _ (i : ℕ) {out : List ℕ} {b inner : Block} {depth : ℕ} where
       (7 * b .next + 7 ≤ length out)
       × Small (record { row = i; mark = m; offset = o; width = v; members = inner .count; below = inner .next - b .next - 1; depth = depth })
       × (b .count < 4294967296)
-      × (b .widest ≤ 2147483647)
-      × (width ≤ 2147483647)
+      × (b .widest ≤ largest)
+      × (width ≤ largest)
   small-own member start h q l s v t =
       let f = flag-small member in (
         h .fits,
@@ -126,7 +127,7 @@ shown-length w (x ∷ a) = ap suc (shown-length w a)
 
 -- ---------------------------------------------------------------- entries after others
 
-pub built-none : (w out : List ℕ) (b : Block) (d : ℕ) → b .widest ≤ 2147483647 → Built w out b d end b out
+pub built-none : (w out : List ℕ) (b : Block) (d : ℕ) → b .widest ≤ largest → Built w out b d end b out
 unfolding shownAll flatIn cells widest
 built-none w out b d h = record { items = []; rows = tt; is = refl; put = refl; next = omega arith; count = omega arith; most = omega arith; narrow = h }
 

@@ -8,8 +8,9 @@ use native.Mathlib.Omega.{arith}
 use lib.Dec.{eqb, ltb}
 use lib.ListN.{length, length-append}
 use borrow.Author.Tests.{ne-eqb}
+use Rattle.definition.specs.Limits.{largest}
 use Rattle.definition.specs.Basic.{if_then_else_, given, Answer, give, _>>=_, refuseIf}
-use Rattle.definition.specs.Fold.{Entries, end, entry, append, entryEnd, largest}
+use Rattle.definition.specs.Fold.{Entries, end, entry, append, entryEnd}
 use Rattle.definition.specs.Record.{recordLength, variable, endsFit}
 use Rattle.definition.specs.Listing.{members#, entryBytes, entriesBytes}
 use Rattle.definition.specs.Search.{entries#}

@@ -6,6 +6,7 @@ use mathlib.Core.Bool.{Bool}
 use mathlib.Core.List.{List}
 use native.Mathlib.Omega.{arith}
 use lib.ListN.{length}
+use Rattle.definition.specs.Limits.{mostStatements}
 use Rattle.definition.specs.Basic.{Answer}
 use Rattle.definition.specs.Listing.{members#, entriesBytes, listing}
 use Rattle.definition.specs.Record.{recordLength, variable, endsFit}
@@ -33,7 +34,7 @@ module _ {text w : List ℕ} {from to : ℕ} {t : List ℕ} {n : ℕ} (h : Enter
   pub table-ends : {c : Answer (Unit {0})} → c ≡ flatFits (shownAll w (itemsFrom t 0 n)) → c ≡ endsFit (listed text w from to)
   table-ends e = e ∙ ap flatFits (h .is) ∙ flat-fits (listed text w from to)
 
-  pub table-fits : (at : ℕ) → to ≤ 800 → at ≤ 10 → at + length (flatBytes (shownAll w (itemsFrom t 0 n))) < 4294967296
+  pub table-fits : (at : ℕ) → to ≤ mostStatements → at ≤ 10 → at + length (flatBytes (shownAll w (itemsFrom t 0 n))) < 4294967296
   table-fits at few small =
       omega (arith, ap length table-bytes, listing-few text (listIn w from to), entries-size w (rowsForest w from to) from, size-stretch w from to)
 

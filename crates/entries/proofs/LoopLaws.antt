@@ -9,6 +9,7 @@ use native.Mathlib.Omega.{arith}
 use lib.ListN.{length, length-append}
 use Rattle.definition.specs.declared.Entry.{Entry}
 use Rattle.definition.specs.declared.Check.{Check}
+use Rattle.definition.specs.Limits.{largest}
 use Rattle.definition.specs.Basic.{given, Answer, give, _>>=_, refused, refuseIf}
 use Rattle.definition.specs.Calls.{checkOf}
 use borrow.Author.Tests.{lt-ltb, le-ltb}
@@ -172,13 +173,13 @@ module _ {w t : List ℕ} {n k : ℕ} (inv : Fitting w t n k) where
 
   module _ (h : k < n) {a : ℕ} (p : a ≡ topEnd (shownOf w (itemAt t k))) where
     pub fitting-over :
-        2147483647 < a →
+        largest < a →
         {q : ℕ} →
         q ≡ ownOf w (itemAt t k) .at →
         checkOf (Check.Refused (record { number = 29; position = q; needed = 0 })) ≡ flatFits (shownAll w (itemsFrom t 0 n))
     unfolding flatFits _>>=_
-    fitting-over l q = sym (inv .same ∙ ap flatFits (rest-next (inv .here) h) ∙ rw (← p, lt-ltb 2147483647 a l, q))
+    fitting-over l q = sym (inv .same ∙ ap flatFits (rest-next (inv .here) h) ∙ rw (← p, lt-ltb largest a l, q))
 
-    pub fitting-on : a ≤ 2147483647 → Fitting w t n (k + 1)
+    pub fitting-on : a ≤ largest → Fitting w t n (k + 1)
     unfolding flatFits _>>=_
-    fitting-on l = record { here = at-next (inv .here) h; same = inv .same ∙ ap flatFits (rest-next (inv .here) h) ∙ rw (← p, le-ltb 2147483647 a l) }
+    fitting-on l = record { here = at-next (inv .here) h; same = inv .same ∙ ap flatFits (rest-next (inv .here) h) ∙ rw (← p, le-ltb largest a l) }

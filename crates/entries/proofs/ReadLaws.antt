@@ -8,6 +8,7 @@ use native.Mathlib.Omega.{arith}
 use lib.Dec.{lit<}
 use lib.ListN.{length, getD}
 use lib.Seq.{sets, length-sets}
+use Rattle.definition.specs.Limits.{mostStatements}
 use Rattle.definition.specs.Fold.{Entries, foldedAll}
 use Rattle.definition.specs.Listing.{members#}
 use Rattle.definition.specs.Search.{entries#}
@@ -58,13 +59,13 @@ module _ (text w : List ℕ) (from to : ℕ) where
   few-entries : 2 * entries# (listed text w from to) ≤ 3 * to
   few-entries = omega (arith, folded-size text (listIn w from to), entries-size w (rowsForest w from to) from, size-stretch w from to)
 
-  pub room-all : (out : List ℕ) → to ≤ 800 → 8400 ≤ length out → Room out (block 0 0 0) 0 (entries# (listed text w from to)) to
+  pub room-all : (out : List ℕ) → to ≤ mostStatements → 8400 ≤ length out → Room out (block 0 0 0) 0 (entries# (listed text w from to)) to
   room-all out h l =
       let few = few-entries in
       record { fits = omega arith; small = omega arith; deep = omega arith; few = omega arith; narrow = omega arith; rows = h }
 
   pub entered :
-      {out : List ℕ} {r : Block} {after : List ℕ} → to ≤ 800 → 8400 ≤ length out → Built w out (block 0 0 0) 0 (listed text w from to) r after → Entered text w from to after (r .next)
+      {out : List ℕ} {r : Block} {after : List ℕ} → to ≤ mostStatements → 8400 ≤ length out → Built w out (block 0 0 0) 0 (listed text w from to) r after → Entered text w from to after (r .next)
   entered {out} {r} {after} h l p =
       let few = few-entries in
       let many : length (p .items) ≡ r .next = omega (arith, built-many p, p .next) in

@@ -7,6 +7,7 @@ use mathlib.Core.List.{List}
 use lib.ListN.{length}
 use lib.Seq.{sets}
 use Rattle.definition.specs.declared.Entry.{Entry}
+use Rattle.definition.specs.Limits.{mostStatements, largest}
 use Rattle.definition.specs.Fold.{Entries, end, entry, hasMember, rebased, redefiners, unionMembers, union, widest, foldedBelow, foldedAll}
 use Rattle.definition.specs.Listing.{flag, members#}
 use Rattle.definition.specs.Search.{entries#}
@@ -62,8 +63,8 @@ pub record Room (out : List ℕ) (b : Block) (depth n to : ℕ) : Type 0 where
   pub small : b .next + n < 4294967296
   pub deep : depth ≤ b .next
   pub few : b .count ≤ b .next
-  pub narrow : b .widest ≤ 2147483647
-  pub rows : to ≤ 800
+  pub narrow : b .widest ≤ largest
+  pub rows : to ≤ mostStatements
 
 -- the entries of the list es were put behind the block b
 pub record Built (w out : List ℕ) (b : Block) (depth : ℕ) (es : Entries) (r : Block) (after : List ℕ) : Type 0 where
@@ -74,7 +75,7 @@ pub record Built (w out : List ℕ) (b : Block) (depth : ℕ) (es : Entries) (r 
   pub next : r .next ≡ b .next + entries# es
   pub count : r .count ≡ b .count + members# es
   pub most : r .widest ≡ max (b .widest) (widest es)
-  pub narrow : r .widest ≤ 2147483647
+  pub narrow : r .widest ≤ largest
 
 -- ---------------------------------------------------------------- one entry, once its members are there
 
@@ -106,8 +107,8 @@ pub record Open (out : List ℕ) (b inner : Block) (depth i : ℕ) : Type 0 wher
   pub members : inner .count ≤ inner .next
   pub deep : depth ≤ b .next
   pub few : b .count ≤ b .next
-  pub narrow : (b .widest ≤ 2147483647) × (inner .widest ≤ 2147483647)
-  pub row : i < 800
+  pub narrow : (b .widest ≤ largest) × (inner .widest ≤ largest)
+  pub row : i < mostStatements
 
 -- the item x of that width stands before its members
 pub record Closed (out : List ℕ) (b inner : Block) (x : Item) (width : ℕ) (r : Block) (after : List ℕ) : Type 0 where
@@ -115,4 +116,4 @@ pub record Closed (out : List ℕ) (b inner : Block) (x : Item) (width : ℕ) (r
   pub next : r .next ≡ inner .next
   pub count : r .count ≡ b .count + 1
   pub most : r .widest ≡ max (b .widest) width
-  pub narrow : r .widest ≤ 2147483647
+  pub narrow : r .widest ≤ largest

@@ -9,8 +9,9 @@ use mathlib.Core.List.{List, [], _∷_, _++_}
 use lib.Dec.{eqb, ltb}
 use lib.ListN.{length, getD}
 use Rattle.definition.specs.declared.Entry.{Entry}
+use Rattle.definition.specs.Limits.{largest}
 use Rattle.definition.specs.Basic.{if_then_else_, absent, given, Answer, give, _>>=_, refuseIf}
-use Rattle.definition.specs.Fold.{Entries, end, entry, total, entryEnd, largest, union, foldedAll}
+use Rattle.definition.specs.Fold.{Entries, end, entry, total, entryEnd, union, foldedAll}
 use Rattle.definition.specs.Listing.{members#, entryBytes}
 use Rattle.definition.specs.Search.{entries#}
 use Rattle.places.specs.Places.{entryIn}
@@ -104,7 +105,7 @@ shownAll w (x ∷ xs) = shownOf w x ∷ shownAll w xs
 -- an item names a row that is there, and is not too large
 pub record Sound (w : List ℕ) (x : Item) : Type 0 where
   pub there : ROW * x .row + ROW ≤ length w
-  pub small : total (ownOf w x) ≤ 2147483647
+  pub small : total (ownOf w x) ≤ largest
 
 abbrev pub Rows : List ℕ → List Item → Type 0
 Rows w [] = Unit {0}

@@ -4,6 +4,7 @@ ghost use mathlib.Core.Path.{_≡_};
 ghost use Prim.Native.Nat.{_+_, _*_, _-_, _≤_, _<_};
 ghost use lib.ListN.{length};
 ghost use lib.Seq.{sets};
+ghost use Rattle.definition.specs.Limits.{mostStatements, largest};
 ghost use Rattle.definition.specs.Fold.{total, entryEnd};
 ghost use Rattle.definition.specs.Calls.{checkOf};
 ghost use Rattle.definition.specs.Basic.{given};
@@ -17,6 +18,7 @@ ghost use Rattle.entries.specs.Building.{listed, itemIn, redefined, unio
 ghost use Rattle.rows.specs.Columns.{ROW};
 use definition::Check;
 use definition::Entry;
+use definition::LARGEST;
 use definition::Refusal;
 use definition::Span;
 use rows::AT;
@@ -84,7 +86,7 @@ fn mark_of(member: bool) -> usize
 
 // An item closed: it is put before its members, which are there, and counts in its own list.
 fn close(entries: &mut [u32], b: Block, inner: Block, x: Item, width: usize) -> Block
-    requires { ⌜ (7 * b .next + 7 ≤ length (now entries)) × Small x × (b .count < 4294967296) × (b .widest ≤ 2147483647) × (width ≤ 2147483647) ⌝ }
+    requires { ⌜ (7 * b .next + 7 ≤ length (now entries)) × Small x × (b .count < 4294967296) × (b .widest ≤ largest) × (width ≤ largest) ⌝ }
     ensures { λ r. ⌜ Closed (now (entries .entry)) b inner x width r (now (entries .exit)) ⌝ }
 {
     put_item(entries, b.next, x);
@@ -315,7 +317,7 @@ fn build_list(
 // Makes the table of the record in the rows from `from` up to `to`. Answers how many entries it has, how many of them stand at the top, and
 // how wide the widest of those is.
 pub fn make_entries(text: &[u8], work: &[u32], from: usize, to: usize, entries: &mut [u32]) -> Block
-    requires { ⌜ Tree (now text) (now work) from to × (to ≤ 800) × (8400 ≤ length (now entries)) ⌝ }
+    requires { ⌜ Tree (now text) (now work) from to × (to ≤ mostStatements) × (8400 ≤ length (now entries)) ⌝ }
     ensures { λ r. ⌜ Entered (now (text .entry)) (now (work .entry)) from to (now (entries .exit)) (r .next) × (r .count ≡ members# (listed (now (text .entry)) (now (work .entry)) from to)) ⌝ }
 {
     build_list(
@@ -514,7 +516,7 @@ pub fn ends_fit(work: &[u32], entries: &[u32], n: usize) -> Check
 {
     let mut k = 0;
     while k < n {
-        if 2147483647 < top_end(work, entries, k) {
+        if LARGEST < top_end(work, entries, k) {
             return Check::Refused(Refusal {
                 number: 29,
                 position: position_of(work, entries, k),

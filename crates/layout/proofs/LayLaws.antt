@@ -13,6 +13,7 @@ use Rattle.definition.specs.declared.FieldKind.{FieldKind}
 use Rattle.definition.specs.declared.Pictured.{Pictured}
 use Rattle.definition.specs.declared.Statement.{Statement}
 use Rattle.definition.specs.declared.Entry.{Entry}
+use Rattle.definition.specs.Limits.{largest}
 use Rattle.definition.specs.Basic.{if_then_else_, given, Answer, refuse, give, _>>=_}
 use Rattle.definition.specs.Tree.{Forest, leaf, item, forest}
 use Rattle.definition.specs.Picture.{pictured}
@@ -146,22 +147,22 @@ list-none text w i to depth last cursor reach h = ap (λ (f : Forest). after tex
 
 -- the cursor and the ends stay within the limit
 pub record Kept (c e : ℕ) : Type 0 where
-  pub moves : c ≤ 2147483647
-  pub ends : e ≤ 2147483647
+  pub moves : c ≤ largest
+  pub ends : e ≤ largest
 
-advance-within : (cursor : ℕ) (e : Entry) → cursor ≤ 2147483647 → entryEnd e ≤ 2147483647 → advance cursor e ≤ 2147483647
+advance-within : (cursor : ℕ) (e : Entry) → cursor ≤ largest → entryEnd e ≤ largest → advance cursor e ≤ largest
 advance-within cursor e h l = go (given (e .redefines))
   where
-    go : (b : Bool) → (if b then cursor else entryEnd e) ≤ 2147483647
+    go : (b : Bool) → (if b then cursor else entryEnd e) ≤ largest
     go true = h
     go false = l
 
-pub item-within : (text w : List ℕ) (i j depth last cursor : ℕ) {c e : ℕ} {w′ : List ℕ} → cursor ≤ 2147483647 → layItem text w i j depth last cursor ≡ placing c e w′ → Kept c e
+pub item-within : (text w : List ℕ) (i j depth last cursor : ℕ) {c e : ℕ} {w′ : List ℕ} → cursor ≤ largest → layItem text w i j depth last cursor ≡ placing c e w′ → Kept c e
 item-within text w i j depth last cursor h q =
     let g = item-given text w i last cursor (bareItem text depth (seenAt w last) cursor (statementAt w i) (rowsForest w (suc i) j)) q in
     let y = item-is text depth (seenAt w last) cursor (statementAt w i) (rowsForest w (suc i) j) (g .is) in
-    let n = subst (λ (z : Entry). entryEnd z ≤ 2147483647) (y .own) (within (entryOf (statementAt w i) (y .contents) (y .offset) (y .slack)) (y .fits) .ends) in
-    record { moves = subst (λ (z : ℕ). z ≤ 2147483647) (g .moves) (advance-within cursor (g .laid .own) h n); ends = subst (λ (z : ℕ). z ≤ 2147483647) (g .ends) n }
+    let n = subst (λ (z : Entry). entryEnd z ≤ largest) (y .own) (within (entryOf (statementAt w i) (y .contents) (y .offset) (y .slack)) (y .fits) .ends) in
+    record { moves = subst (λ (z : ℕ). z ≤ largest) (g .moves) (advance-within cursor (g .laid .own) h n); ends = subst (λ (z : ℕ). z ≤ largest) (g .ends) n }
 
 -- ---------------------------------------------------------------- one item
 
@@ -194,7 +195,7 @@ module _ (text w : List ℕ) (i j depth last cursor : ℕ) (h : j ≤ suc i) whe
       (ap (afterItem text w i last cursor) leaf-item
       ∙ ap (λ (a : Answer Pictured). afterItem text w i last cursor (a >>= λ d. placed text (statementAt w i) d (seenAt w last) cursor >>= λ o. give (record { own = o; members = end }))) (sym e))
 
-pub leaf-narrow : (text : List ℕ) (s : Statement) {c : Pictured} → give c ≡ content text s leaf 0 → c .width ≤ 2147483647
+pub leaf-narrow : (text : List ℕ) (s : Statement) {c : Pictured} → give c ≡ content text s leaf 0 → c .width ≤ largest
 leaf-narrow text s e = omega (arith, leaf-bounded text s 0 (sym e) .width)
 
 -- ---------------------------------------------------------------- a list that is ready
@@ -204,7 +205,7 @@ pub record LaidRows (text w : List ℕ) (a b depth width : ℕ) (w₁ : List ℕ
   pub laid : Laid
   pub is : lay text depth [] 0 0 (rowsForest w a b) ≡ give laid
   pub wide : laid .width ≡ width
-  pub narrow : width ≤ 2147483647
+  pub narrow : width ≤ largest
   pub put : putPlaces text w a 0 (laid .entries) ≡ w₁
   pub many : entries# (laid .entries) ≡ b - a
   pub held : Held text w₁ a 0 (rowsForest w₁ a b) (laid .entries)
@@ -229,7 +230,7 @@ module _ (text w : List ℕ) (a b depth : ℕ) where
         laid = r .laid;
         is = r .is;
         wide = r .wide;
-        narrow = subst (λ (x : ℕ). x ≤ 2147483647) (r .wide) (is .width);
+        narrow = subst (λ (x : ℕ). x ≤ largest) (r .wide) (is .width);
         put = r .put;
         many = of-size f es (is .of) ∙ n;
         held = subst (λ (x : List ℕ). Held text x a 0 (rowsForest x a b) es) (r .put) held′;

@@ -8,6 +8,7 @@ use native.Mathlib.Omega.{arith}
 use Rattle.definition.specs.declared.Statement.{Statement}
 use Rattle.definition.specs.declared.Entry.{Entry}
 use Rattle.definition.specs.declared.Pictured.{Pictured}
+use Rattle.definition.specs.Limits.{largest}
 use Rattle.definition.specs.Basic.{Answer, refuse, give, _>>=_, refuseIf}
 use Rattle.definition.specs.Tree.{Forest, leaf, item}
 use Rattle.definition.specs.Fold.{entry, entryEnd, Place, placeOf, foldCheck}
@@ -95,12 +96,12 @@ item-is text depth seen cursor s kids h =
 -- what a laid list has of its forest
 pub record BareIs (f : Forest) (l : Laid) : Type 0 where
   pub of : Of f (l .entries)
-  pub width : l .width ≤ 2147483647
+  pub width : l .width ≤ largest
 
 module _ (text : List ℕ) where
   pub bare-is :
       (f : Forest) (depth : ℕ) (seen : List Place) (cursor reach : ℕ) {l : Laid} →
-      reach ≤ 2147483647 →
+      reach ≤ largest →
       lay text depth seen cursor reach f ≡ give l →
       BareIs f l
   unfolding lay
@@ -111,7 +112,7 @@ module _ (text : List ℕ) where
       let i = item-is text depth seen cursor s kids e₁ in
       let members = bare-is kids (suc depth) [] 0 0 (omega arith) (i .inner-laid) in
       let ends = within (entryOf s (i .contents) (i .offset) (i .slack)) (i .fits) .ends in
-      let ends′ : entryEnd (x .own) ≤ 2147483647 = subst (λ (y : Entry). entryEnd y ≤ 2147483647) (i .own) ends in
+      let ends′ : entryEnd (x .own) ≤ largest = subst (λ (y : Entry). entryEnd y ≤ largest) (i .own) ends in
       let rest = bare-is later depth (placeOf (x .own) ∷ seen) (advance cursor (x .own)) (max reach (entryEnd (x .own))) (omega arith) e₂ in
       let own : EntryOf s (x .own) =
       record { place = i .offset; slack = i .slack; contents = i .contents; is = sym (i .own); bytes = content-bytes text s kids (i .inner .width) (i .contents-are) } in

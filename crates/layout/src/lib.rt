@@ -2,6 +2,7 @@
 ghost use mathlib.Core.Path.{_≡_};
 ghost use Prim.Native.Nat.{_+_, _*_, _-_, _≤_, _<_};
 ghost use lib.ListN.{length};
+ghost use Rattle.definition.specs.Limits.{deepest, largest};
 ghost use Rattle.definition.specs.Basic.{if_then_else_, given, fewest};
 ghost use Rattle.definition.specs.Layout.{content, slackFrom};
 ghost use Rattle.definition.specs.Calls.{pictureOf, checkOf};
@@ -35,7 +36,7 @@ use rows::ROW;
 
 // The first multiple of the width from the cursor on.
 fn aligned(cursor: usize, width: usize) -> usize
-    requires { ⌜ (cursor ≤ 2147483647) × (width ≤ 2147483647) ⌝ }
+    requires { ⌜ (cursor ≤ largest) × (width ≤ largest) ⌝ }
     ensures { λ r. ⌜ r ≡ cursor + fewest width cursor ⌝ }
 {
     if width == 0 {
@@ -53,7 +54,7 @@ pub enum Start {
 // Where an item starts that redefines the row `target` (a row and 1, or 0 for none): 28 for a REDEFINES that names no
 // earlier sibling.
 fn start_of(work: &[u32], s: Statement, c: Pictured, target: usize, cursor: usize) -> Start
-    requires { ⌜ (ROW * target ≤ length (now work)) × (cursor ≤ 2147483647) × (c .width ≤ 2147483647) ⌝ }
+    requires { ⌜ (ROW * target ≤ length (now work)) × (cursor ≤ largest) × (c .width ≤ largest) ⌝ }
     ensures { λ r. ⌜ startOf r ≡ startAt s c (offsetOf (now (work .entry)) target) cursor ⌝ }
 {
     let clauses = s.clauses;
@@ -176,7 +177,7 @@ fn place(
     cursor: usize,
     c: Pictured,
 ) -> ItemAnswer
-    requires { ⌜ (ROW * i + ROW ≤ length (now work)) × (last ≤ i) × (i < 4294967296) × (below < 4294967296) × (cursor ≤ 2147483647) × (c .width ≤ 2147483647) ⌝ }
+    requires { ⌜ (ROW * i + ROW ≤ length (now work)) × (last ≤ i) × (i < 4294967296) × (below < 4294967296) × (cursor ≤ largest) × (c .width ≤ largest) ⌝ }
     ensures { λ r. ⌜ itemOf r (now (work .exit)) ≡ placeRow (now (text .entry)) (now (work .entry)) i below last cursor c ⌝ }
 {
     let s = rows::statement_at(work, i);
@@ -260,8 +261,8 @@ fn lay_item(
     last: usize,
     cursor: usize,
 ) -> ItemAnswer
-    requires { ⌜ (i < j) × Room (now work) j × («depth_left» ≤ 64) × (last ≤ i) × (cursor ≤ 2147483647) ⌝ }
-    ensures { λ r. ⌜ itemOf r (now (work .exit)) ≡ layItem (now (text .entry)) (now (work .entry)) i j (64 - «depth_left») last cursor ⌝ }
+    requires { ⌜ (i < j) × Room (now work) j × («depth_left» ≤ deepest) × (last ≤ i) × (cursor ≤ largest) ⌝ }
+    ensures { λ r. ⌜ itemOf r (now (work .exit)) ≡ layItem (now (text .entry)) (now (work .entry)) i j (deepest - «depth_left») last cursor ⌝ }
 {
     let first = i + 1;
     if first < j {
@@ -311,8 +312,8 @@ fn lay_item(
 // Lays out the siblings in the rows from `from` up to `to`: each starts where the cursor is, and the list is as wide as its
 // largest end. The remaining depth falls at each group.
 pub fn lay_list(text: &[u8], work: &mut [u32], from: usize, to: usize, depth_left: u32) -> LaidList
-    requires { ⌜ Room (now work) to × («depth_left» ≤ 64) ⌝ }
-    ensures { λ r. ⌜ listOf r (now (work .exit)) ≡ layTable (now (text .entry)) (now (work .entry)) from to (64 - «depth_left») ⌝ }
+    requires { ⌜ Room (now work) to × («depth_left» ≤ deepest) ⌝ }
+    ensures { λ r. ⌜ listOf r (now (work .exit)) ≡ layTable (now (text .entry)) (now (work .entry)) from to (deepest - «depth_left») ⌝ }
 {
     let mut i = from;
     let mut last = 0;

@@ -8,16 +8,17 @@ use native.Mathlib.Omega.{arith}
 use lib.Dec.{ltb}
 use borrow.Author.Tests.{ltb-false}
 use Rattle.definition.specs.declared.Entry.{Entry}
+use Rattle.definition.specs.Limits.{largest}
 use Rattle.definition.specs.Basic.{if_then_else_}
-use Rattle.definition.specs.Fold.{times, total, entryEnd, largest}
+use Rattle.definition.specs.Fold.{times, total, entryEnd}
 use Rattle.definition.specs.Layout.{tooLarge}
 use Rattle.definition.proofs.Answers.{or-false}
 use Rattle.limits.specs.Ends.{endOf}
 
 -- the numbers of an entry for which 29 is not due
 pub record Within (e : Entry) : Type 0 where
-  pub starts : e .offset ≤ 2147483647
-  pub ends : entryEnd e ≤ 2147483647
+  pub starts : e .offset ≤ largest
+  pub ends : entryEnd e ≤ largest
 
 pub within : (e : Entry) → tooLarge e ≡ false → Within e
 within e h =
@@ -30,8 +31,8 @@ within e h =
 pub record Ends (e : Entry) (n : ℕ) : Type 0 where
   pub fits : tooLarge e ≡ false
   pub is : entryEnd e ≡ n
-  pub starts : e .offset ≤ 2147483647
-  pub ends : n ≤ 2147483647
+  pub starts : e .offset ≤ largest
+  pub ends : n ≤ largest
 
 pub ends-at : (e : Entry) {n : ℕ} → some n ≡ endOf e → Ends e n
 ends-at e {n} h = go (tooLarge e) refl

@@ -10,6 +10,7 @@ use lib.ListN.{length, set, length-set}
 use lib.Seq.{getD-set-other, getD-set-same}
 use Rattle.definition.specs.declared.Entry.{Entry}
 use Rattle.definition.specs.declared.Statement.{Statement}
+use Rattle.definition.specs.Limits.{mostStatements, largest}
 use Rattle.definition.specs.Basic.{if_then_else_}
 use Rattle.definition.specs.Tree.{forest}
 use Rattle.definition.specs.Fold.{total}
@@ -44,7 +45,7 @@ module _ {w w′ : List ℕ} (h : Kept w w′) where
 
   sized-kept : (a b : ℕ) → Sized w a b → Sized w′ a b
   sized-kept a b s =
-      record { totals = λ k l u. subst (λ (e : Entry). total e ≤ 2147483647) (entry-same w w′ k (λ c m. sym (h .same k c (omega arith)))) (s .totals k l u) }
+      record { totals = λ k l u. subst (λ (e : Entry). total e ≤ largest) (entry-same w w′ k (λ c m. sym (h .same k c (omega arith)))) (s .totals k l u) }
 
 pub kept-self : (w : List ℕ) → Kept w w
 kept-self w = record { long = refl; same = λ k c l. refl }
@@ -77,7 +78,7 @@ module _ (text : List ℕ) {w : List ℕ} (a b : ℕ) (low : a ≤ b) (r : Ready
   many : (x : List ℕ) → a + size (rowsForest x a b) ≡ b
   many x = omega (arith, size-stretch x a b)
 
-  pub unlinked : b ≤ 800 → Unlinked w a b
+  pub unlinked : b ≤ mostStatements → Unlinked w a b
   unlinked few =
       let bases = bases-all text w (rowsForest w a b) a b (r .linked) (many w) in
       record { fits = r .fits; few = few; nexts = r .nexts; back = λ i l u. bases i l u .0; bases = λ i l u. bases i l u .1 }

@@ -12,10 +12,11 @@ use borrow.Author.Tests.{ltb-false}
 use Rattle.definition.specs.declared.Check.{Check}
 use Rattle.definition.specs.declared.Refusal.{Refusal}
 use Rattle.definition.specs.declared.Entry.{Entry}
+use Rattle.definition.specs.Limits.{mostStatements, largest}
 use Rattle.definition.specs.Basic.{Answer, refuse, give, _>>=_}
 use Rattle.definition.specs.declared.Statement.{Statement}
 use Rattle.definition.specs.Tree.{Forest, leaf, item, forest, fields}
-use Rattle.definition.specs.Fold.{Entries, end, entry, times, total, entryEnd, largest, Place, placeOf, foldCheck, foldedAll}
+use Rattle.definition.specs.Fold.{Entries, end, entry, times, total, entryEnd, Place, placeOf, foldCheck, foldedAll}
 use Rattle.definition.specs.Layout.{entryOf, tooLarge, advance, Laid, lay}
 use Rattle.definition.specs.Owner.{size}
 use Rattle.definition.proofs.Answers.{or-false, through, given-same}
@@ -49,9 +50,9 @@ use Rattle.record.specs.Laying.{FieldsFrom, fieldsOf, laidOf, Listed, Re
 -- every entry of a list and of those below it has at most 2,147,483,647 bytes
 abbrev SizedAll : Entries → Type 0
 SizedAll end = Unit {0}
-SizedAll (entry e members later) = (total e ≤ 2147483647) × SizedAll members × SizedAll later
+SizedAll (entry e members later) = (total e ≤ largest) × SizedAll members × SizedAll later
 
-total-within : (e : Entry) → tooLarge e ≡ false → total e ≤ 2147483647
+total-within : (e : Entry) → tooLarge e ≡ false → total e ≤ largest
 total-within e h =
     let a = or-false (ltb largest (times (e .occurs)) || ltb largest (e .offset) || ltb largest (total e)) (ltb largest (entryEnd e)) h in
     let b = or-false (ltb largest (times (e .occurs)) || ltb largest (e .offset)) (ltb largest (total e)) (a .0) in
@@ -69,11 +70,11 @@ bare-sized text (item s kids later) depth seen cursor reach e =
     let i = item-is text depth seen cursor s kids e₁ in
     let members = bare-sized text kids (suc depth) [] 0 0 (i .inner-laid) in
     let rest = bare-sized text later depth (placeOf (x .own) ∷ seen) (advance cursor (x .own)) (max reach (entryEnd (x .own))) e₂ in
-    let own : total (x .own) ≤ 2147483647 = subst (λ (y : Entry). total y ≤ 2147483647) (i .own) (total-within (entryOf s (i .contents) (i .offset) (i .slack)) (i .fits)) in
+    let own : total (x .own) ≤ largest = subst (λ (y : Entry). total y ≤ largest) (i .own) (total-within (entryOf s (i .contents) (i .offset) (i .slack)) (i .fits)) in
     subst (λ (l : Laid). SizedAll (l .entries)) (given-same h₂) (own, subst SizedAll (i .members) members, rest)
 
 -- and no row that holds one
-rows-sized : (w : List ℕ) (f : Forest) (k : ℕ) → SizedAll (entriesIn w k f) → (m : ℕ) → k ≤ m → m < k + size f → total (entryIn w m) ≤ 2147483647
+rows-sized : (w : List ℕ) (f : Forest) (k : ℕ) → SizedAll (entriesIn w k f) → (m : ℕ) → k ≤ m → m < k + size f → total (entryIn w m) ≤ largest
 unfolding entriesIn
 rows-sized w leaf k h m l u = absurd (omega arith)
 rows-sized w (item s kids later) k h m l u =
@@ -81,7 +82,7 @@ rows-sized w (item s kids later) k h m l u =
     let rest = rows-sized w later (suc k + size kids) (h .2) m in
     ⊎-elim
     (λ (p : k < m). ⊎-elim (λ (q : m < suc k + size kids). inner (omega arith) q) (λ (q : suc k + size kids ≤ m). rest q (omega arith)) (order m (suc k + size kids)))
-    (λ (p : m ≤ k). subst (λ (n : ℕ). total (entryIn w n) ≤ 2147483647) (let e : k ≡ m = omega arith in e) (h .0))
+    (λ (p : m ≤ k). subst (λ (n : ℕ). total (entryIn w n) ≤ largest) (let e : k ≡ m = omega arith in e) (h .0))
     (order k m)
 
 -- ---------------------------------------------------------------- a list that was laid
@@ -213,7 +214,7 @@ module _ (text w : List ℕ) (a b : ℕ) where
             d ≡ Check.Passed →
             a ≤ b →
             ROW * b ≤ length w →
-            b ≤ 800 →
+            b ≤ mostStatements →
             {l : ℕ} →
             l ≡ recordLength (foldedAll text (listIn w₂ a b)) →
             Listed text (give (rowsForest w a b)) w₂ a b l

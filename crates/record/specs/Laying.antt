@@ -3,6 +3,7 @@
 use Prim.Native.Nat.{ℕ, _≤_}
 use mathlib.Core.Path.{_≡_}
 use mathlib.Core.List.{List}
+use Rattle.definition.specs.Limits.{mostStatements}
 use Rattle.definition.specs.Basic.{Answer, refuse, give, _>>=_}
 use Rattle.definition.specs.Statement.{statements}
 use Rattle.definition.specs.Tree.{Forest, forest, fields}
@@ -35,7 +36,7 @@ pub record Listed (text : List ℕ) (read : Answer Forest) (w : List ℕ) (from 
   pub fields : read ≡ give (rowsForest w from to)
   pub is : laidOf text read ≡ give (listIn w from to)
   pub tree : Tree text w from to
-  pub few : to ≤ 800
+  pub few : to ≤ mostStatements
   pub long : length ≡ recordLength (foldedAll text (listIn w from to))
 
 -- what an answer says of the fields that were read, with the rows and the table of entries as the call leaves them

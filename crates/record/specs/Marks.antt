@@ -6,6 +6,7 @@ use mathlib.Core.Path.{_≡_}
 use mathlib.Core.List.{List}
 use lib.Dec.{eqb, ltb}
 use lib.ListN.{length, set}
+use Rattle.definition.specs.Limits.{mostStatements}
 use Rattle.definition.specs.Basic.{if_then_else_}
 use Rattle.rows.specs.Columns.{ROW, BASE, NEXT}
 use Rattle.rows.specs.Table.{cell}
@@ -30,7 +31,7 @@ pub record Kept (w w′ : List ℕ) : Type 0 where
 -- no row from `from` up to `to` names a next one; a base is an earlier of these rows, and has no base
 pub record Unlinked (w : List ℕ) (from to : ℕ) : Type 0 where
   pub fits : ROW * to ≤ length w
-  pub few : to ≤ 800
+  pub few : to ≤ mostStatements
   pub nexts : (i : ℕ) → from ≤ i → i < to → cell w i NEXT ≡ 0
   pub back : (i : ℕ) → from ≤ i → i < to → cell w i BASE ≤ i
   pub bases : (i : ℕ) → from ≤ i → i < to → 0 < cell w i BASE → (from < cell w i BASE) × (cell w (cell w i BASE - 1) BASE ≡ 0)

@@ -2,6 +2,7 @@
 ghost use mathlib.Core.Path.{_≡_};
 ghost use Prim.Native.Nat.{_+_, _*_, _≤_, _<_};
 ghost use lib.ListN.{length};
+ghost use Rattle.definition.specs.Limits.{mostBytes, leastWork, mostStatements};
 ghost use Rattle.definition.specs.Basic.{give};
 ghost use Rattle.definition.specs.Calls.{recordFields};
 ghost use Rattle.places.specs.Places.{rowsForest};
@@ -11,6 +12,7 @@ ghost use Rattle.rows.specs.Table.{cell};
 ghost use Rattle.record.specs.Marks.{linkRow, Unlinked, UnionsLinked};
 ghost use Rattle.record.specs.Laying.{FieldsFrom, RecordIs, fieldsOf};
 use definition::Check;
+use definition::DEEPEST;
 use definition::Refusal;
 use layout::LaidList;
 use rows::BASE;
@@ -84,10 +86,10 @@ pub fn lay_fields(
     from: usize,
     to: usize,
 ) -> RecordLaid
-    requires { ⌜ (from ≤ to) × Room (now work) to × (to ≤ 800) × (8400 ≤ length (now entries)) ⌝ }
+    requires { ⌜ (from ≤ to) × Room (now work) to × (to ≤ mostStatements) × (8400 ≤ length (now entries)) ⌝ }
     ensures { λ r. ⌜ RecordIs (now (text .entry)) (give (rowsForest (now (work .entry)) from to)) r (now (work .exit)) (now (entries .exit)) ⌝ }
 {
-    match layout::lay_list(text, work, from, to, 64) {
+    match layout::lay_list(text, work, from, to, DEEPEST) {
         LaidList::Done { width, last } => match layout::fold_check(text, work, from, to) {
             Check::Passed => {
                 link_unions(work, from, to);
@@ -120,7 +122,7 @@ pub fn lay_fields(
 
 // Reads a text into rows of work memory and lays its record out there.
 pub fn lay_record(text: &[u8], work: &mut [u32], entries: &mut [u32]) -> RecordLaid
-    requires { ⌜ (length (now text) ≤ 65535) × (16384 ≤ length (now work)) × (8400 ≤ length (now entries)) ⌝ }
+    requires { ⌜ (length (now text) ≤ mostBytes) × (leastWork ≤ length (now work)) × (8400 ≤ length (now entries)) ⌝ }
     ensures { λ r. ⌜ RecordIs (now (text .entry)) (fieldsOf (now (text .entry))) r (now (work .exit)) (now (entries .exit)) ⌝ }
 {
     match tree::read_rows(text, work) {

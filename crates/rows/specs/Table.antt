@@ -11,6 +11,7 @@ use Rattle.definition.specs.declared.Span.{Span}
 use Rattle.definition.specs.declared.Occurs.{Occurs}
 use Rattle.definition.specs.declared.Clauses.{Clauses}
 use Rattle.definition.specs.declared.Statement.{Statement}
+use Rattle.definition.specs.Limits.{mostBytes}
 use Rattle.definition.specs.Basic.{if_then_else_, span}
 use Rattle.definition.specs.Listing.{flag}
 use Rattle.definition.specs.Statement.{clausesOf}
@@ -47,8 +48,8 @@ saidCode c = usageCode (c .usage) + 8 * (signCode (c .sign) + 8 * (flag (c .sync
 
 -- a span of a text that has at most 65,535 bytes
 pub record Short (w : Span) : Type 0 where
-  pub starts : w .start ≤ 65535
-  pub runs : w .len ≤ 65535
+  pub starts : w .start ≤ mostBytes
+  pub runs : w .len ≤ mostBytes
 
 -- clauses in such a text
 pub record Brief (c : Clauses) : Type 0 where
@@ -58,7 +59,7 @@ pub record Brief (c : Clauses) : Type 0 where
 
 -- a statement in such a text
 pub record Placed (s : Statement) : Type 0 where
-  pub at : s .at ≤ 65535
+  pub at : s .at ≤ mostBytes
   pub name : Short (s .name)
   pub clauses : Brief (s .clauses)
 

@@ -6,6 +6,7 @@ ghost use mathlib.Core.List.{map};
 ghost use lib.Dec.{ltb};
 ghost use Prim.Native.Nat.{_+_, _≤_, _<_};
 ghost use lib.ListN.{length, drop, getD};
+ghost use Rattle.definition.specs.Limits.{largest};
 ghost use Rattle.definition.specs.Basic.{white, upper as upperOf, uppers, same, numeral, below, number, count};
 ghost use Rattle.definition.specs.Calls.{firstWide, textChecks, checkOf};
 ghost use Rattle.definition.specs.Words.{cutHere, ends, byteKind};
@@ -13,6 +14,7 @@ ghost use Rattle.text.specs.Words.{folded as foldedOf, valued, levelled,
 ghost use Rattle.text.specs.Tokens.{atStart, behind as behindOf, tokensAt, inWord, NextLine, WordEnd, First};
 use definition::ByteKind;
 use definition::Check;
+use definition::MOST_BYTES;
 use definition::Refusal;
 
 // Whether a byte is white space.
@@ -206,7 +208,7 @@ fn wide_check(text: &[u8]) -> Check
 pub fn text_checks(text: &[u8]) -> Check
     ensures { λ r. ⌜ checkOf r ≡ textChecks (now (text .entry)) ⌝ }
 {
-    if 65535 < text.len() {
+    if MOST_BYTES < text.len() {
         return Check::Refused(Refusal {
             number: 1,
             position: 0,

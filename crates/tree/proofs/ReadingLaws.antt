@@ -8,6 +8,7 @@ use native.Mathlib.Omega.{arith}
 use lib.ListN.{length}
 use Rattle.definition.specs.declared.Refusal.{Refusal}
 use Rattle.definition.specs.declared.Statement.{Statement}
+use Rattle.definition.specs.Limits.{leastWork, mostStatements}
 use Rattle.definition.specs.Basic.{Answer, refuse, give, _>>=_}
 use Rattle.definition.specs.Statement.{statements}
 use Rattle.definition.specs.Tree.{Open, opened, stillOpen, innermost, parents, parentsIn, forest}
@@ -44,7 +45,7 @@ pub record Stored (text w w′ : List ℕ) (n : ℕ) : Type 0 where
   pub kept : List Statement
   pub are : statements text 0 (statementWords text) ≡ give kept
   pub many : n ≡ length kept
-  pub few : n ≤ 800
+  pub few : n ≤ mostStatements
   pub storable : Storables kept
   pub rows : w′ ≡ putRows w 0 (parents [] 0 kept) kept
   pub long : length w′ ≡ length w
@@ -56,7 +57,7 @@ by-refusal w r (refuse q) p = cc
 by-refusal w r (give ss) p = absurd (let z : _≡_ {A = ℕ} 0 1 = cc in omega arith)
 
 module _ {text w w′ : List ℕ} where
-  module _ (n : ℕ) (room : 16384 ≤ length w) where
+  module _ (n : ℕ) (room : leastWork ≤ length w) where
     by-answer :
         (a : Answer (List Statement)) →
         statements text 0 (statementWords text) ≡ a →

@@ -6,6 +6,7 @@ use mathlib.Core.List.{List, [], _∷_}
 use lib.ListN.{length}
 use Rattle.definition.specs.declared.Refusal.{Refusal}
 use Rattle.definition.specs.declared.Statement.{Statement}
+use Rattle.definition.specs.Limits.{mostStatements}
 use Rattle.definition.specs.Basic.{Answer, refuse, give}
 use Rattle.definition.specs.Statement.{statements}
 use Rattle.definition.specs.Tree.{Open, opened, stillOpen, innermost, parents}
@@ -40,7 +41,7 @@ outcomeOf (RowsRead.Refused r) w = stopped r
 -- the statements from row n on can be read back from their rows, of which there are no more than 800
 abbrev pub Held : ℕ → Answer (List Statement) → Type 0
 Held n (refuse r) = Unit {0}
-Held n (give ss) = Storables ss × (n + length ss ≤ 800)
+Held n (give ss) = Storables ss × (n + length ss ≤ mostStatements)
 
 -- the answer r, and work memory w′ after it, of a text and of work memory w
 pub record RowsAre (text w : List ℕ) (r : RowsRead) (w′ : List ℕ) : Type 0 where

@@ -2,12 +2,15 @@
 ghost use mathlib.Core.Path.{_≡_};
 ghost use Prim.Native.Nat.{_+_, _*_, _-_, _≤_, _<_};
 ghost use lib.ListN.{length};
+ghost use Rattle.definition.specs.Limits.{mostBytes, leastWork, mostStatements};
 ghost use Rattle.definition.specs.Calls.{entryChecks, checkOf};
 ghost use Rattle.rows.specs.Columns.{ROW, PARENT};
 ghost use Rattle.rows.specs.Table.{Placed, cell};
 ghost use Rattle.tree.specs.Levels.{NoneOpen, Nested, Closed, Opened};
 ghost use Rattle.tree.specs.Reading.{Added, RowsAre};
 use definition::Check;
+use definition::LEAST_WORK;
+use definition::MOST_STATEMENTS;
 use definition::Refusal;
 use definition::Statement;
 use rows::PARENT;
@@ -31,7 +34,7 @@ pub fn entry_checks(text: &[u8], work_len: usize) -> Check
             return Check::Refused(r);
         }
     }
-    if work_len < 16384 {
+    if work_len < LEAST_WORK {
         return Check::Refused(Refusal {
             number: 3,
             position: 0,
@@ -112,7 +115,7 @@ fn open(o: OpenLevels, level: u8, k: usize) -> OpenLevels
 
 // A statement into row k, under the innermost open one of a smaller level; its own is open then.
 fn add_row(work: &mut [u32], k: usize, o: OpenLevels, s: Statement) -> OpenLevels
-    requires { ⌜ (ROW * k + ROW ≤ length (now work)) × (k < 800) × Nested (now work) k o × Placed s ⌝ }
+    requires { ⌜ (ROW * k + ROW ≤ length (now work)) × (k < mostStatements) × Nested (now work) k o × Placed s ⌝ }
     ensures { λ r. ⌜ Added (now (work .entry)) k o s (now (work .exit)) r ⌝ }
 {
     let level = s.level;
@@ -129,7 +132,7 @@ pub enum RowsRead {
 
 // The kept statements of a text as rows of work memory, from row 0 on.
 pub fn read_rows(text: &[u8], work: &mut [u32]) -> RowsRead
-    requires { ⌜ (length (now text) ≤ 65535) × (16384 ≤ length (now work)) ⌝ }
+    requires { ⌜ (length (now text) ≤ mostBytes) × (leastWork ≤ length (now work)) ⌝ }
     ensures { λ r. ⌜ RowsAre (now (text .entry)) (now (work .entry)) r (now (work .exit)) ⌝ }
 {
     let mut from = text::at_start();
@@ -138,7 +141,7 @@ pub fn read_rows(text: &[u8], work: &mut [u32]) -> RowsRead
     loop {
         match statement::read_statement(text, from) {
             StatementRead::Kept(s, next) => {
-                if 800 <= n {
+                if MOST_STATEMENTS <= n {
                     return RowsRead::Refused(Refusal {
                         number: 14,
                         position: s.at,

@@ -8,6 +8,7 @@ use mathlib.Core.List.{List}
 use lib.ListN.{length}
 use Rattle.definition.specs.declared.Span.{Span}
 use Rattle.definition.specs.declared.Entry.{Entry}
+use Rattle.definition.specs.Limits.{largest}
 use Rattle.definition.specs.Basic.{if_then_else_, given}
 use Rattle.definition.specs.Tree.{Forest, leaf, item}
 use Rattle.definition.specs.Fold.{Entries, end, entry, total, sameName, sameSpelling, Place, placeOf, find, redefiners, withRedefiners, hasBase, foldedList, foldedBelow, foldedAll}
@@ -95,7 +96,7 @@ Marked text w k last (item s kids later) =
 
 -- no row from `from` up to `to` has more than 2,147,483,647 bytes in all its occurrences
 pub record Sized (w : List ℕ) (from to : ℕ) : Type 0 where
-  pub totals : (k : ℕ) → from ≤ k → k < to → total (entryIn w k) ≤ 2147483647
+  pub totals : (k : ℕ) → from ≤ k → k < to → total (entryIn w k) ≤ largest
 
 -- the rows of a list and of those below it are there, marked, and none too large
 pub record Tree (text w : List ℕ) (from to : ℕ) : Type 0 where
@@ -126,11 +127,11 @@ pub record Base (text w : List ℕ) (i j to : ℕ) : Type 0 where
 -- row k is there, and is not too large
 pub record SizedRow (w : List ℕ) (k : ℕ) : Type 0 where
   pub fits : ROW * k + ROW ≤ length w
-  pub small : total (entryIn w k) ≤ 2147483647
+  pub small : total (entryIn w k) ≤ largest
 
 -- ---------------------------------------------------------------- answers
 
 -- r is the number n, and not too large
 pub record Measured (n r : ℕ) : Type 0 where
   pub is : r ≡ n
-  pub small : r ≤ 2147483647
+  pub small : r ≤ largest

@@ -3,6 +3,7 @@
 use Prim.Native.Nat.{ℕ, _≤_}
 use mathlib.Core.Path.{_≡_}
 use mathlib.Core.List.{List}
+use Rattle.definition.specs.Limits.{mostStatements}
 use Rattle.definition.specs.Fold.{Entries, foldedAll}
 use Rattle.definition.specs.Listing.{listing, members#}
 use Rattle.definition.specs.Record.{recordLength}
@@ -19,7 +20,7 @@ listingOf text w from to = listing (entriesOf text w from to)
 
 -- the record in the rows from `from` up to `to`, its length, and its table of entries
 pub record Tabled (text w t : List ℕ) (from to long count top : ℕ) : Type 0 where
-  pub few : to ≤ 800
+  pub few : to ≤ mostStatements
   pub table : Entered text w from to t count
   pub tops : top ≡ members# (entriesOf text w from to)
   pub length : long ≡ recordLength (entriesOf text w from to)

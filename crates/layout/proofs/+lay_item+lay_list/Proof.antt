@@ -14,6 +14,7 @@ use Rattle.definition.specs.declared.PicAnswer.{PicAnswer}
 use Rattle.definition.specs.declared.Pictured.{Pictured}
 use Rattle.definition.specs.declared.Refusal.{Refusal}
 use Rattle.definition.specs.declared.Statement.{Statement}
+use Rattle.definition.specs.Limits.{largest}
 use Rattle.definition.specs.Tree.{leaf}
 use Rattle.definition.specs.Picture.{pictured}
 use Rattle.definition.specs.Layout.{content}
@@ -53,7 +54,7 @@ record Laying (t w₀ w : List ℕ) (from to depth i last cursor reach : ℕ) : 
   same-length : length w ≡ length w₀
   room : Room w to
   back : last ≤ i
-  moves : cursor ≤ 2147483647
+  moves : cursor ≤ largest
   rest : layTable t w₀ from to depth ≡ layRest t w i to depth last cursor reach
 
 starting : (t w : List ℕ) (from to depth : ℕ) → Room w to → Laying t w w from to depth from 0 0 0
@@ -155,7 +156,7 @@ module _ (t w : List ℕ) (i j left last cursor : ℕ) where
     leafed p q e = e ∙ leaf-place t w i j (64 - left) last cursor (omega arith) (sym (ap pictureOf q) ∙ p ∙ ap (λ (x : Statement). content t x leaf 0) ps)
 
 -- an elementary item is narrow
-narrow : (t : List ℕ) (s : Statement) {a : PicAnswer} {c : Pictured} → pictureOf a ≡ content t s leaf 0 → a ≡ PicAnswer.Accepted c → c .width ≤ 2147483647
+narrow : (t : List ℕ) (s : Statement) {a : PicAnswer} {c : Pictured} → pictureOf a ≡ content t s leaf 0 → a ≡ PicAnswer.Accepted c → c .width ≤ largest
 narrow t s p q = leaf-narrow t s (sym (ap pictureOf q) ∙ p)
 
 abbrev μ-lay-item : Measures 2 lay-item-kinds.ps ℕ

@@ -10,6 +10,7 @@ use Rattle.definition.specs.declared.Refusal.{Refusal}
 use Rattle.definition.specs.declared.Statement.{Statement}
 use Rattle.definition.specs.declared.Entry.{Entry}
 use Rattle.definition.specs.declared.Pictured.{Pictured}
+use Rattle.definition.specs.Limits.{largest}
 use Rattle.definition.specs.Basic.{if_then_else_, given, fewest, Answer, give, orRefuse}
 use Rattle.definition.specs.Picture.{isBinary}
 use Rattle.definition.specs.Fold.{find}
@@ -48,10 +49,10 @@ module _ (s : Statement) {c : Pictured} {offset slack : ℕ} {d : Entry} (pd : d
         ends-at d (sym (ap endingOf e) ∙ px) .starts,
       )
 
-  narrow : c .width ≤ 2147483647 → d .width ≤ 2147483647
+  narrow : c .width ≤ largest → d .width ≤ largest
   narrow h = rw pd h
 
-  slim : c .width ≤ 2147483647 → d .width < 4294967296
+  slim : c .width ≤ largest → d .width < 4294967296
   slim h = omega (arith, narrow h)
 
 near : (d : Entry) {x : Ending} {n : ℕ} → endingOf x ≡ endOf d → x ≡ Ending.At n → d .offset < 4294967296

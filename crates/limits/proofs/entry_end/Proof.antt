@@ -8,38 +8,39 @@ use native.Mathlib.Nat.{mul-le-mul, add-zero}
 use native.Mathlib.Omega.{arith}
 use borrow.Author.Tests.{lt-ltb, le-ltb}
 use Rattle.definition.specs.declared.Entry.{Entry}
-use Rattle.definition.specs.Fold.{times, largest}
+use Rattle.definition.specs.Limits.{largest}
+use Rattle.definition.specs.Fold.{times}
 use Rattle.limits.specs.Ends.{endOf}
 use Rattle.limits.proofs.entry_end.Statement.{statement}
 use Rattle.limits.proofs.entry_end.Tie as tie
 
 module _ (e : Entry) {n : ℕ} (p : n ≡ times (e .occurs)) where
-  many : 2147483647 < n → none ≡ endOf e
+  many : largest < n → none ≡ endOf e
   many h = rw (← p, lt-ltb largest n h)
 
-  module _ (few : n ≤ 2147483647) where
-    far : 2147483647 < e .offset → none ≡ endOf e
+  module _ (few : n ≤ largest) where
+    far : largest < e .offset → none ≡ endOf e
     far h = rw (← p, le-ltb largest n few, lt-ltb largest (e .offset) h)
 
-    module _ (near : e .offset ≤ 2147483647) where
-      wide : 2147483647 < e .width * n → none ≡ endOf e
+    module _ (near : e .offset ≤ largest) where
+      wide : largest < e .width * n → none ≡ endOf e
       wide h = rw (← p, le-ltb largest n few, le-ltb largest (e .offset) near, lt-ltb largest (e .width * n) h)
 
-      module _ (narrow : e .width * n ≤ 2147483647) where
+      module _ (narrow : e .width * n ≤ largest) where
         none-reserved : 0 < e .depending .len → some (e .offset) ≡ endOf e
         none-reserved g =
             rw (← p, le-ltb largest n few, le-ltb largest (e .offset) near, le-ltb largest (e .width * n) narrow, lt-ltb 0 (e .depending .len) g, add-zero, le-ltb largest (e .offset) near)
 
         module _ (g : e .depending .len ≤ 0) where
-          beyond : 2147483647 < e .offset + e .width * n → none ≡ endOf e
+          beyond : largest < e .offset + e .width * n → none ≡ endOf e
           beyond h =
               rw (← p, le-ltb largest n few, le-ltb largest (e .offset) near, le-ltb largest (e .width * n) narrow, le-ltb 0 (e .depending .len) g, lt-ltb largest (e .offset + e .width * n) h)
 
-          fits : e .offset + e .width * n ≤ 2147483647 → some (e .offset + e .width * n) ≡ endOf e
+          fits : e .offset + e .width * n ≤ largest → some (e .offset + e .width * n) ≡ endOf e
           fits h =
               rw (← p, le-ltb largest n few, le-ltb largest (e .offset) near, le-ltb largest (e .width * n) narrow, le-ltb 0 (e .depending .len) g, le-ltb largest (e .offset + e .width * n) h)
 
-product : (a b : ℕ) → a ≤ 2147483647 → b ≤ 2147483647 → a * b ≤ 4611686014132420609
+product : (a b : ℕ) → a ≤ largest → b ≤ largest → a * b ≤ 4611686014132420609
 product a b ha hb = mul-le-mul ha hb
 
 returns : tie.Need-returns

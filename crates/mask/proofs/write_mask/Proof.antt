@@ -8,6 +8,7 @@ use native.Mathlib.Omega.{arith}
 use lib.ListN.{length, getD, drop, replicate, length-drop}
 use lib.Seq.{length-sets}
 use Rattle.definition.specs.declared.Refusal.{Refusal}
+use Rattle.definition.specs.Limits.{mostSymbols}
 use Rattle.definition.specs.Basic.{upper, Answer, give}
 use Rattle.definition.specs.Picture.{repeat, expand, mask}
 use Rattle.definition.proofs.Lists.{order}
@@ -50,12 +51,12 @@ module _ {t out₀ out : List ℕ} {k i : ℕ} (inv : Left t out₀ out k i) whe
       less : length t - (i + 1 + skip) < length t - i
       less = omega (arith, step)
 
-      few : inv .seen + n ≤ 65535
+      few : inv .seen + n ≤ mostSymbols
       few =
           ⊎-elim
-          (λ (m : 65535 < inv .seen + n). absurd (rw (expand-many 0 (inv .seen) t i h given m) at (inv .room)))
-          (λ (m : inv .seen + n ≤ 65535). m)
-          (order 65535 (inv .seen + n))
+          (λ (m : mostSymbols < inv .seen + n). absurd (rw (expand-many 0 (inv .seen) t i h given m) at (inv .room)))
+          (λ (m : inv .seen + n ≤ mostSymbols). m)
+          (order mostSymbols (inv .seen + n))
 
       rest : Answer (List ℕ)
       rest = expand 0 (inv .seen + n) 0 (drop (i + 1 + skip) t)

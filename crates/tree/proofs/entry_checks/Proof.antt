@@ -8,6 +8,7 @@ use borrow.Author.Tests.{lt-ltb, le-ltb}
 use Rattle.definition.specs.declared.Check.{Check}
 use Rattle.definition.specs.declared.Check.the-variants.{Passed, Refused}
 use Rattle.definition.specs.declared.Refusal.{Refusal}
+use Rattle.definition.specs.Limits.{leastWork}
 use Rattle.definition.specs.Basic.{refuse, give, refused, _>>=_}
 use Rattle.definition.specs.Calls.{textChecks, entryChecks, checkOf}
 use Rattle.tree.proofs.entry_checks.Statement.{statement}
@@ -20,14 +21,14 @@ module _ (t : List ℕ) (work : ℕ) {a : Check} (p : checkOf a ≡ textChecks t
   bad e = rw (← p, e)
 
   -- work memory is too small
-  short : a ≡ Passed → work < 16384 → refused 3 0 ≡ entryChecks t work
+  short : a ≡ Passed → work < leastWork → refused 3 0 ≡ entryChecks t work
   unfolding entryChecks _>>=_
-  short e h = rw (← p, e, lt-ltb work 16384 h)
+  short e h = rw (← p, e, lt-ltb work leastWork h)
 
   -- neither
-  passed : a ≡ Passed → 16384 ≤ work → give tt ≡ entryChecks t work
+  passed : a ≡ Passed → leastWork ≤ work → give tt ≡ entryChecks t work
   unfolding entryChecks _>>=_
-  passed e h = rw (← p, e, le-ltb work 16384 h)
+  passed e h = rw (← p, e, le-ltb work leastWork h)
 
 text-checks-requires : tie.Need-text-checks-requires
 text-checks-requires c κs = search needs

@@ -12,6 +12,7 @@ use lib.ListN.{length}
 use Rattle.definition.specs.declared.Refusal.{Refusal}
 use Rattle.definition.specs.declared.Span.{Span}
 use Rattle.definition.specs.declared.Statement.{Statement}
+use Rattle.definition.specs.Limits.{mostBytes, leastWork, mostStatements}
 use Rattle.definition.specs.Basic.{Answer, refuse, give, _>>=_}
 use Rattle.definition.specs.Statement.{statements}
 use Rattle.definition.specs.Tree.{Open}
@@ -48,16 +49,16 @@ rest t from n = statements t n (sentences (tokensAt t from))
 -- n statements were stored
 record Left (t w₀ w : List ℕ) (from : Stand) (n : ℕ) (o : OpenLevels) : Type 0 where
   within : from .at ≤ length t
-  short : length t ≤ 65535
-  room : 16384 ≤ length w
+  short : length t ≤ mostBytes
+  room : leastWork ≤ length w
   long : length w ≡ length w₀
-  few : n ≤ 800
+  few : n ≤ mostStatements
   nested : Nested w n o
   same : outcome w₀ 0 [] (whole t) ≡ outcome w n (stackOf w o) (rest t from n)
   held : Held n (rest t from n) → Held 0 (whole t)
 
 -- before the first statement
-start : {t w : List ℕ} {from : Stand} {o : OpenLevels} → length t ≤ 65535 → 16384 ≤ length w → from ≡ atStart → NoneOpen o → Left t w w from 0 o
+start : {t w : List ℕ} {from : Stand} {o : OpenLevels} → length t ≤ mostBytes → leastWork ≤ length w → from ≡ atStart → NoneOpen o → Left t w w from 0 o
 unfolding statementWords
 start {t} {w} {from} {o} s r b p =
     let none : stackOf w o ≡ [] = ap (λ (n : ℕ). topDown w (o .levels) n (o .row)) (p .count) ∙ down-none w (o .levels) (o .row) in
@@ -73,7 +74,7 @@ start {t} {w} {from} {o} s r b p =
     }
 
 -- a span in a short text is short
-short-inside : (t : List ℕ) (w : Span) → length t ≤ 65535 → Inside t w → Short w
+short-inside : (t : List ℕ) (w : Span) → length t ≤ mostBytes → Inside t w → Short w
 short-inside t w h i = record { starts = omega arith; runs = omega arith }
 
 module _ {t w₀ w : List ℕ} {from : Stand} {n : ℕ} {o : OpenLevels} (inv : Left t w₀ w from n o) where
@@ -147,15 +148,15 @@ module _ {t w₀ w : List ℕ} {from : Stand} {n : ℕ} {o : OpenLevels} (inv : 
             };
           }
 
-      addable : n < 800 → (ROW * n + ROW ≤ length w) × (n < 800) × Nested w n o × Placed s
+      addable : n < mostStatements → (ROW * n + ROW ≤ length w) × (n < mostStatements) × Nested w n o × Placed s
       addable l = (omega (arith, inv .room), l, inv .nested, placed)
 
       -- 800 were kept before it
-      full : 800 ≤ n → RowsAre t w₀ (RowsRead.Refused (record { number = 14; position = s .at; needed = 0 })) w
+      full : mostStatements ≤ n → RowsAre t w₀ (RowsRead.Refused (record { number = 14; position = s .at; needed = 0 })) w
       full l = refused-so (record { number = 14; position = s .at; needed = 0 }) (rw (kept .followed .all-are) (statements-full t n _ _ (kept .is) l))
 
       -- it is the next row
-      add : n < 800 → {w′ : List ℕ} {o′ : OpenLevels} → Added w n o s w′ o′ → Left t w₀ w′ next (n + 1) o′
+      add : n < mostStatements → {w′ : List ℕ} {o′ : OpenLevels} → Added w n o s w′ o′ → Left t w₀ w′ next (n + 1) o′
       add l {w′} {o′} d =
           let later = rest t next (n + 1) in
           let p : rest t from n ≡ (later >>= λ ss. give (s ∷ ss)) =

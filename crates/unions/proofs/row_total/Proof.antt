@@ -6,6 +6,7 @@ use mathlib.Core.Path.{_≡_, ap, ap₂, _∙_}
 use mathlib.Core.List.{List}
 use native.Mathlib.Omega.{arith}
 use Rattle.definition.specs.declared.Occurs.{Occurs}
+use Rattle.definition.specs.Limits.{largest}
 use Rattle.definition.specs.Fold.{times, total}
 use Rattle.rows.specs.Columns.{WIDTH}
 use Rattle.rows.specs.Table.{cell, occursIn}
@@ -19,7 +20,7 @@ module _ (w : List ℕ) (k : ℕ) {o : Occurs} {a n : ℕ} (p : o ≡ occursIn w
   product : a * n ≡ total (entryIn w k)
   product = ap₂ (λ (x y : ℕ). x * y) q (e ∙ ap times p)
 
-  measured : total (entryIn w k) ≤ 2147483647 → Measured (total (entryIn w k)) (a * n)
+  measured : total (entryIn w k) ≤ largest → Measured (total (entryIn w k)) (a * n)
   measured h = record { is = product; small = rw product h }
 
 -- where the factors are known

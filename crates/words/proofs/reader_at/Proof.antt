@@ -40,7 +40,7 @@ use Rattle.text.proofs.Stand.Laws as P′
 use Rattle.words.specs.declared.WordReader.{WordReader}
 use Rattle.words.proofs.WordReader as T
 use Rattle.words.proofs.WordReader.Laws as T′
-use Rattle.words.proofs.reader_at.Key.{name as #reader·reader-at}
+use Rattle.words.proofs.reader_at.Key.{name as #words·reader-at}
 use Rattle.words.proofs.reader_at as reader-at
 use Rattle.words.proofs.reader_at.Statement as stated
 use Rattle.words.proofs.reader_at.Code as code
@@ -97,5 +97,5 @@ pub reader-at-spec : {M : Type 1} → stated.statement M
 unfolding code.routine tablesOf
 reader-at-spec 𝓤 H 𝓜 𝓖 𝓡 =
     entered 𝓤 H (tripleOf 𝓤 H (𝓖 .A) reader-at.signature (reader-at.spec 𝓤 H (𝓖 .A) (𝓜 .mem) (𝓡 .run)))
-    (tables 𝓤 H 𝓜 𝓡 code.env .C) (tables 𝓤 H 𝓜 𝓡 code.env .Λ) #reader·reader-at code.function (code.unfolded 𝓤 H 𝓜 𝓡)
+    (tables 𝓤 H 𝓜 𝓡 code.env .C) (tables 𝓤 H 𝓜 𝓡 code.env .Λ) #words·reader-at code.function (code.unfolded 𝓤 H 𝓜 𝓡)
     (reader-at-meets 𝓤 H (𝓖 .A) (givenOf 𝓤 H 𝓜 𝓖) (𝓜 .mem) (𝓡 .run) (tablesOf 𝓤 H 𝓜 (tables 𝓤 H 𝓜 𝓡 code.env)))

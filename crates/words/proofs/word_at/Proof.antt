@@ -50,13 +50,13 @@ use Rattle.text.proofs.Next as S
 use Rattle.text.proofs.Next.Laws as S′
 use Rattle.words.proofs.reader_at as new
 use Rattle.words.proofs.reader_at.Symbol as new-def
-use Rattle.words.proofs.reader_at.Symbol.{name as #reader·reader-at}
+use Rattle.words.proofs.reader_at.Symbol.{name as #words·reader-at}
 use Rattle.words.proofs.reader_at.Met as new-thm
 use Rattle.words.proofs.word_of as next
 use Rattle.words.proofs.word_of.Symbol as next-def
-use Rattle.words.proofs.word_of.Symbol.{name as #reader·word-of}
+use Rattle.words.proofs.word_of.Symbol.{name as #words·word-of}
 use Rattle.words.proofs.word_of.Met as next-thm
-use Rattle.words.proofs.word_at.Key.{name as #reader·word-at}
+use Rattle.words.proofs.word_at.Key.{name as #words·word-at}
 use Rattle.words.proofs.word_at as wat
 use Rattle.words.proofs.word_at.Statement as stated
 use Rattle.words.proofs.word_at.Code as code
@@ -143,7 +143,7 @@ module _ {M : Type 1} (𝓤 : URA M) (H : Heap 𝓤) (A : Atoms 𝓤) (W : Given
       suffices ! _ (ends-at 𝓤 H A wat.ended stayed (wat.clauses 𝓤 H A mem run) W (((κ, tt), (q, tt), tt, (s, (n, tt)), vals), tt) u t (tt, (tt, tt)) (tt, (tt, tt))) $ says ! e $
       move ! (1 ∷ []) $ frame ! $ move ! (1 ∷ []) $ frame ! $ done !
 
-  module _ (C : Calls 𝓤 H) (Λ : Loops 𝓤 H) (fm : FmC 𝓤 H (W .laws) C) (known-new : Triple 𝓤 (C #reader·reader-at) (New 𝓤 H A mem run)) (known-next : Triple 𝓤 (C #reader·word-of) (Next 𝓤 H A mem run)) where
+  module _ (C : Calls 𝓤 H) (Λ : Loops 𝓤 H) (fm : FmC 𝓤 H (W .laws) C) (known-new : Triple 𝓤 (C #words·reader-at) (New 𝓤 H A mem run)) (known-next : Triple 𝓤 (C #words·word-of) (Next 𝓤 H A mem run)) where
     walk : Is (ShrSlice (named 0) κ u8) s (v ∷ []) → ent 𝓤 (onEntry 𝓤 H A wat.signature (κ, tt) (q, tt) (s, (n, tt)) vals) (WpFn 𝓤 H C Λ code.function (v ∷ P′.lowered n ∷ []) Post)
     walk p =
         qed W (raw (onEntry 𝓤 H A wat.signature (κ, tt) (q, tt) (s, (n, tt)) vals) ∷ []) ∵ enter ! C Λ code.function (v ∷ P′.lowered n ∷ []) _ $
@@ -167,13 +167,13 @@ module _ {M : Type 1} (𝓤 : URA M) (H : Heap 𝓤) (A : Atoms 𝓤) (W : Given
         by ! (exits t u′ (found-of r t e e′))))))))))))))
 
 module _ {M : Type 1} (𝓤 : URA M) (H : Heap 𝓤) (A : Atoms 𝓤) (W : Given 𝓤 H A) (mem : Memory → SProp 𝓤) (run : Routine → Fun 𝓤) where
-  word-at-walks : (C : Calls 𝓤 H) (Λ : Loops 𝓤 H) → FmC 𝓤 H (W .laws) C → Triple 𝓤 (C #reader·reader-at) (New 𝓤 H A mem run) → Triple 𝓤 (C #reader·word-of) (Next 𝓤 H A mem run)
+  word-at-walks : (C : Calls 𝓤 H) (Λ : Loops 𝓤 H) → FmC 𝓤 H (W .laws) C → Triple 𝓤 (C #words·reader-at) (New 𝓤 H A mem run) → Triple 𝓤 (C #words·word-of) (Next 𝓤 H A mem run)
       → Walks 𝓤 H A wat.ended stayed (WpFn 𝓤 H C Λ code.function) (wat.clauses 𝓤 H A mem run)
   word-at-walks C Λ fm known-new known-next = walked 𝓤 H A wat.ended stayed (wat.clauses 𝓤 H A mem run) (WpFn 𝓤 H C Λ code.function) (λ κs. (slice-vals, (LL.vals P.the-type P′.the-laws, tt))) (λ κs. (shr-slice-tells (named 0) (κs .0) u8, (LL.tells P.the-type P′.the-laws, tt)))
       (λ κs qs bounds a g are. needs 𝓤 _ _ (λ inside. walk 𝓤 H A W mem run (κs .0) (qs .0) (a .0) (a .1 .0) (are .1 .0) inside C Λ fm known-new known-next (are .0)))
 
 word-at-meets : {M : Type 1} (𝓤 : URA M) (H : Heap 𝓤) (A : Atoms 𝓤) (W : Given 𝓤 H A) (mem : Memory → SProp 𝓤) (run : Routine → Fun 𝓤) (𝓣 : Tables 𝓤 H)
-    → Triple 𝓤 (𝓣 .C #reader·reader-at) (New 𝓤 H A mem run) → Triple 𝓤 (𝓣 .C #reader·word-of) (Next 𝓤 H A mem run)
+    → Triple 𝓤 (𝓣 .C #words·reader-at) (New 𝓤 H A mem run) → Triple 𝓤 (𝓣 .C #words·word-of) (Next 𝓤 H A mem run)
     → Meets 𝓤 H A wat.signature (WpFn 𝓤 H (𝓣 .C) (𝓣 .Λ) code.function) (wat.spec 𝓤 H A mem run)
 word-at-meets 𝓤 H A W mem run 𝓣 known-new known-next = walk-meets 𝓤 H A wat.ended stayed W (goes-none-slice 𝓤 H A W 1 (0 ∷ []) tt (plain (λ _. u8)) yes, (goes-none 𝓤 H A W 1 (λ _. P.the-row) yes (λ κs x f. refl), tt)) (wat.clauses 𝓤 H A mem run) (WpFn 𝓤 H (𝓣 .C) (𝓣 .Λ) code.function) (WpFn-mono 𝓤 H (W .laws) 𝓣 code.function)
     (word-at-walks 𝓤 H A W mem run (𝓣 .C) (𝓣 .Λ) (fmOf 𝓤 H (W .laws) 𝓣) known-new known-next)
@@ -182,7 +182,7 @@ pub word-at-spec : {M : Type 1} → stated.statement M
 unfolding code.routine tablesOf
 word-at-spec 𝓤 H 𝓜 𝓖 𝓡 =
     entered 𝓤 H (tripleOf 𝓤 H (𝓖 .A) wat.signature (wat.spec 𝓤 H (𝓖 .A) (𝓜 .mem) (𝓡 .run)))
-    (tables 𝓤 H 𝓜 𝓡 code.env .C) (tables 𝓤 H 𝓜 𝓡 code.env .Λ) #reader·word-at code.function (code.unfolded 𝓤 H 𝓜 𝓡)
+    (tables 𝓤 H 𝓜 𝓡 code.env .C) (tables 𝓤 H 𝓜 𝓡 code.env .Λ) #words·word-at code.function (code.unfolded 𝓤 H 𝓜 𝓡)
     (word-at-meets 𝓤 H (𝓖 .A) (givenOf 𝓤 H 𝓜 𝓖) (𝓜 .mem) (𝓡 .run) (tablesOf 𝓤 H 𝓜 (tables 𝓤 H 𝓜 𝓡 code.env))
-    (cited 𝓤 H (New 𝓤 H (𝓖 .A) (𝓜 .mem) (𝓡 .run)) 𝓜 𝓡 code.env #reader·reader-at new-def.routine code.calls-reader·reader-at (new-thm.met 𝓤 H 𝓜 𝓖 𝓡))
-    (cited 𝓤 H (Next 𝓤 H (𝓖 .A) (𝓜 .mem) (𝓡 .run)) 𝓜 𝓡 code.env #reader·word-of next-def.routine code.calls-reader·word-of (next-thm.met 𝓤 H 𝓜 𝓖 𝓡)))
+    (cited 𝓤 H (New 𝓤 H (𝓖 .A) (𝓜 .mem) (𝓡 .run)) 𝓜 𝓡 code.env #words·reader-at new-def.routine code.calls-words·reader-at (new-thm.met 𝓤 H 𝓜 𝓖 𝓡))
+    (cited 𝓤 H (Next 𝓤 H (𝓖 .A) (𝓜 .mem) (𝓡 .run)) 𝓜 𝓡 code.env #words·word-of next-def.routine code.calls-words·word-of (next-thm.met 𝓤 H 𝓜 𝓖 𝓡)))

@@ -55,7 +55,7 @@ use Rattle.text.proofs.next_token.Met as step-thm
 use Rattle.words.specs.declared.WordReader.{WordReader}
 use Rattle.words.proofs.WordReader as T
 use Rattle.words.proofs.WordReader.Laws as T′
-use Rattle.words.proofs.word_of.Key.{name as #reader·word-of}
+use Rattle.words.proofs.word_of.Key.{name as #words·word-of}
 use Rattle.words.proofs.word_of as word
 use Rattle.words.proofs.word_of.Statement as stated
 use Rattle.words.proofs.word_of.Code as code
@@ -161,6 +161,6 @@ pub word-of-spec : {M : Type 1} → stated.statement M
 unfolding code.routine tablesOf
 word-of-spec 𝓤 H 𝓜 𝓖 𝓡 =
     entered 𝓤 H (tripleOf 𝓤 H (𝓖 .A) word.signature (word.spec 𝓤 H (𝓖 .A) (𝓜 .mem) (𝓡 .run)))
-    (tables 𝓤 H 𝓜 𝓡 code.env .C) (tables 𝓤 H 𝓜 𝓡 code.env .Λ) #reader·word-of code.function (code.unfolded 𝓤 H 𝓜 𝓡)
+    (tables 𝓤 H 𝓜 𝓡 code.env .C) (tables 𝓤 H 𝓜 𝓡 code.env .Λ) #words·word-of code.function (code.unfolded 𝓤 H 𝓜 𝓡)
     (word-of-meets 𝓤 H (𝓖 .A) (givenOf 𝓤 H 𝓜 𝓖) (𝓜 .mem) (𝓡 .run) (tablesOf 𝓤 H 𝓜 (tables 𝓤 H 𝓜 𝓡 code.env))
     (cited 𝓤 H (StepAt 𝓤 H (𝓖 .A) (𝓜 .mem) (𝓡 .run)) 𝓜 𝓡 code.env #text·next-token step-def.routine code.calls-text·next-token (step-thm.met 𝓤 H 𝓜 𝓖 𝓡)))

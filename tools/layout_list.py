@@ -102,7 +102,7 @@ class Entry:
     redefines: object
     picture: object = None
     members: list = dataclasses.field(default_factory=list)
-    # what the listing doesn't show: the statement's level and its REDEFINES, the slack before it, whether folding made it
+    # what the listing doesn't show: the statement's level and REDEFINES, the slack before it, whether folding made it
     level: int = 0
     over: object = None
     slack: int = 0

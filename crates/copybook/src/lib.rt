@@ -52,12 +52,14 @@ pub fn layout_listing(text: &[u8], work: &mut [u32], out: &mut [u8]) -> Writing
     }
 }
 
-// The details of the listing's entries: 47 bytes for each, in the order of the listing, numbers little-endian. The position of the statement
-// (4), its level (1), the entry's depth (1), 1 for a group made by folding (1), the number of entries below it (4), its first byte in the
-// record (8), the slack bytes directly before it (4), and start and length of its picture, its REDEFINES and its DEPENDING ON as the statement
-// has them (8 each, 0 where absent). A group made by folding has its base's position and level, and 0 for slack and the three places.
+// The details of the listing's entries: 47 bytes for each, in the order of the listing, numbers little-endian. The
+// position of the statement (4), its level (1), the entry's depth (1), 1 for a group made by folding (1), the number of
+// entries below it (4), its first byte in the record (8), the slack bytes directly before it (4), and start and length
+// of its picture, its REDEFINES and its DEPENDING ON as the statement has them (8 each, 0 where absent). A group made
+// by folding has its base's position and level, and 0 for slack and the three places.
 // Answer, output and work memory are as in `layout_listing`, and so are the refusals: 31 has the length of the details.
-// The contract rules out a program that takes an entry's offset for its first byte, and one that gives a fold its base's slack.
+// The contract rules out a program that takes an entry's offset for its first byte, and one that gives a fold its
+// base's slack.
 pub fn layout_details(text: &[u8], work: &mut [u32], out: &mut [u8]) -> Writing
     ensures { λ r. ⌜ left (writingOf r) (now (out .exit)) (now (work .exit)) ≡ detailsCall (now (text .entry)) (now (out .entry)) (now (work .entry)) ⌝ }
 {

@@ -28,7 +28,8 @@ pub extern "C" fn copybook_layout(
     numbers::hand_on(w, answer)
 }
 
-// The details of the listing's entries, as `copybook::layout_details` says. To `answer`, 2 numbers, as `copybook_layout`.
+// The details of the listing's entries, as `copybook::layout_details` says. To `answer`, 2 numbers, as
+// `copybook_layout`.
 // The contract rules out the same two wrong calls as that of `copybook_layout`.
 #[no_mangle]
 pub extern "C" fn copybook_details(

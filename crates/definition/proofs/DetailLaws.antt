@@ -1,7 +1,7 @@
--- Laws of the details: as many rows as the listing has entries; the first byte of a member is its group's plus its offset; slack begins where
--- the latest earlier item ended; and how deep an entry of a folded listing stands.
+-- Laws of the details: as many rows as the listing has entries; the first byte of a member is its group's plus its
+-- offset; slack begins where the latest earlier item ended; and how deep an entry of a folded listing stands.
 -- Assumes nothing.
-use Prim.Native.Nat.{ℕ, zero, suc, _+_, _*_, _-_, max, _≤_, _<_}
+use Prim.Native.Nat.{ℕ, suc, _+_, _*_, _-_, max, _≤_, _<_}
 use mathlib.Core.Path.{_≡_, refl, sym, _∙_, ap, subst}
 use mathlib.Core.Bool.{Bool, true, false, _&&_}
 use mathlib.Core.List.{List, [], _∷_, _++_, append-assoc, append-nil}
@@ -13,7 +13,7 @@ use borrow.Author.Tests.{lt-ltb, le-ltb, ltb-false}
 use Rattle.definition.specs.declared.Entry.{Entry}
 use Rattle.definition.specs.declared.Pictured.{Pictured}
 use Rattle.definition.specs.declared.Statement.{Statement}
-use Rattle.definition.specs.Basic.{if_then_else_, given, fewest, Answer, give, orRefuse}
+use Rattle.definition.specs.Basic.{if_then_else_, given, fewest, give, orRefuse}
 use Rattle.definition.specs.Tree.{Forest, leaf, item}
 use Rattle.definition.specs.Picture.{isBinary}
 use Rattle.definition.specs.Fold.{Entries, end, entry, append, entryEnd, sameName, Place, placeOf, find, hasMember, rebased, redefiners, withRedefiners, foldedList, foldedBelow, foldedAll}

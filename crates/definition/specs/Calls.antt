@@ -1,5 +1,6 @@
--- The calls: the layout listing, its details, the picture answer, the mask, the byte owner and the record check, each from what the caller hands in to
--- what the call answers and leaves. Checks run in the order of document 01's table; a line of a `do` is a check or a stage.
+-- The calls: the layout listing, its details, the picture answer, the mask, the byte owner and the record check, each
+-- from what the caller hands in to what the call answers and leaves. Checks run in the order of document 01's table; a
+-- line of a `do` is a check or a stage.
 -- Assumes nothing.
 use Prim.Native.Nat.{ℕ, zero, suc, _+_}
 use mathlib.Core.Bool.{Bool, true, false, _&&_, not}

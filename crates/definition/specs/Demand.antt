@@ -37,8 +37,9 @@ abbrev pub aligned : List ℕ → Statement → Forest → Bool
 aligned text s leaf = isAligned text s
 aligned text s (item t kids later) = false
 
--- the entries tell the items of a list, of which `reached` bytes are taken: one entry for each item, in copybook order; its name, count and
--- picture are the statement's, and its slack is what lies between; an elementary item is as wide as its picture says, a group as its list; count times its width is taken
+-- the entries tell the items of a list, of which `reached` bytes are taken: one entry for each item, in copybook order;
+-- its name, count and picture are the statement's, and its slack is what lies between; an elementary item is as wide as
+-- its picture says, a group as its list; count times its width is taken
 abbrev pub Tells : List ℕ → ℕ → Forest → Entries → Type 0
 Tells text reached leaf end = Unit {0}
 Tells text reached (item s kids later) (entry e members others) =

@@ -1,7 +1,7 @@
--- The details of the listing's entries, an answer of our own: what the listing does not show of them. Each entry has 47 bytes, in the order of
--- the listing. Numbers are little-endian, 4 bytes unless said.
+-- The details of the listing's entries, an answer of our own: what the listing does not show of them. Each entry has 47
+-- bytes, in the order of the listing. Numbers are little-endian, 4 bytes unless said.
 -- Assumes nothing.
-use Prim.Native.Nat.{ℕ, zero, suc, _+_, max}
+use Prim.Native.Nat.{ℕ, suc, _+_, max}
 use mathlib.Core.Path.{_≡_}
 use mathlib.Core.Bool.{true, false}
 use mathlib.Core.List.{List, [], _∷_, _++_}
@@ -24,16 +24,17 @@ pub record Detail : Type 0 where
 abbrev pub detail : Entry → ℕ → ℕ → ℕ → Detail
 detail e depth below first = record { own = e; depth = depth; below = below; first = first }
 
--- the entries of a list at a depth, which starts at the byte `start` of the record, a group before its members. An entry's first byte is its
--- offset after that, and there the list of its members starts
+-- the entries of a list at a depth, which starts at the byte `start` of the record, a group before its members. An
+-- entry's first byte is its offset after that, and there the list of its members starts
 unfoldable pub detailsIn : ℕ → ℕ → Entries → List Detail
 detailsIn depth start end = []
 detailsIn depth start (entry e members later) =
     let first = start + e .offset in
     detail e depth (entries# members) first ∷ (detailsIn (depth + 1) first members ++ detailsIn depth start later)
 
--- the position of the statement; its level, the depth, and 1 for a group made by folding, 1 byte each; the number of entries below; the first
--- byte in the record, 8 bytes; the slack bytes directly before; picture, REDEFINES and DEPENDING ON as the statement has them, start and length
+-- the position of the statement; its level, the depth, and 1 for a group made by folding, 1 byte each; the number of
+-- entries below; the first byte in the record, 8 bytes; the slack bytes directly before; picture, REDEFINES and
+-- DEPENDING ON as the statement has them, start and length
 unfoldable pub detailBytes : Detail → List ℕ
 detailBytes x =
     let e = x .own in
@@ -48,7 +49,7 @@ detailsBytes (x ∷ xs) = detailBytes x ++ detailsBytes xs
 abbrev pub entriesDetails : Entries → List ℕ
 entriesDetails es = detailsBytes (detailsIn 0 0 es)
 
--- ---------------------------------------------------------------- what holds of them (`DetailLaws`, of the proofs, says so)
+-- ---------------------------------------------------------------- what holds of them (`DetailLaws`, of the proofs)
 
 -- the group around a row of that depth, by the rows before it, the latest first: the latest that is less deep
 unfoldable pub around : ℕ → List Detail → Option Detail
@@ -70,8 +71,8 @@ abbrev pub height : Entries → ℕ
 height end = 0
 height (entry e members later) = max (suc (height members)) (height later)
 
--- before folding: a redefiner has no slack; any other item stands after its slack, which begins where the latest earlier item of its list
--- without REDEFINES ends, or where its list does
+-- before folding: a redefiner has no slack; any other item stands after its slack, which begins where the latest
+-- earlier item of its list without REDEFINES ends, or where its list does
 abbrev pub Following : ℕ → Entries → Type 0
 Following cursor end = Unit {0}
 Following cursor (entry e members later) =

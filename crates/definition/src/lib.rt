@@ -181,8 +181,8 @@ pub struct Statement {
 }
 
 // An entry of the listing. `at` and `level` are its statement's; `over` is its REDEFINES as the statement has it, which
-// the listing leaves out of a member of a fold; `slack` counts the slack bytes directly before it; `folded` is true of a
-// group made by folding.
+// the listing leaves out of a member of a fold; `slack` counts the slack bytes directly before it; `folded` is true of
+// a group made by folding.
 pub struct Entry {
     pub at: usize,
     pub level: u8,

@@ -1,6 +1,7 @@
--- The details of the listing's entries one after the other are the definition's; how deep those entries stand; what the table says of a record.
+-- The details of the listing's entries one after the other are the definition's; how deep those entries stand; what the
+-- table says of a record.
 -- Assumes nothing.
-use Prim.Native.Nat.{ℕ, zero, suc, _+_, _*_, max, _≤_, _<_}
+use Prim.Native.Nat.{ℕ, zero, suc, _+_, _*_, _≤_, _<_}
 use mathlib.Core.Path.{_≡_, refl, sym, ap, ap₂, subst, _∙_}
 use mathlib.Core.List.{List, [], _∷_, _++_, append-assoc, append-nil}
 use native.Mathlib.Omega.{arith}
@@ -9,7 +10,6 @@ use lib.Seq.{getD-set-same, getD-set-other}
 use Rattle.definition.specs.declared.Entry.{Entry}
 use Rattle.definition.specs.Basic.{le4, le8}
 use Rattle.definition.specs.Fold.{Entries, end, entry, foldedAll}
-use Rattle.definition.specs.Listing.{members#}
 use Rattle.definition.specs.Search.{entries#}
 use Rattle.definition.specs.Details.{Detail, detail, detailsIn, detailBytes, detailsBytes, entriesDetails, height}
 use Rattle.definition.proofs.DetailLaws.{bytes-both, details-length}
@@ -17,7 +17,7 @@ use Rattle.unions.specs.Shown.{listIn}
 use Rattle.listing.specs.Puts.{Put}
 use Rattle.entries.specs.Entered.{Shown, flatIn, itemsFrom, shownAll}
 use Rattle.entries.proofs.FlatLaws.{flat-length}
-use Rattle.details.specs.Detailed.{standing, clausePlaces, firstIn, detailIn, flatDetails, Within, Listed, detailsOf, Tabled}
+use Rattle.details.specs.Detailed.{standing, clausePlaces, flatDetails, Within, Listed, detailsOf, Tabled}
 
 -- the parts of an entry's details, in the order in which they are put
 pub detail-parts : (x : Detail) → detailBytes x ≡ standing x ++ le8 (x .first) ++ le4 (x .own .slack) ++ clausePlaces (x .own)

@@ -1,6 +1,7 @@
--- What the loop over the table keeps: the details of all entries are what was put and the details of the rest, by the starts of the open lists.
+-- What the loop over the table keeps: the details of all entries are what was put and the details of the rest, by the
+-- starts of the open lists.
 -- Assumes nothing.
-use Prim.Native.Nat.{ℕ, zero, suc, _+_, _*_, _-_, _≤_, _<_}
+use Prim.Native.Nat.{ℕ, zero, suc, _+_, _*_, _≤_, _<_}
 use mathlib.Core.Path.{_≡_, refl, sym, ap, subst, _∙_}
 use mathlib.Core.Logic.{⊎-elim}
 use mathlib.Core.List.{List, [], _∷_, _++_, append-assoc, append-nil}
@@ -14,7 +15,7 @@ use Rattle.definition.proofs.Lists.{order}
 use Rattle.listing.specs.Puts.{Put}
 use Rattle.listing.proofs.PutLaws.{put-none, _and_}
 use Rattle.entries.specs.declared.Item.{Item}
-use Rattle.entries.specs.Entered.{Shown, itemAt, itemsFrom, ownOf, shownOf, shownAll, Sound}
+use Rattle.entries.specs.Entered.{Shown, itemAt, ownOf, shownOf, Sound}
 use Rattle.entries.proofs.OwnLaws.{sound-read}
 use Rattle.entries.proofs.LoopLaws.{all, rest, rest-all, At, at-starts, none-left, rest-next, at-fits, at-sound, at-next}
 use Rattle.details.specs.Detailed.{firstIn, detailIn, flatDetails, Within, farthest, First, There, Listed}

@@ -1,4 +1,5 @@
-// The details of a record's entries, written from its table of entries: 47 bytes for each, and nothing unless all of it has room.
+// The details of a record's entries, written from its table of entries: 47 bytes for each, and nothing unless all of it
+// has room.
 ghost use mathlib.Core.Path.{_≡_};
 ghost use mathlib.Core.List.{[]};
 ghost use Prim.Native.Nat.{_+_, _*_, _≤_, _<_};
@@ -116,8 +117,8 @@ fn put_details(work: &[u32], entries: &[u32], n: usize, out: &mut [u8]) -> usize
     place
 }
 
-// Writes the details of the record in the rows from `from` up to `to`, whose table has `count` entries, if the output has room for them; 31,
-// with their length, if not.
+// Writes the details of the record in the rows from `from` up to `to`, whose table has `count` entries, if the output
+// has room for them; 31, with their length, if not.
 pub fn write_details(
     text: &[u8],
     work: &[u32],

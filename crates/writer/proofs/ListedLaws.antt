@@ -1,12 +1,11 @@
 -- Laws of the listing of a record in the table: how many bytes it has, its parts, and what the output holds after it.
 -- Assumes nothing.
 use Prim.Native.Nat.{ℕ, suc, _+_, _*_, _-_, _≤_, _<_}
-use mathlib.Core.Path.{_≡_, refl, sym, _∙_, ap}
+use mathlib.Core.Path.{_≡_, sym, _∙_, ap}
 use mathlib.Core.Bool.{Bool}
 use mathlib.Core.List.{List, [], _∷_, _++_}
 use native.Mathlib.Omega.{arith}
-use native.Mathlib.Nat.{zero-add}
-use lib.ListN.{length, drop, length-append}
+use lib.ListN.{length, length-append}
 use Rattle.definition.specs.declared.Writing.{Writing}
 use Rattle.definition.specs.Calls.{fitting, left, afterWriting, writingOf}
 use Rattle.definition.specs.Fold.{Entries}

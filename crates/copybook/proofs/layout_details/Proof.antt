@@ -1,4 +1,5 @@
--- `copybook::layout_details` meets its contract: the record read and laid, the details of its entries, and work memory cleared on every path.
+-- `copybook::layout_details` meets its contract: the record read and laid, the details of its entries, and work memory
+-- cleared on every path.
 -- Assumes nothing.
 use borrow.Author.Needs.{needs}
 use mathlib.Core.Path.{subst}

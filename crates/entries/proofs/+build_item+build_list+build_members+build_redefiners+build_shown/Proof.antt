@@ -37,7 +37,7 @@ use Rattle.entries.proofs.close_union.Reads as close-union-reads
 use Rattle.entries.proofs.has_own.Reads as has-own-reads
 use Rattle.places.proofs.next_of.Reads as next-of-reads
 use Rattle.unions.proofs.standing_of.Reads as standing-of-reads
-use Rattle.places.proofs.wide.Reads as wide-reads
+use Rattle.rows.proofs.wide.Reads as wide-reads
 use Rattle.entries.proofs.+build_item+build_list+build_members+build_redefiners+build_shown.{
   statement,
 }

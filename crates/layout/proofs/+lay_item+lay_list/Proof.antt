@@ -42,7 +42,7 @@ use Rattle.places.proofs.end_of.Reads as end-of-reads
 use Rattle.layout.proofs.fold_check.Reads as fold-check-reads
 use Rattle.limits.proofs.most.Reads as most-reads
 use Rattle.layout.proofs.place.Reads as place-reads
-use Rattle.places.proofs.wide.Reads as wide-reads
+use Rattle.rows.proofs.wide.Reads as wide-reads
 use Rattle.rows.proofs.statement_at.Reads as statement-at-reads
 use Rattle.layout.proofs.+lay_item+lay_list.{statement}
 use Rattle.layout.proofs.+lay_item+lay_list.Tie.{close}

@@ -8,7 +8,7 @@ The definition is the crate `definition` of the repository (--repo names another
 computes its answer to each input: the bytes of the listing, read back into the oracle's numbers, or the refusal.
 
 Each input must get the same list of numbers, or the same refusal, from both. Left out, and counted by number, are the inputs that the
-definition turns down with a refusal that document 01 adds to the Rust's; of these, the reason is checked as far as it shows (`due`).
+definition turns down with a refusal that docs/RULES.md adds to the Rust's; of these, the reason is checked as far as it shows (`due`).
 The exit status is 1 if there is a difference, and 2 if there was no comparison. It needs rt and cargo, and no network.
 """
 
@@ -292,7 +292,7 @@ class Oracle:
         return answers
 
 
-# ---------------------------------------------------------------- the refusals that document 01 adds
+# ---------------------------------------------------------------- the refusals that are added to the Rust's
 
 ADDED = {1, 2, 3, 14, 24, 27, 29, 30, 31}
 LARGEST = 2147483647

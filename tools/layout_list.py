@@ -1,4 +1,4 @@
-"""A copybook's layout listing by document 01, over the kept statements of reader_list.py: Picture, Width, Offsets, and the listing's bytes.
+"""A copybook's layout listing by docs/RULES.md, over the kept statements of reader_list.py: Picture, Width, Offsets, and the listing's bytes.
 
 It shares nothing with the crates. `answer(text)` is what the layout listing has to answer, as numbers: `1 LENGTH` and the bytes of the
 listing, or `0 NUMBER POSITION NEEDED`. `oracle_numbers(text, listing)` reads a listing back into what tools/oracle answers to that text, and
@@ -102,6 +102,11 @@ class Entry:
     redefines: object
     picture: object = None
     members: list = dataclasses.field(default_factory=list)
+    # what the listing doesn't show: the statement's level and REDEFINES, the slack before it, whether folding made it
+    level: int = 0
+    over: object = None
+    slack: int = 0
+    made: bool = False
 
     def called(self):
         return self.name.text if self.name else b"FILLER"
@@ -151,7 +156,8 @@ def laid(nodes, depth):
                 raise Refused(28, s.at)
         elif s.sync and kind == BINARY:
             offset = -(-cursor // width) * width
-        e = Entry(s.at, s.name, offset, width, kind, details, s.occurs, s.depending, s.redefines, s.picture, members)
+        slack = 0 if s.redefines else offset - cursor
+        e = Entry(s.at, s.name, offset, width, kind, details, s.occurs, s.depending, s.redefines, s.picture, members, s.level, s.redefines, slack)
         if max(s.occurs or 0, offset, e.total(), e.end()) > LARGEST:
             raise Refused(29, s.at)
         offsets[e.called().upper()] = offset
@@ -184,7 +190,7 @@ def folded(entries):
         # A real group with a child of its own name, case included, counts as already folded.
         already = base.kind == GROUP and any(m.called() == base.called() for m in base.members)
         members = (base.members if already else [rebased(base)]) + [rebased(e)]
-        out[place] = Entry(base.at, base.name, base.offset, max(m.total() for m in members), GROUP, [], None, None, None, None, members)
+        out[place] = Entry(base.at, base.name, base.offset, max(m.total() for m in members), GROUP, [], None, None, None, None, members, base.level, made=True)
     return out
 
 

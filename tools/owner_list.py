@@ -1,4 +1,4 @@
-"""A record's bytes and whose each is, by document 01's owner rule, over the kept statements of reader_list.py and the widths of layout_list.py.
+"""A record's bytes and whose each is, by the owner rule of docs/RULES.md, over the kept statements of reader_list.py and the widths of layout_list.py.
 
 It shares nothing with the crates, and uses no offset. `laid(text)` lays the whole record byte by byte; `answer(text, position)` is what the
 byte owner has to answer, as numbers: `1 ENTRY FIRST PLACE`, `2 ENTRY` for slack, or `0 NUMBER POSITION NEEDED`. It counts bytes instead of

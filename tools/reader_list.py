@@ -1,7 +1,7 @@
-"""A copybook's kept statements by document 01, read by its words: Text, Statement and Levels, and where a call is turned down.
+"""A copybook's kept statements by docs/RULES.md, read by its words: Text, Statement and Levels, and where a call is turned down.
 
 It shares nothing with the crates: `reading(text)` is the answer that the reader has to give, as numbers. `0 NUMBER POSITION NEEDED` is a
-refusal. `1 COUNT` is followed by the statements, 16 numbers for each: level, position, depth, name; picture, usage, sign, sync, occurs
+refusal. `1 COUNT` is followed by the statements, 16 numbers for each: level, position, parent (its row and 1, or 0), name; picture, usage, sign, sync, occurs
 mark and count, DEPENDING ON name, REDEFINES name. A name or a picture is its start and its length, both 0 if absent. Usage: 0 none said,
 1 COMP-3, 2 COMP. Sign: 0 none said, else 1, plus 1 for LEADING, plus 2 for SEPARATE.
 """
@@ -16,7 +16,7 @@ COMP3 = ("COMP-3", "COMPUTATIONAL-3", "PACKED-DECIMAL")
 COMP = ("COMP", "COMPUTATIONAL", "COMP-4", "COMPUTATIONAL-4", "COMP-5", "COMPUTATIONAL-5", "BINARY")
 
 Word = collections.namedtuple("Word", "at text")
-Statement = collections.namedtuple("Statement", "level at depth name picture usage sign sync occurs depending redefines")
+Statement = collections.namedtuple("Statement", "level at depth parent name picture usage sign sync occurs depending redefines")
 
 
 class Refused(Exception):
@@ -152,11 +152,12 @@ def kept_statements(text):
         if len(kept) == MOST_STATEMENTS:  # The 801st kept statement, after its clauses.
             raise Refused(14, words[0].at)
         # A statement's parent is the nearest earlier open one with a smaller level.
-        while open_levels and open_levels[-1] >= level:
+        while open_levels and open_levels[-1][0] >= level:
             open_levels.pop()
         name = words[1] if len(words) > 1 else None  # Second word: name, whatever it says.
-        kept.append(Statement(level, words[0].at, len(open_levels), name, **said))
-        open_levels.append(level)
+        parent = open_levels[-1][1] if open_levels else 0
+        kept.append(Statement(level, words[0].at, len(open_levels), parent, name, **said))
+        open_levels.append((level, len(kept)))
     return kept
 
 
@@ -165,7 +166,7 @@ def numbers(s):
         return [word.at, len(word.text)] if word else [0, 0]
 
     occurs = [0, 0] if s.occurs is None else [1, s.occurs]
-    return [s.level, s.at, s.depth, *span(s.name), *span(s.picture), s.usage, s.sign, s.sync, *occurs, *span(s.depending), *span(s.redefines)]
+    return [s.level, s.at, s.parent, *span(s.name), *span(s.picture), s.usage, s.sign, s.sync, *occurs, *span(s.depending), *span(s.redefines)]
 
 
 def reading(text):

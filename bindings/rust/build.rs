@@ -1,5 +1,5 @@
-//! Links the static library of the crate `copybook_c`: from the folder that the environment variable COPYBOOK_LIB names, or else from this repository,
-//! where `rt staticlib copybook_c` proves the crate and makes it.
+//! Links the static library of the crate `copybook_c`: from the folder that the environment variable COPYBOOK_LIB
+//! names, or else from this repository, where `rt staticlib copybook_c` proves the crate and makes it.
 
 use std::path::{Path, PathBuf};
 use std::process::Command;
@@ -36,8 +36,12 @@ fn made() -> PathBuf {
     for source in ["crates.txt", "crates"] {
         println!("cargo:rerun-if-changed={}", repository.join(source).display());
     }
-    let ran = Command::new("rt").args(["staticlib", "copybook_c"]).current_dir(&repository).output().unwrap_or_else(|e| {
-        panic!("rt, the command of the Rattle kit, could not be run ({e}): install it, or set COPYBOOK_LIB to the folder of a {LIBRARY} that it made")
+    let made = Command::new("rt").args(["staticlib", "copybook_c"]).current_dir(&repository).output();
+    let ran = made.unwrap_or_else(|e| {
+        panic!(
+            "rt, the command of the Rattle kit, could not be run ({e}): install it, \
+             or set COPYBOOK_LIB to the folder of a {LIBRARY} that it made"
+        )
     });
     assert!(
         ran.status.success(),

@@ -1,8 +1,9 @@
-/* Prints the columns of a copybook, from a file or from standard input: depth, name, offset and width of each entry.
+/* Prints the columns of a copybook, from a file or from standard input: first byte, width, name and picture of each, by
+   depth. A refusal is told with line and column.
 
        layout [FILE]
 
-   The buffers are lent for the call and stand here once; the listing is read as include/copybook.h describes it. */
+   The buffers are lent for the calls and stand here once. */
 #include "copybook.h"
 
 #include <stdio.h>
@@ -10,73 +11,69 @@
 static uint8_t text[65536]; /* one byte more than a copybook may have, so that a longer one is refused */
 static uint32_t work[COPYBOOK_WORK];
 static uint8_t listing[COPYBOOK_LONGEST_LISTING];
+static uint8_t details[COPYBOOK_LONGEST_DETAILS];
 
-/* The number in the four bytes from p on. */
-static uint32_t four(const uint8_t *p)
+static void print_word(const char *before, struct copybook_span span)
 {
-    return p[0] | (uint32_t)p[1] << 8 | (uint32_t)p[2] << 16 | (uint32_t)p[3] << 24;
+    if (span.length > 0)
+        printf("%s%.*s", before, (int)span.length, (const char *)text + span.start);
 }
 
-/* How many bytes follow the 38 that every entry has. */
-static size_t details(uint8_t kind)
+static void print_entry(const struct copybook_entry *e)
 {
-    switch (kind) {
-    case COPYBOOK_INT:
-        return 2;
-    case COPYBOOK_BINARY:
-        return 1;
-    case COPYBOOK_DECIMAL:
-    case COPYBOOK_GROUP:
-        return 4;
-    case COPYBOOK_EDITED:
-        return 11;
-    default:
-        return 0;
-    }
+    printf("%6llu %6lu  %*s", (unsigned long long)e->first, (unsigned long)e->width, 2 * (int)e->depth, "");
+    if (e->name.length == 0)
+        printf("FILLER");
+    print_word("", e->name);
+    print_word(" ", e->picture);
+    if (e->has_occurs)
+        printf(", %lu times", (unsigned long)e->occurs);
+    print_word(", by the count in ", e->depending_on);
+    print_word(", over ", e->overlays);
+    if (e->folded)
+        printf(", %lu ways to read the same bytes", (unsigned long)e->members);
+    if (e->slack > 0)
+        printf(", after slack of %lu", (unsigned long)e->slack);
+    printf("\n");
 }
 
-/* Prints so many entries from p on, with what is below them; the place after them. */
-static const uint8_t *print_entries(const uint8_t *p, uint32_t count, int depth)
+/* Tells a refusal; the exit status. */
+static int refused(const char *file, size_t n, uint32_t number, uint64_t position)
 {
-    for (; count > 0; count--) {
-        uint8_t kind = p[0];
-        uint32_t start = four(p + 1), length = four(p + 5);
-        const uint8_t *body = p + 38;
-
-        printf("%*s", 2 * depth, "");
-        if (length == 0)
-            printf("FILLER");
-        else
-            printf("%.*s", (int)length, (const char *)text + start);
-        printf(" at %lu, width %lu", (unsigned long)four(p + 9), (unsigned long)four(p + 13));
-        if (p[17] != 0)
-            printf(", %lu times", (unsigned long)four(p + 18));
-        printf("\n");
-        p = body + details(kind);
-        if (kind == COPYBOOK_GROUP)
-            p = print_entries(p, four(body), depth + 1);
-    }
-    return p;
+    size_t line, column;
+    copybook_line_column(text, n, position, &line, &column);
+    fprintf(stderr, "%s:%lu:%lu: %s\n    %s\n", file, (unsigned long)line, (unsigned long)column,
+            copybook_found(number), copybook_advice(number));
+    return 1;
 }
 
 int main(int argc, char **argv)
 {
-    FILE *in = argc > 1 ? fopen(argv[1], "rb") : stdin;
-    uint64_t answer[COPYBOOK_LAYOUT_ANSWER];
+    const char *file = argc > 1 ? argv[1] : "standard input";
+    FILE *in = argc > 1 ? fopen(file, "rb") : stdin;
+    uint64_t answer[COPYBOOK_LAYOUT_ANSWER], more[COPYBOOK_DETAILS_ANSWER];
+    struct copybook_reader reader;
+    struct copybook_entry entry;
     uint32_t number;
     size_t n;
 
     if (in == NULL) {
-        perror(argv[1]);
+        perror(file);
         return 2;
     }
     n = fread(text, 1, sizeof text, in);
-    number = copybook_layout(text, n, work, COPYBOOK_WORK, listing, sizeof listing, answer, COPYBOOK_LAYOUT_ANSWER);
-    if (number != COPYBOOK_OK) {
-        printf("refused %lu, position %lu\n", (unsigned long)number, (unsigned long)answer[0]);
-        return 1;
+    if (ferror(in)) {
+        perror(file);
+        return 2;
     }
-    printf("record of %lu bytes%s\n", (unsigned long)four(listing + 1), listing[5] != 0 ? " or more" : "");
-    print_entries(listing + 10, four(listing + 6), 0);
+    number = copybook_layout(text, n, work, COPYBOOK_WORK, listing, sizeof listing, answer, COPYBOOK_LAYOUT_ANSWER);
+    if (number != COPYBOOK_OK)
+        return refused(file, n, number, answer[0]);
+    /* what has a listing has details, and `details` is never too short */
+    copybook_details(text, n, work, COPYBOOK_WORK, details, sizeof details, more, COPYBOOK_DETAILS_ANSWER);
+    reader = copybook_read(listing, answer[0], details, more[0]);
+    printf("record of %lu bytes%s\n", (unsigned long)reader.record_length, reader.variable ? " or more" : "");
+    while (copybook_next(&reader, &entry))
+        print_entry(&entry);
     return 0;
 }

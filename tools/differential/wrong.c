@@ -1,14 +1,17 @@
-/* Wrong libraries, to see that the driver notices: the calls of copybook.h over the right ones (right_ before each name), with one fault, WRONG. */
+/* Wrong libraries, to see that the driver notices: the calls of copybook.h over the right ones (right_ before each
+   name), with one fault, WRONG. */
 #include <stddef.h>
 #include <stdint.h>
 
-uint32_t right_copybook_layout(const uint8_t *, size_t, uint32_t *, size_t, uint8_t *, size_t, uint64_t *, size_t);
+typedef uint32_t written(const uint8_t *, size_t, uint32_t *, size_t, uint8_t *, size_t, uint64_t *, size_t);
+written right_copybook_layout, right_copybook_details;
 uint32_t right_copybook_picture(const uint8_t *, size_t, uint8_t, uint8_t, uint64_t *, size_t);
 uint32_t right_copybook_mask(const uint8_t *, size_t, uint8_t, uint8_t *, size_t, uint64_t *, size_t);
 uint32_t right_copybook_owner(const uint8_t *, size_t, uint64_t, uint32_t *, size_t, uint64_t *, size_t);
 uint32_t right_copybook_check_record(uint64_t, uint8_t, uint64_t);
 
-uint32_t copybook_layout(const uint8_t *text, size_t n, uint32_t *work, size_t w, uint8_t *out, size_t m, uint64_t *answer, size_t k)
+uint32_t copybook_layout(const uint8_t *text, size_t n, uint32_t *work, size_t w, uint8_t *out, size_t m,
+                         uint64_t *answer, size_t k)
 {
     uint64_t a[2];
     uint32_t r = right_copybook_layout(text, n, work, w, out, m, a, 2);
@@ -39,6 +42,35 @@ uint32_t copybook_layout(const uint8_t *text, size_t n, uint32_t *work, size_t w
     return r;
 }
 
+/* The place of something in the last of the rows of details. */
+static uint8_t *last_row(uint8_t *out, uint64_t n, int place)
+{
+    return out + n - 47 + place;
+}
+
+uint32_t copybook_details(const uint8_t *text, size_t n, uint32_t *work, size_t w, uint8_t *out, size_t m,
+                          uint64_t *answer, size_t k)
+{
+    uint64_t a[2];
+    uint32_t r = right_copybook_details(text, n, work, w, out, m, a, 2);
+    int some = r == 0 && a[0] > 0;
+    if (WRONG == 19 && some)
+        *last_row(out, a[0], 0) += 1; /* a position */
+    if (WRONG == 20 && some && *last_row(out, a[0], 5) > 0)
+        *last_row(out, a[0], 11) = 0; /* a place in the record that is the one in the group */
+    if (WRONG == 21 && some)
+        *last_row(out, a[0], 19) = 0; /* no slack */
+    if (WRONG == 22 && some)
+        *last_row(out, a[0], 31) = 0, *last_row(out, a[0], 35) = 0; /* no REDEFINES */
+    if (WRONG == 23 && some)
+        out[6] = 0; /* no group made by folding */
+    if (WRONG == 24 && some)
+        out[7] = 0; /* no entries below */
+    if (k >= 2)
+        answer[0] = a[0], answer[1] = a[1];
+    return r;
+}
+
 uint32_t copybook_picture(const uint8_t *pic, size_t n, uint8_t usage, uint8_t sign, uint64_t *answer, size_t k)
 {
     if (WRONG == 12 && sign == 3)
@@ -51,7 +83,8 @@ uint32_t copybook_picture(const uint8_t *pic, size_t n, uint8_t usage, uint8_t s
     return r;
 }
 
-uint32_t copybook_mask(const uint8_t *pic, size_t n, uint8_t usage, uint8_t *out, size_t m, uint64_t *answer, size_t k)
+uint32_t copybook_mask(const uint8_t *pic, size_t n, uint8_t usage, uint8_t *out, size_t m, uint64_t *answer,
+                       size_t k)
 {
     uint32_t r = right_copybook_mask(pic, n, usage, out, m, answer, k);
     if (WRONG == 15 && r == 0 && m > 0 && out[0] == '*')
@@ -59,7 +92,8 @@ uint32_t copybook_mask(const uint8_t *pic, size_t n, uint8_t usage, uint8_t *out
     return r;
 }
 
-uint32_t copybook_owner(const uint8_t *text, size_t n, uint64_t position, uint32_t *work, size_t w, uint64_t *answer, size_t k)
+uint32_t copybook_owner(const uint8_t *text, size_t n, uint64_t position, uint32_t *work, size_t w, uint64_t *answer,
+                        size_t k)
 {
     uint32_t r = right_copybook_owner(text, n, position, work, w, answer, k);
     if (WRONG == 17 && r == 0 && k >= 4)

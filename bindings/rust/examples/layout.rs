@@ -1,75 +1,49 @@
-//! Prints the layout of a copybook as a table: the path of each entry's name, its place in the record (in the first occurrence of each group around it), width, kind and
-//! OCCURS. From a file, or from standard input:
+//! Prints the columns of a copybook, from a file or from standard input: where each starts in the record, how wide it
+//! is, its kind, its picture, and the path of its name. `copybook layout --table` prints more; this shows how the crate
+//! is used.
 //!
 //!     cargo run --example layout -- [FILE]
 
-use copybook::{Entry, Layout};
 use std::io::Read;
 use std::process::ExitCode;
 use std::{env, fs, io};
 
-/// The text of the file that the first argument names, or of standard input.
-fn text() -> io::Result<Vec<u8>> {
-    match env::args_os().nth(1) {
-        Some(file) => fs::read(file),
-        None => {
-            let mut text = Vec::new();
-            io::stdin().read_to_end(&mut text)?;
-            Ok(text)
-        }
+/// Name and text of the file that the first argument names, or of standard input.
+fn text() -> io::Result<(String, Vec<u8>)> {
+    if let Some(file) = env::args().nth(1) {
+        return fs::read(&file).map(|text| (file, text));
     }
+    let mut text = Vec::new();
+    io::stdin().read_to_end(&mut text)?;
+    Ok(("standard input".into(), text))
 }
 
-/// The names of the groups around the entry, and its own. `path` has those of the entry before.
-fn path<'t>(path: &mut Vec<&'t str>, entry: &Entry<'t>) -> String {
-    path.truncate(entry.depth);
-    path.push(entry.name.unwrap_or("FILLER"));
-    path.join(".")
-}
-
-fn occurs(entry: &Entry) -> String {
-    match (entry.occurs, entry.depending_on) {
-        (None, _) => "-".into(),
-        (Some(count), None) => count.to_string(),
-        (Some(count), Some(name)) => format!("{count} by {name}"),
+fn print(text: &[u8]) -> Result<(), copybook::Refusal> {
+    let (layout, details) = copybook::layout_and_details(text)?;
+    let more = if layout.variable() { " or more" } else { "" };
+    println!("record of {} bytes{more}", layout.record_len());
+    let mut path = Vec::new();
+    for (entry, detail) in layout.entries().zip(details.iter()) {
+        path.truncate(entry.depth);
+        path.push(entry.name.unwrap_or("FILLER"));
+        let kind = if detail.folded { "union" } else { entry.kind.word() };
+        let picture = detail.picture.map_or("-", |picture| picture.word);
+        println!("{:>6} {:>6}  {kind:<5}  {picture:<12}  {}", detail.first, entry.width, path.join("."));
     }
-}
-
-fn kind(entry: &Entry) -> &'static str {
-    if entry.is_union {
-        "union"
-    } else {
-        entry.kind.word()
-    }
-}
-
-fn print(layout: &Layout) {
-    println!("record of {} bytes{}", layout.record_len(), if layout.variable() { " or more" } else { "" });
-    let mut names = Vec::new();
-    let rows: Vec<(String, Entry)> = layout.entries().map(|e| (path(&mut names, &e), e)).collect();
-    let longest = rows.iter().map(|(path, _)| path.len()).max().unwrap_or(0).max("name".len());
-    println!("{:longest$}  {:>10}  {:>10}  {:<5}  occurs", "name", "offset", "width", "kind");
-    for (path, e) in &rows {
-        println!("{path:longest$}  {:>10}  {:>10}  {:<5}  {}", e.absolute, e.width, kind(e), occurs(e));
-    }
+    Ok(())
 }
 
 fn main() -> ExitCode {
-    let text = match text() {
-        Ok(text) => text,
+    let (file, text) = match text() {
+        Ok(found) => found,
         Err(e) => {
             eprintln!("{e}");
             return ExitCode::from(2);
         }
     };
-    match copybook::layout(&text) {
-        Ok(layout) => {
-            print(&layout);
-            ExitCode::SUCCESS
-        }
-        Err(refusal) => {
-            eprintln!("{refusal}");
-            ExitCode::FAILURE
-        }
+    if let Err(refusal) = print(&text) {
+        eprint!("{}", refusal.told(&text).of_file(&file));
+        return ExitCode::FAILURE;
     }
+    ExitCode::SUCCESS
 }

@@ -1,42 +1,23 @@
-//! The calls of include/copybook.h. A Rust slice is what they ask for: its pointer is good for its elements and aligned, and a `&mut` slice overlaps nothing else that is
-//! lent.
+//! The calls of include/copybook.h. A Rust slice is what they ask for: its pointer is good for its elements and
+//! aligned, and a `&mut` slice overlaps nothing else that is lent.
 
-use crate::declared::{copybook_check_record, copybook_layout, copybook_mask, copybook_owner, copybook_picture};
-use crate::{FieldKind, NumRepr, Owner, Picture, Refusal, SignKind, Usage};
+use crate::declared::*;
+use crate::{Facts, FieldKind, NumRepr, Owner, Picture, Refusal, SignKind, Usage};
 
-fn usage_number(usage: Usage) -> u8 {
-    match usage {
-        Usage::Display => 0,
-        Usage::Comp3 => 1,
-        Usage::Comp => 2,
-    }
+/// The number in a question for the sign of a SIGN clause, if there is one.
+fn sign_asked(sign: Option<SignKind>) -> u8 {
+    sign.map_or(0, |sign| sign.number() + 1)
 }
 
-fn sign_number(sign: Option<SignKind>) -> u8 {
-    match sign {
-        None => 0,
-        Some(SignKind::Unsigned) => 1,
-        Some(SignKind::Embedded) => 2,
-        Some(SignKind::LeadingSeparate) => 3,
-        Some(SignKind::TrailingSeparate) => 4,
-    }
-}
+/// The parameters of `copybook_layout` and of every call that answers a copybook in bytes.
+type Written = unsafe extern "C" fn(*const u8, usize, *mut u32, usize, *mut u8, usize, *mut u64, usize) -> u32;
 
 /// The number of bytes written to `out`.
-pub fn layout(text: &[u8], work: &mut [u32], out: &mut [u8]) -> Result<usize, Refusal> {
-    let mut answer = [0; 2];
+fn written(call: Written, text: &[u8], work: &mut [u32], out: &mut [u8]) -> Result<usize, Refusal> {
+    let (mut answer, w, m) = ([0; 2], work.len(), out.len());
     // SAFETY: slices, see above.
     let number = unsafe {
-        copybook_layout(
-            text.as_ptr(),
-            text.len(),
-            work.as_mut_ptr(),
-            work.len(),
-            out.as_mut_ptr(),
-            out.len(),
-            answer.as_mut_ptr(),
-            answer.len(),
-        )
+        call(text.as_ptr(), text.len(), work.as_mut_ptr(), w, out.as_mut_ptr(), m, answer.as_mut_ptr(), answer.len())
     };
     match number {
         0 => Ok(answer[0] as usize),
@@ -44,19 +25,21 @@ pub fn layout(text: &[u8], work: &mut [u32], out: &mut [u8]) -> Result<usize, Re
     }
 }
 
+/// The number of bytes of the listing.
+pub fn layout(text: &[u8], work: &mut [u32], out: &mut [u8]) -> Result<usize, Refusal> {
+    written(copybook_layout, text, work, out)
+}
+
+/// The number of bytes of the details.
+pub fn details(text: &[u8], work: &mut [u32], out: &mut [u8]) -> Result<usize, Refusal> {
+    written(copybook_details, text, work, out)
+}
+
 pub fn owner(text: &[u8], position: usize, work: &mut [u32]) -> Result<Owner, Refusal> {
-    let mut answer = [0; 4];
+    let (mut answer, position, w) = ([0; 4], position as u64, work.len());
     // SAFETY: slices, see above.
     let number = unsafe {
-        copybook_owner(
-            text.as_ptr(),
-            text.len(),
-            position as u64,
-            work.as_mut_ptr(),
-            work.len(),
-            answer.as_mut_ptr(),
-            answer.len(),
-        )
+        copybook_owner(text.as_ptr(), text.len(), position, work.as_mut_ptr(), w, answer.as_mut_ptr(), answer.len())
     };
     let [case, entry, first, place] = answer.map(|n| n as usize);
     match (number, case) {
@@ -66,39 +49,65 @@ pub fn owner(text: &[u8], position: usize, work: &mut [u32]) -> Result<Owner, Re
     }
 }
 
-/// The kind of a picture from the numbers that `copybook_picture` answers.
-fn kind(picture: &[u8], [kind, signed, sign, precision, scale, storage]: [u64; 6]) -> FieldKind<'_> {
-    let (signed, precision, scale) = (signed != 0, precision as u8, scale as u8);
-    let (sign, repr) = (SignKind::of_number(sign), NumRepr::of_number(storage));
-    match kind {
-        1 => FieldKind::Text,
-        2 => FieldKind::Int { signed, sign },
-        3 => FieldKind::Binary { signed },
-        4 => FieldKind::Decimal { precision, scale, repr, sign },
-        5 => FieldKind::Edited { precision, scale, signed, picture: std::str::from_utf8(picture).expect("an accepted picture is ASCII") },
-        _ => unreachable!("no picture has kind {kind}"),
+/// The numbers that `copybook_picture` answers after kind and width.
+struct Numbers<'t> {
+    picture: &'t [u8],
+    signed: u64,
+    sign: u64,
+    precision: u64,
+    scale: u64,
+    storage: u64,
+}
+
+impl<'t> Facts<'t> for Numbers<'t> {
+    fn signed(&mut self) -> bool {
+        self.signed != 0
+    }
+
+    fn sign(&mut self) -> SignKind {
+        SignKind::of_number(self.sign).expect("a sign of the library")
+    }
+
+    fn precision(&mut self) -> u8 {
+        self.precision as u8
+    }
+
+    fn scale(&mut self) -> u8 {
+        self.scale as u8
+    }
+
+    fn repr(&mut self) -> NumRepr {
+        NumRepr::of_number(self.storage).expect("a storage of the library")
+    }
+
+    fn picture(&mut self) -> &'t str {
+        std::str::from_utf8(self.picture).expect("an accepted picture is ASCII")
+    }
+
+    fn members(&mut self) -> usize {
+        unreachable!("no picture is a group")
     }
 }
 
 pub fn picture(picture: &[u8], usage: Usage, sign: Option<SignKind>) -> Result<Picture<'_>, Refusal> {
-    let mut answer = [0; 7];
+    let (mut answer, usage, sign) = ([0; 7], usage.number(), sign_asked(sign));
     // SAFETY: slices, see above.
-    let number = unsafe {
-        copybook_picture(picture.as_ptr(), picture.len(), usage_number(usage), sign_number(sign), answer.as_mut_ptr(), answer.len())
-    };
+    let number =
+        unsafe { copybook_picture(picture.as_ptr(), picture.len(), usage, sign, answer.as_mut_ptr(), answer.len()) };
     let [first, second, signed, sign, precision, scale, storage] = answer;
-    match number {
-        0 => Ok(Picture { kind: kind(picture, [first, signed, sign, precision, scale, storage]), width: second as usize }),
-        _ => Err(Refusal::of_picture(number, first as usize, second as usize, picture)),
+    if number != 0 {
+        return Err(Refusal::of_picture(number, first as usize, second as usize, picture));
     }
+    let mut numbers = Numbers { picture, signed, sign, precision, scale, storage };
+    Ok(Picture { kind: FieldKind::read(first, &mut numbers), width: second as usize })
 }
 
 /// The number of bytes written to `out`.
 pub fn mask(picture: &[u8], usage: Usage, out: &mut [u8]) -> Result<usize, Refusal> {
-    let mut answer = [0; 2];
+    let (mut answer, usage, m) = ([0; 2], usage.number(), out.len());
     // SAFETY: slices, see above.
     let number = unsafe {
-        copybook_mask(picture.as_ptr(), picture.len(), usage_number(usage), out.as_mut_ptr(), out.len(), answer.as_mut_ptr(), answer.len())
+        copybook_mask(picture.as_ptr(), picture.len(), usage, out.as_mut_ptr(), m, answer.as_mut_ptr(), answer.len())
     };
     match number {
         0 => Ok(answer[0] as usize),

@@ -1,6 +1,7 @@
-//! A layout, and its entries read from the bytes of the listing by document 01's format (include/copybook.h has it too).
+//! A layout, and its entries read from the bytes of the listing (include/copybook.h has their format).
 
-use crate::{check_record_len, FieldKind, NumRepr, Refusal, SignKind};
+use crate::bytes::Bytes;
+use crate::{check_record_len, FieldKind, Refusal};
 use std::borrow::Cow;
 
 /// The layout of a copybook: its listing, and the text that the listing's names stand in.
@@ -43,9 +44,8 @@ impl<'t, 'l> Layout<'t, 'l> {
 
     /// The entries, a group before its members.
     pub fn entries(&self) -> Entries<'t, '_> {
-        let (.., top) = self.head();
         let bytes = Bytes { text: self.text, rest: &self.listing[HEAD..] };
-        Entries { bytes, number: 0, open: vec![Open { left: top, start: 0 }] }
+        Entries { bytes, number: 0, left: vec![self.top_len()] }
     }
 
     /// Record length, variable mark, and number of top-level entries.
@@ -58,7 +58,8 @@ impl<'t, 'l> Layout<'t, 'l> {
 /// The bytes of the head: kind 0, record length, variable mark, number of top-level entries.
 const HEAD: usize = 10;
 
-/// One entry of a layout: a column, a group of columns, or a union of an item and its redefiners.
+/// One entry of a layout: a column, a group of columns, or a group that the folding of REDEFINES made. What the listing
+/// does not say of it, its place in the record and which of these it is, its [`crate::Detail`] says.
 #[derive(Debug, Clone, Copy, PartialEq, Eq)]
 pub struct Entry<'t> {
     /// Its number in the listing, from 0: the one that an [`crate::Owner`] names.
@@ -69,8 +70,6 @@ pub struct Entry<'t> {
     pub name: Option<&'t str>,
     /// From the start of the list that it stands in: the record, or one occurrence of the group around it.
     pub offset: usize,
-    /// From the start of the record, in the first occurrence of each group around it. After a table DEPENDING ON an item, as if the table had no element.
-    pub absolute: usize,
     /// Bytes of one occurrence.
     pub width: usize,
     pub kind: FieldKind<'t>,
@@ -80,9 +79,6 @@ pub struct Entry<'t> {
     pub depending_on: Option<&'t str>,
     /// The name after REDEFINES, of a redefiner that is folded under no base: one that redefines a redefiner.
     pub redefines: Option<&'t str>,
-    /// Whether it is a group that the folding of REDEFINES made: its first member is the item that gave it its name, the others redefine that one. Two cases are not
-    /// marked: a base without a name, and a base that has a member of its own name, to whose members document 01 adds the redefiners.
-    pub is_union: bool,
 }
 
 impl Entry<'_> {
@@ -95,132 +91,47 @@ impl Entry<'_> {
     }
 }
 
-/// A list of entries that is being read: how many are left, and where it starts in the record.
-#[derive(Debug, Clone)]
-struct Open {
-    left: usize,
-    start: usize,
-}
-
 /// The entries of a layout, a group before its members.
 #[derive(Debug, Clone)]
 pub struct Entries<'t, 'l> {
     bytes: Bytes<'t, 'l>,
     number: usize,
-    open: Vec<Open>,
+    /// How many entries are left of each list that is being read, the outermost first.
+    left: Vec<usize>,
 }
 
 impl<'t> Iterator for Entries<'t, '_> {
     type Item = Entry<'t>;
 
     fn next(&mut self) -> Option<Entry<'t>> {
-        while self.open.last()?.left == 0 {
-            self.open.pop();
+        while *self.left.last()? == 0 {
+            self.left.pop();
         }
-        let depth = self.open.len() - 1;
-        let list = self.open.last_mut()?;
-        list.left -= 1;
-        let entry = self.bytes.entry(self.number, depth, list.start);
+        *self.left.last_mut()? -= 1;
+        let entry = entry(&mut self.bytes, self.number, self.left.len() - 1);
         if let FieldKind::Group { members } = entry.kind {
-            self.open.push(Open { left: members, start: entry.absolute });
+            self.left.push(members);
         }
         self.number += 1;
         Some(entry)
     }
 }
 
-/// The bytes of a listing from some place on, and the text that starts point into.
-#[derive(Debug, Clone)]
-struct Bytes<'t, 'l> {
-    text: &'t [u8],
-    rest: &'l [u8],
-}
-
-impl<'t> Bytes<'t, '_> {
-    fn one(&mut self) -> u8 {
-        let byte = self.rest[0];
-        self.rest = &self.rest[1..];
-        byte
-    }
-
-    fn flag(&mut self) -> bool {
-        self.one() != 0
-    }
-
-    /// A number of 4 bytes, little-endian.
-    fn four(&mut self) -> usize {
-        (0..4).map(|i| usize::from(self.one()) << (8 * i)).sum()
-    }
-
-    /// A start and a length.
-    fn span(&mut self) -> (usize, usize) {
-        (self.four(), self.four())
-    }
-
-    /// What a span has of the text; nothing if its length is 0.
-    fn word(&self, (start, len): (usize, usize)) -> Option<&'t str> {
-        let bytes = &self.text[start..start + len];
-        (len > 0).then(|| std::str::from_utf8(bytes).expect("an accepted text is ASCII"))
-    }
-
-    fn place(&mut self) -> Option<&'t str> {
-        let span = self.span();
-        self.word(span)
-    }
-
-    fn sign(&mut self) -> SignKind {
-        SignKind::of_number(u64::from(self.one()))
-    }
-
-    /// What follows the 38 bytes that every entry has.
-    fn kind(&mut self, number: u8) -> FieldKind<'t> {
-        match number {
-            1 => FieldKind::Text,
-            2 => FieldKind::Int { signed: self.flag(), sign: self.sign() },
-            3 => FieldKind::Binary { signed: self.flag() },
-            4 => FieldKind::Decimal {
-                precision: self.one(),
-                scale: self.one(),
-                repr: NumRepr::of_number(u64::from(self.one())),
-                sign: self.sign(),
-            },
-            5 => FieldKind::Edited {
-                precision: self.one(),
-                scale: self.one(),
-                signed: self.flag(),
-                picture: self.place().unwrap_or(""),
-            },
-            6 => FieldKind::Group { members: self.four() },
-            _ => unreachable!("a listing has no entry of kind {number}"),
-        }
-    }
-
-    /// Whether the entry that follows has its name at this place of the text: then both are made from one statement.
-    fn named_at(&self, name: (usize, usize)) -> bool {
-        let mut next = self.clone();
-        next.one();
-        name.1 > 0 && next.span() == name
-    }
-
-    fn entry(&mut self, number: usize, depth: usize, start: usize) -> Entry<'t> {
-        let kind = self.one();
-        let name = self.span();
-        let (offset, width) = (self.four(), self.four());
-        let (mark, count) = (self.flag(), self.four());
-        let (depending_on, redefines) = (self.place(), self.place());
-        let kind = self.kind(kind);
-        Entry {
-            number,
-            depth,
-            name: self.word(name),
-            offset,
-            absolute: start + offset,
-            width,
-            kind,
-            occurs: mark.then_some(count),
-            depending_on,
-            redefines,
-            is_union: matches!(kind, FieldKind::Group { members: 1.. }) && self.named_at(name),
-        }
+fn entry<'t>(b: &mut Bytes<'t, '_>, number: usize, depth: usize) -> Entry<'t> {
+    let kind = b.one();
+    let name = b.word();
+    let (offset, width) = (b.four(), b.four());
+    let (mark, count) = (b.flag(), b.four());
+    let (depending_on, redefines) = (b.word(), b.word());
+    Entry {
+        number,
+        depth,
+        name: name.map(|w| w.word),
+        offset,
+        width,
+        kind: FieldKind::read(kind.into(), b),
+        occurs: mark.then_some(count),
+        depending_on: depending_on.map(|w| w.word),
+        redefines: redefines.map(|w| w.word),
     }
 }

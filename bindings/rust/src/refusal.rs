@@ -1,11 +1,12 @@
-//! Refusals: their numbers and names, and where in the text they are.
+//! Refusals: their numbers and names, where in the text they are, and the words in which they are told to people. The
+//! table [`REFUSALS`] is the one source of these words: docs/REFUSALS.md and include/copybook.h are tested against it.
 
 use std::fmt;
 
 /// Why a call turned its input down. Nothing was written.
 #[derive(Debug, Clone, Copy, PartialEq, Eq)]
 pub struct Refusal {
-    /// The number of document 01.
+    /// Its number, as docs/REFUSALS.md has it.
     pub number: u32,
     /// One word for the number, as include/copybook.h has it.
     pub name: &'static str,
@@ -19,70 +20,187 @@ pub struct Refusal {
     pub needed: usize,
 }
 
-/// Number, name, and what was found.
-const REFUSALS: [(u32, &str, &str); 23] = [
-    (1, "text-too-long", "the text has more than 65,535 bytes"),
-    (2, "byte-not-ascii", "a byte over 127"),
-    (3, "work-too-short", "fewer than 16,384 numbers of work memory"),
-    (10, "level", "no level from 0 to 255"),
-    (11, "occurs-count", "OCCURS without a count"),
-    (12, "occurs-to", "TO without a bound"),
-    (13, "depending-name", "DEPENDING ON without a name"),
-    (14, "too-many", "more than 800 statements"),
-    (20, "too-deep", "groups nested deeper than 64"),
-    (21, "no-picture", "an elementary item without a picture"),
-    (22, "picture-open", "`(` without `)` in a picture"),
-    (23, "picture-repeat", "no repeat count between `(` and `)`"),
-    (24, "picture-too-long", "a picture of more than 65,535 symbols"),
-    (25, "picture-symbol", "not a symbol of a picture"),
-    (26, "picture-mixed", "text mixed with digits or editing in a picture"),
-    (27, "picture-digits", "more than 255 digits, or an edited picture of more than 255 bytes"),
-    (28, "redefines-target", "REDEFINES names no earlier item of the same group"),
-    (29, "too-large", "a count, an offset, a size or an end above 2,147,483,647"),
-    (30, "redefines-before", "a redefiner starts before the item that it is folded under"),
-    (31, "out-too-short", "the output is too short"),
-    (40, "overlaid", "bytes have no single owner where there is REDEFINES or DEPENDING ON"),
-    (41, "past-record", "the position is not below the record length"),
-    (42, "record-too-short", "the record is shorter than its layout"),
-];
-
-/// Whether a refusal of a copybook has a place in it.
-fn has_place(number: u32) -> bool {
-    number == 2 || (10..=30).contains(&number)
+/// What of the text a refusal is about: the place that it carries, and the word that its sentence names.
+#[derive(Debug, Clone, Copy, PartialEq, Eq)]
+pub(crate) enum About {
+    /// No place in the text.
+    Nothing,
+    /// One byte.
+    Byte,
+    /// A statement, and of it nothing more than its name.
+    Item,
+    /// A statement, and its first word.
+    Level,
+    /// A statement, and what stands where a count is due.
+    Count,
+    /// A statement, and the name after REDEFINES.
+    Redefines,
+    /// A statement, or a picture that is asked for alone; and the picture.
+    Picture,
+    /// The same, and of the picture a repeat count.
+    Repeat,
+    /// The same, and of the picture a symbol.
+    Symbol,
 }
 
-/// Line and column of a place, from 1.
-fn line_and_column(text: &[u8], position: usize) -> (usize, usize) {
-    let before = &text[..position];
+/// A refusal's row of the table.
+#[derive(Debug, Clone, Copy, PartialEq, Eq)]
+pub struct Row {
+    pub number: u32,
+    /// One word, as include/copybook.h has it.
+    pub name: &'static str,
+    /// What was found, whatever the text is.
+    pub found: &'static str,
+    /// What to do.
+    pub advice: &'static str,
+    pub(crate) about: About,
+    /// What was found in a text: `{word}` stands for the word that it is about, `{item}` for the item's name. Empty
+    /// where nothing can be named.
+    pub(crate) sentence: &'static str,
+}
+
+/// Every refusal, by number: its name; what it is about; what was found, without and with its words; what to do.
+#[rustfmt::skip]
+pub const REFUSALS: &[Row] = {
+    use About::*;
+    &[
+        row(1, "text-too-long", Nothing,
+            "the text has more than 65,535 bytes", "",
+            "split the copybook by record; a copybook with more than one record is one record per call anyway"),
+        row(2, "byte-not-ascii", Byte,
+            "a byte over 127", "the byte {word} is over 127",
+            "copybooks are ASCII here: look at that byte; a name or comment in another code page must be rewritten"),
+        row(3, "work-too-short", Nothing,
+            "fewer than 16,384 numbers of work memory were lent", "",
+            "lend 16,384 numbers of 32 bits"),
+        row(10, "level", Level,
+            "a statement does not start with a level from 0 to 255", "{word} is no level from 0 to 255",
+            "look for a period that ends a statement too early, or a line that should be a comment"),
+        row(11, "occurs-count", Count,
+            "OCCURS is not followed by a count", "OCCURS of {item} is followed by {word}, not by a count",
+            "write the count as digits"),
+        row(12, "occurs-to", Count,
+            "TO is not followed by a count", "TO of {item} is followed by {word}, not by a count",
+            "write the upper bound as digits"),
+        row(13, "depending-name", Item,
+            "DEPENDING has no name after it", "DEPENDING of {item} has no name after it",
+            "name the item that holds the count"),
+        row(14, "too-many", Item,
+            "more than 800 statements, level 88 not counted", "{item} is the 801st statement, level 88 not counted",
+            "split the record's description, or drop what is not needed"),
+        row(20, "too-deep", Item,
+            "groups nested deeper than 64", "{item} stands in more than 64 groups",
+            "flatten the groups; levels in fixed columns are sometimes read as ever deeper ones"),
+        row(21, "no-picture", Item,
+            "an item without members has no picture", "{item} has neither a picture nor members",
+            "give it a PICTURE; an item that should have members needs them at a higher level number"),
+        row(22, "picture-open", Picture,
+            "a `(` in a picture without its `)`", "the picture {word} of {item} has a `(` without its `)`",
+            "close the bracket"),
+        row(23, "picture-repeat", Repeat,
+            "no count between `(` and `)`", "{word} in the picture of {item} is no repeat count",
+            "write the count as digits"),
+        row(24, "picture-too-long", Picture,
+            "a picture of more than 65,535 symbols", "the picture {word} of {item} has more than 65,535 symbols",
+            "use OCCURS"),
+        row(25, "picture-symbol", Symbol,
+            "a symbol that no picture has", "{word} in the picture of {item} is no symbol of a picture",
+            "the symbols are X A 9 S V P Z * , . / B 0 $ + - CR DB; N, G and E are not taken"),
+        row(26, "picture-mixed", Picture,
+            "text mixed with digits or editing", "the picture {word} of {item} mixes text with digits or editing",
+            "X and A stand alone: describe the parts as items of their own"),
+        row(27, "picture-digits", Picture,
+            "more than 255 digits, or an edited mask of more than 255 bytes",
+            "the picture {word} of {item} has more than 255 digits, or an edited mask of more than 255 bytes",
+            "no COBOL takes that many digits: look for a typing error"),
+        row(28, "redefines-target", Redefines,
+            "REDEFINES names no earlier item of the same list", "no earlier item of this list is called {word}",
+            "the target must stand before it, under the same group"),
+        row(29, "too-large", Item,
+            "a count, an offset, a size or an end above 2,147,483,647",
+            "{item} has a count, an offset, a size or an end above 2,147,483,647",
+            "look at the counts of the groups around it"),
+        row(30, "redefines-before", Redefines,
+            "a redefiner starts before the item that it is folded under",
+            "{item} starts before the item {word} that it is folded under",
+            "two siblings share a name: give them names of their own"),
+        row(31, "out-too-short", Nothing,
+            "the lent output is shorter than the answer; the needed length is answered", "",
+            "lend that many bytes and call again"),
+        row(40, "overlaid", Nothing,
+            "the byte owner was asked of a copybook with a REDEFINES or a DEPENDING ON", "",
+            "bytes of such a record have no single owner; read the layout"),
+        row(41, "past-record", Nothing,
+            "the position is not below the record length", "",
+            "the layout's first line has the record length"),
+        row(42, "record-too-short", Nothing,
+            "a record is shorter than its layout, and not variable", "",
+            "the record is cut off, or it is of another layout"),
+    ]
+};
+
+const fn row(
+    number: u32,
+    name: &'static str,
+    about: About,
+    found: &'static str,
+    sentence: &'static str,
+    advice: &'static str,
+) -> Row {
+    Row { number, name, found, advice, about, sentence }
+}
+
+/// What is said of a number that the table does not have.
+const UNKNOWN: Row = row(0, "unknown", About::Nothing, "a refusal of no known number", "", "");
+
+/// Line and column of a place, from 1, in bytes. Lines end at byte 10.
+pub fn line_and_column(text: &[u8], position: usize) -> (usize, usize) {
+    let before = &text[..position.min(text.len())];
     let line = 1 + before.iter().filter(|&&b| b == b'\n').count();
     let start = before.iter().rposition(|&b| b == b'\n').map_or(0, |i| i + 1);
-    (line, position - start + 1)
+    (line, before.len() - start + 1)
 }
 
 impl Refusal {
+    /// Its row of the table.
+    pub fn row(&self) -> &'static Row {
+        REFUSALS.iter().find(|row| row.number == self.number).unwrap_or(&UNKNOWN)
+    }
+
     /// A refusal that has no place in a text.
     pub(crate) fn without_place(number: u32, needed: usize) -> Refusal {
-        let name = REFUSALS.iter().find(|r| r.0 == number).map_or("unknown", |r| r.1);
-        Refusal { number, name, position: 0, line: 0, column: 0, needed }
+        let mut refusal = Refusal { number, name: "", position: 0, line: 0, column: 0, needed };
+        refusal.name = refusal.row().name;
+        refusal
     }
 
     /// A refusal of a copybook.
     pub(crate) fn of_copybook(number: u32, position: usize, needed: usize, text: &[u8]) -> Refusal {
-        let (line, column) = if has_place(number) { line_and_column(text, position) } else { (0, 0) };
-        Refusal { position, line, column, ..Refusal::without_place(number, needed) }
+        let plain = Refusal::without_place(number, needed);
+        if plain.row().about == About::Nothing {
+            return plain;
+        }
+        let (line, column) = line_and_column(text, position);
+        Refusal { position, line, column, ..plain }
     }
 
     /// A refusal of a picture: only a byte over 127 has a place.
     pub(crate) fn of_picture(number: u32, position: usize, needed: usize, picture: &[u8]) -> Refusal {
-        if number == 2 {
-            return Refusal::of_copybook(number, position, needed, picture);
+        let placed = Refusal::of_copybook(number, position, needed, picture);
+        if placed.row().about == About::Byte {
+            return placed;
         }
         Refusal::without_place(number, needed)
     }
 
-    /// What was found, in a few words.
+    /// What was found, whatever the text is.
     pub fn found(&self) -> &'static str {
-        REFUSALS.iter().find(|r| r.0 == self.number).map_or("a refusal of no known number", |r| r.2)
+        self.row().found
+    }
+
+    /// What to do.
+    pub fn advice(&self) -> &'static str {
+        self.row().advice
     }
 }
 

@@ -1,6 +1,9 @@
 //! Pictures and masks, the byte owner, the record check, and what calls leave in lent buffers.
 
-use copybook::{check_record_len, layout, lent, mask, owner, picture, FieldKind, NumRepr, Owner, Picture, Reader, SignKind, Usage, WORK};
+use copybook::{
+    check_record_len, layout, lent, mask, owner, picture, FieldKind, NumRepr, Owner, Picture, Reader, SignKind, Usage,
+    WORK,
+};
 
 const FISH: &[u8] = b"01 FISH. 05 TAG PIC X(5). 05 SIRE PIC 9(4) COMP SYNC. 05 WT OCCURS 3 PIC 9(3)V9.";
 
@@ -21,7 +24,10 @@ fn pictures() {
     }
     let decimal = |precision, scale, repr, sign| FieldKind::Decimal { precision, scale, repr, sign };
     assert_eq!(ask("S9(4)", Display, None), Picture { kind: decimal(4, 0, NumRepr::Zoned, Embedded), width: 4 });
-    assert_eq!(ask("S9(4)", Display, Some(Embedded)), Picture { kind: decimal(4, 0, NumRepr::Zoned, Embedded), width: 4 });
+    assert_eq!(
+        ask("S9(4)", Display, Some(Embedded)),
+        Picture { kind: decimal(4, 0, NumRepr::Zoned, Embedded), width: 4 }
+    );
     assert_eq!(ask("S", Comp3, None).width, 1);
     assert_eq!(ask("S9(3)V99", Comp3, None), Picture { kind: decimal(5, 2, NumRepr::Comp3, Embedded), width: 3 });
     assert_eq!(ask("S9(3)V99", Display, None), Picture { kind: decimal(5, 2, NumRepr::Zoned, Embedded), width: 5 });

@@ -1,4 +1,4 @@
-//! Layouts: the worked example in full, each kind, unions, absolute offsets, and the examples of the repository.
+//! Layouts: the worked example in full, each kind, groups and folds, and the examples of the repository.
 
 use copybook::{layout, Entry, FieldKind, Layout, NumRepr, Reader, Refusal, SignKind};
 use std::fs;
@@ -46,17 +46,16 @@ fn worked_example_entries() {
         depth: 0,
         name: Some("TAG"),
         offset: 0,
-        absolute: 0,
         width: 5,
         kind: FieldKind::Text,
         occurs: None,
         depending_on: None,
         redefines: None,
-        is_union: false,
     };
-    let sire = Entry { number: 1, name: Some("SIRE"), offset: 6, absolute: 6, width: 2, kind: FieldKind::Binary { signed: false }, ..plain };
+    let binary = FieldKind::Binary { signed: false };
+    let sire = Entry { number: 1, name: Some("SIRE"), offset: 6, width: 2, kind: binary, ..plain };
     let decimal = FieldKind::Decimal { precision: 4, scale: 1, repr: NumRepr::Display, sign: SignKind::Unsigned };
-    let wt = Entry { number: 2, name: Some("WT"), offset: 8, absolute: 8, width: 4, kind: decimal, occurs: Some(3), ..plain };
+    let wt = Entry { number: 2, name: Some("WT"), offset: 8, width: 4, kind: decimal, occurs: Some(3), ..plain };
     assert_eq!(found.entries().collect::<Vec<_>>(), [plain, sire, wt]);
     assert_eq!(wt.reserved_width(), 12);
 }
@@ -74,8 +73,14 @@ fn each_kind() {
     use SignKind::*;
     assert_eq!(only("05 A PIC X(7)."), (FieldKind::Text, 7));
     assert_eq!(only("05 A PIC 9(4)."), (FieldKind::Int { signed: false, sign: Unsigned }, 4));
-    assert_eq!(only("05 A PIC S9(4) SIGN LEADING SEPARATE."), (FieldKind::Int { signed: true, sign: LeadingSeparate }, 5));
-    assert_eq!(only("05 A PIC S9(4) SIGN TRAILING SEPARATE."), (FieldKind::Int { signed: true, sign: TrailingSeparate }, 5));
+    assert_eq!(
+        only("05 A PIC S9(4) SIGN LEADING SEPARATE."),
+        (FieldKind::Int { signed: true, sign: LeadingSeparate }, 5)
+    );
+    assert_eq!(
+        only("05 A PIC S9(4) SIGN TRAILING SEPARATE."),
+        (FieldKind::Int { signed: true, sign: TrailingSeparate }, 5)
+    );
     assert_eq!(only("05 A PIC 9(10) COMP."), (FieldKind::Binary { signed: false }, 8));
     assert_eq!(only("05 A PIC S9(9) BINARY."), (FieldKind::Binary { signed: true }, 4));
     let decimal = |precision, scale, repr, sign| FieldKind::Decimal { precision, scale, repr, sign };
@@ -92,17 +97,17 @@ fn each_kind() {
 fn group_with_members() {
     let text = b"05 G OCCURS 2. 10 B PIC XX. 10 H. 15 A PIC X. 15 FILLER PIC 99. 10 C PIC X. 05 Z PIC X.";
     let found = layout(text).unwrap();
-    let places: Vec<_> = found.entries().map(|e| (e.number, e.depth, e.name.unwrap(), e.offset, e.absolute, e.width)).collect();
+    let places: Vec<_> = found.entries().map(|e| (e.number, e.depth, e.name.unwrap(), e.offset, e.width)).collect();
     assert_eq!(
         places,
         [
-            (0, 0, "G", 0, 0, 6),
-            (1, 1, "B", 0, 0, 2),
-            (2, 1, "H", 2, 2, 3),
-            (3, 2, "A", 0, 2, 1),
-            (4, 2, "FILLER", 1, 3, 2),
-            (5, 1, "C", 5, 5, 1),
-            (6, 0, "Z", 12, 12, 1),
+            (0, 0, "G", 0, 6),
+            (1, 1, "B", 0, 2),
+            (2, 1, "H", 2, 3),
+            (3, 2, "A", 0, 1),
+            (4, 2, "FILLER", 1, 2),
+            (5, 1, "C", 5, 1),
+            (6, 0, "Z", 12, 1),
         ]
     );
     let members: Vec<_> = found.entries().map(|e| e.kind).filter(|k| matches!(k, FieldKind::Group { .. })).collect();
@@ -113,57 +118,41 @@ fn group_with_members() {
 #[test]
 fn absent_name() {
     let found = layout(b"05 A PIC X. 05. 10 B PIC X.").unwrap();
-    let names: Vec<_> = found.entries().map(|e| (e.name, e.absolute, e.is_union)).collect();
-    assert_eq!(names, [(Some("A"), 0, false), (None, 1, false), (Some("B"), 1, false)]);
+    let names: Vec<_> = found.entries().map(|e| (e.name, e.offset)).collect();
+    assert_eq!(names, [(Some("A"), 0), (None, 1), (Some("B"), 0)]);
 }
 
 #[test]
 fn empty_copybook() {
     let found = layout(b"").unwrap();
-    assert_eq!((found.listing().len(), found.record_len(), found.variable(), found.entries().count()), (10, 0, false, 0));
-}
-
-/// Name, place in the record, width, and whether it is a union.
-fn outline<'t>(found: &Layout<'t, '_>) -> Vec<(&'t str, usize, usize, bool)> {
-    found.entries().map(|e| (e.name.unwrap(), e.absolute, e.width, e.is_union)).collect()
-}
-
-#[test]
-fn union_of_a_base_and_its_redefiner() {
-    let found = layout(b"05 A PIC X(2). 05 B REDEFINES A PIC X(5). 05 C PIC X.").unwrap();
-    assert_eq!(outline(&found), [("A", 0, 5, true), ("A", 0, 2, false), ("B", 0, 5, false), ("C", 2, 1, false)]);
-    assert_eq!(found.record_len(), 5);
-    let depths: Vec<_> = found.entries().map(|e| (e.depth, e.redefines)).collect();
-    assert_eq!(depths, [(0, None), (1, None), (1, None), (0, None)]);
-}
-
-#[test]
-fn union_inside_a_group() {
-    let found = layout(b"01 R. 05 K PIC X(3). 05 G. 10 A PIC X. 10 B PIC 99. 10 C REDEFINES B. 15 D PIC X. 15 E PIC X.").unwrap();
     assert_eq!(
-        outline(&found),
-        [
-            ("K", 0, 3, false),
-            ("G", 3, 3, false),
-            ("A", 3, 1, false),
-            ("B", 4, 2, true),
-            ("B", 4, 2, false),
-            ("C", 4, 2, false),
-            ("D", 4, 1, false),
-            ("E", 5, 1, false),
-        ]
+        (found.listing().len(), found.record_len(), found.variable(), found.entries().count()),
+        (10, 0, false, 0)
     );
 }
 
-/// A group with a member of its own name is no union, and a redefiner becomes one more member; a redefiner of a redefiner stays where it is and says so.
+/// Depth, name, offset and width.
+fn outline<'t>(found: &Layout<'t, '_>) -> Vec<(usize, &'t str, usize, usize)> {
+    found.entries().map(|e| (e.depth, e.name.unwrap(), e.offset, e.width)).collect()
+}
+
+/// A base and its redefiners are members of a group of the base's name, as wide as the widest of them.
 #[test]
-fn not_unions() {
-    let found = layout(b"05 A. 10 A PIC X. 10 B PIC X. 05 C PIC X.").unwrap();
-    assert_eq!(outline(&found), [("A", 0, 2, false), ("A", 0, 1, false), ("B", 1, 1, false), ("C", 2, 1, false)]);
+fn base_and_redefiner() {
+    let found = layout(b"05 A PIC X(2). 05 B REDEFINES A PIC X(5). 05 C PIC X.").unwrap();
+    assert_eq!(outline(&found), [(0, "A", 0, 5), (1, "A", 0, 2), (1, "B", 0, 5), (0, "C", 2, 1)]);
+    assert_eq!(found.record_len(), 5);
+    assert!(found.entries().all(|e| e.redefines.is_none()));
+}
+
+/// A redefiner of a group with a member of its own name becomes one more member of it; a redefiner of a redefiner stays
+/// where it is and says so.
+#[test]
+fn odd_folds() {
     let found = layout(b"05 A. 10 A PIC X. 10 B PIC X. 05 C REDEFINES A PIC X(5).").unwrap();
-    assert_eq!(outline(&found), [("A", 0, 5, false), ("A", 0, 1, false), ("B", 1, 1, false), ("C", 0, 5, false)]);
+    assert_eq!(outline(&found), [(0, "A", 0, 5), (1, "A", 0, 1), (1, "B", 1, 1), (1, "C", 0, 5)]);
     let found = layout(b"05 A PIC X. 05 B REDEFINES A PIC X. 05 C REDEFINES B PIC X.").unwrap();
-    assert_eq!(outline(&found), [("A", 0, 1, true), ("A", 0, 1, false), ("B", 0, 1, false), ("C", 0, 1, false)]);
+    assert_eq!(outline(&found), [(0, "A", 0, 1), (1, "A", 0, 1), (1, "B", 0, 1), (0, "C", 0, 1)]);
     assert_eq!(found.entries().last().unwrap().redefines, Some("B"));
 }
 
@@ -190,23 +179,35 @@ fn names_outlive_the_layout() {
     assert_eq!(names, ["A", "B", "C"]);
 }
 
-/// What the program `./layout` prints.
+/// What the program of `crates/copybook_layout` prints.
 fn printed(answer: Result<Layout, Refusal>) -> String {
     let found = match answer {
         Ok(found) => found,
         Err(r) => return format!("refused {} {}\n", r.number, r.position),
     };
-    let mut lines = format!("record {} {} {}\n", found.record_len(), if found.variable() { "variable" } else { "fixed" }, found.top_len());
+    let mut lines = format!(
+        "record {} {} {}\n",
+        found.record_len(),
+        if found.variable() { "variable" } else { "fixed" },
+        found.top_len()
+    );
     for e in found.entries() {
         let name = e.name.unwrap_or("FILLER");
         let occurs = e.occurs.map_or("-".into(), |n| n.to_string());
         let (depending, redefines) = (e.depending_on.unwrap_or("-"), e.redefines.unwrap_or("-"));
-        lines += &format!("{} {name} {} {} {} {occurs} {depending} {redefines}\n", e.depth, e.offset, e.width, e.kind.word());
+        lines += &format!(
+            "{} {name} {} {} {} {occurs} {depending} {redefines}\n",
+            e.depth,
+            e.offset,
+            e.width,
+            e.kind.word()
+        );
     }
     lines
 }
 
-/// The examples of the repository have the answers that stand beside them, from a fresh call and from a reader that is used again.
+/// The examples of the repository have the answers that stand beside them, from a fresh call and from a reader that is
+/// used again.
 #[test]
 fn examples_of_the_repository() {
     let folder = concat!(env!("CARGO_MANIFEST_DIR"), "/../../examples");

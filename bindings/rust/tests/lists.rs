@@ -1,7 +1,8 @@
-//! The lists that crates/test_layout replays, through this crate: the bytes of every listing are made again from its entries, so that an entry has all that the listing says and
-//! its names are the very places of the text.
+//! The lists that crates/test_layout replays, through this crate: the bytes of every listing are made again from its
+//! entries, so that an entry has all that the listing says and its names are the very places of the text; the details
+//! of every entry go with it; every refusal is told.
 
-use copybook::{Entry, FieldKind, Layout, NumRepr, Reader, Refusal, SignKind};
+use copybook::{Details, Entry, FieldKind, Layout, Reader, Refusal};
 use std::fs;
 
 /// A case: a text, and the listing, or the number and position of the refusal.
@@ -61,9 +62,11 @@ impl Made<'_> {
     fn details(&mut self, kind: FieldKind) {
         match kind {
             FieldKind::Text => {}
-            FieldKind::Int { signed, sign } => self.bytes.extend([u8::from(signed), sign_byte(sign)]),
+            FieldKind::Int { signed, sign } => self.bytes.extend([u8::from(signed), sign.number()]),
             FieldKind::Binary { signed } => self.bytes.push(u8::from(signed)),
-            FieldKind::Decimal { precision, scale, repr, sign } => self.bytes.extend([precision, scale, storage_byte(repr), sign_byte(sign)]),
+            FieldKind::Decimal { precision, scale, repr, sign } => {
+                self.bytes.extend([precision, scale, repr.number(), sign.number()]);
+            }
             FieldKind::Edited { precision, scale, signed, picture } => {
                 self.bytes.extend([precision, scale, u8::from(signed)]);
                 self.word(Some(picture));
@@ -73,7 +76,7 @@ impl Made<'_> {
     }
 
     fn entry(&mut self, e: &Entry) {
-        self.bytes.push(kind_byte(e.kind));
+        self.bytes.push(e.kind.number());
         self.word(e.name);
         self.four(e.offset);
         self.four(e.width);
@@ -85,28 +88,6 @@ impl Made<'_> {
     }
 }
 
-fn sign_byte(sign: SignKind) -> u8 {
-    match sign {
-        SignKind::Unsigned => 0,
-        SignKind::Embedded => 1,
-        SignKind::LeadingSeparate => 2,
-        SignKind::TrailingSeparate => 3,
-    }
-}
-
-fn storage_byte(repr: NumRepr) -> u8 {
-    match repr {
-        NumRepr::Display => 0,
-        NumRepr::Comp3 => 1,
-        NumRepr::Zoned => 2,
-    }
-}
-
-fn kind_byte(kind: FieldKind) -> u8 {
-    let words = ["text", "int", "bin", "dec", "edit", "group"];
-    words.iter().position(|&w| w == kind.word()).unwrap() as u8 + 1
-}
-
 fn made_again(text: &[u8], layout: &Layout) -> Vec<u8> {
     let mut made = Made { text, bytes: vec![0] };
     made.four(layout.record_len());
@@ -116,16 +97,38 @@ fn made_again(text: &[u8], layout: &Layout) -> Vec<u8> {
     made.bytes
 }
 
-/// The place of an entry in the record is that of the group around it, and its own offset; a union has its base first.
-fn check_places(layout: &Layout) {
-    let mut around: Vec<Entry> = Vec::new();
-    for (number, e) in layout.entries().enumerate() {
-        if let Some(union) = around.last().filter(|g| g.is_union && g.number + 1 == e.number) {
-            assert_eq!((e.name, e.offset), (union.name, 0));
-        }
+/// The details are of the entries: as many; the place of an entry in the record is that of the group around it, and its
+/// own offset; below it are all that follow and are deeper; a fold has a member of its name, and no words of its own.
+fn check_details(text: &[u8], layout: &Layout, details: &Details) {
+    let entries: Vec<Entry> = layout.entries().collect();
+    assert_eq!(details.len(), entries.len());
+    let mut around: Vec<u64> = Vec::new();
+    for (e, d) in entries.iter().zip(details.iter()) {
+        assert_eq!(e.depth, d.depth);
         around.truncate(e.depth);
-        assert_eq!((e.number, e.absolute), (number, around.last().map_or(0, |g| g.absolute) + e.offset));
-        around.push(e);
+        assert_eq!(d.first, around.last().unwrap_or(&0) + e.offset as u64);
+        around.push(d.first);
+        let deeper = entries[e.number + 1..].iter().take_while(|later| later.depth > e.depth);
+        assert_eq!(d.below, deeper.count());
+        assert!(d.slack as u64 <= d.first);
+        let level = text[d.position..].iter().take_while(|b| b.is_ascii_alphanumeric() || **b == b'+');
+        assert_eq!(std::str::from_utf8(&text[d.position..][..level.count()]).unwrap().parse(), Ok(d.level));
+        if d.folded {
+            assert!(matches!(e.kind, FieldKind::Group { members: 2.. }), "{e:?}");
+            assert_eq!((d.slack, d.picture, d.redefines, d.depending_on), (0, None, None, None));
+            let members = entries[e.number + 1..][..d.below].iter().filter(|m| m.depth == e.depth + 1);
+            let name = |e: &Entry| e.name.unwrap_or("FILLER").to_owned();
+            assert!({ members }.any(|m| name(m) == name(e)), "{e:?}");
+            continue;
+        }
+        assert_eq!(d.depending_on.map(|w| w.word), e.depending_on);
+        assert!(e.redefines.is_none() || d.redefines.map(|w| w.word) == e.redefines);
+        let picture = d.picture.map(|w| w.word);
+        match e.kind {
+            FieldKind::Group { .. } => {}
+            FieldKind::Edited { picture: listed, .. } => assert_eq!(picture, Some(listed)),
+            _ => assert!(picture.is_some()),
+        }
     }
 }
 
@@ -136,16 +139,30 @@ fn check_line(text: &[u8], r: &Refusal) {
     assert!(!text[before..r.position].contains(&b'\n'));
 }
 
+/// What is told of a refusal has no place left open, and its words are of the text.
+fn check_told(text: &[u8], r: &Refusal) {
+    let told = r.told(text);
+    assert!(!told.sentence.contains(['{', '}']) || text.contains(&b'{') || text.contains(&b'}'), "{}", told.sentence);
+    assert!(!told.excerpt().is_empty());
+    if let Some(word) = told.word {
+        assert_eq!(text[word.range()], *word.word.as_bytes());
+        assert!(word.start >= r.position);
+    }
+    let named = matches!(r.number, 10 | 22..=28 | 30);
+    assert!(!named || told.word.is_some(), "{}", told.of_file("a copybook"));
+}
+
 fn check(reader: &mut Reader, case: &Case) {
-    match (reader.layout(&case.text), &case.answer) {
-        (Ok(layout), Ok(listing)) => {
+    match (reader.layout_and_details(&case.text), &case.answer) {
+        (Ok((layout, details)), Ok(listing)) => {
             assert_eq!(layout.listing(), listing);
             assert_eq!(made_again(&case.text, &layout), *listing);
-            check_places(&layout);
+            check_details(&case.text, &layout, &details);
         }
         (Err(r), Err((number, position))) => {
             assert_eq!((r.number, r.position), (*number, *position));
             check_line(&case.text, &r);
+            check_told(&case.text, &r);
         }
         (found, _) => panic!("{found:?} for {}", String::from_utf8_lossy(&case.text)),
     }

@@ -1,59 +1,91 @@
 -- Laws of the calls about a copybook's record: the answer by what was read and laid, and what the call leaves.
 -- Assumes nothing.
-use Prim.Native.Nat.{ℕ}
-use mathlib.Core.Path.{_≡_, refl, _∙_, ap}
+use Prim.Native.Nat.{ℕ, _≤_}
+use mathlib.Core.Path.{_≡_, refl, sym, _∙_, ap}
 use mathlib.Core.List.{List, []}
 use lib.ListN.{length, replicate}
 use Rattle.definition.specs.declared.OwnerAnswer.{OwnerAnswer}
 use Rattle.definition.specs.declared.Refusal.{Refusal}
 use Rattle.definition.specs.declared.Writing.{Writing}
 use Rattle.definition.specs.Basic.{Answer, refuse, give, _>>=_}
-use Rattle.definition.specs.Calls.{left, recordFields, entries, fitting, layoutListing, byteOwner, cleared, afterWriting, layoutCall, ownerCall, ownerAnswerOf, writingOf}
-use Rattle.definition.specs.Fold.{Entries}
+use Rattle.definition.specs.Calls.{left, recordFields, entries, fitting, layoutListing, layoutDetails, byteOwner, cleared, afterWriting, ownerCall, ownerAnswerOf, writingOf}
+use Rattle.definition.specs.Fold.{Entries, foldedAll}
 use Rattle.definition.specs.Listing.{listing}
+use Rattle.definition.specs.Details.{entriesDetails, height}
 use Rattle.definition.specs.Record.{layout}
 use Rattle.definition.specs.Tree.{Forest}
-use Rattle.layout.specs.Bare.{foldedAll}
 use Rattle.layout.proofs.BareLaws.{layout-is}
-use Rattle.record.specs.Laying.{laidOf}
+use Rattle.definition.proofs.DetailLaws.{listing-height}
+use Rattle.places.specs.Places.{rowsForest}
+use Rattle.unions.specs.Shown.{listIn}
+use Rattle.record.specs.Laying.{laidOf, Listed}
 
--- ---------------------------------------------------------------- the layout listing
+-- ---------------------------------------------------------------- bytes that tell of the entries
 
-module _ (text : List ℕ) (n room : ℕ) where
+module _ (text : List ℕ) (n room : ℕ) (show : Entries → List ℕ) where
+  -- the bytes of the entries that are read and laid, where they have room
+  abbrev shown : Answer (List ℕ)
+  shown = entries text n >>= λ es. fitting room (show es)
+
   laid-then : (a : Answer Forest) → (a >>= λ f. layout text f) ≡ (laidOf text a >>= λ es. give (foldedAll text es))
   unfolding _>>=_
   laid-then (refuse r) = refl
   laid-then (give f) = layout-is text f
 
-  listed : layoutListing text n room ≡ ((laidOf text (recordFields text n) >>= λ es. give (foldedAll text es)) >>= λ es. fitting room (listing es))
-  unfolding layoutListing entries _>>=_
-  listed = ap (λ (a : Answer Entries). a >>= λ es. fitting room (listing es)) (laid-then (recordFields text n))
+  laid-shown : shown ≡ ((laidOf text (recordFields text n) >>= λ es. give (foldedAll text es)) >>= λ es. fitting room (show es))
+  unfolding entries _>>=_
+  laid-shown = ap (λ (a : Answer Entries). a >>= λ es. fitting room (show es)) (laid-then (recordFields text n))
 
   -- refused
-  pub reader-refuses : {r : Refusal} → laidOf text (recordFields text n) ≡ refuse r → layoutListing text n room ≡ refuse r
+  shown-not : {r : Refusal} → laidOf text (recordFields text n) ≡ refuse r → shown ≡ refuse r
   unfolding _>>=_
-  reader-refuses e = listed ∙ rw e
+  shown-not e = laid-shown ∙ rw e
 
   -- laid
-  pub record-listed : {es : Entries} → laidOf text (recordFields text n) ≡ give es → layoutListing text n room ≡ fitting room (listing (foldedAll text es))
+  shown-laid : {es : Entries} → laidOf text (recordFields text n) ≡ give es → shown ≡ fitting room (show (foldedAll text es))
   unfolding _>>=_
-  record-listed e = listed ∙ rw e
+  shown-laid e = laid-shown ∙ rw e
 
--- ---------------------------------------------------------------- what it leaves
+module _ (text : List ℕ) (n room : ℕ) where
+  -- the layout listing
+  pub listing-refused : {r : Refusal} → laidOf text (recordFields text n) ≡ refuse r → layoutListing text n room ≡ refuse r
+  unfolding layoutListing
+  listing-refused e = shown-not text n room listing e
 
-module _ (text out work w₁ : List ℕ) {w₂ : List ℕ} (zero : w₂ ≡ cleared w₁) (kept : length w₁ ≡ length work) where
+  pub listing-laid : {es : Entries} → laidOf text (recordFields text n) ≡ give es → layoutListing text n room ≡ fitting room (listing (foldedAll text es))
+  unfolding layoutListing
+  listing-laid e = shown-laid text n room listing e
+
+  -- the details
+  pub details-refused : {r : Refusal} → laidOf text (recordFields text n) ≡ refuse r → layoutDetails text n room ≡ refuse r
+  unfolding layoutDetails
+  details-refused e = shown-not text n room entriesDetails e
+
+  pub details-laid : {es : Entries} → laidOf text (recordFields text n) ≡ give es → layoutDetails text n room ≡ fitting room (entriesDetails (foldedAll text es))
+  unfolding layoutDetails
+  details-laid e = shown-laid text n room entriesDetails e
+
+-- the lists of a laid record nest at most 130 deep
+pub record-deep : {text : List ℕ} {read : Answer Forest} {w : List ℕ} {from to long : ℕ} → Listed text read w from to long → height (foldedAll text (listIn w from to)) ≤ 130
+unfolding _>>=_
+record-deep {text} {w = w} {from} {to} h =
+    listing-height text (rowsForest w from to) (listIn w from to) (sym (ap (laidOf text) (h .fields)) ∙ h .is)
+
+-- ---------------------------------------------------------------- what a call leaves
+
+module _ (out work w₁ : List ℕ) {w₂ : List ℕ} (zero : w₂ ≡ cleared w₁) (kept : length w₁ ≡ length work) (a : Answer (List ℕ)) where
   -- a refusal
-  pub refused-call : {r : Refusal} → layoutListing text (length work) (length out) ≡ refuse r → left (refuse r) out w₂ ≡ layoutCall text out work
+  pub refused-call : {r : Refusal} → a ≡ refuse r → left (refuse r) out w₂ ≡ afterWriting a out work
   refused-call e = rw (e, zero, kept)
 
-  -- a listing, or 31
-  pub listed-call :
+  -- bytes, or 31
+  pub written-call :
       (bs : List ℕ) →
-      layoutListing text (length work) (length out) ≡ fitting (length out) bs →
+      a ≡ fitting (length out) bs →
       (x : Writing) {o : List ℕ} →
       left (writingOf x) o [] ≡ afterWriting (fitting (length out) bs) out [] →
-      left (writingOf x) o w₂ ≡ layoutCall text out work
-  listed-call bs e x h =
+      left (writingOf x) o w₂ ≡ afterWriting a out work
+  written-call bs e x h =
       rw
       (e, zero, kept)
       (λ i. record { answer = h i .answer; output = h i .output; work = replicate (length work) 0 })

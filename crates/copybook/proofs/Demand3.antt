@@ -11,6 +11,7 @@ use lib.Seq.{take-append-seam, drop-append-seam}
 use borrow.Author.Tests.{le-ltb}
 use Rattle.definition.specs.declared.Owner.{Owner}
 use Rattle.definition.specs.declared.Writing.{Writing}
+use Rattle.definition.specs.Limits.{leastWork}
 use Rattle.definition.specs.Basic.{Answer, refuse, give, _>>=_, refuseIf}
 use Rattle.definition.specs.Calls.{After, entryChecks, recordFields, fitting, layoutListing, ownerIn, written, outputAfter}
 use Rattle.definition.specs.Listing.{listing}
@@ -18,7 +19,7 @@ use Rattle.definition.specs.Statement.{statements}
 use Rattle.definition.specs.Tree.{Forest, forest, fields}
 use Rattle.definition.specs.Words.{statementWords}
 use Rattle.definition.proofs.Answers.{give-next, through, given-same}
-use Rattle.definition.proofs.Demand3.{demand3 as defined, read-fields, answers, refuses-40, refuses-41}
+use Rattle.definition.proofs.Demand3.{demand3 as defined, read-fields, refuses-40, refuses-41}
 use Rattle.copybook.specs.Answered.{Listing, Owns, Answered}
 
 -- ---------------------------------------------------------------- the listing that was written
@@ -45,12 +46,12 @@ fits room bs cs h = by-test (ltb room (length bs)) refl
 -- ---------------------------------------------------------------- the byte owner
 
 -- checks that were passed are passed with any work memory that is enough
-checked : (text : List ℕ) (n m : ℕ) → entryChecks text n ≡ give tt → 16384 ≤ m → entryChecks text m ≡ give tt
+checked : (text : List ℕ) (n m : ℕ) → entryChecks text n ≡ give tt → leastWork ≤ m → entryChecks text m ≡ give tt
 unfolding entryChecks
-checked text n m h room = through _ _ h λ _ t _. ap (λ (a : Answer (Unit {0})). a >>= λ _. refuseIf (ltb m 16384) 3 0) t ∙ give-next tt _ ∙ rw (le-ltb m 16384 room)
+checked text n m h room = through _ _ h λ _ t _. ap (λ (a : Answer (Unit {0})). a >>= λ _. refuseIf (ltb m leastWork) 3 0) t ∙ give-next tt _ ∙ rw (le-ltb m leastWork room)
 
 -- and so the same fields are read
-enough : (text : List ℕ) (n m : ℕ) (f : Forest) → recordFields text n ≡ give f → 16384 ≤ m → recordFields text m ≡ give f
+enough : (text : List ℕ) (n m : ℕ) (f : Forest) → recordFields text n ≡ give f → leastWork ≤ m → recordFields text m ≡ give f
 unfolding recordFields
 enough text n m f h room = through _ _ h λ _ e q. ap (λ (a : Answer (Unit {0})). a >>= λ _. (statements text 0 (statementWords text) >>= λ ss. give (fields (forest ss)))) (checked text n m e room) ∙ give-next tt _ ∙ q
 
@@ -78,7 +79,7 @@ demand3 text out work n out′ work′ h =
       written = ap₂ take (w .long) (w .after) ∙ take-append-seam (w .bytes) (drop (length (w .bytes)) out) ∙ sym same;
       behind = ap₂ drop (w .long) (w .after) ∙ drop-append-seam (w .bytes) (drop (length (w .bytes)) out) ∙ ap (λ (m : ℕ). drop m out) (sym (w .long));
       kept = k;
-      names = λ free p l. (k .demand free .one-owner p l, owns text (length work) (k .of) (k .read) p (answers text (k .of) es (k .laidOut) free p l));
+      names = λ free p l. owns text (length work) (k .of) (k .read) p (sym (read-fields text (length work) (k .of) (k .read) .1 p) ∙ k .demand free .named p l);
       ends = λ free p l. owns text (length work) (k .of) (k .read) p (refuses-41 text (k .of) es (k .laidOut) free p l);
       refuses = λ over p. owns text (length work) (k .of) (k .read) p (refuses-40 text (k .of) es (k .laidOut) over p);
     }

@@ -10,12 +10,13 @@ use lib.ListN.{length, take, drop}
 use Rattle.definition.specs.declared.Owner.{Owner}
 use Rattle.definition.specs.declared.OwnerAnswer.{OwnerAnswer}
 use Rattle.definition.specs.declared.Writing.{Writing}
+use Rattle.definition.specs.Limits.{leastWork}
 use Rattle.definition.specs.Basic.{Answer, give, refused}
 use Rattle.definition.specs.Calls.{left, layoutCall, ownerCall, ownerAnswerOf, writingOf}
-use Rattle.definition.specs.Demand.{Owned, Kept}
+use Rattle.definition.specs.Demand.{naming, Kept}
 use Rattle.definition.specs.Fold.{Entries}
 use Rattle.definition.specs.Listing.{listing}
-use Rattle.definition.specs.Owner.{pieces, ownerOf, overlaid}
+use Rattle.definition.specs.Owner.{overlaid}
 use Rattle.definition.specs.Record.{recordLength}
 
 -- what the contract of `layout_listing` says of a call: its answer, and the output and work memory after it
@@ -28,7 +29,7 @@ Owning text position work r work′ = left (ownerAnswerOf r) [] work′ ≡ owne
 
 -- every call of `byte_owner` at the position q answers so, whatever work memory of at least 16,384 numbers it is lent
 abbrev pub Owns : List ℕ → ℕ → Answer Owner → Type 0
-Owns text q a = (work : List ℕ) (r : OwnerAnswer) (work′ : List ℕ) → 16384 ≤ length work → Owning text q work r work′ → ownerAnswerOf r ≡ a
+Owns text q a = (work : List ℕ) (r : OwnerAnswer) (work′ : List ℕ) → leastWork ≤ length work → Owning text q work r work′ → ownerAnswerOf r ≡ a
 
 -- what holds after a call of `layout_listing` that wrote n bytes
 pub record Answered (text out work : List ℕ) (n : ℕ) (out′ : List ℕ) : Type 0 where
@@ -36,12 +37,13 @@ pub record Answered (text out work : List ℕ) (n : ℕ) (out′ : List ℕ) : T
   pub shown : Entries
   pub written : take n out′ ≡ listing shown
   pub behind : drop n out′ ≡ drop n out
-  -- the fields that were read, and what demand 3 says of the entries: the pieces' widths add up to the record length; each offset is the place
-  -- that its list has reached after the earlier items and the entry's own slack; slack is the fewest bytes, only before a SYNC binary item; a
-  -- record that is cut into the pieces and joined again is itself
+  -- the fields that were read, and what demand 3 says of the entries
   pub kept : Kept text (length work) shown
   -- without a REDEFINES or DEPENDING ON every byte below the record length has exactly one owner, and the byte owner names it;
-  pub names : overlaid (kept .of) ≡ false → (q : ℕ) → q < recordLength shown → Owned 0 (pieces text (kept .of)) q × Owns text q (give (ownerOf (pieces text (kept .of)) q))
+  pub names :
+      (free : overlaid (kept .of) ≡ false) (q : ℕ) (l : q < recordLength shown) →
+      let x = kept .demand free .one-owner q l .owner in
+      Owns text q (give (naming (x .holder) (x .first) q))
   -- there is no byte behind them, and it says so;
   pub ends : overlaid (kept .of) ≡ false → (q : ℕ) → recordLength shown ≤ q → Owns text q (refused 41 0)
   -- with one, it refuses every position

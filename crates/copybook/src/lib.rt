@@ -4,7 +4,7 @@
 ghost use Prim.Native.Nat.{ℕ};
 ghost use mathlib.Core.Path.{_≡_};
 ghost use mathlib.Core.List.{[]};
-ghost use Rattle.definition.specs.Calls.{left, layoutCall, maskCall, pictureAnswer, ownerCall, recordCheck, checkOf, ownerAnswerOf, pictureOf, writingOf};
+ghost use Rattle.definition.specs.Calls.{left, layoutCall, detailsCall, maskCall, pictureAnswer, ownerCall, recordCheck, checkOf, ownerAnswerOf, pictureOf, writingOf};
 use definition::Check;
 use definition::OwnerAnswer;
 use definition::PicAnswer;
@@ -22,11 +22,59 @@ use record::RecordLaid;
 pub fn layout_listing(text: &[u8], work: &mut [u32], out: &mut [u8]) -> Writing
     ensures { λ r. ⌜ left (writingOf r) (now (out .exit)) (now (work .exit)) ≡ layoutCall (now (text .entry)) (now (out .entry)) (now (work .entry)) ⌝ }
 {
-    match record::read_record(text, work) {
-        RecordLaid::Record { from, to, length } => {
-            let answer = writer::write_listing(text, work, from, to, length, out);
+    let mut entries = [0u32; 8400];
+    match record::read_record(text, work, &mut entries) {
+        RecordLaid::Record {
+            from,
+            to,
+            length,
+            count,
+            top,
+        } => {
+            let answer = writer::write_listing(
+                text,
+                work,
+                &entries,
+                from,
+                to,
+                length,
+                count,
+                top,
+                out,
+            );
             rows::clear(work);
             return answer;
+        }
+        RecordLaid::Refused(r) => {
+            rows::clear(work);
+            return Writing::Refused(r);
+        }
+    }
+}
+
+// The details of the listing's entries: 47 bytes for each, in the order of the listing, numbers little-endian. The
+// position of the statement (4), its level (1), the entry's depth (1), 1 for a group made by folding (1), the number of
+// entries below it (4), its first byte in the record (8), the slack bytes directly before it (4), and start and length
+// of its picture, its REDEFINES and its DEPENDING ON as the statement has them (8 each, 0 where absent). A group made
+// by folding has its base's position and level, and 0 for slack and the three places.
+// Answer, output and work memory are as in `layout_listing`, and so are the refusals: 31 has the length of the details.
+// The contract rules out a program that takes an entry's offset for its first byte, and one that gives a fold its
+// base's slack.
+pub fn layout_details(text: &[u8], work: &mut [u32], out: &mut [u8]) -> Writing
+    ensures { λ r. ⌜ left (writingOf r) (now (out .exit)) (now (work .exit)) ≡ detailsCall (now (text .entry)) (now (out .entry)) (now (work .entry)) ⌝ }
+{
+    let mut entries = [0u32; 8400];
+    match record::read_record(text, work, &mut entries) {
+        RecordLaid::Record {
+            from,
+            to,
+            length,
+            count,
+            top,
+        } => {
+            let written = details::write_details(text, work, &entries, from, to, count, out);
+            rows::clear(work);
+            return written;
         }
         RecordLaid::Refused(r) => {
             rows::clear(work);
@@ -43,8 +91,15 @@ pub fn layout_listing(text: &[u8], work: &mut [u32], out: &mut [u8]) -> Writing
 pub fn byte_owner(text: &[u8], position: usize, work: &mut [u32]) -> OwnerAnswer
     ensures { λ r. ⌜ left (ownerAnswerOf r) [] (now (work .exit)) ≡ ownerCall (now (text .entry)) position (now (work .entry)) ⌝ }
 {
-    match record::read_record(text, work) {
-        RecordLaid::Record { from, to, length } => {
+    let mut entries = [0u32; 8400];
+    match record::read_record(text, work, &mut entries) {
+        RecordLaid::Record {
+            from,
+            to,
+            length,
+            count,
+            top,
+        } => {
             let found = owner::owner_of(text, work, from, to, length, position);
             rows::clear(work);
             return found;
@@ -56,21 +111,38 @@ pub fn byte_owner(text: &[u8], position: usize, work: &mut [u32]) -> OwnerAnswer
     }
 }
 
-// Kind, its details and width of one picture with a usage and a sign; the refusals are those of `picture::parse_pic`, which it is.
+// Kind, its details and width of one picture with a usage and a sign. Refusals, in this order: 1 over 65,535 bytes; 2 a byte over 127, at the first
+// one; then symbol by symbol 22 no `)`, 23 no repeat count, 24 over 65,535 symbols; then 25 no symbol, 26 text mixed with a digit or editing, 27 over
+// 255 digits or an edited DISPLAY mask over 255; at 0 except 2.
 // The contract rules out a program that counts `$$$9` as four digits, and one that answers `S9(4)` SIGN TRAILING SEPARATE with width 4.
 pub fn parse_pic(pic: &[u8], usage: Usage, sign: SignClause) -> PicAnswer
     ensures { λ r. ⌜ pictureOf r ≡ pictureAnswer usage sign (now (pic .entry)) ⌝ }
 {
-    picture::parse_pic(pic, usage, sign)
+    match text::text_checks(pic) {
+        Check::Passed => {
+            return picture::picture_at(pic, 0, usage, sign);
+        }
+        Check::Refused(r) => {
+            return PicAnswer::Refused(r);
+        }
+    }
 }
 
-// Writes the mask of a picture that is edited under the usage, and answers its length, 0 of any other picture; `picture::mask`.
-// A refusal changes no byte of the output, and bytes past the mask keep their values.
+// Writes the mask of a picture that is edited under the usage, and answers its length; 0 of any other picture. Refusals: those of `parse_pic`, in its
+// order; then 31, with the length of the mask, if it is longer than the output. A refusal changes no byte of the output, and bytes past the mask keep
+// their values.
 // The contract rules out a program that writes before it knows that the mask has room, and one that writes S, V or P.
 pub fn mask(pic: &[u8], usage: Usage, out: &mut [u8]) -> Writing
     ensures { λ r. ⌜ left (writingOf r) (now (out .exit)) [] ≡ maskCall usage (now (pic .entry)) (now (out .entry)) ⌝ }
 {
-    picture::mask(pic, usage, out)
+    match text::text_checks(pic) {
+        Check::Passed => {
+            return mask::mask_of(pic, usage, out);
+        }
+        Check::Refused(r) => {
+            return Writing::Refused(r);
+        }
+    }
 }
 
 // Whether a record of `len` bytes is long enough for a layout of `record_len` bytes: 42, at 0, where it is shorter and the record

@@ -3,8 +3,9 @@
 ghost use mathlib.Core.Path.{_≡_};
 ghost use mathlib.Core.Bool.{_||_};
 ghost use Rattle.definition.specs.Basic.{if_then_else_};
-ghost use Rattle.definition.specs.Calls.{layoutCall, pictureAnswer, maskCall, ownerCall, recordCheck};
-ghost use Rattle.numbers.specs.Numbers.{usageOf, signOf, noUsage, noSign, marked};
+ghost use Rattle.definition.specs.Calls.{layoutCall, detailsCall, pictureAnswer, maskCall, ownerCall, recordCheck};
+ghost use Rattle.kinds.specs.Usages.{usageAt, signClauseAt};
+ghost use Rattle.numbers.specs.Numbers.{noUsage, noSign, marked};
 ghost use Rattle.numbers.specs.Numbers.{returned, writingNumbers, pictureNumbers, ownerNumbers, answered};
 use definition::Check;
 
@@ -27,14 +28,33 @@ pub extern "C" fn copybook_layout(
     numbers::hand_on(w, answer)
 }
 
+// The details of the listing's entries, as `copybook::layout_details` says. To `answer`, 2 numbers, as
+// `copybook_layout`.
+// The contract rules out the same two wrong calls as that of `copybook_layout`.
+#[no_mangle]
+pub extern "C" fn copybook_details(
+    text: &[u8],
+    work: &mut [u32],
+    out: &mut [u8],
+    answer: &mut [u64],
+) -> u32
+    ensures { λ r. ⌜ r ≡ returned (detailsCall (now (text .entry)) (now (out .entry)) (now (work .entry)) .answer) ⌝ }
+    ensures { λ _. ⌜ now (answer .exit) ≡ answered (writingNumbers (detailsCall (now (text .entry)) (now (out .entry)) (now (work .entry)) .answer)) (now (answer .entry)) ⌝ }
+    ensures { λ _. ⌜ now (out .exit) ≡ detailsCall (now (text .entry)) (now (out .entry)) (now (work .entry)) .output ⌝ }
+    ensures { λ _. ⌜ now (work .exit) ≡ detailsCall (now (text .entry)) (now (out .entry)) (now (work .entry)) .work ⌝ }
+{
+    let w = copybook::layout_details(text, work, out);
+    numbers::hand_on(w, answer)
+}
+
 // Kind, its details and width of a picture with a usage and a sign, as `copybook::parse_pic` says. To `answer`, 7 numbers: kind, width, signed,
 // sign, precision, scale, storage, each 0 where the kind has none; or position, needed length and zeros. 255, and nothing touched, for a usage
 // above 2 or a sign above 4.
 // The contract rules out a call that takes sign 4 for leading separate, and one that takes usage 3 for COMP.
 #[no_mangle]
 pub extern "C" fn copybook_picture(pic: &[u8], usage: u8, sign: u8, answer: &mut [u64]) -> u32
-    ensures { λ r. ⌜ r ≡ (if noUsage usage || noSign sign then 255 else returned (pictureAnswer (usageOf usage) (signOf sign) (now (pic .entry)))) ⌝ }
-    ensures { λ _. ⌜ now (answer .exit) ≡ (if noUsage usage || noSign sign then now (answer .entry) else answered (pictureNumbers (pictureAnswer (usageOf usage) (signOf sign) (now (pic .entry)))) (now (answer .entry))) ⌝ }
+    ensures { λ r. ⌜ r ≡ (if noUsage usage || noSign sign then 255 else returned (pictureAnswer (usageAt usage) (signClauseAt sign) (now (pic .entry)))) ⌝ }
+    ensures { λ _. ⌜ now (answer .exit) ≡ (if noUsage usage || noSign sign then now (answer .entry) else answered (pictureNumbers (pictureAnswer (usageAt usage) (signClauseAt sign) (now (pic .entry)))) (now (answer .entry))) ⌝ }
 {
     if numbers::no_usage(usage) {
         return 255;
@@ -42,7 +62,7 @@ pub extern "C" fn copybook_picture(pic: &[u8], usage: u8, sign: u8, answer: &mut
     if 4 < sign {
         return 255;
     }
-    let p = copybook::parse_pic(pic, numbers::usage_of(usage), numbers::sign_of(sign));
+    let p = copybook::parse_pic(pic, kinds::usage_at(usage), kinds::sign_clause_at(sign));
     numbers::hand_on_picture(p, answer)
 }
 
@@ -51,14 +71,14 @@ pub extern "C" fn copybook_picture(pic: &[u8], usage: u8, sign: u8, answer: &mut
 // The contract rules out a call that says 0 bytes of a mask that it wrote, and one that takes usage 3 for COMP.
 #[no_mangle]
 pub extern "C" fn copybook_mask(pic: &[u8], usage: u8, out: &mut [u8], answer: &mut [u64]) -> u32
-    ensures { λ r. ⌜ r ≡ (if noUsage usage then 255 else returned (maskCall (usageOf usage) (now (pic .entry)) (now (out .entry)) .answer)) ⌝ }
-    ensures { λ _. ⌜ now (answer .exit) ≡ (if noUsage usage then now (answer .entry) else answered (writingNumbers (maskCall (usageOf usage) (now (pic .entry)) (now (out .entry)) .answer)) (now (answer .entry))) ⌝ }
-    ensures { λ _. ⌜ now (out .exit) ≡ (if noUsage usage then now (out .entry) else maskCall (usageOf usage) (now (pic .entry)) (now (out .entry)) .output) ⌝ }
+    ensures { λ r. ⌜ r ≡ (if noUsage usage then 255 else returned (maskCall (usageAt usage) (now (pic .entry)) (now (out .entry)) .answer)) ⌝ }
+    ensures { λ _. ⌜ now (answer .exit) ≡ (if noUsage usage then now (answer .entry) else answered (writingNumbers (maskCall (usageAt usage) (now (pic .entry)) (now (out .entry)) .answer)) (now (answer .entry))) ⌝ }
+    ensures { λ _. ⌜ now (out .exit) ≡ (if noUsage usage then now (out .entry) else maskCall (usageAt usage) (now (pic .entry)) (now (out .entry)) .output) ⌝ }
 {
     if numbers::no_usage(usage) {
         return 255;
     }
-    let w = copybook::mask(pic, numbers::usage_of(usage), out);
+    let w = copybook::mask(pic, kinds::usage_at(usage), out);
     numbers::hand_on(w, answer)
 }
 

@@ -12,13 +12,13 @@ use Rattle.definition.specs.declared.Statement.{Statement}
 use Rattle.definition.specs.declared.Entry.{Entry}
 use Rattle.definition.specs.Basic.{if_then_else_, given, fewest, Answer, refuse, give, _>>=_}
 use Rattle.definition.specs.Tree.{Forest, leaf, item}
-use Rattle.definition.specs.Fold.{Entries, end, entry, Place, placeOf, times, total, entryEnd, sameName, redefiners, withRedefiners, fold}
-use Rattle.definition.specs.Layout.{Laid, content, start, entryOf, tooLarge, advance, shallow, lay}
-use Rattle.definition.specs.Record.{recordLength, layout}
+use Rattle.definition.specs.Fold.{Entries, end, entry, Place, placeOf, times, total, entryEnd, sameName, redefiners, withRedefiners, foldCheck, foldedList, foldedBelow, foldedAll}
+use Rattle.definition.specs.Layout.{Laid, content, start, slackFrom, entryOf, tooLarge, advance, shallow, lay}
+use Rattle.definition.specs.Record.{recordLength, unfolded, layout}
 use Rattle.definition.specs.Owner.{slack, Piece, piece, extent, repeated, size, orNone, storage, isAligned, slackBefore, once, laidItem, laid, overlaid}
 use Rattle.definition.specs.Placed.{contentOf, entryAt, placed}
 use Rattle.definition.proofs.Answers.{bound, through, given-same, not-refused, or-false}
-use Rattle.definition.proofs.LayoutLaws.{redefiners-none, redefiners-ends, redefiners-next, fold-none, fold-base}
+use Rattle.definition.proofs.LayoutLaws.{redefiners-none, redefiners-ends, redefiners-next, folded-none, folded-base, below-none, below-entry}
 use Rattle.definition.proofs.Pieces.{extent-append, extent-repeated}
 
 -- ---------------------------------------------------------------- plain forests
@@ -57,11 +57,10 @@ module _ (text : List ℕ) where
       by-name true h ih = redefiners-ends text base e members later (u .0) h
       by-name false h ih = redefiners-next text base e members later (u .0) h ∙ ih
 
-  pub fold-plain : (bases : List Place) (es : Entries) → Unfolded es → fold text bases es ≡ give es
-  unfolding _>>=_
-  fold-plain bases end u = fold-none text bases
+  pub fold-plain : (bases : List Place) (es : Entries) → Unfolded es → foldedList text bases es ≡ es
+  fold-plain bases end u = folded-none text bases
   fold-plain bases (entry e members later) u =
-      fold-base text bases e members later (u .0) ∙ rw (fold-plain (placeOf e ∷ bases) later (u .1), no-redefiners (placeOf e) later (u .1))
+      folded-base text bases e members later (u .0) ∙ rw (fold-plain (placeOf e ∷ bases) later (u .1), no-redefiners (placeOf e) later (u .1))
 
   -- ---------------------------------------------------------------- one item
 
@@ -70,7 +69,7 @@ module _ (text : List ℕ) where
   once-width k s leaf inner = add-zero (storage text s .width)
   once-width k s (item t kids later) inner = refl
 
-  content-given : (s : Statement) (kids : Forest) (w : ℕ) (c : Pictured) → content text s kids w ≡ give c → c ≡ contentOf text s kids w
+  pub content-given : (s : Statement) (kids : Forest) (w : ℕ) (c : Pictured) → content text s kids w ≡ give c → c ≡ contentOf text s kids w
   content-given s leaf w c h = let b = bound _ _ h in sym (ap orNone (b .rest))
   content-given s (item t kids later) w c h = sym (given-same h)
 
@@ -85,7 +84,7 @@ module _ (text : List ℕ) where
   and-false false = refl
 
   -- without REDEFINES an item starts after its slack
-  start-given :
+  pub start-given :
       (k place : ℕ) (seen : List Place) (s : Statement) (kids : Forest) (w : ℕ) →
       given (s .clauses .redefines) ≡ false →
       start text s (contentOf text s kids w) seen place ≡ give (place + extent (slackBefore text k place s kids))
@@ -120,18 +119,19 @@ module _ (text : List ℕ) where
   -- what an item that was laid went through, line by line of `lay`
   pub record ItemLaid (depth : ℕ) (seen : List Place) (cursor reach : ℕ) (s : Statement) (kids later : Forest) (l : Laid) : Type 0 where
     pub inner : Laid
-    pub members : Entries
     pub has : Pictured
     pub offset : ℕ
     pub rest : Laid
+    pub nested : shallow (suc depth) kids ≡ give tt
     pub inner-laid : lay text (suc depth) [] 0 0 kids ≡ give inner
-    pub folded : fold text [] (inner .entries) ≡ give members
+    pub checked : foldCheck text [] (inner .entries) ≡ give tt
     pub contains : content text s kids (inner .width) ≡ give has
     pub begins : start text s has seen cursor ≡ give offset
-    pub small : tooLarge (entryOf s has offset) ≡ false
+    pub small : tooLarge (entryOf s has offset (slackFrom cursor s offset)) ≡ false
     pub later-laid :
-        lay text depth (placeOf (entryOf s has offset) ∷ seen) (advance cursor (entryOf s has offset)) (max reach (entryEnd (entryOf s has offset))) later ≡ give rest
-    pub result : l ≡ record { entries = entry (entryOf s has offset) members (rest .entries); width = rest .width }
+        let e = entryOf s has offset (slackFrom cursor s offset) in
+        lay text depth (placeOf e ∷ seen) (advance cursor e) (max reach (entryEnd e)) later ≡ give rest
+    pub result : l ≡ record { entries = entry (entryOf s has offset (slackFrom cursor s offset)) (inner .entries) (rest .entries); width = rest .width }
 
   pub item-laid :
       (depth : ℕ) (seen : List Place) (cursor reach : ℕ) (s : Statement) (kids later : Forest) (l : Laid) →
@@ -139,50 +139,43 @@ module _ (text : List ℕ) where
       ItemLaid depth seen cursor reach s kids later l
   unfolding lay
   item-laid depth seen cursor reach s kids later l h =
-      through _ _ h λ _ _ h₁.
+      through _ _ h λ _ e₁ h₁.
       through _ _ h₁ λ inner e₂ h₂.
-      through _ _ h₂ λ members e₃ h₃.
+      through _ _ h₂ λ _ e₃ h₃.
       through _ _ h₃ λ has e₄ h₄.
       through _ _ h₄ λ offset e₅ h₅.
       through _ _ h₅ λ _ e₆ h₆.
       through _ _ h₆ λ rest e₇ h₇.
       record {
         inner = inner;
-        members = members;
         has = has;
         offset = offset;
         rest = rest;
+        nested = e₁;
         inner-laid = e₂;
-        folded = e₃;
+        checked = e₃;
         contains = e₄;
         begins = e₅;
-        small = not-refused (tooLarge (entryOf s has offset)) 29 (s .at) e₆;
+        small = not-refused (tooLarge (entryOf s has offset (slackFrom cursor s offset))) 29 (s .at) e₆;
         later-laid = e₇;
         result = sym (given-same h₇);
       }
 
-  -- its entry and its members are those that the owner rule places
-  record ItemAgrees (k place : ℕ) (s : Statement) (kids : Forest) (e : Entry) (members : Entries) : Type 0 where
-    same-entry : e ≡ entryAt text k place s kids (laid text (suc k) 0 kids)
-    same-members : members ≡ placed text (suc k) 0 kids
-
+  -- its entry is the one that the owner rule places
   item-agrees :
       (depth : ℕ) (seen : List Place) (k place : ℕ) (s : Statement) (kids later : Forest) (l : Laid) (r : ItemLaid depth seen place place s kids later l) →
       PlainStatement s →
-      Plain kids →
       Agrees (suc k) 0 kids (r .inner) →
-      ItemAgrees k place s kids (entryOf s (r .has) (r .offset)) (r .members)
-  item-agrees depth seen k place s kids later l r ps pk ih =
-      let unfolded = subst Unfolded (sym (ih .entries)) (placed-unfolded (suc k) 0 kids pk) in
+      entryOf s (r .has) (r .offset) (slackFrom place s (r .offset)) ≡ entryAt text k place s kids (laid text (suc k) 0 kids)
+  item-agrees depth seen k place s kids later l r ps ih =
       let laidKids = laid text (suc k) 0 kids in
       let same-has = content-given s kids (r .inner .width) (r .has) (r .contains) ∙ ap (contentOf text s kids) (ih .width ∙ zero-add (extent laidKids)) in
       let same-offset =
       given-same
       (sym (r .begins) ∙ ap (λ (c : Pictured). start text s c seen place) same-has ∙ start-given k place seen s kids (extent laidKids) (ps .redefines)) in
-      record {
-        same-entry = ap₂ (entryOf s) same-has same-offset;
-        same-members = given-same (sym (r .folded) ∙ fold-plain [] (r .inner .entries) unfolded) ∙ ih .entries;
-      }
+      let between : slackFrom place s (r .offset) ≡ extent (slackBefore text k place s kids) =
+      ap (λ (b : Bool). if b then 0 else r .offset - place) (ps .redefines) ∙ omega (arith, same-offset) in
+      (λ i. entryOf s (same-has i) (same-offset i) (between i))
 
   -- a plain forest: the layout's entries are those that the owner rule places, and its width is what the owner rule lays
   pub lay-placed :
@@ -197,16 +190,16 @@ module _ (text : List ℕ) where
   lay-placed (item s kids later) depth seen k place l p h =
       let r = item-laid depth seen place place s kids later l h in
       let ih = lay-placed kids (suc depth) [] (suc k) 0 (r .inner) (p .1) (r .inner-laid) in
-      let a = item-agrees depth seen k place s kids later l r (p .0) (p .1) ih in
-      let e = entryOf s (r .has) (r .offset) in
+      let a = item-agrees depth seen k place s kids later l r (p .0) ih in
+      let e = entryOf s (r .has) (r .offset) (slackFrom place s (r .offset)) in
       let own = laidItem text k place s kids (laid text (suc k) 0 kids) in
-      let ends : entryEnd e ≡ place + extent own = ap entryEnd (a .same-entry) ∙ item-end k place s kids (laid text (suc k) 0 kids) (p .0) in
+      let ends : entryEnd e ≡ place + extent own = ap entryEnd a ∙ item-end k place s kids (laid text (suc k) 0 kids) (p .0) in
       let moved : advance place e ≡ place + extent own = ap (λ (b : Bool). if b then place else entryEnd e) (p .0 .redefines) ∙ ends in
       let reached : max place (entryEnd e) ≡ place + extent own = ap (max place) ends ∙ omega arith in
       let next = ap₂ (λ (x y : ℕ). lay text depth (placeOf e ∷ seen) x y later) (sym moved) (sym reached) ∙ r .later-laid in
       let ihs = lay-placed later depth (placeOf e ∷ seen) (suc k + size kids) (place + extent own) (r .rest) (p .2) next in
       record {
-        entries = ap (λ (x : Laid). x .entries) (r .result) ∙ (λ i. entry (a .same-entry i) (a .same-members i) (ihs .entries i));
+        entries = ap (λ (x : Laid). x .entries) (r .result) ∙ (λ i. entry (a i) (ih .entries i) (ihs .entries i));
         width =
             ap (λ (x : Laid). x .width) (r .result)
             ∙ ihs .width
@@ -228,12 +221,25 @@ module _ (text : List ℕ) where
 
   -- ---------------------------------------------------------------- the whole layout
 
+  -- folding changes no list of it
+  below-plain : (k place : ℕ) (f : Forest) → Plain f → foldedBelow text (placed text k place f) ≡ placed text k place f
+  unfolding placed
+  below-plain k place leaf p = below-none text
+  below-plain k place (item s kids later) p =
+      let inner = laid text (suc k) 0 kids in
+      let next = place + extent (laidItem text k place s kids inner) in
+      below-entry text (entryAt text k place s kids inner) (placed text (suc k) 0 kids) (placed text (suc k + size kids) next later)
+      ∙ ap₂ (entry (entryAt text k place s kids inner))
+      (ap (foldedList text []) (below-plain (suc k) 0 kids (p .1)) ∙ fold-plain [] (placed text (suc k) 0 kids) (placed-unfolded (suc k) 0 kids (p .1)))
+      (below-plain (suc k + size kids) next later (p .2))
+
   pub layout-placed : (f : Forest) (es : Entries) → Plain f → layout text f ≡ give es → es ≡ placed text 0 0 f
-  unfolding layout
+  unfolding layout unfolded
   layout-placed f es p h =
-      through _ _ h λ l e₁ h₁.
-      through _ _ h₁ λ fs e₂ h₂.
+      through _ _ h λ tree h₀ q.
+      through _ _ h₀ λ l e₁ h₁.
+      through _ _ h₁ λ _ _ h₂.
       through _ _ h₂ λ _ _ h₃.
       let a = lay-placed f 0 [] 0 0 l p e₁ in
-      let unfolded = subst Unfolded (sym (a .entries)) (placed-unfolded 0 0 f p) in
-      sym (given-same h₃) ∙ given-same (sym e₂ ∙ fold-plain [] (l .entries) unfolded) ∙ a .entries
+      let same : tree ≡ placed text 0 0 f = sym (given-same h₃) ∙ a .entries in
+      sym (given-same q) ∙ ap (foldedAll text) same ∙ ap (foldedList text []) (below-plain 0 0 f p) ∙ fold-plain [] (placed text 0 0 f) (placed-unfolded 0 0 f p)

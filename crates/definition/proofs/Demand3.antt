@@ -1,16 +1,15 @@
 -- Demand 3: of an accepted copybook without REDEFINES and DEPENDING ON, a dropped root's own aside, every byte has exactly one owner, and the
 -- byte owner names it; the listing has the record length, offsets and widths of the owner rule; a record is the pieces it is cut into.
 -- Assumes nothing.
-use Prim.Native.Nat.{ℕ, zero, suc, _+_, _≤_, _<_}
-use mathlib.Core.Path.{_≡_, refl, sym, _∙_, ap, subst}
+use Prim.Native.Nat.{ℕ, _-_, _≤_, _<_}
+use mathlib.Core.Path.{_≡_, sym, _∙_, ap, subst}
 use mathlib.Core.Bool.{true, false}
-use mathlib.Core.List.{List, [], _++_, append-nil}
+use mathlib.Core.List.{List, [], append-nil}
 use native.Mathlib.Omega.{arith}
 use lib.ListN.{length}
 use borrow.Author.Tests.{lt-ltb, le-ltb}
 use Rattle.definition.specs.declared.Refusal.{Refusal}
-use Rattle.definition.specs.declared.Entry.{Entry}
-use Rattle.definition.specs.Basic.{Answer, refuse, give, _>>=_, refused}
+use Rattle.definition.specs.Basic.{refuse, give, _>>=_, refused}
 use Rattle.definition.specs.Tree.{Forest}
 use Rattle.definition.specs.Fold.{Entries}
 use Rattle.definition.specs.Record.{recordLength, layout}
@@ -18,14 +17,13 @@ use Rattle.definition.specs.Calls.{recordFields, entries, ownerIn, byteO
 use Rattle.definition.specs.Owner.{extent, pieces, ownerFrom, ownerOf, overlaid, cut, join}
 use Rattle.definition.specs.Placed.{placed}
 use Rattle.definition.specs.Search.{seek, Row, rows, walk}
-use Rattle.definition.specs.Demand.{Owned, flat, AllNumbered, lengths, widths, Demand, Kept}
+use Rattle.definition.specs.Demand.{Tells, Spot, told, spots, Demand, Kept}
 use Rattle.definition.proofs.Answers.{through, refused-through}
-use Rattle.definition.proofs.Pieces.{owned, owned-someone, join-cut, cut-injective, cut-lengths}
-use Rattle.definition.proofs.Slack.{slack-fewest, slack-none, slack-group}
+use Rattle.definition.proofs.Pieces.{Found, found, owned-someone, join-cut}
 use Rattle.definition.proofs.Cover.{plain, layout-placed, placed-length}
 use Rattle.definition.proofs.Seek.{seek-owner}
 use Rattle.definition.proofs.Walk.{walk-seek}
-use Rattle.definition.proofs.Numbers.{all-numbered}
+use Rattle.definition.proofs.Told.{tells-placed, told-laid}
 
 -- ---------------------------------------------------------------- the fields of a record, however they were read
 
@@ -45,13 +43,20 @@ module _ (text : List ℕ) (f : Forest) (es : Entries) (laidOut : layout text f 
   pub cover : recordLength es ≡ extent (pieces text f)
   cover = ap recordLength offsets ∙ omega (arith, placed-length text 0 0 f (plain f free))
 
-  -- The pieces and the slack carry the numbers of the listing's entries.
-  pub numbered : AllNumbered (flat es) (pieces text f)
-  numbered = subst (λ (x : Entries). AllNumbered (flat x) (pieces text f)) (sym offsets) (all-numbered text f)
+  -- The listing tells the items of the copybook: one entry for each, in order, aligned by the fewest bytes,
+  pub items : Tells text 0 f es
+  items = subst (Tells text 0 f) (sym offsets) (tells-placed text f 0 0 (plain f free))
 
-  -- For each position below the record length exactly one piece covers it, and the search names that one.
-  pub one-owner : (q : ℕ) → q < recordLength es → Owned 0 (pieces text f) q
-  one-owner q h = owned 0 (pieces text f) q (rw cover at h)
+  -- and the pieces are those that it tells.
+  pub in-order : spots 0 (pieces text f) ≡ told 0 0 0 es
+  in-order = sym (ap (told 0 0 0) offsets ∙ told-laid text f 0 0 0)
+
+  -- For each position below the record length exactly one piece has it, and the search names that one.
+  pub one-owner : (q : ℕ) → q < recordLength es → Found (told 0 0 0 es) q (ownerOf (pieces text f) q)
+  one-owner q h =
+      let here : q - 0 ≡ q = omega arith in
+      subst (λ (xs : List Spot). Found xs q (ownerOf (pieces text f) q)) in-order
+      (subst (λ (n : ℕ). Found (spots 0 (pieces text f)) q (ownerFrom 0 (pieces text f) n)) here (found (pieces text f) 0 q (omega arith) (omega (arith, cover))))
 
   -- and the byte owner call answers with it
   pub answers : (q : ℕ) → q < recordLength es → ownerIn text f q ≡ give (ownerOf (pieces text f) q)
@@ -63,22 +68,9 @@ module _ (text : List ℕ) (f : Forest) (es : Entries) (laidOut : layout text f 
   unfolding ownerIn _>>=_
   refuses-41 q h = rw (laidOut, free, le-ltb q (recordLength es) h)
 
-  -- A record of that length, cut into the pieces and joined again, is itself,
+  -- A record of that length, cut into the pieces and joined again, is itself.
   pub whole : (bs : List ℕ) → length bs ≡ recordLength es → join (cut (pieces text f) bs) ≡ bs
   whole bs h = join-cut (pieces text f) bs (h ∙ cover)
-
-  -- each part being as long as its piece is wide,
-  pub parts : (bs : List ℕ) → length bs ≡ recordLength es → lengths (cut (pieces text f) bs) ≡ widths (pieces text f)
-  parts bs h = cut-lengths (pieces text f) bs (h ∙ cover)
-
-  -- so two different records of that length never give the same parts.
-  pub distinct :
-      (cs bs : List ℕ) →
-      length cs ≡ recordLength es →
-      length bs ≡ recordLength es →
-      cut (pieces text f) cs ≡ cut (pieces text f) bs →
-      cs ≡ bs
-  distinct cs bs h k e = cut-injective (pieces text f) cs bs (h ∙ cover) (k ∙ cover) e
 
   -- The owner is found among the entries of the listing, with no piece laid,
   pub sought : (q : ℕ) → seek 0 0 es q ≡ ownerOf (pieces text f) q
@@ -91,7 +83,7 @@ module _ (text : List ℕ) (f : Forest) (es : Entries) (laidOut : layout text f 
   pub walked : (q : ℕ) → q < recordLength es → walk 0 0 0 (rows es) q ≡ ownerOf (pieces text f) q
   walked q h =
       ap (λ (l : List Row). walk 0 0 0 l q) (sym (append-nil (rows es)))
-      ∙ walk-seek es 0 0 q [] (λ u. owned-someone 0 (pieces text f) q (one-owner q h) (sym (sought q) ∙ u))
+      ∙ walk-seek es 0 0 q [] (λ u. owned-someone (told 0 0 0 es) q (one-owner q h) (sym (sought q) ∙ u))
       ∙ sought q
 
   -- this is what the code of the byte owner computes, after the reader's refusals, 40 and 41.
@@ -121,18 +113,14 @@ demanded :
     overlaid f ≡ false →
     Demand text work f es
 demanded text work f es read laidOut free =
+    let one = one-owner text f es laidOut free in
     record {
-      one-owner = one-owner text f es laidOut free;
-      named = λ q l. read-fields text work f read .1 q ∙ answers text f es laidOut free q l;
-      covered = cover text f es laidOut free;
-      offsets = offsets text f es laidOut free;
-      numbered = numbered text f es laidOut free;
-      slack-fewest = slack-fewest text;
-      slack-none = slack-none text;
-      slack-group = slack-group text;
+      items = items text f es laidOut free;
+      in-order = in-order text f es laidOut free;
+      covered = sym (cover text f es laidOut free);
+      one-owner = λ q l. one q l .one;
+      named = λ q l. read-fields text work f read .1 q ∙ answers text f es laidOut free q l ∙ ap give (one q l .names);
       whole = whole text f es laidOut free;
-      parts = parts text f es laidOut free;
-      distinct = distinct text f es laidOut free;
     }
 
 -- Demand 3, whole: every accepted copybook keeps it

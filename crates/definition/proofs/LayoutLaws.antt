@@ -10,10 +10,11 @@ use borrow.Author.Tests.{lt-ltb, le-ltb}
 use Rattle.definition.specs.declared.Span.{Span}
 use Rattle.definition.specs.declared.Statement.{Statement}
 use Rattle.definition.specs.declared.Entry.{Entry}
+use Rattle.definition.specs.Limits.{largest}
 use Rattle.definition.specs.Basic.{given, Answer, give, _>>=_, refused, refuseIf}
 use Rattle.definition.specs.Tree.{Forest, leaf, item}
-use Rattle.definition.specs.Fold.{Entries, end, entry, append, total, entryEnd, largest, sameName, sameSpelling, Place, placeOf, find, hasMember, rebased, redefiners, widest, withRedefiners, fold}
-use Rattle.definition.specs.Layout.{shallow, content, start, entryOf, tooLarge, advance, Laid, lay}
+use Rattle.definition.specs.Fold.{Entries, end, entry, append, total, entryEnd, sameName, sameSpelling, Place, placeOf, find, hasMember, rebased, redefiners, widest, withRedefiners, foldCheck, foldedList, foldedBelow, foldedAll}
+use Rattle.definition.specs.Layout.{shallow, content, start, slackFrom, entryOf, tooLarge, advance, Laid, lay}
 use Rattle.definition.specs.Record.{recordLength, variable, endsFit}
 
 module _ (text : List ℕ) where
@@ -79,34 +80,61 @@ module _ (text : List ℕ) where
   -- ---------------------------------------------------------------- fold
 
   module _ (bases : List Place) where
-    pub fold-none : fold text bases end ≡ give end
-    unfolding fold
-    fold-none = refl
+    pub check-none : foldCheck text bases end ≡ give tt
+    unfolding foldCheck
+    check-none = refl
+
+    pub folded-none : foldedList text bases end ≡ end
+    unfolding foldedList
+    folded-none = refl
 
     module _ (e : Entry) (members later : Entries) where
       -- a base
-      pub fold-base :
-          given (e .redefines) ≡ false →
-          fold text bases (entry e members later)
-          ≡ (fold text (placeOf e ∷ bases) later >>= λ l. give (withRedefiners text e members (redefiners text (placeOf e) later) l))
-      unfolding fold
-      fold-base g = rw (g, fold)
+      module _ (g : given (e .redefines) ≡ false) where
+        pub check-base : foldCheck text bases (entry e members later) ≡ foldCheck text (placeOf e ∷ bases) later
+        unfolding foldCheck
+        check-base = rw (g, foldCheck)
+
+        pub folded-base :
+            foldedList text bases (entry e members later)
+            ≡ withRedefiners text e members (redefiners text (placeOf e) later) (foldedList text (placeOf e ∷ bases) later)
+        unfolding foldedList
+        folded-base = rw (g, foldedList)
 
       module _ (g : given (e .redefines) ≡ true) where
         -- a redefiner without a base
-        pub fold-alone : find text (e .redefines) bases ≡ none → fold text bases (entry e members later) ≡ (fold text bases later >>= λ l. give (entry e members l))
-        unfolding fold
-        fold-alone h = rw (g, h, fold)
+        module _ (h : find text (e .redefines) bases ≡ none) where
+          pub check-alone : foldCheck text bases (entry e members later) ≡ foldCheck text bases later
+          unfolding foldCheck
+          check-alone = rw (g, h, foldCheck)
+
+          pub folded-alone : foldedList text bases (entry e members later) ≡ entry e members (foldedList text bases later)
+          unfolding foldedList
+          folded-alone = rw (h, g, foldedList)
 
         -- one that stands with its base, and one that starts before it
         module _ {base : ℕ} (h : find text (e .redefines) bases ≡ some base) where
-          pub fold-under : base ≤ e .offset → fold text bases (entry e members later) ≡ fold text bases later
-          unfolding fold _>>=_
-          fold-under l = rw (g, h, fold, le-ltb (e .offset) base l)
+          pub check-under : base ≤ e .offset → foldCheck text bases (entry e members later) ≡ foldCheck text bases later
+          unfolding foldCheck _>>=_
+          check-under l = rw (g, h, foldCheck, le-ltb (e .offset) base l)
 
-          pub fold-before : e .offset < base → fold text bases (entry e members later) ≡ refused 30 (e .at)
-          unfolding fold _>>=_
-          fold-before l = rw (g, h, fold, lt-ltb (e .offset) base l)
+          pub check-before : e .offset < base → foldCheck text bases (entry e members later) ≡ refused 30 (e .at)
+          unfolding foldCheck _>>=_
+          check-before l = rw (g, h, foldCheck, lt-ltb (e .offset) base l)
+
+          pub folded-under : foldedList text bases (entry e members later) ≡ foldedList text bases later
+          unfolding foldedList
+          folded-under = rw (h, g, foldedList)
+
+  pub below-none : foldedBelow text end ≡ end
+  unfolding foldedBelow
+  below-none = refl
+
+  pub below-entry :
+      (e : Entry) (members later : Entries) →
+      foldedBelow text (entry e members later) ≡ entry e (foldedAll text members) (foldedBelow text later)
+  unfolding foldedBelow
+  below-entry e members later = refl
 
   -- ---------------------------------------------------------------- a sibling list
 
@@ -121,12 +149,13 @@ module _ (text : List ℕ) where
         lay text depth seen cursor reach (item s kids later)
         ≡ (shallow (suc depth) kids >>= λ _.
         lay text (suc depth) [] 0 0 kids >>= λ inner.
-        fold text [] (inner .entries) >>= λ members.
+        foldCheck text [] (inner .entries) >>= λ _.
         content text s kids (inner .width) >>= λ c.
         start text s c seen cursor >>= λ offset.
-        refuseIf (tooLarge (entryOf s c offset)) 29 (s .at) >>= λ _.
-        lay text depth (placeOf (entryOf s c offset) ∷ seen) (advance cursor (entryOf s c offset)) (max reach (entryEnd (entryOf s c offset))) later >>= λ l.
-        give (record { entries = entry (entryOf s c offset) members (l .entries); width = l .width }))
+        let e = entryOf s c offset (slackFrom cursor s offset) in
+        refuseIf (tooLarge e) 29 (s .at) >>= λ _.
+        lay text depth (placeOf e ∷ seen) (advance cursor e) (max reach (entryEnd e)) later >>= λ l.
+        give (record { entries = entry e (inner .entries) (l .entries); width = l .width }))
     unfolding lay
     lay-item s kids later = refl
 

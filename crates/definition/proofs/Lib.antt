@@ -5,7 +5,7 @@ pub mod WordLaws
 pub mod PictureLaws
 pub mod StatementLaws
 pub mod TreeLaws
-pub mod DepthLaws
+pub mod ParentLaws
 pub mod LayoutLaws
 pub mod ListingLaws
 pub mod CallsLaws
@@ -13,7 +13,9 @@ pub mod Pieces
 pub mod Alignment
 pub mod Slack
 pub mod Cover
+pub mod DetailLaws
 pub mod Seek
 pub mod Walk
-pub mod Numbers
+pub mod Told
 pub mod Demand3
+pub mod Occurrences

@@ -14,6 +14,7 @@ use lib.ListN.{length, getD, take, drop, replicate, length-drop, drop-of-length-
 use lib.Seq.{take-all, take-suc, drop-drop}
 use borrow.Author.Tests.{eq-eqb, ne-eqb, lt-ltb, le-ltb}
 use Rattle.definition.specs.declared.Refusal.{Refusal}
+use Rattle.definition.specs.Limits.{mostSymbols}
 use Rattle.definition.specs.Basic.{if_then_else_, among, white, upper, count, Answer, refuse, give, _>>=_, refused, orRefuse}
 use Rattle.definition.specs.Picture.{trimStart, trim, inFront, beforeClose, repeat, expand, tally, beforePoint, afterPoint, mask}
 use Rattle.definition.proofs.Lists.{drop-next, take-next}
@@ -201,17 +202,17 @@ module _ (at n : ℕ) (t : List ℕ) (i : ℕ) where
     unfolding expand _>>=_
     expand-refused e = rw (drop-next t i h, e)
 
-    pub expand-many : {k j : ℕ} → repeat at (drop (i + 1) t) ≡ give (k, j) → 65535 < n + k → expand at n 0 (drop i t) ≡ refused 24 at
+    pub expand-many : {k j : ℕ} → repeat at (drop (i + 1) t) ≡ give (k, j) → mostSymbols < n + k → expand at n 0 (drop i t) ≡ refused 24 at
     unfolding expand _>>=_
-    expand-many {k} e m = rw (drop-next t i h, e, lt-ltb 65535 (n + k) m)
+    expand-many {k} e m = rw (drop-next t i h, e, lt-ltb mostSymbols (n + k) m)
 
     pub expand-more :
         {k j : ℕ} →
         repeat at (drop (i + 1) t) ≡ give (k, j) →
-        n + k ≤ 65535 →
+        n + k ≤ mostSymbols →
         expand at n 0 (drop i t) ≡ onto (replicate k (upper (getD t i 0))) (expand at (n + k) 0 (drop (i + 1 + j) t))
     unfolding expand _>>=_
-    expand-more {k} {j} e m = rw (drop-next t i h, e, le-ltb 65535 (n + k) m, expand-skip at (n + k) j (drop (i + 1) t), drop-drop j (i + 1) t)
+    expand-more {k} {j} e m = rw (drop-next t i h, e, le-ltb mostSymbols (n + k) m, expand-skip at (n + k) j (drop (i + 1) t), drop-drop j (i + 1) t)
 
 -- ---------------------------------------------------------------- the ends
 

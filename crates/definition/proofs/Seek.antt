@@ -41,7 +41,7 @@ module _ (k first : ℕ) (e : Entry) (members later : Entries) (q : ℕ) where
   seek-later h l = rw (le-ltb q (e .offset) h, le-ltb q (e .offset + total e) l, seek)
 
 module _ (text : List ℕ) where
-  entries-size : (k place : ℕ) (f : Forest) → entries# (placed text k place f) ≡ size f
+  pub entries-size : (k place : ℕ) (f : Forest) → entries# (placed text k place f) ≡ size f
   unfolding placed
   entries-size k place leaf = refl
   entries-size k place (item s kids later) =

@@ -1,24 +1,20 @@
--- A binary item is never 0 bytes wide, so its slack is the fewest bytes that bring the place to a multiple of its width; nothing else has slack.
+-- A picture that makes an item binary gives it a width, so that its slack is the fewest bytes that bring a place to a multiple of that width.
 -- Assumes nothing.
-use Prim.Native.Nat.{ℕ, zero, suc, _+_, _≤_, _<_}
-use mathlib.Core.Path.{_≡_, refl, sym, _∙_, ap}
+use Prim.Native.Nat.{ℕ, _<_}
+use mathlib.Core.Path.{_≡_, refl, sym, _∙_}
 use mathlib.Core.Bool.{Bool, true, false, _&&_, not}
-use mathlib.Core.List.{List, [], _∷_}
+use mathlib.Core.List.{List}
 use native.Mathlib.Omega.{arith}
-use native.Mathlib.Nat.{add-zero}
 use lib.Dec.{eqb, leb}
 use Rattle.definition.specs.declared.Usage.{Usage}
 use Rattle.definition.specs.declared.SignClause.{SignClause}
 use Rattle.definition.specs.declared.FieldKind.{FieldKind}
 use Rattle.definition.specs.declared.Pictured.{Pictured}
 use Rattle.definition.specs.declared.Statement.{Statement}
-use Rattle.definition.specs.Basic.{if_then_else_, part, fewest, Answer, refuse, give, _>>=_}
+use Rattle.definition.specs.Basic.{if_then_else_, part, Answer, refuse, give, _>>=_}
 use Rattle.definition.specs.Statement.{usageOf, signOf}
-use Rattle.definition.specs.Tree.{Forest, leaf, item}
-use Rattle.definition.specs.Picture.{pictured, isBinary, resolveSign, isEmbedded, isText, isMasked, allDigits, fraction, isSigned, numeric, kinded, symbols, picture}
-use Rattle.definition.specs.Owner.{Piece, extent, orNone, storage, isAligned, slackBefore}
-use Rattle.definition.specs.Demand.{Fewest}
-use Rattle.definition.proofs.Alignment.{fewest-slack}
+use Rattle.definition.specs.Picture.{isBinary, resolveSign, isEmbedded, isText, isMasked, allDigits, fraction, isSigned, numeric, kinded, symbols, picture}
+use Rattle.definition.specs.Owner.{orNone, storage}
 
 -- if it is binary, it has a width
 abbrev pub Sized : Pictured → Type 0
@@ -67,19 +63,3 @@ storage-sized text s =
 pub and-true : (a b : Bool) → (a && b) ≡ true → b ≡ true
 and-true true b h = h
 and-true false b h = never h
-
--- the slack of an elementary SYNC binary item, OCCURS 0 included, is the fewest bytes that bring the place to a multiple of its width
-pub slack-fewest :
-    (text : List ℕ) (k place : ℕ) (s : Statement) →
-    isAligned text s ≡ true →
-    Fewest (storage text s .width) place (extent (slackBefore text k place s leaf))
-slack-fewest text k place s y =
-    rw (y, slackBefore, add-zero) (fewest-slack (storage text s .width) place (storage-sized text s (and-true (s .clauses .sync) _ y)))
-
--- and no other item has slack: neither a group, nor an item without SYNC, nor one that is not binary
-pub slack-none : (text : List ℕ) (k place : ℕ) (s : Statement) (kids : Forest) → isAligned text s ≡ false → slackBefore text k place s kids ≡ []
-slack-none text k place s leaf h = rw (h, slackBefore)
-slack-none text k place s (item t kids later) h = refl
-
-pub slack-group : (text : List ℕ) (k place : ℕ) (s t : Statement) (kids later : Forest) → slackBefore text k place s (item t kids later) ≡ []
-slack-group text k place s t kids later = refl

@@ -12,6 +12,7 @@ use Rattle.definition.specs.declared.Step.{Step}
 use Rattle.definition.specs.declared.Step.the-variants.{Go, Fail}
 use Rattle.definition.specs.declared.Statement.{Statement}
 use Rattle.definition.specs.declared.Refusal.{Refusal}
+use Rattle.definition.specs.Limits.{mostStatements}
 use Rattle.definition.specs.Basic.{uppers, absent, part, number, Answer, refuse, give, _>>=_, refused}
 use Rattle.definition.specs.Statement.{noClauses, step, finish, clauses, named, statement, statements}
 
@@ -91,10 +92,10 @@ module _ (text : List ℕ) where
       statements-skipped h = rw h
 
       module _ {s : Statement} (h : statement text ws ≡ give (some s)) where
-        pub statements-full : 800 ≤ n → statements text n (ws ∷ wss) ≡ refused 14 (s .at)
+        pub statements-full : mostStatements ≤ n → statements text n (ws ∷ wss) ≡ refused 14 (s .at)
         unfolding statements _>>=_
-        statements-full l = rw (h, le-leb 800 n l)
+        statements-full l = rw (h, le-leb mostStatements n l)
 
-        pub statements-kept : n < 800 → statements text n (ws ∷ wss) ≡ (statements text (suc n) wss >>= λ ss. give (s ∷ ss))
+        pub statements-kept : n < mostStatements → statements text n (ws ∷ wss) ≡ (statements text (suc n) wss >>= λ ss. give (s ∷ ss))
         unfolding statements _>>=_
-        statements-kept l = rw (h, lt-leb 800 n l)
+        statements-kept l = rw (h, lt-leb mostStatements n l)

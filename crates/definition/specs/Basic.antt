@@ -4,7 +4,7 @@ use Prim.Native.Nat.{ℕ, zero, suc, _+_, _*_, _-_, _/_, _%_}
 use Prim.Native.Char.{Char, code}
 use Prim.Native.String.{String, [] as ε, _∷_ as _∷ᶜ_}
 use mathlib.Core.Bool.{Bool, true, false, _&&_, _||_}
-use mathlib.Core.List.{List, [], _∷_, map}
+use mathlib.Core.List.{List, [], _∷_, _++_, map}
 use mathlib.Core.Option.{Option, none, some}
 use lib.Dec.{eqb, leb, ltb}
 use lib.ListN.{take, drop}
@@ -102,6 +102,10 @@ fewest width place = (width - place % width) % width
 -- little-endian in four bytes
 abbrev pub le4 : ℕ → List ℕ
 le4 n = n % 256 ∷ n / 256 % 256 ∷ n / 65536 % 256 ∷ n / 16777216 % 256 ∷ []
+
+-- and in eight
+abbrev pub le8 : ℕ → List ℕ
+le8 n = le4 n ++ le4 (n / 4294967296)
 
 -- ---------------------------------------------------------------- answers
 

@@ -1,5 +1,6 @@
--- The calls: the layout listing, the picture answer, the mask, the byte owner and the record check, each from what the caller hands in to
--- what the call answers and leaves. Checks run in the order of document 01's table; a line of a `do` is a check or a stage.
+-- The calls: the layout listing, its details, the picture answer, the mask, the byte owner and the record check, each
+-- from what the caller hands in to what the call answers and leaves. Checks run in the order of document 01's table; a
+-- line of a `do` is a check or a stage.
 -- Assumes nothing.
 use Prim.Native.Nat.{ℕ, zero, suc, _+_}
 use mathlib.Core.Bool.{Bool, true, false, _&&_, not}
@@ -15,6 +16,7 @@ use Rattle.definition.specs.declared.PicAnswer.{PicAnswer}
 use Rattle.definition.specs.declared.Writing.{Writing}
 use Rattle.definition.specs.declared.OwnerAnswer.{OwnerAnswer}
 use Rattle.definition.specs.declared.Check.{Check}
+use Rattle.definition.specs.Limits.{mostBytes, leastWork}
 use Rattle.definition.specs.Basic.{if_then_else_, Answer, refuse, give, _>>=_, refused, refuseIf}
 use Rattle.definition.specs.Words.{statementWords}
 use Rattle.definition.specs.Statement.{statements}
@@ -24,6 +26,7 @@ use Rattle.definition.specs.Fold.{Entries}
 use Rattle.definition.specs.Record.{recordLength, layout}
 use Rattle.definition.specs.Listing.{listing}
 use Rattle.definition.specs.Owner.{pieces, ownerOf, overlaid}
+use Rattle.definition.specs.Details.{entriesDetails}
 
 -- ---------------------------------------------------------------- the reader
 
@@ -35,14 +38,14 @@ firstWide p (b ∷ bs) = if ltb 127 b then some p else firstWide (p + 1) bs
 -- 1: text over 65,535 bytes; 2: a byte over 127
 unfoldable pub textChecks : List ℕ → Answer (Unit {0})
 textChecks text = do
-  _ ← refuseIf (ltb 65535 (length text)) 1 0
+  _ ← refuseIf (ltb mostBytes (length text)) 1 0
   elim (firstWide 0 text) [ none ↦ give tt | some p ↦ refused 2 p ]
 
 -- and 3: lent work memory under 16,384 numbers
 unfoldable pub entryChecks : List ℕ → ℕ → Answer (Unit {0})
 entryChecks text work = do
   _ ← textChecks text
-  refuseIf (ltb work 16384) 3 0
+  refuseIf (ltb work leastWork) 3 0
 
 -- the kept statements of a copybook, with `work` numbers of work memory lent, as the fields of the record
 unfoldable pub recordFields : List ℕ → ℕ → Answer Forest
@@ -68,6 +71,12 @@ unfoldable pub layoutListing : List ℕ → ℕ → ℕ → Answer (List ℕ)
 layoutListing text work room = do
   es ← entries text work
   fitting room (listing es)
+
+-- the details of its entries
+unfoldable pub layoutDetails : List ℕ → ℕ → ℕ → Answer (List ℕ)
+layoutDetails text work room = do
+  es ← entries text work
+  fitting room (entriesDetails es)
 
 -- the picture answer
 unfoldable pub pictureAnswer : Usage → SignClause → List ℕ → Answer Pictured
@@ -133,6 +142,10 @@ afterWriting a out work = record { answer = written a; output = outputAfter a ou
 -- the layout listing of a text, with an output and work memory lent
 abbrev pub layoutCall : List ℕ → List ℕ → List ℕ → After ℕ
 layoutCall text out work = afterWriting (layoutListing text (length work) (length out)) out work
+
+-- the details of its entries, with an output and work memory lent
+abbrev pub detailsCall : List ℕ → List ℕ → List ℕ → After ℕ
+detailsCall text out work = afterWriting (layoutDetails text (length work) (length out)) out work
 
 -- the mask of a picture, with an output lent
 abbrev pub maskCall : Usage → List ℕ → List ℕ → After ℕ

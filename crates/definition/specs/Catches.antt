@@ -18,11 +18,12 @@ use Rattle.definition.specs.declared.FieldKind.the-variants.{Text, Int, 
 use Rattle.definition.specs.declared.Pictured.{Pictured}
 use Rattle.definition.specs.declared.Entry.{Entry}
 use Rattle.definition.specs.declared.Owner.{Owner}
-use Rattle.definition.specs.Basic.{if_then_else_, bytes, same, absent, Answer, refuse, give}
+use Rattle.definition.specs.declared.Span.{Span}
+use Rattle.definition.specs.Basic.{if_then_else_, bytes, same, span, absent, le4, le8, Answer, refuse, give}
 use Rattle.definition.specs.Fold.{Entries, end, entry}
 use Rattle.definition.specs.Record.{recordLength, variable}
-use Rattle.definition.specs.Listing.{flag, kindByte, details, members#}
-use Rattle.definition.specs.Calls.{entries, layoutListing, pictureAnswer, pictureMask, byteOwner, recordCheck}
+use Rattle.definition.specs.Listing.{flag, spanBytes, kindByte, details, members#}
+use Rattle.definition.specs.Calls.{entries, layoutListing, layoutDetails, pictureAnswer, pictureMask, byteOwner, recordCheck}
 use Rattle.definition.specs.Computing.{computing}
 
 -- ---------------------------------------------------------------- answers in numbers
@@ -80,6 +81,10 @@ pub data Row : Type 0 where
   listed : String → ℕ → List ℕ → Row
   -- a copybook, the length of the lent output, and the needed length of its refusal 31
   noRoom : String → ℕ → ℕ → Row
+  -- a copybook, and the bytes of its details
+  detailed : String → List ℕ → Row
+  -- a copybook, the length of the lent output, and the needed length of the details' refusal 31
+  noDetails : String → ℕ → ℕ → Row
   -- a picture with a usage and a sign, its width, and what it holds
   pictured : String → Usage → SignClause → ℕ → FieldKind → Row
   -- a copybook, a position, and the byte's owner
@@ -95,6 +100,8 @@ right (accepted text len isVariable cs) =
 right (turnedDown text n p) = refuses n p 0 (entries (bytes text) 16384)
 right (listed text room l) = gives (same l) (layoutListing (bytes text) 16384 room)
 right (noRoom text room needed) = refuses 31 0 needed (layoutListing (bytes text) 16384 room)
+right (detailed text l) = gives (same l) (layoutDetails (bytes text) 16384 (length l))
+right (noDetails text room needed) = refuses 31 0 needed (layoutDetails (bytes text) 16384 room)
 right (pictured text u s width kind) = gives (λ p. same (column 0 (p .width) (p .kind)) (column 0 width kind)) (pictureAnswer u s (bytes text))
 right (owned text p o) = gives (λ a. same (ownerNumbers a) (ownerNumbers o)) (byteOwner (bytes text) 16384 p)
 right (notOwned text p n) = refuses n 0 0 (byteOwner (bytes text) 16384 p)
@@ -118,6 +125,18 @@ fishListing =
 abbrev pub tank : String
 tank = "05 A PIC X. 05 G OCCURS 2. 10 B PIC X. 10 C PIC 9(5) COMP SYNC. 05 D PIC X. 05 E OCCURS 0 PIC 9(9) COMP SYNC. 05 F PIC X."
 
+-- the details of FISH's three entries: slack stands before the second
+abbrev pub fishDetails : List ℕ
+fishDetails =
+    hex "09000000 05 00 00 00000000 0000000000000000 00000000 14000000 04000000 00000000 00000000 00000000 00000000"
+    ++ hex "1a000000 05 00 00 00000000 0600000000000000 01000000 26000000 04000000 00000000 00000000 00000000 00000000"
+    ++ hex "36000000 05 00 00 00000000 0800000000000000 00000000 49000000 06000000 00000000 00000000 00000000 00000000"
+
+-- an entry's details: position, level, depth, made by folding, entries below, first byte, slack, and the three places
+abbrev pub facts : ℕ → ℕ → ℕ → Bool → ℕ → ℕ → ℕ → Span → Span → Span → List ℕ
+facts at level depth folded below first slack picture over depending =
+    le4 at ++ (level ∷ depth ∷ flag folded ∷ le4 below) ++ le8 first ++ le4 slack ++ spanBytes picture ++ spanBytes over ++ spanBytes depending
+
 pub table : List Row
 table =
     -- empty text: length 0, listing 10 bytes
@@ -139,6 +158,8 @@ table =
     ∷ pictured "9(4)" Usage.Display (SignClause.Given SignKind.LeadingSeparate) 4 (Int false SignKind.Unsigned)
     ∷ accepted "05 A PIC S9(4) SIGN TRAILING SEPARATE." 5 false (column 0 5 (Int true SignKind.TrailingSeparate) ∷ [])
     ∷ accepted "05 A PIC 9(4) SIGN LEADING SEPARATE." 4 false (column 0 4 (Int false SignKind.Unsigned) ∷ [])
+    -- SEPARATE counts after VALUE, which ends the reading of the other clauses
+    ∷ accepted "05 A PIC S9(4) SIGN TRAILING VALUE 5 SEPARATE COMP." 5 false (column 0 5 (Int true SignKind.TrailingSeparate) ∷ [])
     -- PIC is the name; levels
     ∷ turnedDown "05 PIC X." 21 0
     ∷ accepted "255 A PIC X." 1 false (column 0 1 Text ∷ [])
@@ -147,6 +168,8 @@ table =
     ∷ accepted "05 A PIC X(2). 05 B REDEFINES A PIC X(5). 05 C PIC X." 5 false (column 0 5 Group ∷ column 0 2 Text ∷ column 0 5 Text ∷ column 2 1 Text ∷ [])
     ∷ turnedDown "05 A PIC X. 05 B PIC X. 05 B REDEFINES A PIC X. 05 C REDEFINES B PIC X." 30 48
     ∷ accepted "05 N PIC 9(2). 05 T OCCURS 1 TO 5 DEPENDING ON N PIC X(3). 05 Z PIC X." 3 true (column 0 2 (Int false SignKind.Unsigned) ∷ column 2 3 Text ∷ column 2 1 Text ∷ [])
+    -- a group is not aligned because a member is SYNC
+    ∷ accepted "05 A PIC X. 05 G. 10 B PIC 9(4) COMP SYNC." 3 false (column 0 1 Text ∷ column 1 2 Group ∷ column 0 2 (Binary false) ∷ [])
     -- the worked example
     ∷ accepted fish 20 false (column 0 5 Text ∷ column 6 2 (Binary false) ∷ column 8 4 (Decimal 4 1 NumRepr.Display SignKind.Unsigned) ∷ [])
     ∷ listed fish 129 fishListing
@@ -165,6 +188,41 @@ table =
     ∷ notOwned "05 A PIC X. 05 B REDEFINES A PIC X." 0 40
     ∷ owned "01 R OCCURS 1 TO 2 DEPENDING ON A. 05 A PIC X." 0 (Owner.Piece 0 0 0)
     ∷ notOwned "" 0 41
+    -- details
+    ∷ detailed "" []
+    ∷ detailed fish fishDetails
+    ∷ noDetails fish 140 141
+    ∷ detailed tank
+    (facts 0 5 0 false 0 0 0 (span 9 1) absent absent
+    ++ facts 12 5 0 false 2 1 0 absent absent absent
+    ++ facts 27 10 1 false 0 1 0 (span 36 1) absent absent
+    ++ facts 39 10 1 false 0 5 3 (span 48 4) absent absent
+    ++ facts 64 5 0 false 0 17 0 (span 73 1) absent absent
+    ++ facts 76 5 0 false 0 20 2 (span 94 4) absent absent
+    ++ facts 110 5 0 false 0 20 0 (span 119 1) absent absent)
+    -- a fold: the group has no slack, its base has
+    ∷ detailed "05 P PIC X. 05 A PIC 9(4) COMP SYNC. 05 B REDEFINES a PIC X(5). 05 C PIC X."
+    (facts 0 5 0 false 0 0 0 (span 9 1) absent absent
+    ++ facts 12 5 0 true 2 2 0 absent absent absent
+    ++ facts 12 5 1 false 0 2 1 (span 21 4) absent absent
+    ++ facts 37 5 1 false 0 2 0 (span 58 4) (span 52 1) absent
+    ++ facts 64 5 0 false 0 4 0 (span 73 1) absent absent)
+    -- a group with a member of its own name, redefined
+    ∷ detailed "05 G. 10 G PIC X. 10 H PIC X. 05 R REDEFINES G. 10 T PIC X."
+    (facts 0 5 0 true 4 0 0 absent absent absent
+    ++ facts 6 10 1 false 0 0 0 (span 15 1) absent absent
+    ++ facts 18 10 1 false 0 1 0 (span 27 1) absent absent
+    ++ facts 30 5 1 false 1 0 0 absent (span 45 1) absent
+    ++ facts 48 10 2 false 0 0 0 (span 57 1) absent absent)
+    -- first bytes above 32 bits, in groups with OCCURS 0 and with DEPENDING ON
+    ∷ detailed
+    "05 P PIC X(2) OCCURS 1000000000. 05 G OCCURS 0. 10 P PIC X(2) OCCURS 1000000000. 10 H OCCURS 0 TO 1 DEPENDING ON N. 15 P PIC X(2) OCCURS 1000000000. 15 Q PIC X."
+    (facts 0 5 0 false 0 0 0 (span 9 4) absent absent
+    ++ facts 33 5 0 false 4 2000000000 0 absent absent absent
+    ++ facts 48 10 1 false 0 2000000000 0 (span 57 4) absent absent
+    ++ facts 81 10 1 false 2 4000000000 0 absent absent (span 113 1)
+    ++ facts 116 15 2 false 0 4000000000 0 (span 125 4) absent absent
+    ++ facts 149 15 2 false 0 6000000000 0 (span 158 1) absent absent)
     ∷ []
 
 -- every row of the table is right

@@ -1,40 +1,25 @@
 -- Demand 3, as one statement (`demand3`, of the proofs, keeps it): what holds of every accepted copybook without REDEFINES and DEPENDING ON,
--- a dropped root's own clauses aside.
+-- a dropped root's own clauses aside. It is said by the statements and the listing: nobody has to read how pieces are laid or searched.
 -- Assumes nothing.
 use Prim.Native.Nat.{ℕ, zero, suc, _+_, _-_, _%_, _≤_, _<_}
 use mathlib.Core.Path.{_≡_}
-use mathlib.Core.Bool.{true, false}
+use mathlib.Core.Bool.{Bool, true, false}
 use mathlib.Core.List.{List, [], _∷_, _++_}
-use lib.ListN.{length, getD, take}
-use Rattle.definition.specs.declared.FieldKind.{FieldKind}
-use Rattle.definition.specs.declared.Occurs.{Occurs}
+use mathlib.Core.Logic.{_⊎_}
+use lib.ListN.{length}
 use Rattle.definition.specs.declared.Statement.{Statement}
-use Rattle.definition.specs.declared.Entry.{Entry}
-use Rattle.definition.specs.Basic.{absent, give, refused}
+use Rattle.definition.specs.declared.Owner.{Owner}
+use Rattle.definition.specs.Basic.{give, refused}
 use Rattle.definition.specs.Tree.{Forest, leaf, item}
-use Rattle.definition.specs.Picture.{isBinary}
-use Rattle.definition.specs.Fold.{Entries, end, entry}
+use Rattle.definition.specs.Fold.{Entries, end, entry, times, total}
+use Rattle.definition.specs.Layout.{entryOf}
 use Rattle.definition.specs.Record.{recordLength, layout}
-use Rattle.definition.specs.Owner.{Holder, occurrence, slack, Piece, piece, extent, storage, isAligned, slackBefore, pieces, answer, ownerFrom, ownerOf, overlaid, cut, join}
-use Rattle.definition.specs.Placed.{placed}
+use Rattle.definition.specs.Owner.{Holder, occurrence, slack, Piece, extent, isAligned, pieces, overlaid, cut, join}
+use Rattle.definition.specs.Placed.{contentOf}
+use Rattle.definition.specs.Search.{entries#}
 use Rattle.definition.specs.Calls.{recordFields, byteOwner}
 
--- ---------------------------------------------------------------- one owner
-
--- the piece of index i has the byte q: the pieces before it end at or before q, and it ends after q
-pub record Covers (ps : List Piece) (q i : ℕ) : Type 0 where
-  pub within : i < length ps
-  pub starts : extent (take i ps) ≤ q
-  pub ends : q < extent (take i ps) + getD ps i (piece (slack 0) 0) .width
-
--- exactly one piece has the byte, and it is the one that the search names, with the bytes before it and those in it before the byte
-pub record Owned (first : ℕ) (ps : List Piece) (q : ℕ) : Type 0 where
-  pub index : ℕ
-  pub covers : Covers ps q index
-  pub only : (i : ℕ) → Covers ps q i → i ≡ index
-  pub named : ownerFrom first ps q ≡ answer (getD ps index (piece (slack 0) 0) .holder) (first + extent (take index ps)) (q - extent (take index ps))
-
--- ---------------------------------------------------------------- slack
+-- ---------------------------------------------------------------- offsets and widths
 
 -- n is the smallest number of bytes that brings the place to a multiple of the width
 pub record Fewest (width place n : ℕ) : Type 0 where
@@ -42,71 +27,112 @@ pub record Fewest (width place n : ℕ) : Type 0 where
   pub reaches : (place + n) % width ≡ 0
   pub least : (m : ℕ) → (place + m) % width ≡ 0 → n ≤ m
 
--- ---------------------------------------------------------------- entry numbers
+-- an aligned item stands after the fewest bytes of slack, any other where its list has reached
+abbrev pub Starts : Bool → ℕ → ℕ → ℕ → Type 0
+Starts false width reached offset = offset ≡ reached
+Starts true width reached offset = (n : ℕ) × (offset ≡ reached + n) × Fewest width reached n
 
--- the entries in the order of the listing, a group before its members
-abbrev pub flat : Entries → List Entry
-flat end = []
-flat (entry e members later) = e ∷ (flat members ++ flat later)
+-- only an elementary SYNC binary item is aligned
+abbrev pub aligned : List ℕ → Statement → Forest → Bool
+aligned text s leaf = isAligned text s
+aligned text s (item t kids later) = false
 
-abbrev pub noEntry : Entry
-noEntry =
-    record { at = 0; name = absent; offset = 0; width = 0; kind = FieldKind.Text; picture = absent; occurs = Occurs.Once; depending = absent; redefines = absent }
+-- the entries tell the items of a list, of which `reached` bytes are taken: one entry for each item, in copybook order;
+-- its name, count and picture are the statement's, and its slack is what lies between; an elementary item is as wide as
+-- its picture says, a group as its list; count times its width is taken
+abbrev pub Tells : List ℕ → ℕ → Forest → Entries → Type 0
+Tells text reached leaf end = Unit {0}
+Tells text reached (item s kids later) (entry e members others) =
+    (e ≡ entryOf s (contentOf text s kids (recordLength members)) (e .offset) (e .offset - reached))
+    × Starts (aligned text s kids) (e .width) reached (e .offset)
+    × Tells text 0 kids members
+    × Tells text (e .offset + total e) later others
+Tells text reached leaf (entry e members others) = ⊥
+Tells text reached (item s kids later) end = ⊥
 
-abbrev pub nth : List Entry → ℕ → Entry
-nth es k = getD es k noEntry
+-- ---------------------------------------------------------------- what stands where
 
--- a piece's number is that of an entry of its width; slack's number is that of a binary entry
-abbrev pub Numbered : List Entry → Holder → ℕ → Type 0
-Numbered es (occurrence k) w = (k < length es) × (nth es k .width ≡ w)
-Numbered es (slack k) w = (k < length es) × (isBinary (nth es k .kind) ≡ true)
+-- bytes of the record: whose, from which byte on, and how many
+pub record Spot : Type 0 where
+  pub holder : Holder
+  pub first : ℕ
+  pub width : ℕ
 
-abbrev pub AllNumbered : List Entry → List Piece → Type 0
-AllNumbered es [] = Unit {0}
-AllNumbered es (p ∷ ps) = Numbered es (p .holder) (p .width) × AllNumbered es ps
+abbrev pub spot : Holder → ℕ → ℕ → Spot
+spot h first width = record { holder = h; first = first; width = width }
 
--- ---------------------------------------------------------------- parts of a record
+-- slack, where there is some
+abbrev pub gap : ℕ → ℕ → ℕ → List Spot
+gap k first zero = []
+gap k first (suc n) = spot (slack k) first (suc n) ∷ []
 
-abbrev pub widths : List Piece → List ℕ
-widths [] = []
-widths (p ∷ ps) = p .width ∷ widths ps
+-- n occurrences of so many bytes, from the byte `first` on
+abbrev pub each : ℕ → ℕ → ℕ → (ℕ → List Spot) → List Spot
+each zero first width one = []
+each (suc n) first width one = one first ++ each n (first + width) width one
 
-abbrev pub lengths : List (List ℕ) → List ℕ
-lengths [] = []
-lengths (b ∷ bs) = length b ∷ lengths bs
+-- one occurrence of an entry: of an elementary one that has number k, or of a group, whose members are told
+abbrev pub single : ℕ → ℕ → Entries → ℕ → List Spot → List Spot
+single k width end first inner = spot (occurrence k) first width ∷ []
+single k width (entry e members later) first inner = inner
+
+-- what a listing says of the record, in copybook order: the slack before each entry and each of its occurrences. The first entry of the list
+-- has number k; the list starts at the byte `base`, and the entry before, if any, ends `reached` bytes after that
+unfoldable pub told : ℕ → ℕ → ℕ → Entries → List Spot
+told k base reached end = []
+told k base reached (entry e members later) =
+    gap k (base + reached) (e .offset - reached)
+    ++ each (times (e .occurs)) (base + e .offset) (e .width) (λ first. single k (e .width) members first (told (suc k) first 0 members))
+    ++ told (suc k + entries# members) base (e .offset + total e) later
+
+-- what pieces lay from the byte `first` on
+abbrev pub spotOf : Holder → ℕ → ℕ → List Spot
+spotOf (occurrence k) first width = spot (occurrence k) first width ∷ []
+spotOf (slack k) first width = gap k first width
+
+abbrev pub spots : ℕ → List Piece → List Spot
+spots first [] = []
+spots first (p ∷ ps) = spotOf (p .holder) first (p .width) ++ spots (first + p .width) ps
+
+-- ---------------------------------------------------------------- one owner
+
+abbrev pub Among : {A : Type 0} → A → List A → Type 0
+Among x [] = ⊥
+Among x (y ∷ ys) = (x ≡ y) ⊎ Among x ys
+
+-- the byte q stands there
+pub record Has (x : Spot) (q : ℕ) : Type 0 where
+  pub starts : x .first ≤ q
+  pub ends : q < x .first + x .width
+
+-- exactly one of them has the byte
+pub record One (xs : List Spot) (q : ℕ) : Type 0 where
+  pub owner : Spot
+  pub listed : Among owner xs
+  pub has : Has owner q
+  pub only : (y : Spot) → Among y xs → Has y q → y ≡ owner
+
+-- the answer that names it: a piece by its entry, its first byte and the byte's place in it, slack by the entry that it precedes
+abbrev pub naming : Holder → ℕ → ℕ → Owner
+naming (occurrence k) first q = Owner.Piece k first (q - first)
+naming (slack k) first q = Owner.Slack k
 
 -- ---------------------------------------------------------------- the demand
 
 -- f are the fields of the record, and es the entries of its listing
 pub record Demand (text : List ℕ) (work : ℕ) (f : Forest) (es : Entries) : Type 0 where
+  -- the listing tells the items; slack is the fewest bytes, and stands only before an elementary SYNC binary item, one with OCCURS 0 included
+  pub items : Tells text 0 f es
+  -- the record is, in copybook order, one piece for each occurrence of each elementary item, where the listing says, and that slack,
+  pub in-order : spots 0 (pieces text f) ≡ told 0 0 0 es
+  -- with nothing left over
+  pub covered : extent (pieces text f) ≡ recordLength es
   -- every byte below the record length has exactly one owner,
-  pub one-owner : (q : ℕ) → q < recordLength es → Owned 0 (pieces text f) q
+  pub one-owner : (q : ℕ) → q < recordLength es → One (told 0 0 0 es) q
   -- and the byte owner call names it
-  pub named : (q : ℕ) → q < recordLength es → byteOwner text work q ≡ give (ownerOf (pieces text f) q)
-  -- the record is the pieces, with nothing left over
-  pub covered : recordLength es ≡ extent (pieces text f)
-  -- an entry's offset is the place its sibling list has reached after the earlier items and the entry's own slack
-  pub offsets : es ≡ placed text 0 0 f
-  -- the numbers of pieces and slack are those of the listing's entries
-  pub numbered : AllNumbered (flat es) (pieces text f)
-  -- the slack before an elementary SYNC binary item, one with OCCURS 0 included, is the fewest bytes that bring it to a multiple of its width
-  pub slack-fewest :
-      (k place : ℕ) (s : Statement) →
-      isAligned text s ≡ true →
-      Fewest (storage text s .width) place (extent (slackBefore text k place s leaf))
-  -- and there is no other slack, and none before a group
-  pub slack-none : (k place : ℕ) (s : Statement) (kids : Forest) → isAligned text s ≡ false → slackBefore text k place s kids ≡ []
-  pub slack-group : (k place : ℕ) (s t : Statement) (kids later : Forest) → slackBefore text k place s (item t kids later) ≡ []
-  -- a record cut so, and joined again, is itself; each part is as long as its piece is wide
+  pub named : (q : ℕ) (l : q < recordLength es) → let x = one-owner q l .owner in byteOwner text work q ≡ give (naming (x .holder) (x .first) q)
+  -- a record cut so, and joined again, is itself
   pub whole : (bs : List ℕ) → length bs ≡ recordLength es → join (cut (pieces text f) bs) ≡ bs
-  pub parts : (bs : List ℕ) → length bs ≡ recordLength es → lengths (cut (pieces text f) bs) ≡ widths (pieces text f)
-  -- so two different records of that length never give the same parts
-  pub distinct :
-      (cs bs : List ℕ) →
-      length cs ≡ recordLength es →
-      length bs ≡ recordLength es →
-      cut (pieces text f) cs ≡ cut (pieces text f) bs →
-      cs ≡ bs
 
 -- what holds of every accepted copybook: the reader finds the fields of its record, and the layout their entries; the demand is kept, unless a
 -- kept statement, a dropped root aside, has a REDEFINES or a DEPENDING ON; then the byte owner refuses every position

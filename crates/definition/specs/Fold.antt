@@ -39,10 +39,6 @@ reserved e = if given (e .depending) then 0 else total e
 abbrev pub entryEnd : Entry → ℕ
 entryEnd e = e .offset + reserved e
 
--- above this number is 29
-abbrev pub largest : ℕ
-largest = 2147483647
-
 -- ---------------------------------------------------------------- names
 
 -- the bytes of a name; an absent one means FILLER
@@ -79,7 +75,7 @@ hasMember text w (entry e members later) = if sameSpelling text w (e .name) then
 -- an entry as a member of the group that starts at the offset
 abbrev pub rebased : ℕ → Entry → Entry
 rebased start e =
-    record { at = e .at; name = e .name; offset = e .offset - start; width = e .width; kind = e .kind; picture = e .picture; occurs = e .occurs; depending = e .depending; redefines = absent }
+    record { at = e .at; level = e .level; name = e .name; offset = e .offset - start; width = e .width; kind = e .kind; picture = e .picture; occurs = e .occurs; depending = e .depending; redefines = absent; over = e .over; slack = e .slack; folded = e .folded }
 
 -- the entries that redefine a base: those of its name before the next base of that name
 unfoldable pub redefiners : List ℕ → Place → Entries → Entries
@@ -96,10 +92,10 @@ unfoldable pub widest : Entries → ℕ
 widest end = 0
 widest (entry e members later) = max (total e) (widest later)
 
--- the group that stands for a base and its redefiners
+-- the group that stands for a base and its redefiners: it has its base's place, and no clause or slack of its own
 abbrev pub union : Entry → ℕ → Entry
 union e width =
-    record { at = e .at; name = e .name; offset = e .offset; width = width; kind = FieldKind.Group; picture = absent; occurs = Occurs.Once; depending = absent; redefines = absent }
+    record { at = e .at; level = e .level; name = e .name; offset = e .offset; width = width; kind = FieldKind.Group; picture = absent; occurs = Occurs.Once; depending = absent; redefines = absent; over = absent; slack = 0; folded = true }
 
 -- the members of that group: the base, or its own members where it counts as already folded, then the redefiners
 abbrev pub unionMembers : List ℕ → Entry → Entries → Entries → Entries
@@ -114,20 +110,37 @@ withRedefiners text e members (entry r ms rs) later =
     let us = unionMembers text e members (entry r ms rs) in
     entry (union e (widest us)) us later
 
--- each base stands with its redefiners; a redefiner stands by itself only where no base has that name. 30: a redefiner that starts before its
--- base. `bases` are the earlier bases, the latest first
-unfoldable pub fold : List ℕ → List Place → Entries → Answer Entries
-fold text bases end = give end
-fold text bases (entry e members later) =
+-- 30: a redefiner that starts before its base. `bases` are the earlier bases, the latest first
+unfoldable pub foldCheck : List ℕ → List Place → Entries → Answer (Unit {0})
+foldCheck text bases end = give tt
+foldCheck text bases (entry e members later) =
     if given (e .redefines) then
     (elim (find text (e .redefines) bases) [
-      | none ↦ do
-        l ← fold text bases later
-        give (entry e members l)
+      | none ↦ foldCheck text bases later
       | some base ↦ do
         _ ← refuseIf (ltb (e .offset) base) 30 (e .at)
-        fold text bases later
+        foldCheck text bases later
     ])
-    else do
-      l ← fold text (placeOf e ∷ bases) later
-      give (withRedefiners text e members (redefiners text (placeOf e) later) l)
+    else foldCheck text (placeOf e ∷ bases) later
+
+-- a redefiner stands with its base where some base has that name
+abbrev pub hasBase : Option ℕ → Bool
+hasBase none = false
+hasBase (some base) = true
+
+-- each base stands with its redefiners; a redefiner stands by itself only where no base has that name
+unfoldable pub foldedList : List ℕ → List Place → Entries → Entries
+foldedList text bases end = end
+foldedList text bases (entry e members later) =
+    if given (e .redefines) then
+    (if hasBase (find text (e .redefines) bases) then foldedList text bases later else entry e members (foldedList text bases later))
+    else withRedefiners text e members (redefiners text (placeOf e) later) (foldedList text (placeOf e ∷ bases) later)
+
+-- every list below folded, and not this one
+unfoldable pub foldedBelow : List ℕ → Entries → Entries
+foldedBelow text end = end
+foldedBelow text (entry e members later) = entry e (foldedList text [] (foldedBelow text members)) (foldedBelow text later)
+
+-- every list folded
+abbrev pub foldedAll : List ℕ → Entries → Entries
+foldedAll text es = foldedList text [] (foldedBelow text es)

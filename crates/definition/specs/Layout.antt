@@ -4,7 +4,7 @@
 -- Departures from COBOL: alignment restarts in each group; 8-byte binary items align to 8, IBM's to 4; a REDEFINES may name any earlier
 -- sibling, and is not aligned; slack is not added between the occurrences of a group.
 -- Assumes nothing.
-use Prim.Native.Nat.{ℕ, zero, suc, _+_, max}
+use Prim.Native.Nat.{ℕ, zero, suc, _+_, _-_, max}
 use mathlib.Core.Bool.{Bool, true, false, _&&_, _||_, not}
 use mathlib.Core.List.{List, [], _∷_}
 use mathlib.Core.Option.{Option, none, some}
@@ -13,16 +13,17 @@ use Rattle.definition.specs.declared.FieldKind.{FieldKind}
 use Rattle.definition.specs.declared.Pictured.{Pictured}
 use Rattle.definition.specs.declared.Statement.{Statement}
 use Rattle.definition.specs.declared.Entry.{Entry}
+use Rattle.definition.specs.Limits.{deepest, largest}
 use Rattle.definition.specs.Basic.{if_then_else_, given, part, fewest, Answer, refuse, give, _>>=_, refused, refuseIf, orRefuse}
 use Rattle.definition.specs.Statement.{usageOf, signOf}
 use Rattle.definition.specs.Tree.{Forest, leaf, item}
 use Rattle.definition.specs.Picture.{pictured, isBinary, picture}
-use Rattle.definition.specs.Fold.{Entries, end, entry, times, total, reserved, entryEnd, Place, placeOf, find, fold, largest}
+use Rattle.definition.specs.Fold.{Entries, end, entry, times, total, reserved, entryEnd, Place, placeOf, find, foldCheck}
 
 -- 20: a list too deep, at its first statement; record fields are depth 0
 abbrev pub shallow : ℕ → Forest → Answer (Unit {0})
 shallow depth leaf = give tt
-shallow depth (item s kids later) = refuseIf (ltb 64 depth) 20 (s .at)
+shallow depth (item s kids later) = refuseIf (ltb deepest depth) 20 (s .at)
 
 -- kind and width by the picture
 abbrev pub elementary : List ℕ → Statement → Answer Pictured
@@ -43,9 +44,14 @@ start text s c seen cursor =
     else if s .clauses .sync && isBinary (c .kind) then give (cursor + fewest (c .width) cursor)
     else give cursor
 
-abbrev pub entryOf : Statement → Pictured → ℕ → Entry
-entryOf s c offset =
-    record { at = s .at; name = s .name; offset = offset; width = c .width; kind = c .kind; picture = s .clauses .picture; occurs = s .clauses .occurs; depending = s .clauses .depending; redefines = s .clauses .redefines }
+-- the slack directly before an item: the bytes from the cursor to the item, and none before a redefiner
+abbrev pub slackFrom : ℕ → Statement → ℕ → ℕ
+slackFrom cursor s offset = if given (s .clauses .redefines) then 0 else offset - cursor
+
+-- the entry of an item at an offset, after so much slack
+abbrev pub entryOf : Statement → Pictured → ℕ → ℕ → Entry
+entryOf s c offset slack =
+    record { at = s .at; level = s .level; name = s .name; offset = offset; width = c .width; kind = c .kind; picture = s .clauses .picture; occurs = s .clauses .occurs; depending = s .clauses .depending; redefines = s .clauses .redefines; over = s .clauses .redefines; slack = slack; folded = false }
 
 -- 29: kept count, aligned cursor, width × count or end above the largest number
 abbrev pub tooLarge : Entry → Bool
@@ -55,22 +61,22 @@ tooLarge e = ltb largest (times (e .occurs)) || ltb largest (e .offset) || ltb l
 abbrev pub advance : ℕ → Entry → ℕ
 advance cursor e = if given (e .redefines) then cursor else entryEnd e
 
--- a list, and how wide it is before folding
+-- the entries of a list, with the lists below them, as the copybook has them before folding, and how wide the list is
 pub record Laid : Type 0 where
   pub entries : Entries
   pub width : ℕ
 
 -- the items of a list at a depth: `seen` are the earlier siblings, the latest first; the cursor is where the next item starts; `reach` is
--- the largest end so far. Depth first: a group's inner list, fold included, comes before the group's own item checks
+-- the largest end so far. Depth first: a group's inner list, the fold's check included, comes before the group's own item checks
 unfoldable pub lay : List ℕ → ℕ → List Place → ℕ → ℕ → Forest → Answer Laid
 lay text depth seen cursor reach leaf = give (record { entries = end; width = reach })
 lay text depth seen cursor reach (item s kids later) = do
   _ ← shallow (suc depth) kids
   inner ← lay text (suc depth) [] 0 0 kids
-  members ← fold text [] (inner .entries)
+  _ ← foldCheck text [] (inner .entries)
   c ← content text s kids (inner .width)
   offset ← start text s c seen cursor
-  let e = entryOf s c offset
+  let e = entryOf s c offset (slackFrom cursor s offset)
   _ ← refuseIf (tooLarge e) 29 (s .at)
   l ← lay text depth (placeOf e ∷ seen) (advance cursor e) (max reach (entryEnd e)) later
-  give (record { entries = entry e members (l .entries); width = l .width })
+  give (record { entries = entry e (inner .entries) (l .entries); width = l .width })

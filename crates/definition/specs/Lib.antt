@@ -1,4 +1,5 @@
 pub mod Basic
+pub mod Limits
 pub mod Words
 pub mod Statement
 pub mod Tree
@@ -8,9 +9,10 @@ pub mod Layout
 pub mod Record
 pub mod Listing
 pub mod Owner
+pub mod Search
+pub mod Details
 pub mod Calls
 pub mod Computing
 pub mod Catches
 pub mod Placed
-pub mod Search
 pub mod Demand

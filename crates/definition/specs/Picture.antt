@@ -17,6 +17,7 @@ use Rattle.definition.specs.declared.SignClause.{SignClause}
 use Rattle.definition.specs.declared.NumRepr.{NumRepr}
 use Rattle.definition.specs.declared.FieldKind.{FieldKind}
 use Rattle.definition.specs.declared.Pictured.{Pictured}
+use Rattle.definition.specs.Limits.{mostSymbols}
 use Rattle.definition.specs.Basic.{if_then_else_, is, among, white, upper, count, Answer, refuse, give, _>>=_, refused, refuseIf, orRefuse}
 
 -- ---------------------------------------------------------------- repeats
@@ -56,7 +57,7 @@ expand at n skip [] = give []
 expand at n (suc skip) (b ∷ bs) = expand at n skip bs
 expand at n zero (b ∷ bs) = do
   r ← repeat at bs
-  _ ← refuseIf (ltb 65535 (n + r .0)) 24 at
+  _ ← refuseIf (ltb mostSymbols (n + r .0)) 24 at
   l ← expand at (n + r .0) (r .1) bs
   give (replicate (r .0) (upper b) ++ l)
 

@@ -20,7 +20,9 @@ contentOf text s leaf width = storage text s
 
 -- the entry of an item whose list lays `inner`, of number k, after `place` bytes of its sibling list
 abbrev pub entryAt : List ℕ → ℕ → ℕ → Statement → Forest → List Piece → Entry
-entryAt text k place s kids inner = entryOf s (contentOf text s kids (extent inner)) (place + extent (slackBefore text k place s kids))
+entryAt text k place s kids inner =
+    let slack = extent (slackBefore text k place s kids) in
+    entryOf s (contentOf text s kids (extent inner)) (place + slack) slack
 
 unfoldable pub placed : List ℕ → ℕ → ℕ → Forest → Entries
 placed text k place leaf = end

@@ -5,9 +5,10 @@ use mathlib.Core.Bool.{Bool, true, false, _||_}
 use mathlib.Core.List.{List, []}
 use lib.Dec.{ltb}
 use Rattle.definition.specs.declared.Entry.{Entry}
+use Rattle.definition.specs.Limits.{largest}
 use Rattle.definition.specs.Basic.{given, Answer, refuse, give, _>>=_, refuseIf}
 use Rattle.definition.specs.Tree.{Forest}
-use Rattle.definition.specs.Fold.{Entries, end, entry, entryEnd, largest, fold}
+use Rattle.definition.specs.Fold.{Entries, end, entry, entryEnd, foldCheck, foldedAll}
 use Rattle.definition.specs.Layout.{lay}
 
 -- the record length is the largest offset plus reserved width over the folded top list
@@ -27,10 +28,16 @@ endsFit (entry e members later) = do
   _ ← refuseIf (ltb largest (entryEnd e)) 29 (e .at)
   endsFit later
 
--- the fields of the record, laid out
+-- the fields of the record, laid out, as the copybook has them before folding
+unfoldable pub unfolded : List ℕ → Forest → Answer Entries
+unfolded text f = do
+  l ← lay text 0 [] 0 0 f
+  _ ← foldCheck text [] (l .entries)
+  _ ← endsFit (foldedAll text (l .entries))
+  give (l .entries)
+
+-- the entries of the listing: every list folded
 unfoldable pub layout : List ℕ → Forest → Answer Entries
 layout text f = do
-  l ← lay text 0 [] 0 0 f
-  es ← fold text [] (l .entries)
-  _ ← endsFit es
-  give es
+  es ← unfolded text f
+  give (foldedAll text es)

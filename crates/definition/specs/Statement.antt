@@ -24,6 +24,7 @@ use Rattle.definition.specs.declared.Expect.the-variants.{Clause, IsPict
 use Rattle.definition.specs.declared.Step.{Step}
 use Rattle.definition.specs.declared.Step.the-variants.{Go, Fail}
 use Rattle.definition.specs.declared.Statement.{Statement}
+use Rattle.definition.specs.Limits.{mostStatements}
 use Rattle.definition.specs.Basic.{if_then_else_, bytes, same, uppers, absent, part, number, count, Answer, refuse, give, _>>=_, refused, refuseIf, orRefuse}
 
 -- ---------------------------------------------------------------- keywords
@@ -234,7 +235,7 @@ statements text n (ws ∷ wss) = do
   elim r [
     | none ↦ statements text n wss
     | some s ↦ do
-      _ ← refuseIf (leb 800 n) 14 (s .at)
+      _ ← refuseIf (leb mostStatements n) 14 (s .at)
       ss ← statements text (suc n) wss
       give (s ∷ ss)
   ]

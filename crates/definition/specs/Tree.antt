@@ -2,7 +2,7 @@
 -- smaller level, so its children are the first following statements of higher levels, up to the first of no higher level.
 -- Departure from COBOL: siblings may have different levels, and a level may be any number below 256.
 -- Assumes nothing.
-use Prim.Native.Nat.{ℕ, suc}
+use Prim.Native.Nat.{ℕ, suc, _+_}
 use mathlib.Core.Bool.{Bool, true, false}
 use mathlib.Core.List.{List, [], _∷_, _++_}
 use lib.Dec.{ltb}
@@ -38,21 +38,34 @@ unfoldable pub higher : ℕ → List Statement → ℕ
 higher n [] = 0
 higher n (s ∷ ss) = if ltb n (s .level) then suc (higher n ss) else 0
 
--- the open levels that are smaller than n, the innermost first: how many a statement of level n is nested in
-unfoldable pub stillOpen : ℕ → List ℕ → List ℕ
+-- a statement that is open: its level, and its number in copybook order and 1
+pub record Open : Type 0 where
+  pub level : ℕ
+  pub number : ℕ
+
+abbrev pub opened : ℕ → ℕ → Open
+opened level number = record { level = level; number = number }
+
+-- the open statements whose level is smaller than n, the innermost first
+unfoldable pub stillOpen : ℕ → List Open → List Open
 stillOpen n [] = []
-stillOpen n (l ∷ ls) = if ltb l n then l ∷ ls else stillOpen n ls
+stillOpen n (o ∷ os) = if ltb (o .level) n then o ∷ os else stillOpen n os
 
--- the depth of each statement, where these levels are open before the first; each closes those that are not smaller, and opens its own
-unfoldable pub depths : List ℕ → List Statement → List ℕ
-depths levels [] = []
-depths levels (s ∷ ss) = let outer = stillOpen (s .level) levels in length outer ∷ depths (s .level ∷ outer) ss
+abbrev pub innermost : List Open → ℕ
+innermost [] = 0
+innermost (o ∷ os) = o .number
 
--- the depth of each statement of a forest, in copybook order, where the first list has depth d (`DepthLaws`, of the proofs, says that the open
--- levels give the same)
-unfoldable pub nesting : ℕ → Forest → List ℕ
-nesting d leaf = []
-nesting d (item s kids later) = d ∷ (nesting (suc d) kids ++ nesting d later)
+-- the parent of each statement, its number and 1, or 0 for none, from statement k on, where these are open before it: the nearest earlier open one
+-- with a smaller level. Each closes those that are not smaller, and opens itself
+unfoldable pub parents : List Open → ℕ → List Statement → List ℕ
+parents os k [] = []
+parents os k (s ∷ ss) = let outer = stillOpen (s .level) os in innermost outer ∷ parents (opened (s .level) (suc k) ∷ outer) (suc k) ss
+
+-- the parent of each statement of a forest, in copybook order from statement k on, where p is that of the first list (`ParentLaws`, of the proofs,
+-- says that the open statements give the same)
+unfoldable pub parentsIn : ℕ → ℕ → Forest → List ℕ
+parentsIn p k leaf = []
+parentsIn p k (item s kids later) = let inner = parentsIn (suc k) (suc k) kids in p ∷ (inner ++ parentsIn p (suc k + length inner) later)
 
 -- the fields of the record: if the only root has children, it is dropped with its clauses
 unfoldable pub fields : Forest → Forest

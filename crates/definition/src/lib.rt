@@ -1,6 +1,21 @@
 // The types that the definition speaks of, and that the code hands from one stage to the next. A place in the copybook
 // text is a span, its first byte and its length; length 0 means absent.
 
+// The limits that the rules name, as `specs/Limits` has them.
+pub const MOST_BYTES: usize = 65535;
+
+pub const LEAST_WORK: usize = 16384;
+
+pub const MOST_STATEMENTS: usize = 800;
+
+pub const DEEPEST: u32 = 64;
+
+pub const MOST_SYMBOLS: u32 = 65535;
+
+pub const LARGEST: usize = 2147483647;
+
+pub const LARGEST_COUNT: u64 = 2147483647;
+
 pub struct Span {
     pub start: usize,
     pub len: usize,
@@ -165,9 +180,12 @@ pub struct Statement {
     pub clauses: Clauses,
 }
 
-// An entry of the listing; `at` is that of its statement.
+// An entry of the listing. `at` and `level` are its statement's; `over` is its REDEFINES as the statement has it, which
+// the listing leaves out of a member of a fold; `slack` counts the slack bytes directly before it; `folded` is true of
+// a group made by folding.
 pub struct Entry {
     pub at: usize,
+    pub level: u8,
     pub name: Span,
     pub offset: usize,
     pub width: usize,
@@ -176,6 +194,9 @@ pub struct Entry {
     pub occurs: Occurs,
     pub depending: Span,
     pub redefines: Span,
+    pub over: Span,
+    pub slack: usize,
+    pub folded: bool,
 }
 
 // What a byte of a record belongs to: a piece, that is one occurrence of the elementary item whose entry has that number,

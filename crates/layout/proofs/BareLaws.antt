@@ -1,20 +1,16 @@
--- Laying and folding in two steps is the definition's layout.
+-- Laws of a `do` block, and one step of folding.
 -- Assumes nothing.
-use Prim.Native.Nat.{ℕ, suc, max}
-use mathlib.Core.Path.{_≡_, refl, sym, _∙_, ap}
-use mathlib.Core.Bool.{Bool, true, false}
-use mathlib.Core.List.{List, [], _∷_}
-use mathlib.Core.Option.{Option, none, some}
+use Prim.Native.Nat.{ℕ}
+use mathlib.Core.Path.{_≡_, refl}
+use mathlib.Core.Bool.{true, false}
+use mathlib.Core.List.{List, _∷_}
+use mathlib.Core.Option.{none, some}
 use lib.Dec.{ltb}
-use Rattle.definition.specs.declared.Statement.{Statement}
 use Rattle.definition.specs.declared.Entry.{Entry}
 use Rattle.definition.specs.Basic.{given, Answer, refuse, give, _>>=_, refuseIf}
-use Rattle.definition.specs.Tree.{Forest, leaf, item}
-use Rattle.definition.specs.Fold.{Entries, end, entry, entryEnd, Place, placeOf, find, redefiners, withRedefiners, fold}
-use Rattle.definition.specs.Layout.{shallow, content, start, entryOf, tooLarge, advance, Laid, lay}
-use Rattle.definition.specs.Record.{endsFit, layout}
-use Rattle.definition.proofs.LayoutLaws.{fold-base, fold-alone}
-use Rattle.layout.specs.Bare.{foldCheck, foldedList, foldedBelow, foldedAll, bare, bareRecord}
+use Rattle.definition.specs.Tree.{Forest}
+use Rattle.definition.specs.Fold.{Entries, entry, Place, placeOf, find, redefiners, withRedefiners, foldCheck, foldedList, foldedAll}
+use Rattle.definition.specs.Record.{layout, unfolded}
 
 -- ---------------------------------------------------------------- answers
 
@@ -42,16 +38,6 @@ pub bind-along :
 unfolding _>>=_
 bind-along (refuse r) f g fin h = refl
 bind-along (give x) f g fin h = h x
-
--- a first step that is a function of another's value
-bind-through :
-    {A B C D : Type 0} (a′ : Answer D) (a : Answer A) (v : A → D) (f : D → Answer C) (g : A → Answer B) (fin : B → Answer C) →
-    a′ ≡ (a >>= λ x. give (v x)) →
-    ((x : A) → f (v x) ≡ (g x >>= fin)) →
-    (a′ >>= f) ≡ ((a >>= g) >>= fin)
-unfolding _>>=_
-bind-through a′ (refuse r) v f g fin e h = ap (λ (z : Answer _). z >>= f) e
-bind-through a′ (give x) v f g fin e h = ap (λ (z : Answer _). z >>= f) e ∙ h x
 
 module _ (text : List ℕ) where
   -- ---------------------------------------------------------------- one step
@@ -86,139 +72,7 @@ module _ (text : List ℕ) where
         unfolding foldedList
         list-under = rw (g, h, foldedList)
 
-        fold-some : fold text bases (entry e members later) ≡ (refuseIf (ltb (e .offset) base) 30 (e .at) >>= λ _. fold text bases later)
-        unfolding fold
-        fold-some = rw (g, h, fold)
-
-  -- ---------------------------------------------------------------- one list
-
-  -- what folding a list is to be: its check, and then the folded list
-  abbrev inTwo : List Place → Entries → Answer Entries
-  inTwo bases es = foldCheck text bases es >>= λ _. give (foldedList text bases es)
-
-  fold-end : (bases : List Place) → fold text bases end ≡ inTwo bases end
-  unfolding fold foldCheck foldedList _>>=_
-  fold-end bases = refl
-
-  module _
-      (bases : List Place) (e : Entry) (members later : Entries)
-      (after-base : fold text (placeOf e ∷ bases) later ≡ inTwo (placeOf e ∷ bases) later)
-      (after-redefiner : fold text bases later ≡ inTwo bases later)
-    where
-      fold-found :
-          given (e .redefines) ≡ true →
-          (o : Option ℕ) →
-          find text (e .redefines) bases ≡ o →
-          fold text bases (entry e members later) ≡ inTwo bases (entry e members later)
-      unfolding _>>=_
-      fold-found g none h =
-          rw
-          (fold-alone text bases e members later g h, after-redefiner, check-alone bases e members later g h, list-alone bases e members later g h)
-          (bind-bind (foldCheck text bases later) _ _)
-      fold-found g (some base) h =
-          rw
-          (fold-some bases e members later g h, after-redefiner, check-under bases e members later g h, list-under bases e members later g h)
-          (sym (bind-bind (refuseIf (ltb (e .offset) base) 30 (e .at)) _ _))
-
-      fold-entry : (b : Bool) → given (e .redefines) ≡ b → fold text bases (entry e members later) ≡ inTwo bases (entry e members later)
-      unfolding _>>=_
-      fold-entry false g =
-          rw
-          (fold-base text bases e members later g, after-base, check-base bases e members later g, list-base bases e members later g)
-          (bind-bind (foldCheck text (placeOf e ∷ bases) later) _ _)
-      fold-entry true g = fold-found g (find text (e .redefines) bases) refl
-
-  -- folding is its check and then the folded list
-  pub fold-is : (bases : List Place) (es : Entries) → fold text bases es ≡ (foldCheck text bases es >>= λ _. give (foldedList text bases es))
-  fold-is bases end = fold-end bases
-  fold-is bases (entry e members later) =
-      fold-entry bases e members later (fold-is (placeOf e ∷ bases) later) (fold-is bases later) (given (e .redefines)) refl
-
-  -- ---------------------------------------------------------------- the lists below
-
-  -- the check looks at the entries of its own list alone
-  module _
-      (bases : List Place) (e : Entry) (members members′ later later′ : Entries)
-      (after-base : foldCheck text (placeOf e ∷ bases) later′ ≡ foldCheck text (placeOf e ∷ bases) later)
-      (after-redefiner : foldCheck text bases later′ ≡ foldCheck text bases later)
-    where
-      check-found :
-          given (e .redefines) ≡ true →
-          (o : Option ℕ) →
-          find text (e .redefines) bases ≡ o →
-          foldCheck text bases (entry e members′ later′) ≡ foldCheck text bases (entry e members later)
-      check-found g none h = check-alone bases e members′ later′ g h ∙ after-redefiner ∙ sym (check-alone bases e members later g h)
-      check-found g (some base) h =
-          check-under bases e members′ later′ g h
-          ∙ ap (λ (a : Answer (Unit {0})). refuseIf (ltb (e .offset) base) 30 (e .at) >>= λ _. a) after-redefiner
-          ∙ sym (check-under bases e members later g h)
-
-      check-same : (b : Bool) → given (e .redefines) ≡ b → foldCheck text bases (entry e members′ later′) ≡ foldCheck text bases (entry e members later)
-      check-same false g = check-base bases e members′ later′ g ∙ after-base ∙ sym (check-base bases e members later g)
-      check-same true g = check-found g (find text (e .redefines) bases) refl
-
-  pub check-below : (bases : List Place) (es : Entries) → foldCheck text bases (foldedBelow text es) ≡ foldCheck text bases es
-  unfolding foldedBelow
-  check-below bases end = refl
-  check-below bases (entry e members later) =
-      check-same bases e members (foldedList text [] (foldedBelow text members)) later (foldedBelow text later) (check-below (placeOf e ∷ bases) later) (check-below bases later) (given (e .redefines)) refl
-
-  -- a list whose inner lists are folded, when it is folded itself
-  fold-below : (es : Entries) → fold text [] (foldedBelow text es) ≡ (foldCheck text [] es >>= λ _. give (foldedAll text es))
-  fold-below es = rw (fold-is [] (foldedBelow text es), check-below [] es)
-
-  -- ---------------------------------------------------------------- sibling lists
-
-  -- a list laid bare, with the lists below folded
-  abbrev pub foldedLaid : Laid → Laid
-  foldedLaid l = record { entries = foldedBelow text (l .entries); width = l .width }
-
-  bare-item :
-      (depth : ℕ) (seen : List Place) (cursor reach : ℕ) (s : Statement) (kids later : Forest) →
-      bare text depth seen cursor reach (item s kids later)
-      ≡ (shallow (suc depth) kids >>= λ _.
-      bare text (suc depth) [] 0 0 kids >>= λ inner.
-      foldCheck text [] (inner .entries) >>= λ _.
-      content text s kids (inner .width) >>= λ c.
-      start text s c seen cursor >>= λ offset.
-      refuseIf (tooLarge (entryOf s c offset)) 29 (s .at) >>= λ _.
-      bare text depth (placeOf (entryOf s c offset) ∷ seen) (advance cursor (entryOf s c offset)) (max reach (entryEnd (entryOf s c offset))) later >>= λ l.
-      give (record { entries = entry (entryOf s c offset) (inner .entries) (l .entries); width = l .width }))
-  unfolding bare
-  bare-item depth seen cursor reach s kids later = refl
-
-  -- laying is laying bare and then folding the lists below
-  pub lay-is :
-      (f : Forest) (depth : ℕ) (seen : List Place) (cursor reach : ℕ) →
-      lay text depth seen cursor reach f ≡ (bare text depth seen cursor reach f >>= λ l. give (foldedLaid l))
-  unfolding lay bare foldedBelow _>>=_
-  lay-is leaf depth seen cursor reach = refl
-  lay-is (item s kids later) depth seen cursor reach =
-      let fin : Laid → Answer Laid = λ l. give (foldedLaid l) in
-      let ih = lay-is kids (suc depth) [] 0 0 in
-      bind-along (shallow (suc depth) kids) _ _ fin λ _.
-      bind-through _ (bare text (suc depth) [] 0 0 kids) foldedLaid _ _ fin ih λ inner.
-      bind-through _ (foldCheck text [] (inner .entries)) (λ _. foldedAll text (inner .entries)) _ _ fin (fold-below (inner .entries)) λ _.
-      bind-along (content text s kids (inner .width)) _ _ fin λ c.
-      bind-along (start text s c seen cursor) _ _ fin λ offset.
-      bind-along (refuseIf (tooLarge (entryOf s c offset)) 29 (s .at)) _ _ fin λ _.
-      bind-through
-      _
-      (bare text depth (placeOf (entryOf s c offset) ∷ seen) (advance cursor (entryOf s c offset)) (max reach (entryEnd (entryOf s c offset))) later)
-      foldedLaid
-      _
-      _
-      fin
-      (lay-is later depth (placeOf (entryOf s c offset) ∷ seen) (advance cursor (entryOf s c offset)) (max reach (entryEnd (entryOf s c offset))))
-      λ l. refl
-
-  -- ---------------------------------------------------------------- the record
-
-  -- the layout is the record laid bare and then folded
-  pub layout-is : (f : Forest) → layout text f ≡ (bareRecord text f >>= λ es. give (foldedAll text es))
-  unfolding layout bareRecord _>>=_
-  layout-is f =
-      let fin : Entries → Answer Entries = λ es. give (foldedAll text es) in
-      bind-through _ (bare text 0 [] 0 0 f) foldedLaid _ _ fin (lay-is f 0 [] 0 0) λ l.
-      bind-through _ (foldCheck text [] (l .entries)) (λ _. foldedAll text (l .entries)) _ _ fin (fold-below (l .entries)) λ _.
-      bind-along (endsFit (foldedAll text (l .entries))) _ _ fin λ _. refl
+  -- the layout is the record laid and then folded
+  pub layout-is : (f : Forest) → layout text f ≡ (unfolded text f >>= λ es. give (foldedAll text es))
+  unfolding layout
+  layout-is f = refl

@@ -15,18 +15,19 @@ use Rattle.definition.specs.declared.NumRepr.{NumRepr}
 use Rattle.definition.specs.declared.FieldKind.{FieldKind}
 use Rattle.definition.specs.declared.Pictured.{Pictured}
 use Rattle.definition.specs.declared.Statement.{Statement}
+use Rattle.definition.specs.Limits.{mostBytes}
 use Rattle.definition.specs.Basic.{if_then_else_, upper, give, _>>=_}
 use Rattle.definition.specs.Tree.{Forest, leaf, item}
 use Rattle.definition.specs.Picture.{expand, allDigits, fraction, isText, isMasked, mask, isEmbedded, resolveSign, signBytes, display, numeric, kinded, tooLong, symbols, picture}
 use Rattle.definition.specs.Layout.{content}
 use Rattle.definition.proofs.Answers.{through, given-same, not-refused, or-false}
 use Rattle.definition.proofs.PictureLaws.{tally-le, mask-length}
-use Rattle.places.specs.Places.{Bytes}
+use Rattle.kinds.specs.Kinds.{Bytes}
 
 -- ---------------------------------------------------------------- symbols
 
 -- no more than 65,535 symbols stand
-few : (bs : List ℕ) (at n skip : ℕ) {l : List ℕ} → n ≤ 65535 → expand at n skip bs ≡ give l → n + length l ≤ 65535
+few : (bs : List ℕ) (at n skip : ℕ) {l : List ℕ} → n ≤ mostBytes → expand at n skip bs ≡ give l → n + length l ≤ mostBytes
 unfolding expand
 few [] at n skip h e = let same : [] ≡ _ = given-same e in rw (← same) (omega arith)
 few (b ∷ bs) at n (suc skip) h e = few bs at n skip h e
@@ -34,7 +35,7 @@ few (b ∷ bs) at n zero h e =
     through _ _ e λ r e₁ h₁.
     through _ _ h₁ λ u e₂ h₂.
     through _ _ h₂ λ m e₃ h₃.
-    let ok : n + r .0 ≤ 65535 = ltb-false 65535 (n + r .0) (not-refused (ltb 65535 (n + r .0)) 24 at e₂) in
+    let ok : n + r .0 ≤ mostBytes = ltb-false mostBytes (n + r .0) (not-refused (ltb mostBytes (n + r .0)) 24 at e₂) in
     let ih = few bs at (n + r .0) (r .1) ok e₃ in
     let same : replicate (r .0) (upper b) ++ m ≡ _ = given-same h₃ in
     rw (← same, length-append, length-replicate) (omega arith)
@@ -79,7 +80,7 @@ module _ (digits scale : ℕ) (h : digits ≤ 255) (l : scale ≤ digits) (signe
   numeric-bounded Usage.Comp3 g = record { width = omega arith; bytes = (omega arith, omega arith) }
   numeric-bounded Usage.Comp g = record { width = omega (arith, eight (leb digits 4) (leb digits 9)); bytes = tt }
 
-module _ (u : Usage) (g : SignClause) (l : List ℕ) (h : length l ≤ 65535) (n : tooLong u l ≡ false) where
+module _ (u : Usage) (g : SignClause) (l : List ℕ) (h : length l ≤ mostBytes) (n : tooLong u l ≡ false) where
   short : isText l ≡ false → allDigits l ≤ 255
   short e =
       let q : (ltb 255 (allDigits l) || isMasked u l && ltb 255 (length (mask l))) ≡ false = ap (λ (b : Bool). not b && (ltb 255 (allDigits l) || isMasked u l && ltb 255 (length (mask l)))) (sym e) ∙ n in

@@ -1,22 +1,28 @@
 -- The check of a list, entry by entry, along the rows that hold it.
 -- Assumes nothing.
-use Prim.Native.Nat.{ℕ, suc, _≤_}
+use Prim.Native.Nat.{ℕ, suc, _+_, _*_, _≤_, _<_}
 use mathlib.Core.Path.{_≡_, refl, sym, ap, _∙_}
 use mathlib.Core.Bool.{Bool, true, false}
 use mathlib.Core.List.{List, [], _∷_}
 use mathlib.Core.Option.{Option, none, some}
 use native.Mathlib.Omega.{arith}
+use lib.ListN.{length}
 use Rattle.definition.specs.declared.Refusal.{Refusal}
 use Rattle.definition.specs.declared.Entry.{Entry}
 use Rattle.definition.specs.Basic.{if_then_else_, given, Answer, refuse, give, _>>=_}
-use Rattle.definition.specs.Fold.{Entries, entry, Place, placeOf, find}
-use Rattle.rows.specs.Table.{cell}
-use Rattle.places.specs.Places.{seenFrom, basesAt, entryIn, entriesIn, Linked, rowsForest}
-use Rattle.places.specs.Ends.{ChildrenEnd}
+use Rattle.definition.specs.Tree.{Forest}
+use Rattle.definition.specs.Fold.{Entries, entry, Place, placeOf, find, foldCheck}
+use Rattle.rows.specs.Columns.{ROW, AT, REDEFINES, OFFSET, BEFORE, BASE}
+use Rattle.rows.specs.Table.{cell, spanAt}
+use Rattle.redefines.specs.Targets.{seenFrom, basesAt, offsetOf, baseFrom, baseAfter}
+use Rattle.places.specs.Places.{entryIn, entriesIn, Linked, rowsForest}
+use Rattle.places.specs.Children.{ChildrenEnd, Numbered}
+use Rattle.places.proofs.RowLaws.{forest-empty, children-end}
+use Rattle.redefines.proofs.SearchLaws.{if-most, row-most, row-found}
 use Rattle.places.proofs.PlaceLaws.{seen-low, seen-out, seen-in}
-use Rattle.places.proofs.EntriesLaws.{entries-step, linked-step}
-use Rattle.layout.specs.Bare.{basesAfter, foldCheck}
-use Rattle.layout.specs.Steps.{checkEntry}
+use Rattle.places.proofs.EntriesLaws.{entries-step, linked-step, linked-numbered}
+use Rattle.layout.specs.Bare.{basesAfter}
+use Rattle.layout.specs.Steps.{checkBase, checkEntry, checkRow}
 use Rattle.layout.proofs.BareLaws.{check-base, check-alone, check-under}
 
 -- ---------------------------------------------------------------- one entry
@@ -50,10 +56,10 @@ module _ (text : List ℕ) (bases : List Place) (e : Entry) (members later : Ent
 -- ---------------------------------------------------------------- one row
 
 -- the bases after row i
-pub bases-after : (w : List ℕ) (i last : ℕ) → cell w i 16 ≡ last → last ≤ i → basesAt w (suc i) ≡ basesAfter (entryIn w i) (basesAt w last)
+pub bases-after : (w : List ℕ) (i last : ℕ) → cell w i BEFORE ≡ last → last ≤ i → basesAt w (suc i) ≡ basesAfter (entryIn w i) (basesAt w last)
 bases-after w i last h l = go (given (entryIn w i .redefines)) refl
   where
-    before : seenFrom true w i (cell w i 16) ≡ basesAt w last
+    before : seenFrom true w i (cell w i BEFORE) ≡ basesAt w last
     before = ap (seenFrom true w i) h ∙ seen-low true w i last l
 
     go : (b : Bool) → given (entryIn w i .redefines) ≡ b → basesAt w (suc i) ≡ basesAfter (entryIn w i) (basesAt w last)
@@ -63,34 +69,67 @@ bases-after w i last h l = go (given (entryIn w i .redefines)) refl
         ∙ ap (λ (ps : List Place). placeOf (entryIn w i) ∷ ps) before
         ∙ ap (λ (b : Bool). if b then basesAt w last else placeOf (entryIn w i) ∷ basesAt w last) (sym g)
 
+-- the base that a row names is the one that the check asks for
+row-check : (t w : List ℕ) (i last : ℕ) → cell w i BASE ≡ baseAfter t w i last → checkRow w i ≡ checkEntry t (basesAt w last) (entryIn w i)
+row-check t w i last e = ap (λ (n : ℕ). checkBase (cell w i AT) (cell w i OFFSET) (offsetOf w n)) e ∙ go (given (spanAt (cell w i REDEFINES)))
+  where
+    go :
+        (g : Bool) →
+        checkBase (cell w i AT) (cell w i OFFSET) (offsetOf w (if g then baseFrom t (spanAt (cell w i REDEFINES)) w last last else 0))
+        ≡ (if g then checkBase (cell w i AT) (cell w i OFFSET) (find t (spanAt (cell w i REDEFINES)) (basesAt w last)) else give tt)
+    go true = ap (checkBase (cell w i AT) (cell w i OFFSET)) (sym (row-found t w (spanAt (cell w i REDEFINES)) true last last))
+    go false = refl
+
 -- ---------------------------------------------------------------- the loop
 
 -- the check goes on at row i, after the sibling `last`
-pub record Checking (t w : List ℕ) (from to i last : ℕ) : Type 0 where
+pub record Checking (t w : List ℕ) (from to i : ℕ) : Type 0 where
+  pub fits : ROW * to ≤ length w
+  pub last : ℕ
   pub back : last ≤ i
-  pub linked : Linked w i last (rowsForest w i to)
+  pub linked : Linked t w i last (rowsForest w i to)
   pub same : foldCheck t [] (entriesIn w from (rowsForest w from to)) ≡ foldCheck t (basesAt w last) (entriesIn w i (rowsForest w i to))
 
-pub checking-starts : (t w : List ℕ) (from to : ℕ) → Linked w from 0 (rowsForest w from to) → Checking t w from to from 0
+pub checking-starts : (t w : List ℕ) (from to : ℕ) → ROW * to ≤ length w → Linked t w from 0 (rowsForest w from to) → Checking t w from to from
 unfolding seenFrom
-checking-starts t w from to h = record { back = omega arith; linked = h; same = refl }
+checking-starts t w from to f h = record { fits = f; last = 0; back = omega arith; linked = h; same = refl }
 
-module _ {t w : List ℕ} {from to i last : ℕ} (inv : Checking t w from to i last) {j : ℕ} (h : ChildrenEnd w i to j) where
-  pub checking-on : checkEntry t (basesAt w last) (entryIn w i) ≡ give tt → Checking t w from to j (suc i)
-  checking-on e =
-      let l = linked-step w i to j h last (inv .linked) in
-      record {
-        back = omega (arith, h .low);
-        linked = l .1;
-        same =
-            inv .same
-            ∙ ap (foldCheck t (basesAt w last)) (entries-step w i to j h)
-            ∙ fold-passed t (basesAt w last) (entryIn w i) (entriesIn w (suc i) (rowsForest w (suc i) j)) (entriesIn w j (rowsForest w j to)) e
-            ∙ ap (λ (ps : List Place). foldCheck t ps (entriesIn w j (rowsForest w j to))) (sym (bases-after w i last (l .0) (inv .back)));
-      }
+module _ {t w : List ℕ} {from to i : ℕ} (inv : Checking t w from to i) where
+  pub checking-ends : to ≤ i → give tt ≡ foldCheck t [] (entriesIn w from (rowsForest w from to))
+  unfolding foldCheck entriesIn
+  checking-ends h = sym (inv .same ∙ ap (λ (f : Forest). foldCheck t (basesAt w (inv .last)) (entriesIn w i f)) (forest-empty w i to h))
 
-  pub checking-refused : {r : Refusal} → checkEntry t (basesAt w last) (entryIn w i) ≡ refuse r → foldCheck t [] (entriesIn w from (rowsForest w from to)) ≡ refuse r
-  checking-refused e =
-      inv .same
-      ∙ ap (foldCheck t (basesAt w last)) (entries-step w i to j h)
-      ∙ fold-refused t (basesAt w last) (entryIn w i) (entriesIn w (suc i) (rowsForest w (suc i) j)) (entriesIn w j (rowsForest w j to)) e
+  pub checking-numbered : i < to → Numbered w i to
+  checking-numbered h = linked-numbered t w i to (inv .last) (inv .fits) h (inv .linked)
+
+  -- row i
+  pub checking-row : i < to → (ROW * i + ROW ≤ length w) × (cell w i BASE ≤ i)
+  checking-row h =
+      let r = spanAt (cell w i REDEFINES) in
+      let base = linked-step w i to _ (children-end w i to h) t (inv .last) (inv .linked) .0 .base in
+      (omega (arith, inv .fits), omega (arith, base, inv .back, if-most (given r) (row-most t w r true (inv .last) (inv .last)) (let z : 0 ≤ inv .last = omega arith in z)))
+
+  module _ {j : ℕ} (h : ChildrenEnd w i to j) where
+    pub checking-on : checkRow w i ≡ give tt → Checking t w from to j
+    checking-on e =
+        let l = linked-step w i to j h t (inv .last) (inv .linked) in
+        record {
+          fits = inv .fits;
+          last = suc i;
+          back = omega (arith, h .low);
+          linked = l .2;
+          same =
+              inv .same
+              ∙ ap (foldCheck t (basesAt w (inv .last))) (entries-step w i to j h)
+              ∙ fold-passed t (basesAt w (inv .last)) (entryIn w i) (entriesIn w (suc i) (rowsForest w (suc i) j)) (entriesIn w j (rowsForest w j to))
+              (sym (row-check t w i (inv .last) (l .0 .base)) ∙ e)
+              ∙ ap (λ (ps : List Place). foldCheck t ps (entriesIn w j (rowsForest w j to))) (sym (bases-after w i (inv .last) (l .0 .before) (inv .back)));
+        }
+
+    pub checking-refused : {r : Refusal} → checkRow w i ≡ refuse r → foldCheck t [] (entriesIn w from (rowsForest w from to)) ≡ refuse r
+    checking-refused e =
+        let l = linked-step w i to j h t (inv .last) (inv .linked) in
+        inv .same
+        ∙ ap (foldCheck t (basesAt w (inv .last))) (entries-step w i to j h)
+        ∙ fold-refused t (basesAt w (inv .last)) (entryIn w i) (entriesIn w (suc i) (rowsForest w (suc i) j)) (entriesIn w j (rowsForest w j to))
+        (sym (row-check t w i (inv .last) (l .0 .base)) ∙ e)

@@ -9,7 +9,7 @@ use Rattle.definition.specs.declared.Statement.{Statement}
 use Rattle.definition.specs.declared.Pictured.{Pictured}
 use Rattle.definition.specs.Basic.{refuse, give, _>>=_, refused}
 use Rattle.definition.specs.Fold.{Place}
-use Rattle.definition.specs.Layout.{start, entryOf, tooLarge}
+use Rattle.definition.specs.Layout.{start, slackFrom, entryOf, tooLarge}
 use Rattle.layout.specs.Bare.{placed}
 
 module _ (text : List ℕ) (s : Statement) (c : Pictured) (seen : List Place) (cursor : ℕ) where
@@ -18,10 +18,10 @@ module _ (text : List ℕ) (s : Statement) (c : Pictured) (seen : List Place) (c
   placed-refused h = rw (← h)
 
   module _ {offset : ℕ} (h : give offset ≡ start text s c seen cursor) where
-    pub placed-large : tooLarge (entryOf s c offset) ≡ true → placed text s c seen cursor ≡ refused 29 (s .at)
+    pub placed-large : tooLarge (entryOf s c offset (slackFrom cursor s offset)) ≡ true → placed text s c seen cursor ≡ refused 29 (s .at)
     unfolding placed _>>=_
     placed-large l = rw (← h, l)
 
-    pub placed-fits : tooLarge (entryOf s c offset) ≡ false → placed text s c seen cursor ≡ give (entryOf s c offset)
+    pub placed-fits : tooLarge (entryOf s c offset (slackFrom cursor s offset)) ≡ false → placed text s c seen cursor ≡ give (entryOf s c offset (slackFrom cursor s offset))
     unfolding placed _>>=_
     placed-fits l = rw (← h, l)

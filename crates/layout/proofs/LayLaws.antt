@@ -13,84 +13,86 @@ use Rattle.definition.specs.declared.FieldKind.{FieldKind}
 use Rattle.definition.specs.declared.Pictured.{Pictured}
 use Rattle.definition.specs.declared.Statement.{Statement}
 use Rattle.definition.specs.declared.Entry.{Entry}
+use Rattle.definition.specs.Limits.{largest}
 use Rattle.definition.specs.Basic.{if_then_else_, given, Answer, refuse, give, _>>=_}
 use Rattle.definition.specs.Tree.{Forest, leaf, item, forest}
 use Rattle.definition.specs.Picture.{pictured}
-use Rattle.definition.specs.Fold.{Entries, end, entry, entryEnd, Place, placeOf}
-use Rattle.definition.specs.Layout.{shallow, content, entryOf, advance, Laid}
+use Rattle.definition.specs.Fold.{Entries, end, entry, entryEnd, Place, placeOf, foldCheck}
+use Rattle.definition.specs.Layout.{shallow, content, entryOf, advance, Laid, lay}
 use Rattle.definition.specs.Owner.{size}
 use Rattle.definition.specs.Search.{entries#}
+use Rattle.rows.specs.Columns.{ROW, AT, NAME, OFFSET, BEFORE}
 use Rattle.rows.specs.Table.{cell, spanAt, statementAt}
-use Rattle.places.specs.Places.{putPlaces, lastOf, placeAt, seenFrom, seenAt, entriesIn, rowsForest}
-use Rattle.places.specs.Ends.{ChildrenEnd}
-use Rattle.places.proofs.PlaceLaws.{kept-places, before-places, statement-places, statements-places, place-late, first-offset, first-last, seen-low, seen-in, seen-same}
+use Rattle.places.specs.Places.{putPlaces, lastOf, entriesIn, rowsForest}
+use Rattle.redefines.specs.Targets.{placeAt, seenFrom, seenAt}
+use Rattle.places.specs.Children.{ChildrenEnd}
+use Rattle.places.proofs.PlaceLaws.{kept-places, before-places, statement-places, statements-places, first-offset, first-last, seen-low, seen-in, seen-same}
 use Rattle.places.proofs.RowLaws.{forest-empty, forest-split, children-end}
 use Rattle.places.proofs.EntriesLaws.{size-stretch, rows-forest, Held, places-held, next-row, of-size}
-use Rattle.places.proofs.EndLaws.{within}
-use Rattle.layout.specs.Bare.{foldCheck, bare, ItemLaid, placed, bareItem}
-use Rattle.layout.specs.Outcomes.{stopped, ready, after, layRest, layTable}
-use Rattle.layout.specs.Outcomes.{halted, placing, afterItem, layItem, afterOwn, placeRow}
+use Rattle.limits.proofs.EndLaws.{within}
+use Rattle.layout.specs.Bare.{ItemLaid, placed, bareItem}
+use Rattle.layout.specs.Outcomes.{stopped, ready, after, layRest, layTable, halted, placing, afterItem, layItem, afterOwn, placeRow}
 use Rattle.layout.proofs.ContentLaws.{leaf-bounded}
 use Rattle.layout.proofs.ListLaws.{restAfter, bare-split, item-is, bare-is}
 
 -- ---------------------------------------------------------------- what an outcome says
 
 -- a list that is ready was given
-record Readied (w : List ℕ) (k last : ℕ) (a : Answer Laid) (width : ℕ) (w′ : List ℕ) : Type 0 where
+record Readied (text w : List ℕ) (k last : ℕ) (a : Answer Laid) (width : ℕ) (w′ : List ℕ) : Type 0 where
   laid : Laid
   is : a ≡ give laid
   wide : laid .width ≡ width
-  put : putPlaces w k last (laid .entries) ≡ w′
+  put : putPlaces text w k last (laid .entries) ≡ w′
 
-readied : (w : List ℕ) (k last : ℕ) (a : Answer Laid) {width l : ℕ} {w′ : List ℕ} → after w k last a ≡ ready width l w′ → Readied w k last a width w′
-readied w k last (refuse r) h = absurd (let z : _≡_ {A = ℕ} 0 1 = cc in omega arith)
-readied w k last (give x) h = record { laid = x; is = refl; wide = cc; put = cc }
+readied : (text w : List ℕ) (k last : ℕ) (a : Answer Laid) {width l : ℕ} {w′ : List ℕ} → after text w k last a ≡ ready width l w′ → Readied text w k last a width w′
+readied text w k last (refuse r) h = absurd (let z : _≡_ {A = ℕ} 0 1 = cc in omega arith)
+readied text w k last (give x) h = record { laid = x; is = refl; wide = cc; put = cc }
 
-pub stopped-was : (w : List ℕ) (k last : ℕ) (a : Answer Laid) {r : Refusal} → after w k last a ≡ stopped r → a ≡ refuse r
-stopped-was w k last (refuse q) h = cc
-stopped-was w k last (give x) h = absurd (let z : _≡_ {A = ℕ} 0 1 = cc in omega arith)
+pub stopped-was : (text w : List ℕ) (k last : ℕ) (a : Answer Laid) {r : Refusal} → after text w k last a ≡ stopped r → a ≡ refuse r
+stopped-was text w k last (refuse q) h = cc
+stopped-was text w k last (give x) h = absurd (let z : _≡_ {A = ℕ} 0 1 = cc in omega arith)
 
 -- an item that is placed was given
-record Given (w : List ℕ) (i last cursor : ℕ) (a : Answer ItemLaid) (c e : ℕ) (w′ : List ℕ) : Type 0 where
+record Given (text w : List ℕ) (i last cursor : ℕ) (a : Answer ItemLaid) (c e : ℕ) (w′ : List ℕ) : Type 0 where
   laid : ItemLaid
   is : a ≡ give laid
   moves : advance cursor (laid .own) ≡ c
   ends : entryEnd (laid .own) ≡ e
-  put : putPlaces w i last (entry (laid .own) (laid .members) end) ≡ w′
+  put : putPlaces text w i last (entry (laid .own) (laid .members) end) ≡ w′
 
-item-given : (w : List ℕ) (i last cursor : ℕ) (a : Answer ItemLaid) {c e : ℕ} {w′ : List ℕ} → afterItem w i last cursor a ≡ placing c e w′ → Given w i last cursor a c e w′
-item-given w i last cursor (refuse r) h = absurd (let z : _≡_ {A = ℕ} 0 1 = cc in omega arith)
-item-given w i last cursor (give x) h = record { laid = x; is = refl; moves = cc; ends = cc; put = cc }
+item-given : (text w : List ℕ) (i last cursor : ℕ) (a : Answer ItemLaid) {c e : ℕ} {w′ : List ℕ} → afterItem text w i last cursor a ≡ placing c e w′ → Given text w i last cursor a c e w′
+item-given text w i last cursor (refuse r) h = absurd (let z : _≡_ {A = ℕ} 0 1 = cc in omega arith)
+item-given text w i last cursor (give x) h = record { laid = x; is = refl; moves = cc; ends = cc; put = cc }
 
-halted-was : (w : List ℕ) (i last cursor : ℕ) (a : Answer ItemLaid) {r : Refusal} → afterItem w i last cursor a ≡ halted r → a ≡ refuse r
-halted-was w i last cursor (refuse q) h = cc
-halted-was w i last cursor (give x) h = absurd (let z : _≡_ {A = ℕ} 0 1 = cc in omega arith)
+halted-was : (text w : List ℕ) (i last cursor : ℕ) (a : Answer ItemLaid) {r : Refusal} → afterItem text w i last cursor a ≡ halted r → a ≡ refuse r
+halted-was text w i last cursor (refuse q) h = cc
+halted-was text w i last cursor (give x) h = absurd (let z : _≡_ {A = ℕ} 0 1 = cc in omega arith)
 
 -- ---------------------------------------------------------------- the first item of a list, and the rest
 
 after-then :
-    (w : List ℕ) (i last : ℕ) (x : ItemLaid) (a : Answer Laid) →
-    after w i last (a >>= λ l. give (record { entries = entry (x .own) (x .members) (l .entries); width = l .width }))
-    ≡ after (putPlaces w i last (entry (x .own) (x .members) end)) (suc i + entries# (x .members)) (suc i) a
+    (text w : List ℕ) (i last : ℕ) (x : ItemLaid) (a : Answer Laid) →
+    after text w i last (a >>= λ l. give (record { entries = entry (x .own) (x .members) (l .entries); width = l .width }))
+    ≡ after text (putPlaces text w i last (entry (x .own) (x .members) end)) (suc i + entries# (x .members)) (suc i) a
 unfolding putPlaces lastOf _>>=_
-after-then w i last x (refuse r) = refl
-after-then w i last x (give l) = refl
+after-then text w i last x (refuse r) = refl
+after-then text w i last x (give l) = refl
 
 -- the earlier siblings after an item
 seen-step :
-    (w : List ℕ) (i last : ℕ) (x : ItemLaid) →
-    20 * i + 20 ≤ length w →
+    (text w : List ℕ) (i last : ℕ) (x : ItemLaid) →
+    ROW * i + ROW ≤ length w →
     last ≤ i →
     statementAt w i .name ≡ x .own .name →
-    seenAt (putPlaces w i last (entry (x .own) (x .members) end)) (suc i) ≡ placeOf (x .own) ∷ seenAt w last
-seen-step w i last x fits l h =
+    seenAt (putPlaces text w i last (entry (x .own) (x .members) end)) (suc i) ≡ placeOf (x .own) ∷ seenAt w last
+seen-step text w i last x fits l h =
     let es = entry (x .own) (x .members) end in
-    let w′ = putPlaces w i last es in
-    let name : spanAt (cell w′ i 3) ≡ x .own .name = ap spanAt (kept-places es w i last i 3 (lit< tt)) ∙ h in
-    let offset : cell w′ i 13 ≡ x .own .offset = first-offset (x .own) (x .members) end w i last fits in
-    let before : seenFrom false w′ i (cell w′ i 16) ≡ seenAt w last =
-    ap (seenFrom false w′ i) (first-last (x .own) (x .members) end w i last fits)
-    ∙ seen-same false w′ w i last (λ k c m n. before-places es w i last k c m n)
+    let w′ = putPlaces text w i last es in
+    let name : spanAt (cell w′ i NAME) ≡ x .own .name = ap spanAt (kept-places text es w i last i NAME (lit< tt)) ∙ h in
+    let offset : cell w′ i OFFSET ≡ x .own .offset = first-offset text (x .own) (x .members) end w i last fits in
+    let before : seenFrom false w′ i (cell w′ i BEFORE) ≡ seenAt w last =
+    ap (seenFrom false w′ i) (first-last text (x .own) (x .members) end w i last fits)
+    ∙ seen-same false w′ w i last (λ k c m n. before-places text es w i last k c m n)
     ∙ seen-low false w i last l in
     let own : placeAt w′ i ≡ placeOf (x .own) = λ k. record { name = name k; offset = offset k } in
     seen-in false w′ i refl ∙ (λ k. own k ∷ before k)
@@ -98,21 +100,21 @@ seen-step w i last x fits l h =
 module _ (text w : List ℕ) (i to j depth last cursor reach : ℕ) (h : ChildrenEnd w i to j) where
   list-split :
       layRest text w i to depth last cursor reach
-      ≡ after w i last (bareItem text depth (seenAt w last) cursor (statementAt w i) (rowsForest w (suc i) j) >>= restAfter text depth (seenAt w last) cursor reach (statementAt w i) (rowsForest w (suc i) j) (rowsForest w j to))
+      ≡ after text w i last (bareItem text depth (seenAt w last) cursor (statementAt w i) (rowsForest w (suc i) j) >>= restAfter text depth (seenAt w last) cursor reach (statementAt w i) (rowsForest w (suc i) j) (rowsForest w j to))
   list-split =
-      ap (λ (f : Forest). after w i last (bare text depth (seenAt w last) cursor reach f)) (forest-split w i to j h)
-      ∙ ap (after w i last) (bare-split text depth (seenAt w last) cursor reach (statementAt w i) (rowsForest w (suc i) j) (rowsForest w j to))
+      ap (λ (f : Forest). after text w i last (lay text depth (seenAt w last) cursor reach f)) (forest-split w i to j h)
+      ∙ ap (after text w i last) (bare-split text depth (seenAt w last) cursor reach (statementAt w i) (rowsForest w (suc i) j) (rowsForest w j to))
 
   pub list-stop : {r : Refusal} → layItem text w i j depth last cursor ≡ halted r → layRest text w i to depth last cursor reach ≡ stopped r
   unfolding _>>=_
   list-stop e =
       list-split
-      ∙ ap (λ (a : Answer ItemLaid). after w i last (a >>= restAfter text depth (seenAt w last) cursor reach (statementAt w i) (rowsForest w (suc i) j) (rowsForest w j to)))
-      (halted-was w i last cursor (bareItem text depth (seenAt w last) cursor (statementAt w i) (rowsForest w (suc i) j)) e)
+      ∙ ap (λ (a : Answer ItemLaid). after text w i last (a >>= restAfter text depth (seenAt w last) cursor reach (statementAt w i) (rowsForest w (suc i) j) (rowsForest w j to)))
+      (halted-was text w i last cursor (bareItem text depth (seenAt w last) cursor (statementAt w i) (rowsForest w (suc i) j)) e)
 
   pub list-step :
       {c e : ℕ} {w′ : List ℕ} →
-      20 * to ≤ length w →
+      ROW * to ≤ length w →
       last ≤ i →
       layItem text w i j depth last cursor ≡ placing c e w′ →
       layRest text w i to depth last cursor reach ≡ layRest text w′ j to depth (suc i) c (max reach e)
@@ -121,80 +123,79 @@ module _ (text w : List ℕ) (i to j depth last cursor reach : ℕ) (h : Childre
       let K = rowsForest w (suc i) j in
       let L = rowsForest w j to in
       let s = statementAt w i in
-      let g = item-given w i last cursor (bareItem text depth (seenAt w last) cursor s K) q in
+      let g = item-given text w i last cursor (bareItem text depth (seenAt w last) cursor s K) q in
       let x = g .laid in
       let y = item-is text depth (seenAt w last) cursor s K (g .is) in
       let inner = bare-is text K (suc depth) [] 0 0 (omega arith) (y .inner-laid) in
       let many : entries# (x .members) ≡ size K = ap entries# (sym (y .members)) ∙ of-size K (y .inner .entries) (inner .of) in
       let at : suc i + entries# (x .members) ≡ j = omega (arith, many, next-row w i to j h) in
-      let w₁ = putPlaces w i last (entry (x .own) (x .members) end) in
-      let seen : placeOf (x .own) ∷ seenAt w last ≡ seenAt w₁ (suc i) = sym (seen-step w i last x (omega (arith, h .low, h .high)) l (ap (λ (z : Entry). z .name) (y .own))) in
-      let rows : L ≡ rowsForest w₁ j to = ap forest (sym (statements-places (entry (x .own) (x .members) end) w i last j (to - j))) in
+      let w₁ = putPlaces text w i last (entry (x .own) (x .members) end) in
+      let seen : placeOf (x .own) ∷ seenAt w last ≡ seenAt w₁ (suc i) = sym (seen-step text w i last x (omega (arith, h .low, h .high)) l (ap (λ (z : Entry). z .name) (y .own))) in
+      let rows : L ≡ rowsForest w₁ j to = ap forest (sym (statements-places text (entry (x .own) (x .members) end) w i last j (to - j))) in
       list-split
-      ∙ ap (λ (a : Answer ItemLaid). after w i last (a >>= restAfter text depth (seenAt w last) cursor reach s K L)) (g .is)
-      ∙ after-then w i last x (bare text depth (placeOf (x .own) ∷ seenAt w last) (advance cursor (x .own)) (max reach (entryEnd (x .own))) L)
-      ∙ ap (λ (n : ℕ). after w₁ n (suc i) (bare text depth (placeOf (x .own) ∷ seenAt w last) (advance cursor (x .own)) (max reach (entryEnd (x .own))) L)) at
-      ∙ ap (λ (z : List Place). after w₁ j (suc i) (bare text depth z (advance cursor (x .own)) (max reach (entryEnd (x .own))) L)) seen
-      ∙ ap (λ (f : Forest). after w₁ j (suc i) (bare text depth (seenAt w₁ (suc i)) (advance cursor (x .own)) (max reach (entryEnd (x .own))) f)) rows
+      ∙ ap (λ (a : Answer ItemLaid). after text w i last (a >>= restAfter text depth (seenAt w last) cursor reach s K L)) (g .is)
+      ∙ after-then text w i last x (lay text depth (placeOf (x .own) ∷ seenAt w last) (advance cursor (x .own)) (max reach (entryEnd (x .own))) L)
+      ∙ ap (λ (n : ℕ). after text w₁ n (suc i) (lay text depth (placeOf (x .own) ∷ seenAt w last) (advance cursor (x .own)) (max reach (entryEnd (x .own))) L)) at
+      ∙ ap (λ (z : List Place). after text w₁ j (suc i) (lay text depth z (advance cursor (x .own)) (max reach (entryEnd (x .own))) L)) seen
+      ∙ ap (λ (f : Forest). after text w₁ j (suc i) (lay text depth (seenAt w₁ (suc i)) (advance cursor (x .own)) (max reach (entryEnd (x .own))) f)) rows
       ∙ (λ k. layRest text (g .put k) j to depth (suc i) (g .moves k) (max reach (g .ends k)))
 
 -- after the last item
 pub list-none : (text w : List ℕ) (i to depth last cursor reach : ℕ) → to ≤ i → layRest text w i to depth last cursor reach ≡ ready reach last w
-unfolding bare putPlaces lastOf
-list-none text w i to depth last cursor reach h = ap (λ (f : Forest). after w i last (bare text depth (seenAt w last) cursor reach f)) (forest-empty w i to h)
+unfolding lay putPlaces lastOf
+list-none text w i to depth last cursor reach h = ap (λ (f : Forest). after text w i last (lay text depth (seenAt w last) cursor reach f)) (forest-empty w i to h)
 
 -- the cursor and the ends stay within the limit
 pub record Kept (c e : ℕ) : Type 0 where
-  pub moves : c ≤ 2147483647
-  pub ends : e ≤ 2147483647
+  pub moves : c ≤ largest
+  pub ends : e ≤ largest
 
-advance-within : (cursor : ℕ) (e : Entry) → cursor ≤ 2147483647 → entryEnd e ≤ 2147483647 → advance cursor e ≤ 2147483647
+advance-within : (cursor : ℕ) (e : Entry) → cursor ≤ largest → entryEnd e ≤ largest → advance cursor e ≤ largest
 advance-within cursor e h l = go (given (e .redefines))
   where
-    go : (b : Bool) → (if b then cursor else entryEnd e) ≤ 2147483647
+    go : (b : Bool) → (if b then cursor else entryEnd e) ≤ largest
     go true = h
     go false = l
 
-pub item-within : (text w : List ℕ) (i j depth last cursor : ℕ) {c e : ℕ} {w′ : List ℕ} → cursor ≤ 2147483647 → layItem text w i j depth last cursor ≡ placing c e w′ → Kept c e
+pub item-within : (text w : List ℕ) (i j depth last cursor : ℕ) {c e : ℕ} {w′ : List ℕ} → cursor ≤ largest → layItem text w i j depth last cursor ≡ placing c e w′ → Kept c e
 item-within text w i j depth last cursor h q =
-    let g = item-given w i last cursor (bareItem text depth (seenAt w last) cursor (statementAt w i) (rowsForest w (suc i) j)) q in
+    let g = item-given text w i last cursor (bareItem text depth (seenAt w last) cursor (statementAt w i) (rowsForest w (suc i) j)) q in
     let y = item-is text depth (seenAt w last) cursor (statementAt w i) (rowsForest w (suc i) j) (g .is) in
-    let n = subst (λ (z : Entry). entryEnd z ≤ 2147483647) (y .own) (within (entryOf (statementAt w i) (y .contents) (y .offset)) (y .fits) .ends) in
-    record { moves = subst (λ (z : ℕ). z ≤ 2147483647) (g .moves) (advance-within cursor (g .laid .own) h n); ends = subst (λ (z : ℕ). z ≤ 2147483647) (g .ends) n }
+    let n = subst (λ (z : Entry). entryEnd z ≤ largest) (y .own) (within (entryOf (statementAt w i) (y .contents) (y .offset) (y .slack)) (y .fits) .ends) in
+    record { moves = subst (λ (z : ℕ). z ≤ largest) (g .moves) (advance-within cursor (g .laid .own) h n); ends = subst (λ (z : ℕ). z ≤ largest) (g .ends) n }
 
 -- ---------------------------------------------------------------- one item
 
 -- its own place after its members'
 own-then :
-    (w : List ℕ) (i last cursor : ℕ) (members : Entries) (a : Answer Entry) →
-    afterOwn (putPlaces w (suc i) 0 members) i last (entries# members) cursor a ≡ afterItem w i last cursor (a >>= λ e. give (record { own = e; members = members }))
+    (text w : List ℕ) (i last cursor : ℕ) (members : Entries) (a : Answer Entry) →
+    afterOwn text (putPlaces text w (suc i) 0 members) i last (entries# members) cursor a ≡ afterItem text w i last cursor (a >>= λ e. give (record { own = e; members = members }))
 unfolding putPlaces _>>=_
-own-then w i last cursor members (refuse r) = refl
-own-then w i last cursor members (give e) =
-    ap (placing (advance cursor e) (entryEnd e)) (place-late members w i (suc i) 0 last (entries# members) e (omega arith))
+own-then text w i last cursor members (refuse r) = refl
+own-then text w i last cursor members (give e) = refl
 
 -- without children
 module _ (text w : List ℕ) (i j depth last cursor : ℕ) (h : j ≤ suc i) where
   leaf-item : bareItem text depth (seenAt w last) cursor (statementAt w i) (rowsForest w (suc i) j) ≡ (content text (statementAt w i) leaf 0 >>= λ c. placed text (statementAt w i) c (seenAt w last) cursor >>= λ e. give (record { own = e; members = end }))
-  unfolding bareItem bare foldCheck _>>=_
+  unfolding bareItem lay foldCheck _>>=_
   leaf-item = ap (bareItem text depth (seenAt w last) cursor (statementAt w i)) (forest-empty w (suc i) j h)
 
   pub leaf-stop : {r : Refusal} → refuse r ≡ content text (statementAt w i) leaf 0 → halted r ≡ layItem text w i j depth last cursor
   unfolding _>>=_
   leaf-stop e =
       sym
-      (ap (afterItem w i last cursor) leaf-item
-      ∙ ap (λ (a : Answer Pictured). afterItem w i last cursor (a >>= λ c. placed text (statementAt w i) c (seenAt w last) cursor >>= λ d. give (record { own = d; members = end }))) (sym e))
+      (ap (afterItem text w i last cursor) leaf-item
+      ∙ ap (λ (a : Answer Pictured). afterItem text w i last cursor (a >>= λ c. placed text (statementAt w i) c (seenAt w last) cursor >>= λ d. give (record { own = d; members = end }))) (sym e))
 
   pub leaf-place : {c : Pictured} → give c ≡ content text (statementAt w i) leaf 0 → placeRow text w i 0 last cursor c ≡ layItem text w i j depth last cursor
   unfolding putPlaces _>>=_
   leaf-place {c} e =
-      own-then w i last cursor end (placed text (statementAt w i) c (seenAt w last) cursor)
+      own-then text w i last cursor end (placed text (statementAt w i) c (seenAt w last) cursor)
       ∙ sym
-      (ap (afterItem w i last cursor) leaf-item
-      ∙ ap (λ (a : Answer Pictured). afterItem w i last cursor (a >>= λ d. placed text (statementAt w i) d (seenAt w last) cursor >>= λ o. give (record { own = o; members = end }))) (sym e))
+      (ap (afterItem text w i last cursor) leaf-item
+      ∙ ap (λ (a : Answer Pictured). afterItem text w i last cursor (a >>= λ d. placed text (statementAt w i) d (seenAt w last) cursor >>= λ o. give (record { own = o; members = end }))) (sym e))
 
-pub leaf-narrow : (text : List ℕ) (s : Statement) {c : Pictured} → give c ≡ content text s leaf 0 → c .width ≤ 2147483647
+pub leaf-narrow : (text : List ℕ) (s : Statement) {c : Pictured} → give c ≡ content text s leaf 0 → c .width ≤ largest
 leaf-narrow text s e = omega (arith, leaf-bounded text s 0 (sym e) .width)
 
 -- ---------------------------------------------------------------- a list that is ready
@@ -202,41 +203,41 @@ leaf-narrow text s e = omega (arith, leaf-bounded text s 0 (sym e) .width)
 -- what was laid, and what the rows hold of it
 pub record LaidRows (text w : List ℕ) (a b depth width : ℕ) (w₁ : List ℕ) : Type 0 where
   pub laid : Laid
-  pub is : bare text depth [] 0 0 (rowsForest w a b) ≡ give laid
+  pub is : lay text depth [] 0 0 (rowsForest w a b) ≡ give laid
   pub wide : laid .width ≡ width
-  pub narrow : width ≤ 2147483647
-  pub put : putPlaces w a 0 (laid .entries) ≡ w₁
+  pub narrow : width ≤ largest
+  pub put : putPlaces text w a 0 (laid .entries) ≡ w₁
   pub many : entries# (laid .entries) ≡ b - a
-  pub held : Held w₁ a 0 (rowsForest w₁ a b) (laid .entries)
+  pub held : Held text w₁ a 0 (rowsForest w₁ a b) (laid .entries)
 
 module _ (text w : List ℕ) (a b depth : ℕ) where
   -- a list begins with no earlier sibling
-  list-begins : layTable text w a b depth ≡ after w a 0 (bare text depth [] 0 0 (rowsForest w a b))
+  list-begins : layTable text w a b depth ≡ after text w a 0 (lay text depth [] 0 0 (rowsForest w a b))
   unfolding seenFrom
   list-begins = refl
 
-  pub laid-rows : {width l : ℕ} {w₁ : List ℕ} → a ≤ b → 20 * b ≤ length w → layTable text w a b depth ≡ ready width l w₁ → LaidRows text w a b depth width w₁
+  pub laid-rows : {width l : ℕ} {w₁ : List ℕ} → a ≤ b → ROW * b ≤ length w → layTable text w a b depth ≡ ready width l w₁ → LaidRows text w a b depth width w₁
   laid-rows {width} {l} {w₁} h fits e =
       let f = rowsForest w a b in
-      let r = readied w a 0 (bare text depth [] 0 0 f) (sym list-begins ∙ e) in
+      let r = readied text w a 0 (lay text depth [] 0 0 f) (sym list-begins ∙ e) in
       let is = bare-is text f depth [] 0 0 (omega arith) (r .is) in
       let es = r .laid .entries in
       let n = size-stretch w a b in
-      let held = places-held f es w a 0 (is .of) (rows-forest w a (b - a)) (omega (arith, n)) in
-      let same : f ≡ rowsForest (putPlaces w a 0 es) a b = ap forest (sym (statements-places es w a 0 a (b - a))) in
-      let held′ : Held (putPlaces w a 0 es) a 0 (rowsForest (putPlaces w a 0 es) a b) es = subst (λ (x : Forest). Held (putPlaces w a 0 es) a 0 x es) same held in
+      let held = places-held text f es w a 0 (omega arith) (is .of) (rows-forest w a (b - a)) (omega (arith, n)) in
+      let same : f ≡ rowsForest (putPlaces text w a 0 es) a b = ap forest (sym (statements-places text es w a 0 a (b - a))) in
+      let held′ : Held text (putPlaces text w a 0 es) a 0 (rowsForest (putPlaces text w a 0 es) a b) es = subst (λ (x : Forest). Held text (putPlaces text w a 0 es) a 0 x es) same held in
       record {
         laid = r .laid;
         is = r .is;
         wide = r .wide;
-        narrow = subst (λ (x : ℕ). x ≤ 2147483647) (r .wide) (is .width);
+        narrow = subst (λ (x : ℕ). x ≤ largest) (r .wide) (is .width);
         put = r .put;
         many = of-size f es (is .of) ∙ n;
-        held = subst (λ (x : List ℕ). Held x a 0 (rowsForest x a b) es) (r .put) held′;
+        held = subst (λ (x : List ℕ). Held text x a 0 (rowsForest x a b) es) (r .put) held′;
       }
 
-  inner-refused : {r : Refusal} → layTable text w a b depth ≡ stopped r → bare text depth [] 0 0 (rowsForest w a b) ≡ refuse r
-  inner-refused e = stopped-was w a 0 (bare text depth [] 0 0 (rowsForest w a b)) (sym list-begins ∙ e)
+  inner-refused : {r : Refusal} → layTable text w a b depth ≡ stopped r → lay text depth [] 0 0 (rowsForest w a b) ≡ refuse r
+  inner-refused e = stopped-was text w a 0 (lay text depth [] 0 0 (rowsForest w a b)) (sym list-begins ∙ e)
 
 -- ---------------------------------------------------------------- with children
 
@@ -247,11 +248,11 @@ module _ (text w : List ℕ) (i j depth last cursor : ℕ) (h : suc i < j) where
       let k = children-end w (suc i) j h in
       ap f (forest-split w (suc i) j _ k) ∙ g (statementAt w (suc i)) _ _ refl
 
-  pub too-deep : 64 ≤ depth → halted (record { number = 20; position = cell w (suc i) 2; needed = 0 }) ≡ layItem text w i j depth last cursor
+  pub too-deep : 64 ≤ depth → halted (record { number = 20; position = cell w (suc i) AT; needed = 0 }) ≡ layItem text w i j depth last cursor
   unfolding bareItem _>>=_
   too-deep d =
       sym
-      (some-kids (λ f. afterItem w i last cursor (bareItem text depth (seenAt w last) cursor (statementAt w i) f))
+      (some-kids (λ f. afterItem text w i last cursor (bareItem text depth (seenAt w last) cursor (statementAt w i) f))
       (λ s kids later e. rw (lt-ltb 64 (suc depth) (omega arith), e)))
 
   module _ (d : depth < 64) where
@@ -288,11 +289,11 @@ module _ (text w : List ℕ) (i j depth last cursor : ℕ) (h : suc i < j) where
       group-place e l =
           let es = n .laid .entries in
           let c = pictured FieldKind.Group width in
-          let w₂ = putPlaces w (suc i) 0 es in
+          let w₂ = putPlaces text w (suc i) 0 es in
           ap (λ (x : List ℕ). placeRow text x i (j - suc i) last cursor c) (sym (n .put))
           ∙ ap (λ (x : ℕ). placeRow text w₂ i x last cursor c) (sym (n .many))
-          ∙ ap (λ (x : Statement). afterOwn w₂ i last (entries# es) cursor (placed text x c (seenAt w₂ last) cursor)) (statement-places es w (suc i) 0 i)
-          ∙ ap (λ (x : List Place). afterOwn w₂ i last (entries# es) cursor (placed text (statementAt w i) c x cursor))
-          (seen-same false w₂ w last last (λ k m p q. before-places es w (suc i) 0 k m (omega arith) q))
-          ∙ own-then w i last cursor es (placed text (statementAt w i) c (seenAt w last) cursor)
-          ∙ sym (ap (afterItem w i last cursor) (group-item e))
+          ∙ ap (λ (x : Statement). afterOwn text w₂ i last (entries# es) cursor (placed text x c (seenAt w₂ last) cursor)) (statement-places text es w (suc i) 0 i)
+          ∙ ap (λ (x : List Place). afterOwn text w₂ i last (entries# es) cursor (placed text (statementAt w i) c x cursor))
+          (seen-same false w₂ w last last (λ k m p q. before-places text es w (suc i) 0 k m (omega arith) q))
+          ∙ own-then text w i last cursor es (placed text (statementAt w i) c (seenAt w last) cursor)
+          ∙ sym (ap (afterItem text w i last cursor) (group-item e))

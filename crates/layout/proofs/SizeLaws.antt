@@ -1,4 +1,4 @@
--- How large a folded listing is: folding adds no more entries than the list has, so a listing has at most twice the statements as entries, and
+-- How large a folded listing is: folding adds an entry for two of the list at most, so a listing has at most three entries for two statements, and
 -- at most 49 bytes an entry. Each redefiner stands under one base alone: that is what is counted here.
 -- Assumes nothing.
 use Prim.Native.Nat.{ℕ, suc, _+_, _*_, _≤_}
@@ -14,12 +14,11 @@ use Rattle.definition.specs.declared.Span.{Span}
 use Rattle.definition.specs.declared.Entry.{Entry}
 use Rattle.definition.specs.declared.FieldKind.{FieldKind}
 use Rattle.definition.specs.Basic.{if_then_else_, same, uppers, given}
-use Rattle.definition.specs.Fold.{Entries, end, entry, append, nameOf, sameName, Place, placeOf, find, hasMember, rebased, redefiners, withRedefiners}
+use Rattle.definition.specs.Fold.{Entries, end, entry, append, nameOf, sameName, Place, placeOf, find, hasMember, rebased, redefiners, withRedefiners, hasBase, foldedList, foldedBelow, foldedAll}
 use Rattle.definition.specs.Listing.{members#, entryBytes, entriesBytes}
 use Rattle.definition.specs.Search.{entries#}
 use Rattle.definition.proofs.LayoutLaws.{find-none, find-hit, find-miss, redefiners-none, redefiners-hit, redefiners-miss, redefiners-ends, redefiners-next, append-none, append-entry}
 use Rattle.definition.proofs.ListingLaws.{bytes-none, bytes-entry, details#, entry-length}
-use Rattle.layout.specs.Bare.{hasBase, foldedList, foldedBelow, foldedAll}
 use Rattle.layout.proofs.BareLaws.{list-base, list-alone, list-under}
 
 -- ---------------------------------------------------------------- equal names
@@ -53,6 +52,10 @@ same-sym [] [] = refl
 same-sym [] (y ∷ ys) = refl
 same-sym (x ∷ xs) [] = refl
 same-sym (x ∷ xs) (y ∷ ys) = ap₂ _&&_ (eqb-sym x y) (same-sym xs ys)
+
+-- what the entries of a list weigh: two for each of them and those below, and one more for each of its own
+abbrev weight : Entries → ℕ
+weight es = 2 * entries# es + members# es
 
 module _ (text : List ℕ) where
   abbrev name : Span → List ℕ
@@ -102,15 +105,15 @@ module _ (text : List ℕ) where
   unfoldable under : List Place → Entries → ℕ
   under vs end = 0
   under vs (entry y m later) =
-      if given (y .redefines) then (if hasBase (find text (y .redefines) vs) then suc (entries# m) else 0) + under vs later
+      if given (y .redefines) then (if hasBase (find text (y .redefines) vs) then 2 * suc (entries# m) + 1 else 0) + under vs later
       else under (others (y .name) vs) later
 
   module _ (vs : List Place) (y : Entry) (m later : Entries) where
-    under-redefiner : given (y .redefines) ≡ true → under vs (entry y m later) ≡ (if hasBase (find text (y .redefines) vs) then suc (entries# m) else 0) + under vs later
+    under-redefiner : given (y .redefines) ≡ true → under vs (entry y m later) ≡ (if hasBase (find text (y .redefines) vs) then 2 * suc (entries# m) + 1 else 0) + under vs later
     unfolding under
     under-redefiner g = rw (g, under)
 
-    under-found : given (y .redefines) ≡ true → {b : ℕ} → find text (y .redefines) vs ≡ some b → under vs (entry y m later) ≡ suc (entries# m) + under vs later
+    under-found : given (y .redefines) ≡ true → {b : ℕ} → find text (y .redefines) vs ≡ some b → under vs (entry y m later) ≡ 2 * suc (entries# m) + 1 + under vs later
     under-found g h = under-redefiner g ∙ rw h
 
     under-none : given (y .redefines) ≡ true → find text (y .redefines) vs ≡ none → under vs (entry y m later) ≡ under vs later
@@ -124,15 +127,15 @@ module _ (text : List ℕ) where
   module _ (x : Place) (ws : List Place) (y : Entry) (m later : Entries) (a : Absent (x .name) ws) where
     split-redefiner :
         given (y .redefines) ≡ true →
-        entries# (redefiners text x later) + under ws later ≡ under (x ∷ ws) later →
+        weight (redefiners text x later) + under ws later ≡ under (x ∷ ws) later →
         (t : Bool) →
         sameName text (x .name) (y .redefines) ≡ t →
-        entries# (redefiners text x (entry y m later)) + under ws (entry y m later) ≡ under (x ∷ ws) (entry y m later)
+        weight (redefiners text x (entry y m later)) + under ws (entry y m later) ≡ under (x ∷ ws) (entry y m later)
     split-redefiner g ih true h =
         let hit : find text (y .redefines) (x ∷ ws) ≡ some (x .offset) = find-hit text (y .redefines) x ws (same-sym (name (y .redefines)) (name (x .name)) ∙ h) in
         omega (
           arith,
-          ap entries# (redefiners-hit text x y m later g h),
+          ap weight (redefiners-hit text x y m later g h),
           under-none ws y m later g (absent-none (x .name) (y .redefines) ws h a),
           under-found (x ∷ ws) y m later g hit,
         )
@@ -140,23 +143,23 @@ module _ (text : List ℕ) where
         let miss : find text (y .redefines) (x ∷ ws) ≡ find text (y .redefines) ws = find-miss text (y .redefines) x ws (same-sym (name (y .redefines)) (name (x .name)) ∙ h) in
         omega (
           arith,
-          ap entries# (redefiners-miss text x y m later g h),
+          ap weight (redefiners-miss text x y m later g h),
           under-redefiner ws y m later g,
           under-redefiner (x ∷ ws) y m later g,
-          ap (λ (o : Option ℕ). if hasBase o then suc (entries# m) else 0) miss,
+          ap (λ (o : Option ℕ). if hasBase o then 2 * suc (entries# m) + 1 else 0) miss,
         )
 
     split-base :
         given (y .redefines) ≡ false →
-        entries# (redefiners text x later) + under (others (y .name) ws) later ≡ under (x ∷ others (y .name) ws) later →
+        weight (redefiners text x later) + under (others (y .name) ws) later ≡ under (x ∷ others (y .name) ws) later →
         (t : Bool) →
         sameName text (x .name) (y .name) ≡ t →
-        entries# (redefiners text x (entry y m later)) + under ws (entry y m later) ≡ under (x ∷ ws) (entry y m later)
+        weight (redefiners text x (entry y m later)) + under ws (entry y m later) ≡ under (x ∷ ws) (entry y m later)
     split-base g ih true h =
         let out : others (y .name) (x ∷ ws) ≡ others (y .name) ws = rw (same-sym (name (y .name)) (name (x .name)) ∙ h) in
         omega (
           arith,
-          ap entries# (redefiners-ends text x y m later g h),
+          ap weight (redefiners-ends text x y m later g h),
           under-base ws y m later g,
           under-base (x ∷ ws) y m later g,
           ap (λ (vs : List Place). under vs later) out,
@@ -165,23 +168,23 @@ module _ (text : List ℕ) where
         let stay : others (y .name) (x ∷ ws) ≡ x ∷ others (y .name) ws = rw (same-sym (name (y .name)) (name (x .name)) ∙ h) in
         omega (
           arith,
-          ap entries# (redefiners-next text x y m later g h),
+          ap weight (redefiners-next text x y m later g h),
           under-base ws y m later g,
           under-base (x ∷ ws) y m later g,
           ap (λ (vs : List Place). under vs later) stay,
         )
 
-  split : (ys : Entries) (x : Place) (ws : List Place) → Absent (x .name) ws → entries# (redefiners text x ys) + under ws ys ≡ under (x ∷ ws) ys
+  split : (ys : Entries) (x : Place) (ws : List Place) → Absent (x .name) ws → weight (redefiners text x ys) + under ws ys ≡ under (x ∷ ws) ys
   unfolding under
-  split end x ws a = omega (arith, ap entries# (redefiners-none text x))
+  split end x ws a = omega (arith, ap weight (redefiners-none text x))
   split (entry y m later) x ws a = by-given (given (y .redefines)) refl (split later x ws a) (split later x (others (y .name) ws) (absent-others (x .name) (y .name) ws a))
     where
       by-given :
           (b : Bool) →
           given (y .redefines) ≡ b →
-          entries# (redefiners text x later) + under ws later ≡ under (x ∷ ws) later →
-          entries# (redefiners text x later) + under (others (y .name) ws) later ≡ under (x ∷ others (y .name) ws) later →
-          entries# (redefiners text x (entry y m later)) + under ws (entry y m later) ≡ under (x ∷ ws) (entry y m later)
+          weight (redefiners text x later) + under ws later ≡ under (x ∷ ws) later →
+          weight (redefiners text x later) + under (others (y .name) ws) later ≡ under (x ∷ others (y .name) ws) later →
+          weight (redefiners text x (entry y m later)) + under ws (entry y m later) ≡ under (x ∷ ws) (entry y m later)
       by-given true g ih ihs = split-redefiner x ws y m later a g ih (sameName text (x .name) (y .redefines)) refl
       by-given false g ih ihs = split-base x ws y m later a g ihs (sameName text (x .name) (y .name)) refl
 
@@ -200,7 +203,7 @@ module _ (text : List ℕ) where
   member-size true e m rs = omega (arith, append-size m rs)
   member-size false e m rs = omega arith
 
-  union-size : (e : Entry) (m rs later : Entries) → entries# (withRedefiners text e m rs later) ≤ 2 + entries# m + entries# rs + entries# later
+  union-size : (e : Entry) (m rs later : Entries) → 2 * entries# (withRedefiners text e m rs later) ≤ 3 + 2 * entries# m + weight rs + 2 * entries# later
   union-size e m end later = omega arith
   union-size e m (entry r ms rs) later = omega (arith, member-size (hasMember text (e .name) m) (rebased (e .offset) e) m (entry r ms rs))
 
@@ -229,9 +232,9 @@ module _ (text : List ℕ) where
   module _ (y : Entry) (m later : Entries) (vs bases : List Place) (a : Among vs bases) where
     -- a list that begins with this entry
     abbrev Fits : Type 0
-    Fits = entries# (foldedList text bases (entry y m later)) + under vs (entry y m later) ≤ entries# (entry y m later) + members# (entry y m later)
+    Fits = 2 * entries# (foldedList text bases (entry y m later)) + under vs (entry y m later) ≤ weight (entry y m later)
 
-    module _ (g : given (y .redefines) ≡ true) (ih : entries# (foldedList text bases later) + under vs later ≤ entries# later + members# later) where
+    module _ (g : given (y .redefines) ≡ true) (ih : 2 * entries# (foldedList text bases later) + under vs later ≤ weight later) where
       fits-under : {b : ℕ} → find text (y .redefines) bases ≡ some b → (o : Option ℕ) → find text (y .redefines) vs ≡ o → Fits
       fits-under h none e = omega (arith, ap entries# (list-under text bases y m later g h), under-none vs y m later g e)
       fits-under h (some c) e = omega (arith, ap entries# (list-under text bases y m later g h), under-found vs y m later g e)
@@ -242,7 +245,7 @@ module _ (text : List ℕ) where
 
     fits-base :
         given (y .redefines) ≡ false →
-        entries# (foldedList text (placeOf y ∷ bases) later) + under (placeOf y ∷ others (y .name) vs) later ≤ entries# later + members# later →
+        2 * entries# (foldedList text (placeOf y ∷ bases) later) + under (placeOf y ∷ others (y .name) vs) later ≤ weight later →
         Fits
     fits-base g ih =
         omega (
@@ -254,15 +257,15 @@ module _ (text : List ℕ) where
         )
 
     fits-either :
-        entries# (foldedList text bases later) + under vs later ≤ entries# later + members# later →
-        entries# (foldedList text (placeOf y ∷ bases) later) + under (placeOf y ∷ others (y .name) vs) later ≤ entries# later + members# later →
+        2 * entries# (foldedList text bases later) + under vs later ≤ weight later →
+        2 * entries# (foldedList text (placeOf y ∷ bases) later) + under (placeOf y ∷ others (y .name) vs) later ≤ weight later →
         (b : Bool) →
         given (y .redefines) ≡ b →
         Fits
     fits-either ih ihs true g = fits-redefiner g ih (find text (y .redefines) bases) refl
     fits-either ih ihs false g = fits-base g ihs
 
-  fold-size : (xs : Entries) (vs bases : List Place) → Among vs bases → entries# (foldedList text bases xs) + under vs xs ≤ entries# xs + members# xs
+  fold-size : (xs : Entries) (vs bases : List Place) → Among vs bases → 2 * entries# (foldedList text bases xs) + under vs xs ≤ weight xs
   unfolding under foldedList
   fold-size end vs bases a = omega arith
   fold-size (entry y m later) vs bases a =
@@ -275,14 +278,14 @@ module _ (text : List ℕ) where
   below-members end = refl
   below-members (entry e m later) = ap suc (below-members later)
 
-  below-size : (es : Entries) → entries# (foldedBelow text es) + members# es ≤ 2 * entries# es
+  below-size : (es : Entries) → 2 * entries# (foldedBelow text es) + members# es ≤ 3 * entries# es
   unfolding foldedBelow under
   below-size end = omega arith
   below-size (entry e m later) =
       omega (arith, fold-size (foldedBelow text m) [] [] (λ w h. h), below-members m, below-size m, below-size later)
 
-  -- a listing has at most two entries for each statement
-  pub folded-size : (es : Entries) → entries# (foldedAll text es) ≤ 2 * entries# es
+  -- a listing has at most three entries for two statements
+  pub folded-size : (es : Entries) → 2 * entries# (foldedAll text es) ≤ 3 * entries# es
   folded-size es = omega (arith, fold-size (foldedBelow text es) [] [] (λ w h. h), below-members es, below-size es)
 
 -- an entry has at most 49 bytes
@@ -308,6 +311,6 @@ bytes-few (entry e m later) =
       bytes-few later,
     )
 
--- so the bytes of a listing's entries are at most 98 for each statement
-pub listing-few : (text : List ℕ) (es : Entries) → length (entriesBytes (foldedAll text es)) ≤ 98 * entries# es
+-- so the bytes of a listing's entries are at most 147 for two statements
+pub listing-few : (text : List ℕ) (es : Entries) → 2 * length (entriesBytes (foldedAll text es)) ≤ 147 * entries# es
 listing-few text es = omega (arith, bytes-few (foldedAll text es), folded-size text es)

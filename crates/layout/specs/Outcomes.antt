@@ -7,10 +7,11 @@ use Rattle.definition.specs.declared.Entry.{Entry}
 use Rattle.definition.specs.declared.Pictured.{Pictured}
 use Rattle.definition.specs.Basic.{Answer, refuse, give}
 use Rattle.definition.specs.Fold.{end, entry, entryEnd}
-use Rattle.definition.specs.Layout.{advance, Laid}
+use Rattle.definition.specs.Layout.{advance, Laid, lay}
 use Rattle.rows.specs.Table.{statementAt}
-use Rattle.places.specs.Places.{putPlace, putPlaces, lastOf, seenAt, rowsForest}
-use Rattle.layout.specs.Bare.{bare, ItemLaid, placed, bareItem}
+use Rattle.places.specs.Places.{putPlace, putPlaces, lastOf, rowsForest}
+use Rattle.redefines.specs.Targets.{seenAt, baseAfter}
+use Rattle.layout.specs.Bare.{ItemLaid, placed, bareItem}
 
 -- ---------------------------------------------------------------- a list laid in the table
 
@@ -20,13 +21,13 @@ pub data Outcome : Type 0 where
   ready : ℕ → ℕ → List ℕ → Outcome
 
 -- what a list's answer leads to, in the rows from k on, after the sibling `last`
-abbrev pub after : List ℕ → ℕ → ℕ → Answer Laid → Outcome
-after w k last (refuse r) = stopped r
-after w k last (give l) = ready (l .width) (lastOf k last (l .entries)) (putPlaces w k last (l .entries))
+abbrev pub after : List ℕ → List ℕ → ℕ → ℕ → Answer Laid → Outcome
+after text w k last (refuse r) = stopped r
+after text w k last (give l) = ready (l .width) (lastOf k last (l .entries)) (putPlaces text w k last (l .entries))
 
 -- the rest of a list, rows i to before `to`, laid after the sibling `last`
 abbrev pub layRest : List ℕ → List ℕ → ℕ → ℕ → ℕ → ℕ → ℕ → ℕ → Outcome
-layRest text w i to depth last cursor reach = after w i last (bare text depth (seenAt w last) cursor reach (rowsForest w i to))
+layRest text w i to depth last cursor reach = after text w i last (lay text depth (seenAt w last) cursor reach (rowsForest w i to))
 
 -- a whole list
 abbrev pub layTable : List ℕ → List ℕ → ℕ → ℕ → ℕ → Outcome
@@ -40,20 +41,20 @@ pub data ItemOutcome : Type 0 where
   placing : ℕ → ℕ → List ℕ → ItemOutcome
 
 -- the item of row i with its members' places
-abbrev pub afterItem : List ℕ → ℕ → ℕ → ℕ → Answer ItemLaid → ItemOutcome
-afterItem w i last cursor (refuse r) = halted r
-afterItem w i last cursor (give x) = placing (advance cursor (x .own)) (entryEnd (x .own)) (putPlaces w i last (entry (x .own) (x .members) end))
+abbrev pub afterItem : List ℕ → List ℕ → ℕ → ℕ → ℕ → Answer ItemLaid → ItemOutcome
+afterItem text w i last cursor (refuse r) = halted r
+afterItem text w i last cursor (give x) = placing (advance cursor (x .own)) (entryEnd (x .own)) (putPlaces text w i last (entry (x .own) (x .members) end))
 
 -- row i, whose children are the rows up to j, laid after the sibling `last`
 abbrev pub layItem : List ℕ → List ℕ → ℕ → ℕ → ℕ → ℕ → ℕ → ItemOutcome
 layItem text w i j depth last cursor =
-    afterItem w i last cursor (bareItem text depth (seenAt w last) cursor (statementAt w i) (rowsForest w (suc i) j))
+    afterItem text w i last cursor (bareItem text depth (seenAt w last) cursor (statementAt w i) (rowsForest w (suc i) j))
 
 -- the item of row i alone
-abbrev pub afterOwn : List ℕ → ℕ → ℕ → ℕ → ℕ → Answer Entry → ItemOutcome
-afterOwn w i last below cursor (refuse r) = halted r
-afterOwn w i last below cursor (give e) = placing (advance cursor e) (entryEnd e) (putPlace w i last below e)
+abbrev pub afterOwn : List ℕ → List ℕ → ℕ → ℕ → ℕ → ℕ → Answer Entry → ItemOutcome
+afterOwn text w i last below cursor (refuse r) = halted r
+afterOwn text w i last below cursor (give e) = placing (advance cursor e) (entryEnd e) (putPlace w i last below (baseAfter text w i last) e)
 
 -- row i, its kind and width known and `below` rows below it laid, placed after the sibling `last`
 abbrev pub placeRow : List ℕ → List ℕ → ℕ → ℕ → ℕ → ℕ → Pictured → ItemOutcome
-placeRow text w i below last cursor c = afterOwn w i last below cursor (placed text (statementAt w i) c (seenAt w last) cursor)
+placeRow text w i below last cursor c = afterOwn text w i last below cursor (placed text (statementAt w i) c (seenAt w last) cursor)

@@ -1,17 +1,31 @@
 -- The steps of laying one item, and what the code's answers say: where it starts, what was laid, the check of one entry.
 -- Assumes nothing.
-use Prim.Native.Nat.{ℕ, _*_, _≤_, _<_}
+use Prim.Native.Nat.{ℕ, _+_, _*_, _≤_, _<_}
+use mathlib.Core.Bool.{_&&_}
 use mathlib.Core.List.{List}
 use mathlib.Core.Option.{Option, none, some}
 use lib.Dec.{ltb}
 use lib.ListN.{length}
+use Rattle.definition.specs.declared.Statement.{Statement}
+use Rattle.definition.specs.declared.Pictured.{Pictured}
 use Rattle.definition.specs.declared.Entry.{Entry}
-use Rattle.definition.specs.Basic.{if_then_else_, given, Answer, refuse, give, refuseIf}
+use Rattle.definition.specs.Basic.{if_then_else_, given, fewest, Answer, refuse, give, refuseIf, orRefuse}
+use Rattle.definition.specs.Picture.{isBinary}
 use Rattle.definition.specs.Fold.{Place, find}
+use Rattle.rows.specs.Columns.{ROW, AT, OFFSET, BASE}
+use Rattle.rows.specs.Table.{cell}
+use Rattle.redefines.specs.Targets.{offsetOf}
 use Rattle.layout.specs.declared.Start.{Start}
 use Rattle.layout.specs.declared.ItemAnswer.{ItemAnswer}
 use Rattle.layout.specs.declared.LaidList.{LaidList}
 use Rattle.layout.specs.Outcomes.{Outcome, stopped, ready, ItemOutcome, halted, placing}
+
+-- where an item starts, by the offset that its REDEFINES found: the definition's `start`
+abbrev pub startAt : Statement → Pictured → Option ℕ → ℕ → Answer ℕ
+startAt s c found cursor =
+    if given (s .clauses .redefines) then orRefuse 28 (s .at) found
+    else if s .clauses .sync && isBinary (c .kind) then give (cursor + fewest (c .width) cursor)
+    else give cursor
 
 -- a start as the definition's answer
 abbrev pub startOf : Start → Answer ℕ
@@ -30,7 +44,7 @@ listOf (LaidList.Refused r) w = stopped r
 
 -- the table has rows up to `to`
 pub record Room (w : List ℕ) (to : ℕ) : Type 0 where
-  pub fits : 20 * to ≤ length w
+  pub fits : ROW * to ≤ length w
   pub small : to < 4294967296
 
 -- 30 for one entry: a redefiner that starts before its base
@@ -41,3 +55,7 @@ checkBase at offset (some base) = refuseIf (ltb offset base) 30 at
 -- the same, where these are the earlier bases; an entry without REDEFINES passes
 abbrev pub checkEntry : List ℕ → List Place → Entry → Answer (Unit {0})
 checkEntry text bases e = if given (e .redefines) then checkBase (e .at) (e .offset) (find text (e .redefines) bases) else give tt
+
+-- the same for row i, by the base that it names
+abbrev pub checkRow : List ℕ → ℕ → Answer (Unit {0})
+checkRow w i = checkBase (cell w i AT) (cell w i OFFSET) (offsetOf w (cell w i BASE))

@@ -2,17 +2,20 @@
 ghost use mathlib.Core.Path.{_≡_};
 ghost use Prim.Native.Nat.{_+_, _*_, _-_, _≤_, _<_};
 ghost use lib.ListN.{length};
+ghost use Rattle.definition.specs.Limits.{deepest, largest};
 ghost use Rattle.definition.specs.Basic.{if_then_else_, given, fewest};
-ghost use Rattle.definition.specs.Layout.{content, start};
+ghost use Rattle.definition.specs.Layout.{content, slackFrom};
 ghost use Rattle.definition.specs.Calls.{pictureOf, checkOf};
 ghost use Rattle.definition.specs.Statement.{usageOf, signOf};
 ghost use Rattle.definition.specs.Tree.{Forest.leaf};
-ghost use Rattle.definition.specs.Picture.{isBinary};
-ghost use Rattle.places.specs.Places.{seenAt, basesAt, entryIn, entriesIn, Linked, rowsForest};
+ghost use Rattle.redefines.specs.Targets.{offsetOf};
+ghost use Rattle.places.specs.Places.{entriesIn, Linked, rowsForest};
 ghost use Rattle.layout.specs.Outcomes.{placeRow, layItem, layTable};
-ghost use Rattle.layout.specs.Steps.{startOf, itemOf, listOf, Room, checkEntry};
-ghost use Rattle.layout.specs.Bare.{foldCheck};
+ghost use Rattle.layout.specs.Steps.{startAt, startOf, itemOf, listOf, Room, checkRow};
+ghost use Rattle.definition.specs.Fold.{foldCheck};
 ghost use mathlib.Core.List.{[]};
+ghost use Rattle.rows.specs.Columns.{ROW, BASE};
+ghost use Rattle.rows.specs.Table.{cell};
 use definition::Check;
 use definition::FieldKind;
 use definition::PicAnswer;
@@ -25,35 +28,15 @@ use definition::Span;
 use definition::Statement;
 use definition::Usage;
 use definition::UsageClause;
-use places::Ending;
-use places::Target;
-
-// Whether a kind is binary.
-fn is_binary(kind: FieldKind) -> bool
-    ensures { λ r. ⌜ r ≡ isBinary kind ⌝ }
-{
-    match kind {
-        FieldKind::Text => false,
-        FieldKind::Int { signed, sign } => false,
-        FieldKind::Binary { signed } => true,
-        FieldKind::Decimal {
-            precision,
-            scale,
-            repr,
-            sign,
-        } => false,
-        FieldKind::Edited {
-            precision,
-            scale,
-            signed,
-        } => false,
-        FieldKind::Group => false,
-    }
-}
+use limits::Ending;
+use rows::AT;
+use rows::BASE;
+use rows::OFFSET;
+use rows::ROW;
 
 // The first multiple of the width from the cursor on.
 fn aligned(cursor: usize, width: usize) -> usize
-    requires { ⌜ (cursor ≤ 2147483647) × (width ≤ 2147483647) ⌝ }
+    requires { ⌜ (cursor ≤ largest) × (width ≤ largest) ⌝ }
     ensures { λ r. ⌜ r ≡ cursor + fewest width cursor ⌝ }
 {
     if width == 0 {
@@ -68,41 +51,47 @@ pub enum Start {
     Refused(Refusal),
 }
 
-// Where an item starts: 28 for a REDEFINES that names no earlier sibling.
-fn start_of(
-    text: &[u8],
-    work: &[u32],
-    s: Statement,
-    c: Pictured,
-    last: usize,
-    cursor: usize,
-) -> Start
-    requires { ⌜ (20 * last ≤ length (now work)) × (cursor ≤ 2147483647) × (c .width ≤ 2147483647) ⌝ }
-    ensures { λ r. ⌜ startOf r ≡ start (now (text .entry)) s c (seenAt (now (work .entry)) last) cursor ⌝ }
+// Where an item starts that redefines the row `target` (a row and 1, or 0 for none): 28 for a REDEFINES that names no
+// earlier sibling.
+fn start_of(work: &[u32], s: Statement, c: Pictured, target: usize, cursor: usize) -> Start
+    requires { ⌜ (ROW * target ≤ length (now work)) × (cursor ≤ largest) × (c .width ≤ largest) ⌝ }
+    ensures { λ r. ⌜ startOf r ≡ startAt s c (offsetOf (now (work .entry)) target) cursor ⌝ }
 {
     let clauses = s.clauses;
     let redefines = clauses.redefines;
     if 0 < redefines.len {
-        match places::find_target(text, work, redefines, last, false) {
-            Target::At(offset) => {
-                return Start::At(offset);
-            }
-            Target::Nothing => {
-                return Start::Refused(Refusal {
-                    number: 28,
-                    position: s.at,
-                    needed: 0,
-                });
-            }
+        if 0 < target {
+            let row = target - 1;
+            return Start::At(rows::wide(work[ROW * row + OFFSET]));
         }
+        return Start::Refused(Refusal {
+            number: 28,
+            position: s.at,
+            needed: 0,
+        });
     }
     if clauses.sync {
         let kind = c.kind;
-        if is_binary(kind) {
+        if kinds::is_binary(kind) {
             return Start::At(aligned(cursor, c.width));
         }
     }
     Start::At(cursor)
+}
+
+// The slack directly before an item: the bytes from the cursor to the item, and none before a redefiner.
+fn slack_from(cursor: usize, s: Statement, offset: usize) -> usize
+    ensures { λ r. ⌜ r ≡ slackFrom cursor s offset ⌝ }
+{
+    let clauses = s.clauses;
+    let redefines = clauses.redefines;
+    if 0 < redefines.len {
+        return 0;
+    }
+    if offset < cursor {
+        return 0;
+    }
+    offset - cursor
 }
 
 // The cursor after an entry: a REDEFINES never moves it.
@@ -153,7 +142,7 @@ fn elementary(text: &[u8], s: Statement) -> PicAnswer
         let usage = clauses.usage;
         let sign = clauses.sign;
         return picture::picture_at(
-            places::part_of(text, picture),
+            names::part_of(text, picture),
             s.at,
             usage_of(usage),
             sign_of(sign),
@@ -188,17 +177,20 @@ fn place(
     cursor: usize,
     c: Pictured,
 ) -> ItemAnswer
-    requires { ⌜ (20 * i + 20 ≤ length (now work)) × (last ≤ i) × (i < 4294967296) × (below < 4294967296) × (cursor ≤ 2147483647) × (c .width ≤ 2147483647) ⌝ }
+    requires { ⌜ (ROW * i + ROW ≤ length (now work)) × (last ≤ i) × (i < 4294967296) × (below < 4294967296) × (cursor ≤ largest) × (c .width ≤ largest) ⌝ }
     ensures { λ r. ⌜ itemOf r (now (work .exit)) ≡ placeRow (now (text .entry)) (now (work .entry)) i below last cursor c ⌝ }
 {
     let s = rows::statement_at(work, i);
-    match start_of(text, work, s, c, last, cursor) {
+    let clauses = s.clauses;
+    let redefines = clauses.redefines;
+    let target = redefines::target_of(text, work, redefines, last);
+    match start_of(work, s, c, target, cursor) {
         Start::At(offset) => {
-            let e = places::entry_of(s, c, offset);
-            match places::entry_end(e) {
+            let e = places::entry_of(s, c, offset, slack_from(cursor, s, offset));
+            match limits::entry_end(e) {
                 Ending::At(end) => {
-                    places::put_place(work, i, last, below, e);
-                    let redefines = e.redefines;
+                    let base = redefines::find_row(text, work, redefines, target, true);
+                    places::put_place(work, i, last, below, base, e);
                     return ItemAnswer::Done {
                         cursor: advanced(cursor, redefines, end),
                         end,
@@ -219,47 +211,36 @@ fn place(
     }
 }
 
-// Refusal 30 for the entry of row i: a redefiner that starts before its base; the siblings before it go back from `last`.
-fn check_entry(text: &[u8], work: &[u32], i: usize, last: usize) -> Check
-    requires { ⌜ (20 * i + 20 ≤ length (now work)) × (last ≤ i) ⌝ }
-    ensures { λ r. ⌜ checkOf r ≡ checkEntry (now (text .entry)) (basesAt (now (work .entry)) last) (entryIn (now (work .entry)) i) ⌝ }
+// Refusal 30 for row i: a redefiner that starts before its base.
+fn check_row(work: &[u32], i: usize) -> Check
+    requires { ⌜ (ROW * i + ROW ≤ length (now work)) × (cell (now work) i BASE ≤ i) ⌝ }
+    ensures { λ r. ⌜ checkOf r ≡ checkRow (now (work .entry)) i ⌝ }
 {
-    let s = rows::statement_at(work, i);
-    let clauses = s.clauses;
-    let redefines = clauses.redefines;
-    if 0 < redefines.len {
-        match places::find_target(text, work, redefines, last, true) {
-            Target::At(base) => {
-                let offset = places::wide(work[20 * i + 13]);
-                if offset < base {
-                    return Check::Refused(Refusal {
-                        number: 30,
-                        position: s.at,
-                        needed: 0,
-                    });
-                }
-                return Check::Passed;
-            }
-            Target::Nothing => {
-                return Check::Passed;
-            }
+    let base = rows::wide(work[ROW * i + BASE]);
+    if 0 < base {
+        let row = base - 1;
+        if work[ROW * i + OFFSET] < work[ROW * row + OFFSET] {
+            return Check::Refused(Refusal {
+                number: 30,
+                position: rows::wide(work[ROW * i + AT]),
+                needed: 0,
+            });
         }
+        return Check::Passed;
     }
     Check::Passed
 }
 
 // Refusal 30 for the list in the rows from `from` up to `to`, as it is laid: its first redefiner that starts before its base.
 pub fn fold_check(text: &[u8], work: &[u32], from: usize, to: usize) -> Check
-    requires { ⌜ (20 * to ≤ length (now work)) × Linked (now work) from 0 (rowsForest (now work) from to) ⌝ }
+    requires { ⌜ (ROW * to ≤ length (now work)) × Linked (now text) (now work) from 0 (rowsForest (now work) from to) ⌝ }
     ensures { λ r. ⌜ checkOf r ≡ foldCheck (now (text .entry)) [] (entriesIn (now (work .entry)) from (rowsForest (now (work .entry)) from to)) ⌝ }
 {
     let mut i = from;
-    let mut last = 0;
     while i < to {
-        match check_entry(text, work, i, last) {
+        match check_row(work, i) {
             Check::Passed => {
-                last = i + 1;
-                i = places::end_of(work, i, to);
+                i = places::next_of(work, i, to);
             }
             Check::Refused(r) => {
                 return Check::Refused(r);
@@ -280,15 +261,15 @@ fn lay_item(
     last: usize,
     cursor: usize,
 ) -> ItemAnswer
-    requires { ⌜ (i < j) × Room (now work) j × («depth_left» ≤ 64) × (last ≤ i) × (cursor ≤ 2147483647) ⌝ }
-    ensures { λ r. ⌜ itemOf r (now (work .exit)) ≡ layItem (now (text .entry)) (now (work .entry)) i j (64 - «depth_left») last cursor ⌝ }
+    requires { ⌜ (i < j) × Room (now work) j × («depth_left» ≤ deepest) × (last ≤ i) × (cursor ≤ largest) ⌝ }
+    ensures { λ r. ⌜ itemOf r (now (work .exit)) ≡ layItem (now (text .entry)) (now (work .entry)) i j (deepest - «depth_left») last cursor ⌝ }
 {
     let first = i + 1;
     if first < j {
         if depth_left == 0 {
             return ItemAnswer::Refused(Refusal {
                 number: 20,
-                position: places::wide(work[20 * first + 2]),
+                position: rows::wide(work[ROW * first + AT]),
                 needed: 0,
             });
         }
@@ -331,8 +312,8 @@ fn lay_item(
 // Lays out the siblings in the rows from `from` up to `to`: each starts where the cursor is, and the list is as wide as its
 // largest end. The remaining depth falls at each group.
 pub fn lay_list(text: &[u8], work: &mut [u32], from: usize, to: usize, depth_left: u32) -> LaidList
-    requires { ⌜ Room (now work) to × («depth_left» ≤ 64) ⌝ }
-    ensures { λ r. ⌜ listOf r (now (work .exit)) ≡ layTable (now (text .entry)) (now (work .entry)) from to (64 - «depth_left») ⌝ }
+    requires { ⌜ Room (now work) to × («depth_left» ≤ deepest) ⌝ }
+    ensures { λ r. ⌜ listOf r (now (work .exit)) ≡ layTable (now (text .entry)) (now (work .entry)) from to (deepest - «depth_left») ⌝ }
 {
     let mut i = from;
     let mut last = 0;
@@ -344,7 +325,7 @@ pub fn lay_list(text: &[u8], work: &mut [u32], from: usize, to: usize, depth_lef
             ItemAnswer::Done { cursor: next, end } => {
                 last = i + 1;
                 cursor = next;
-                reach = places::most(reach, end);
+                reach = limits::most(reach, end);
                 i = j;
             }
             ItemAnswer::Refused(r) => {

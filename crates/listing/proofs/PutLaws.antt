@@ -1,13 +1,16 @@
 -- Laws of bytes that were put: some after others, what stands in the output then, and how long it is; the parts of an entry and of the listing.
 -- Assumes nothing.
-use Prim.Native.Nat.{ℕ, suc, _+_, _≤_}
+use Prim.Native.Nat.{ℕ, suc, _+_, _≤_, _<_}
 use mathlib.Core.Path.{_≡_, refl, ap, _∙_}
 use mathlib.Core.List.{List, [], _∷_, _++_}
 use native.Mathlib.Nat.{add-zero, zero-add}
 use native.Mathlib.Omega.{arith}
 use lib.ListN.{length, drop, set, length-append}
 use lib.Seq.{sets, sets-eq, length-sets}
+use borrow.Author.Tests.{lt-ltb, le-ltb}
 use Rattle.definition.specs.declared.Entry.{Entry}
+use Rattle.definition.specs.declared.Writing.{Writing}
+use Rattle.definition.specs.Calls.{fitting, left, afterWriting, writingOf}
 use Rattle.definition.specs.declared.FieldKind.{FieldKind}
 use Rattle.definition.specs.Fold.{Entries}
 use Rattle.definition.specs.Record.{recordLength, variable}
@@ -47,6 +50,17 @@ pub put-first : {out bs : List ℕ} {r : ℕ} {after : List ℕ} → Put out 0 b
 put-first {out} {bs} p h =
     let e : 0 + length bs ≡ length bs = zero-add (length bs) in
     p .same ∙ sets-eq bs out 0 (omega arith) ∙ rw e
+
+module _ (bs out : List ℕ) {n : ℕ} (e : n ≡ length bs) where
+  -- 31 where the bytes are more than the output has
+  pub no-room :
+      length out < n →
+      left (writingOf (Writing.Refused (record { number = 31; position = 0; needed = n }))) out [] ≡ afterWriting (fitting (length out) bs) out []
+  no-room h = rw (lt-ltb (length out) (length bs) (omega arith), e)
+
+  -- else they stand in front of what was there
+  pub room : n ≤ length out → {m : ℕ} {o : List ℕ} → Put out 0 bs m o → left (writingOf (Writing.Written n)) o [] ≡ afterWriting (fitting (length out) bs) out []
+  room h p = rw (le-ltb (length out) (length bs) (omega arith), e, put-first p (omega arith))
 
 -- ---------------------------------------------------------------- the listing's parts
 

@@ -1,13 +1,13 @@
-// The bytes of the layout listing, put into a lent output from a place on: numbers, the record's head, one entry. A byte
+// The bytes of the layout listing, put into a lent output from a place on: numbers, places, the record's head, one entry. A byte
 // past the output's end is counted and not written, so that on an empty output the same functions only count. Each answers
-// the place after its bytes. Leans on `definition`.
+// the place after its bytes. Leans on `definition` and `kinds`.
 ghost use Prim.Native.Nat.{_%_};
 ghost use mathlib.Core.Path.{_≡_};
 ghost use mathlib.Core.List.{[], _∷_};
 ghost use lib.ListN.{set};
-ghost use Rattle.definition.specs.Basic.{le4};
+ghost use Rattle.definition.specs.Basic.{le4, le8};
 ghost use Rattle.definition.specs.Fold.{union};
-ghost use Rattle.definition.specs.Listing.{flag, signByte, storageByte, spanBytes, occursBytes, kindByte, details, entryBytes};
+ghost use Rattle.definition.specs.Listing.{flag, signByte, storageByte, spanBytes, occursBytes, details, entryBytes};
 ghost use Rattle.listing.specs.Puts.{Countable, Put, headBytes, placeBytes};
 use definition::Entry;
 use definition::FieldKind;
@@ -55,8 +55,17 @@ pub fn put4(out: &mut [u8], at: usize, x: usize) -> usize
     put_low(out, fourth, x / 16777216)
 }
 
+// A number in eight bytes, the lowest first.
+pub fn put8(out: &mut [u8], at: usize, x: usize) -> usize
+    requires { ⌜ Countable at (le8 x) ⌝ }
+    ensures { λ r. ⌜ Put (now (out .entry)) at (le8 x) r (now (out .exit)) ⌝ }
+{
+    let next = put4(out, at, x);
+    put4(out, next, x / 4294967296)
+}
+
 // A place in the text: its start, its length.
-fn put_span(out: &mut [u8], at: usize, w: Span) -> usize
+pub fn put_span(out: &mut [u8], at: usize, w: Span) -> usize
     requires { ⌜ Countable at (spanBytes w) ⌝ }
     ensures { λ r. ⌜ Put (now (out .entry)) at (spanBytes w) r (now (out .exit)) ⌝ }
 {
@@ -96,64 +105,6 @@ fn put_occurs(out: &mut [u8], at: usize, o: Occurs) -> usize
     }
 }
 
-// ---------------------------------------------------------------- codes of a byte
-
-// 1 for true, 0 for false.
-pub fn flag_of(b: bool) -> u8
-    ensures { λ r. ⌜ r ≡ flag b ⌝ }
-{
-    if b {
-        return 1;
-    }
-    0
-}
-
-// The byte of a sign.
-pub fn sign_of(s: SignKind) -> u8
-    ensures { λ r. ⌜ r ≡ signByte s ⌝ }
-{
-    match s {
-        SignKind::Unsigned => 0,
-        SignKind::Embedded => 1,
-        SignKind::LeadingSeparate => 2,
-        SignKind::TrailingSeparate => 3,
-    }
-}
-
-// The byte of a decimal's storage.
-pub fn storage_of(r: NumRepr) -> u8
-    ensures { λ b. ⌜ b ≡ storageByte r ⌝ }
-{
-    match r {
-        NumRepr::Display => 0,
-        NumRepr::Comp3 => 1,
-        NumRepr::Zoned => 2,
-    }
-}
-
-// The byte of a kind, which every entry begins with.
-pub fn kind_of(k: FieldKind) -> u8
-    ensures { λ r. ⌜ r ≡ kindByte k ⌝ }
-{
-    match k {
-        FieldKind::Text => 1,
-        FieldKind::Int { signed, sign } => 2,
-        FieldKind::Binary { signed } => 3,
-        FieldKind::Decimal {
-            precision,
-            scale,
-            repr,
-            sign,
-        } => 4,
-        FieldKind::Edited {
-            precision,
-            scale,
-            signed,
-        } => 5,
-        FieldKind::Group => 6,
-    }
-}
-
 // ---------------------------------------------------------------- what the kind adds
 
 // Two bytes.
@@ -170,7 +121,7 @@ fn put_int(out: &mut [u8], at: usize, signed: bool, sign: SignKind) -> usize
     requires { ⌜ Countable at (flag signed ∷ signByte sign ∷ []) ⌝ }
     ensures { λ r. ⌜ Put (now (out .entry)) at (flag signed ∷ signByte sign ∷ []) r (now (out .exit)) ⌝ }
 {
-    put_pair(out, at, flag_of(signed), sign_of(sign))
+    put_pair(out, at, kinds::flag_byte(signed), kinds::sign_byte(sign))
 }
 
 // A binary number: whether it is signed.
@@ -178,7 +129,7 @@ fn put_binary(out: &mut [u8], at: usize, signed: bool) -> usize
     requires { ⌜ Countable at (flag signed ∷ []) ⌝ }
     ensures { λ r. ⌜ Put (now (out .entry)) at (flag signed ∷ []) r (now (out .exit)) ⌝ }
 {
-    put_byte(out, at, flag_of(signed))
+    put_byte(out, at, kinds::flag_byte(signed))
 }
 
 // A decimal: its digits, those after the point, its storage, its sign.
@@ -194,7 +145,7 @@ fn put_decimal(
     ensures { λ r. ⌜ Put (now (out .entry)) at (precision ∷ scale ∷ storageByte repr ∷ signByte sign ∷ []) r (now (out .exit)) ⌝ }
 {
     let next = put_pair(out, at, precision, scale);
-    put_pair(out, next, storage_of(repr), sign_of(sign))
+    put_pair(out, next, kinds::storage_byte(repr), kinds::sign_byte(sign))
 }
 
 // An edited number: its digits, those after the point, whether it is signed, its picture's place.
@@ -210,7 +161,7 @@ fn put_edited(
     ensures { λ r. ⌜ Put (now (out .entry)) at (precision ∷ scale ∷ flag signed ∷ spanBytes picture) r (now (out .exit)) ⌝ }
 {
     let third = put_pair(out, at, precision, scale);
-    let place = put_byte(out, third, flag_of(signed));
+    let place = put_byte(out, third, kinds::flag_byte(signed));
     put_span(out, place, picture)
 }
 
@@ -258,7 +209,7 @@ pub fn put_head(out: &mut [u8], at: usize, length: usize, variable: bool, top: u
     ensures { λ r. ⌜ Put (now (out .entry)) at (headBytes length variable top) r (now (out .exit)) ⌝ }
 {
     let next = put_marked(out, at, 0, length);
-    put_marked(out, next, flag_of(variable), top)
+    put_marked(out, next, kinds::flag_byte(variable), top)
 }
 
 // An entry's kind, name, offset and width.
@@ -268,7 +219,7 @@ fn put_place(out: &mut [u8], at: usize, e: Entry) -> usize
 {
     let kind = e.kind;
     let name = e.name;
-    let second = put_byte(out, at, kind_of(kind));
+    let second = put_byte(out, at, kinds::kind_byte(kind));
     let offset = put_span(out, second, name);
     let width = put4(out, offset, e.offset);
     put4(out, width, e.width)
@@ -298,6 +249,7 @@ pub fn union_of(e: Entry, width: usize) -> Entry
     let name = e.name;
     Entry {
         at: e.at,
+        level: e.level,
         name: name,
         offset: e.offset,
         width: width,
@@ -306,5 +258,8 @@ pub fn union_of(e: Entry, width: usize) -> Entry
         occurs: Occurs::Once,
         depending: Span { start: 0, len: 0 },
         redefines: Span { start: 0, len: 0 },
+        over: Span { start: 0, len: 0 },
+        slack: 0,
+        folded: true,
     }
 }

@@ -13,6 +13,8 @@ use Rattle.definition.specs.declared.OwnerAnswer.{OwnerAnswer}
 use Rattle.definition.specs.Basic.{Answer}
 use Rattle.definition.specs.Calls.{After, left, writingOf, pictureOf, ownerAnswerOf, checkOf}
 use Rattle.definition.specs.Listing.{kindByte}
+use Rattle.kinds.specs.declared.KindNumbers.{KindNumbers}
+use Rattle.kinds.specs.Kinds.{numbersOf}
 use Rattle.numbers.specs.Numbers.{returned, writingNumbers, kindNumbers, pictureNumbers, ownerNumbers, answered}
 
 -- the answer of a call that writes bytes
@@ -27,24 +29,23 @@ module _ {w : Writing} (l l′ : List ℕ) where
       (r .number ≡ returned (writingOf w)) × (l′ ≡ answered (writingNumbers (writingOf w)) l)
   refused e q = rw (e, q) (refl, refl)
 
--- the answer to a picture; `d` are the details that were written
-module _ {a : PicAnswer} (l l′ d : List ℕ) where
+-- the answer to a picture
+module _ {a : PicAnswer} (l l′ : List ℕ) where
   pub pictured :
-      {p : Pictured} {k : ℕ} →
+      {p : Pictured} {k : ℕ} {n : KindNumbers} →
       a ≡ PicAnswer.Accepted p →
       k ≡ kindByte (p .kind) →
-      d ≡ kindNumbers (p .kind) →
-      l′ ≡ answered (k ∷ p .width ∷ d) l →
+      n ≡ numbersOf (p .kind) →
+      l′ ≡ answered (k ∷ p .width ∷ kindNumbers n) l →
       (0 ≡ returned (pictureOf a)) × (l′ ≡ answered (pictureNumbers (pictureOf a)) l)
   pictured e f g q = rw (e, q, f, g) (refl, refl)
 
   pub no-picture :
       {r : Refusal} →
       a ≡ PicAnswer.Refused r →
-      d ≡ (0 ∷ 0 ∷ 0 ∷ 0 ∷ 0 ∷ []) →
-      l′ ≡ answered (r .position ∷ r .needed ∷ d) l →
+      l′ ≡ answered (r .position ∷ r .needed ∷ 0 ∷ 0 ∷ 0 ∷ 0 ∷ 0 ∷ []) l →
       (r .number ≡ returned (pictureOf a)) × (l′ ≡ answered (pictureNumbers (pictureOf a)) l)
-  no-picture e g q = rw (e, q, g) (refl, refl)
+  no-picture e q = rw (e, q) (refl, refl)
 
 -- the answer to a byte
 module _ {o : OwnerAnswer} (l l′ : List ℕ) where

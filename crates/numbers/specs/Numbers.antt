@@ -6,29 +6,14 @@ use mathlib.Core.Bool.{Bool, not}
 use mathlib.Core.List.{List, [], _∷_, _++_}
 use lib.Dec.{eqb, ltb}
 use lib.ListN.{length, drop}
-use Rattle.definition.specs.declared.Usage.{Usage}
-use Rattle.definition.specs.declared.SignKind.{SignKind}
-use Rattle.definition.specs.declared.SignClause.{SignClause}
-use Rattle.definition.specs.declared.FieldKind.{FieldKind}
 use Rattle.definition.specs.declared.Pictured.{Pictured}
 use Rattle.definition.specs.declared.Owner.{Owner}
 use Rattle.definition.specs.Basic.{if_then_else_, Answer, refuse, give}
-use Rattle.definition.specs.Listing.{flag, signByte, storageByte, kindByte}
+use Rattle.definition.specs.Listing.{kindByte}
+use Rattle.kinds.specs.declared.KindNumbers.{KindNumbers}
+use Rattle.kinds.specs.Kinds.{numbersOf}
 
 -- ---------------------------------------------------------------- what comes in
-
--- usage: 0 DISPLAY, 1 COMP-3, 2 COMP
-abbrev pub usageOf : ℕ → Usage
-usageOf n = if eqb n 0 then Usage.Display else if eqb n 1 then Usage.Comp3 else Usage.Comp
-
--- sign: 0 none, 1 unsigned, 2 embedded, 3 leading separate, 4 trailing separate
-abbrev pub signOf : ℕ → SignClause
-signOf n =
-    if eqb n 0 then SignClause.Absent
-    else if eqb n 1 then SignClause.Given SignKind.Unsigned
-    else if eqb n 2 then SignClause.Given SignKind.Embedded
-    else if eqb n 3 then SignClause.Given SignKind.LeadingSeparate
-    else SignClause.Given SignKind.TrailingSeparate
 
 -- a usage above 2, or a sign above 4, is none
 abbrev pub noUsage : ℕ → Bool
@@ -53,19 +38,14 @@ abbrev pub writingNumbers : Answer ℕ → List ℕ
 writingNumbers (refuse r) = r .position ∷ r .needed ∷ []
 writingNumbers (give n) = n ∷ 0 ∷ []
 
--- signed, sign, precision, scale and storage, each 0 where the kind has none
-abbrev pub kindNumbers : FieldKind → List ℕ
-kindNumbers FieldKind.Text = 0 ∷ 0 ∷ 0 ∷ 0 ∷ 0 ∷ []
-kindNumbers (FieldKind.Int signed sign) = flag signed ∷ signByte sign ∷ 0 ∷ 0 ∷ 0 ∷ []
-kindNumbers (FieldKind.Binary signed) = flag signed ∷ 0 ∷ 0 ∷ 0 ∷ 0 ∷ []
-kindNumbers (FieldKind.Decimal precision scale repr sign) = 0 ∷ signByte sign ∷ precision ∷ scale ∷ storageByte repr ∷ []
-kindNumbers (FieldKind.Edited precision scale signed) = flag signed ∷ 0 ∷ precision ∷ scale ∷ 0 ∷ []
-kindNumbers FieldKind.Group = 0 ∷ 0 ∷ 0 ∷ 0 ∷ 0 ∷ []
+-- signed, sign, precision, scale and storage
+abbrev pub kindNumbers : KindNumbers → List ℕ
+kindNumbers k = k .signed ∷ k .sign ∷ k .precision ∷ k .scale ∷ k .storage ∷ []
 
 -- the seven numbers of a picture: kind, width and those of the kind; or position, needed length and zeros
 abbrev pub pictureNumbers : Answer Pictured → List ℕ
 pictureNumbers (refuse r) = r .position ∷ r .needed ∷ 0 ∷ 0 ∷ 0 ∷ 0 ∷ 0 ∷ []
-pictureNumbers (give p) = kindByte (p .kind) ∷ p .width ∷ kindNumbers (p .kind)
+pictureNumbers (give p) = kindByte (p .kind) ∷ p .width ∷ kindNumbers (numbersOf (p .kind))
 
 -- the four numbers of a byte's owner: 0, the entry's number, the piece's first byte and the place inside it; or 1 and the number of the entry that the slack
 -- precedes; or position and needed length. A byte below the record length has an owner

@@ -1,56 +1,21 @@
 // How the answers become numbers for C, and what numbers come in: a usage, a sign, and the numbers that a call returns and writes to a lent slice
-// (`specs/Numbers`). Leans on `definition` and `listing`.
+// (`specs/Numbers`). Leans on `definition` and `kinds`.
 ghost use mathlib.Core.Path.{_≡_};
 ghost use mathlib.Core.List.{[], _∷_};
 ghost use Rattle.definition.specs.Calls.{pictureOf, writingOf, ownerAnswerOf};
-ghost use Rattle.numbers.specs.Numbers.{usageOf, signOf, noUsage, returned, writingNumbers, kindNumbers, pictureNumbers, ownerNumbers, answered};
-use definition::FieldKind;
+ghost use Rattle.numbers.specs.Numbers.{noUsage, returned, writingNumbers, kindNumbers, pictureNumbers, ownerNumbers, answered};
 use definition::OwnerAnswer;
 use definition::PicAnswer;
-use definition::SignClause;
-use definition::SignKind;
-use definition::Usage;
 use definition::Writing;
+use kinds::KindNumbers;
 
 // ---------------------------------------------------------------- what comes in
-
-// A usage by its number.
-pub fn usage_of(n: u8) -> Usage
-    ensures { λ r. ⌜ r ≡ usageOf n ⌝ }
-{
-    if n == 0 {
-        return Usage::Display;
-    }
-    if n == 1 {
-        return Usage::Comp3;
-    }
-    Usage::Comp
-}
 
 // Whether no usage has this number.
 pub fn no_usage(n: u8) -> bool
     ensures { λ r. ⌜ r ≡ noUsage n ⌝ }
 {
     2 < n
-}
-
-// A sign by its number.
-pub fn sign_of(n: u8) -> SignClause
-    ensures { λ r. ⌜ r ≡ signOf n ⌝ }
-{
-    if n == 0 {
-        return SignClause::Absent;
-    }
-    if n == 1 {
-        return SignClause::Given(SignKind::Unsigned);
-    }
-    if n == 2 {
-        return SignClause::Given(SignKind::Embedded);
-    }
-    if n == 3 {
-        return SignClause::Given(SignKind::LeadingSeparate);
-    }
-    SignClause::Given(SignKind::TrailingSeparate)
 }
 
 // ---------------------------------------------------------------- what goes out
@@ -79,29 +44,20 @@ fn put_four(answer: &mut [u64], a: u64, b: u64, c: u64, d: u64)
     answer[3] = d;
 }
 
-// The numbers that a kind has: signed, sign, precision, scale and storage.
-pub struct DetailNumbers {
-    pub signed: u64,
-    pub sign: u64,
-    pub precision: u64,
-    pub scale: u64,
-    pub storage: u64,
-}
-
-// Writes seven numbers, where there is room for them.
-fn put_seven(answer: &mut [u64], a: u64, b: u64, d: DetailNumbers)
-    ensures { λ _. ⌜ now (answer .exit) ≡ answered (a ∷ b ∷ d .signed ∷ d .sign ∷ d .precision ∷ d .scale ∷ d .storage ∷ []) (now (answer .entry)) ⌝ }
+// Writes seven numbers, five of them a kind's, where there is room for them.
+fn put_seven(answer: &mut [u64], a: u64, b: u64, k: KindNumbers)
+    ensures { λ _. ⌜ now (answer .exit) ≡ answered (a ∷ b ∷ kindNumbers k) (now (answer .entry)) ⌝ }
 {
     if answer.len() < 7 {
         return;
     }
     answer[0] = a;
     answer[1] = b;
-    answer[2] = d.signed;
-    answer[3] = d.sign;
-    answer[4] = d.precision;
-    answer[5] = d.scale;
-    answer[6] = d.storage;
+    answer[2] = k.signed as u64;
+    answer[3] = k.sign as u64;
+    answer[4] = k.precision as u64;
+    answer[5] = k.scale as u64;
+    answer[6] = k.storage as u64;
 }
 
 // Hands on the answer of a call that writes bytes.
@@ -121,60 +77,6 @@ pub fn hand_on(w: Writing, answer: &mut [u64]) -> u32
     }
 }
 
-// Five bytes as numbers.
-fn details(signed: u8, sign: u8, precision: u8, scale: u8, storage: u8) -> DetailNumbers
-    ensures { λ r. ⌜ (r .signed ∷ r .sign ∷ r .precision ∷ r .scale ∷ r .storage ∷ []) ≡ (signed ∷ sign ∷ precision ∷ scale ∷ storage ∷ []) ⌝ }
-{
-    DetailNumbers {
-        signed: signed as u64,
-        sign: sign as u64,
-        precision: precision as u64,
-        scale: scale as u64,
-        storage: storage as u64,
-    }
-}
-
-// The numbers that a kind has.
-fn details_of(kind: FieldKind) -> DetailNumbers
-    ensures { λ r. ⌜ (r .signed ∷ r .sign ∷ r .precision ∷ r .scale ∷ r .storage ∷ []) ≡ kindNumbers kind ⌝ }
-{
-    match kind {
-        FieldKind::Text => {
-            return details(0, 0, 0, 0, 0);
-        }
-        FieldKind::Int { signed, sign } => {
-            return details(listing::flag_of(signed), listing::sign_of(sign), 0, 0, 0);
-        }
-        FieldKind::Binary { signed } => {
-            return details(listing::flag_of(signed), 0, 0, 0, 0);
-        }
-        FieldKind::Decimal {
-            precision,
-            scale,
-            repr,
-            sign,
-        } => {
-            return details(
-                0,
-                listing::sign_of(sign),
-                precision,
-                scale,
-                listing::storage_of(repr),
-            );
-        }
-        FieldKind::Edited {
-            precision,
-            scale,
-            signed,
-        } => {
-            return details(listing::flag_of(signed), 0, precision, scale, 0);
-        }
-        FieldKind::Group => {
-            return details(0, 0, 0, 0, 0);
-        }
-    }
-}
-
 // Hands on the answer to a picture.
 pub fn hand_on_picture(p: PicAnswer, answer: &mut [u64]) -> u32
     ensures { λ r. ⌜ r ≡ returned (pictureOf p) ⌝ }
@@ -185,9 +87,9 @@ pub fn hand_on_picture(p: PicAnswer, answer: &mut [u64]) -> u32
             let kind = p.kind;
             put_seven(
                 answer,
-                listing::kind_of(kind) as u64,
+                kinds::kind_byte(kind) as u64,
                 p.width as u64,
-                details_of(kind),
+                kinds::numbers_of(kind),
             );
             return 0;
         }
@@ -196,7 +98,14 @@ pub fn hand_on_picture(p: PicAnswer, answer: &mut [u64]) -> u32
                 answer,
                 r.position as u64,
                 r.needed as u64,
-                details(0, 0, 0, 0, 0),
+                KindNumbers {
+                    kind: 0,
+                    signed: 0,
+                    sign: 0,
+                    precision: 0,
+                    scale: 0,
+                    storage: 0,
+                },
             );
             return r.number;
         }

@@ -17,29 +17,28 @@ use Rattle.definition.specs.declared.Refusal.{Refusal}
 use Rattle.definition.specs.declared.Statement.{Statement}
 use Rattle.definition.specs.Basic.{given, Answer, refuse, give, _>>=_}
 use Rattle.definition.specs.Calls.{recordFields, ownerIn, byteOwner, ownerAnswerOf}
-use Rattle.definition.specs.Fold.{Entries, end, entry, times, total}
+use Rattle.definition.specs.Fold.{Entries, end, entry, times, total, foldedList, foldedBelow, foldedAll}
 use Rattle.definition.specs.Owner.{size, overlaid, pieces, ownerOf}
-use Rattle.definition.specs.Record.{recordLength, layout}
+use Rattle.definition.specs.Record.{recordLength, layout, unfolded}
 use Rattle.definition.specs.Search.{entries#, Row, rowOf, rows, walk}
 use Rattle.definition.specs.Tree.{Forest, leaf, item, above, notAbove, forest}
 use Rattle.definition.proofs.Answers.{given-same, through}
 use Rattle.definition.proofs.Cover.{Plain, plain, Unfolded, fold-plain}
+use Rattle.definition.specs.Demand.{told}
 use Rattle.definition.proofs.Demand3.{refuses-40, refuses-41, one-owner, walked, computed}
 use Rattle.definition.proofs.Lists.{order, tested}
 use Rattle.definition.proofs.Pieces.{owned-someone, positive}
 use Rattle.definition.proofs.Walk.{walk-slack, walk-piece, walk-in, walk-later, walk-skip}
+use Rattle.rows.specs.Columns.{ROW, DEPENDING, REDEFINES, OFFSET, WIDTH, BELOW}
 use Rattle.rows.specs.Table.{cell, statementAt, statementsFrom}
-use Rattle.layout.specs.Bare.{foldedList, foldedBelow, foldedAll, bareRecord}
 use Rattle.places.specs.Places.{entryIn, entriesIn, rowsForest}
-use Rattle.layout.proofs.BareLaws.{fold-is, layout-is}
+use Rattle.layout.proofs.BareLaws.{layout-is}
 use Rattle.places.proofs.EntriesLaws.{size-stretch, Rows, rows-forest}
 use Rattle.places.proofs.RowLaws.{stretch-cons, stretch-none}
-use Rattle.folded.proofs.ShownLaws.{entries-size}
+use Rattle.unions.proofs.ShownLaws.{entries-size}
 use Rattle.record.specs.Laying.{laidOf, Listed}
-use Rattle.folded.specs.Shown.{listIn, SizedRow, Measured}
-use Rattle.record.specs.Marks.{Counted}
-use Rattle.record.proofs.MarkLaws.{marked-counted}
-use Rattle.owner.specs.Walked.{overlays, rowAt, tableRows, Walkable}
+use Rattle.unions.specs.Shown.{listIn, Marked, SizedRow, Measured}
+use Rattle.owner.specs.Walked.{overlays, rowAt, tableRows, Counted, Walkable}
 
 -- ---------------------------------------------------------------- a REDEFINES or a DEPENDING ON
 
@@ -120,29 +119,35 @@ table-none : (w : List ℕ) (to k : ℕ) → to ≤ k → tableRows w k (to - k)
 unfolding tableRows
 table-none w to k h = ap (tableRows w k) (let e : to - k ≡ 0 = omega arith in e)
 
+-- marked rows count the rows below them
+marked-counted : (t w : List ℕ) (f : Forest) (k last : ℕ) → Marked t w k last f → Counted w k f
+marked-counted t w leaf k last m = tt
+marked-counted t w (item s kids later) k last m =
+    (m .0 .row .below, marked-counted t w kids (suc k) 0 (m .1), marked-counted t w later (suc k + size kids) (suc k) (m .2))
+
 -- the rows of the listing are those of the table, where each counts the rows below it
-rows-table : (w : List ℕ) (f : Forest) (k last : ℕ) → Counted w k last f → rows (entriesIn w k f) ≡ tableRows w k (size f)
+rows-table : (w : List ℕ) (f : Forest) (k : ℕ) → Counted w k f → rows (entriesIn w k f) ≡ tableRows w k (size f)
 unfolding rows entriesIn tableRows
-rows-table w leaf k last c = refl
-rows-table w (item s kids later) k last c =
+rows-table w leaf k c = refl
+rows-table w (item s kids later) k c =
     let own : rowOf (entryIn w k) (entries# (entriesIn w (suc k) kids)) ≡ rowAt w k = ap (rowOf (entryIn w k)) (entries-size w kids (suc k) ∙ sym (c .0)) in
-    let inner = rows-table w kids (suc k) 0 (c .1) in
-    let rest = rows-table w later (suc k + size kids) (suc k) (c .2) in
+    let inner = rows-table w kids (suc k) (c .1) in
+    let rest = rows-table w later (suc k + size kids) (c .2) in
     (λ i. own i ∷ (inner i ++ rest i)) ∙ ap (λ (l : List Row). rowAt w k ∷ l) (sym (table-append w (size kids) (size later) (suc k)))
 
 -- the rows below a row end where its list ends, or before
-rows-nested : (w : List ℕ) (f : Forest) (k last : ℕ) → Counted w k last f → (m : ℕ) → k ≤ m → m < k + size f → suc m + cell w m 17 ≤ k + size f
-rows-nested w leaf k last c m l u = absurd (omega arith)
-rows-nested w (item s kids later) k last c m l u =
-    let inner = rows-nested w kids (suc k) 0 (c .1) m in
-    let rest = rows-nested w later (suc k + size kids) (suc k) (c .2) m in
+rows-nested : (w : List ℕ) (f : Forest) (k : ℕ) → Counted w k f → (m : ℕ) → k ≤ m → m < k + size f → suc m + cell w m BELOW ≤ k + size f
+rows-nested w leaf k c m l u = absurd (omega arith)
+rows-nested w (item s kids later) k c m l u =
+    let inner = rows-nested w kids (suc k) (c .1) m in
+    let rest = rows-nested w later (suc k + size kids) (c .2) m in
     ⊎-elim
     (λ (p : k < m).
     ⊎-elim
     (λ (q : m < suc k + size kids). let n = inner (omega arith) q in omega arith)
     (λ (q : suc k + size kids ≤ m). let n = rest q (omega arith) in omega arith)
     (order m (suc k + size kids)))
-    (λ (p : m ≤ k). let e : k ≡ m = omega arith in let n = subst (λ (x : ℕ). cell w x 17 ≡ size kids) e (c .0) in omega arith)
+    (λ (p : m ≤ k). let e : k ≡ m = omega arith in let n = subst (λ (x : ℕ). cell w x BELOW ≡ size kids) e (c .0) in omega arith)
     (order k m)
 
 -- ---------------------------------------------------------------- the walk
@@ -160,14 +165,14 @@ walk-past w m k n number first q =
 -- where the walk is: what is left of it gives the answer
 pub record At (w : List ℕ) (from to position k first q : ℕ) : Type 0 where
   pub held : Walkable w from to
-  pub fits : 20 * to ≤ length w
+  pub fits : ROW * to ≤ length w
   pub low : from ≤ k
   pub same : walk 0 0 0 (rows (listIn w from to)) position ≡ walk 0 (k - from) first (tableRows w k (to - k)) q
   pub whole : first + q ≡ position
 
 pub walk-starts : {w : List ℕ} {from to position : ℕ} → Walkable w from to → At w from to position from 0 position
 walk-starts {w} {from} {to} {position} h =
-    let all = rows-table w (rowsForest w from to) from 0 (h .counted) ∙ ap (tableRows w from) (size-stretch w from to) in
+    let all = rows-table w (rowsForest w from to) from (h .counted) ∙ ap (tableRows w from) (size-stretch w from to) in
     let e : 0 ≡ from - from = omega arith in
     record {
       held = h;
@@ -183,16 +188,16 @@ module _ {w : List ℕ} {from to position k first q : ℕ} (a : At w from to pos
   row-sized h = record { fits = omega (arith, a .fits); small = a .held .sized .totals k (a .low) h }
 
   -- and so are the rows below it
-  pub row-nested : k < to → k + 1 + cell w k 17 ≤ to
+  pub row-nested : k < to → k + 1 + cell w k BELOW ≤ to
   row-nested h =
       let many = size-stretch w from to in
-      omega (arith, many, rows-nested w (rowsForest w from to) from 0 (a .held .counted) k (a .low) (omega (arith, many)))
+      omega (arith, many, rows-nested w (rowsForest w from to) from (a .held .counted) k (a .low) (omega (arith, many)))
 
   at-row : k < to → walk 0 0 0 (rows (listIn w from to)) position ≡ walk 0 (k - from) first (rowAt w k ∷ tableRows w (suc k) (to - suc k)) q
   at-row h = a .same ∙ ap (λ (l : List Row). walk 0 (k - from) first l q) (table-next w to k h)
 
   -- a byte before the row
-  pub found-slack : k < to → {o : ℕ} → o ≡ cell w k 13 → q < o → Owner.Slack (k - from) ≡ walk 0 0 0 (rows (listIn w from to)) position
+  pub found-slack : k < to → {o : ℕ} → o ≡ cell w k OFFSET → q < o → Owner.Slack (k - from) ≡ walk 0 0 0 (rows (listIn w from to)) position
   found-slack h e l = sym (at-row h ∙ walk-slack (k - from) first (rowAt w k) (tableRows w (suc k) (to - suc k)) q (omega arith))
 
   -- no row is left
@@ -204,23 +209,23 @@ module _ {w : List ℕ} {from to position k first q : ℕ} (a : At w from to pos
 pub record RowRead (w : List ℕ) (from to position k first q offset width below all : ℕ) : Type 0 where
   pub at : At w from to position k first q
   pub here : k < to
-  pub offset-is : offset ≡ cell w k 13
-  pub width-is : width ≡ cell w k 14
-  pub below-is : below ≡ cell w k 17
+  pub offset-is : offset ≡ cell w k OFFSET
+  pub width-is : width ≡ cell w k WIDTH
+  pub below-is : below ≡ cell w k BELOW
   pub all-is : Measured (total (entryIn w k)) all
   pub reached : offset ≤ q
 
 module _ {w : List ℕ} {from to position k first q offset width below all : ℕ} (r : RowRead w from to position k first q offset width below all) where
   -- a byte in an occurrence of the row
   module _ (l : q - offset < all) where
-    inside-row : q < cell w k 13 + total (entryIn w k)
+    inside-row : q < cell w k OFFSET + total (entryIn w k)
     inside-row = omega (arith, r .offset-is, r .all-is .is)
 
     -- the walk's start and place are the code's
-    known-start : first + cell w k 13 + (q - cell w k 13) / cell w k 14 * cell w k 14 ≡ first + offset + (q - offset) / width * width
+    known-start : first + cell w k OFFSET + (q - cell w k OFFSET) / cell w k WIDTH * cell w k WIDTH ≡ first + offset + (q - offset) / width * width
     known-start = ap₂ (λ (x y : ℕ). first + x + (q - x) / y * y) (sym (r .offset-is)) (sym (r .width-is))
 
-    known-place : (q - cell w k 13) % cell w k 14 ≡ (q - offset) % width
+    known-place : (q - cell w k OFFSET) % cell w k WIDTH ≡ (q - offset) % width
     known-place = ap₂ (λ (x y : ℕ). (q - x) % y) (sym (r .offset-is)) (sym (r .width-is))
 
     pub found-piece :
@@ -284,7 +289,7 @@ module _ {w : List ℕ} {from to position k first q offset width below all : ℕ
 module _ (text : List ℕ) where
   -- one list
   list-plain : (bases : List _) (es : Entries) → Unfolded es → foldedList text bases es ≡ es
-  list-plain bases es u = through _ _ (sym (fold-is text bases es) ∙ fold-plain text bases es u) λ _ _ e. given-same e
+  list-plain bases es u = fold-plain text bases es u
 
   -- no entry of a list in the table redefines, where no statement does
   rows-unfolded : (w : List ℕ) (f : Forest) (k : ℕ) → Plain f → Rows w k f → Unfolded (entriesIn w k f)
@@ -363,13 +368,13 @@ module _ {text w : List ℕ} {from to length : ℕ} (l : Listed text (give (rows
             let F = rowsForest w from to in
             let es = foldedAll text (listIn w from to) in
             let free = sym p ∙ e in
-            owned-someone 0 (pieces text F) q (one-owner text F es laid-out free q below-length)
+            owned-someone (told 0 0 0 es) q (one-owner text F es laid-out free q below-length)
             (sym (walked text F es laid-out free q below-length) ∙ sym of-listing ∙ z)
 
 -- ---------------------------------------------------------------- the call
 
 -- a record that is not laid is refused
-not-laid : (text : List ℕ) (q : ℕ) (f : Forest) {r : Refusal} → bareRecord text f ≡ refuse r → ownerIn text f q ≡ refuse r
+not-laid : (text : List ℕ) (q : ℕ) (f : Forest) {r : Refusal} → unfolded text f ≡ refuse r → ownerIn text f q ≡ refuse r
 unfolding ownerIn _>>=_
 not-laid text q f {r} h =
     let e : layout text f ≡ refuse r = layout-is text f ∙ ap (λ (a : Answer Entries). a >>= λ es. give (foldedAll text es)) h in

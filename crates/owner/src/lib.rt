@@ -6,25 +6,32 @@ ghost use Rattle.definition.specs.Basic.{give};
 ghost use Rattle.definition.specs.Calls.{ownerAnswerOf, ownerIn};
 ghost use Rattle.definition.specs.Owner.{overlaid};
 ghost use Rattle.definition.specs.Search.{rows, walk};
+ghost use Rattle.rows.specs.Columns.{ROW};
 ghost use Rattle.rows.specs.Table.{statementAt};
 ghost use Rattle.places.specs.Places.{rowsForest};
 ghost use Rattle.record.specs.Laying.{Listed};
-ghost use Rattle.folded.specs.Shown.{listIn};
+ghost use Rattle.unions.specs.Shown.{listIn};
 ghost use Rattle.owner.specs.Walked.{overlays, Walkable};
 use definition::Owner;
 use definition::OwnerAnswer;
 use definition::Refusal;
+use rows::BELOW;
+use rows::DEPENDING;
+use rows::OFFSET;
+use rows::REDEFINES;
+use rows::ROW;
+use rows::WIDTH;
 
 // Whether row k has a REDEFINES or a DEPENDING ON.
 fn is_overlay(work: &[u32], k: usize) -> bool
-    requires { ⌜ 20 * k + 20 ≤ length (now work) ⌝ }
+    requires { ⌜ ROW * k + ROW ≤ length (now work) ⌝ }
     ensures { λ r. ⌜ r ≡ overlays (statementAt (now (work .entry)) k) ⌝ }
 {
-    let redefines = rows::span_at(work[20 * k + 6]);
+    let redefines = rows::span_at(work[ROW * k + REDEFINES]);
     if 0 < redefines.len {
         return true;
     }
-    let depending = rows::span_at(work[20 * k + 5]);
+    let depending = rows::span_at(work[ROW * k + DEPENDING]);
     if 0 < depending.len {
         return true;
     }
@@ -33,7 +40,7 @@ fn is_overlay(work: &[u32], k: usize) -> bool
 
 // Whether some row from `from` up to `to` has one.
 pub fn is_overlaid(work: &[u32], from: usize, to: usize) -> bool
-    requires { ⌜ 20 * to ≤ length (now work) ⌝ }
+    requires { ⌜ ROW * to ≤ length (now work) ⌝ }
     ensures { λ r. ⌜ r ≡ overlaid (rowsForest (now (work .entry)) from to) ⌝ }
 {
     let mut k = from;
@@ -56,13 +63,13 @@ pub fn walk_rows(work: &[u32], from: usize, to: usize, position: usize) -> Owner
     let mut first = 0;
     let mut q = position;
     while k < to {
-        let offset = places::wide(work[20 * k + 13]);
+        let offset = rows::wide(work[ROW * k + OFFSET]);
         if q < offset {
             return Owner::Slack { entry: k - from };
         }
-        let width = places::wide(work[20 * k + 14]);
-        let below = places::wide(work[20 * k + 17]);
-        let total = folded::row_total(work, k);
+        let width = rows::wide(work[ROW * k + WIDTH]);
+        let below = rows::wide(work[ROW * k + BELOW]);
+        let total = unions::row_total(work, k);
         let r = q - offset;
         if r < total {
             let start = first + offset + r / width * width;

@@ -1,18 +1,12 @@
-// The picture reader: kind and width of a picture with a usage and a sign, and the mask of an edited one; `parse_pic` of the
-// Rust. Leans on `definition`, `text` and `symbols`.
+// The picture reader: kind and width of a picture with a usage and a sign; `parse_pic` of the Rust. Leans on `definition` and `symbols`.
 ghost use Prim.Native.Nat.{ℕ, _+_, _-_, _≤_, max};
 ghost use mathlib.Core.Path.{_≡_};
 ghost use mathlib.Core.Bool.{_&&_};
-ghost use mathlib.Core.List.{[]};
-ghost use lib.ListN.{length, replicate};
-ghost use lib.Seq.{sets};
-ghost use Rattle.definition.specs.Picture.{expand, isDisplay, resolveSign, isEmbedded, signBytes};
-ghost use Rattle.definition.specs.Picture.{compWidth, byteWidth, display as displayOf, numeric as numericOf, picture as pictureIn, mask as maskOf};
-ghost use Rattle.definition.specs.Calls.{left, pictureAnswer, pictureOf, afterWriting, maskCall, writingOf};
+ghost use Rattle.definition.specs.Picture.{isDisplay, resolveSign, isEmbedded, signBytes};
+ghost use Rattle.definition.specs.Picture.{compWidth, byteWidth, display as displayOf, numeric as numericOf, picture as pictureIn};
+ghost use Rattle.definition.specs.Calls.{pictureOf};
 ghost use Rattle.symbols.specs.Shape.{Small};
 ghost use Rattle.picture.specs.Kinds.{shapeOf, maskedBy, mixedBy, longBy, kindedBy, Fit, Judged, Reads};
-ghost use Rattle.picture.specs.Masks.{hidden, Room, put, Wrote, maskIn, after};
-use definition::Check;
 use definition::FieldKind;
 use definition::NumRepr;
 use definition::PicAnswer;
@@ -21,10 +15,8 @@ use definition::Refusal;
 use definition::SignClause;
 use definition::SignKind;
 use definition::Usage;
-use definition::Writing;
 use symbols::Counted;
 use symbols::Half;
-use symbols::Repeat;
 use symbols::Tallies;
 
 // ---------------------------------------------------------------- the shape, and the last checks
@@ -81,7 +73,7 @@ fn is_display(usage: Usage) -> bool
 }
 
 // Whether an item is edited: under DISPLAY alone.
-fn is_masked(s: PicShape, usage: Usage) -> bool
+pub fn is_masked(s: PicShape, usage: Usage) -> bool
     ensures { λ r. ⌜ r ≡ maskedBy usage s ⌝ }
 {
     if s.edited {
@@ -154,7 +146,7 @@ fn check_shape(s: PicShape, half: Half, usage: Usage, at: usize) -> Shaped
 }
 
 // The shape of a picture, or its first refusal of 22 to 27, at `at`.
-fn read_shape(picture: &[u8], at: usize, usage: Usage) -> Shaped
+pub fn read_shape(picture: &[u8], at: usize, usage: Usage) -> Shaped
     ensures { λ r. ⌜ Reads at usage (now (picture .entry)) r ⌝ }
 {
     let word = symbols::trim(picture);
@@ -330,8 +322,7 @@ fn kind_of(s: PicShape, usage: Usage, sign: SignClause) -> Pictured
     numeric(usage, s.digits, s.scale, s.signed, sign)
 }
 
-// Kind and width of a picture that stands in a copybook, as `parse_pic` says of a picture by itself; the text was checked there,
-// and a refusal, 22 to 27, carries the position `at`.
+// Kind and width of a picture whose text was checked; a refusal, 22 to 27, carries the position `at`.
 pub fn picture_at(picture: &[u8], at: usize, usage: Usage, sign: SignClause) -> PicAnswer
     ensures { λ r. ⌜ pictureOf r ≡ pictureIn at usage sign (now (picture .entry)) ⌝ }
 {
@@ -341,126 +332,6 @@ pub fn picture_at(picture: &[u8], at: usize, usage: Usage, sign: SignClause) -> 
         }
         Shaped::Refused(r) => {
             return PicAnswer::Refused(r);
-        }
-    }
-}
-
-// Kind, its details and width of one picture with a usage and a sign. Refusals, in this order: 1 over 65,535 bytes; 2 a byte
-// over 127, at the first one; then symbol by symbol 22 no `)`, 23 no repeat count, 24 over 65,535 symbols; then 25 no symbol,
-// 26 text mixed with a digit or editing, 27 over 255 digits or an edited DISPLAY mask over 255; at 0 except 2.
-// The contract rules out a program that counts `$$$9` as four digits, and one that answers `S9(4)` SIGN TRAILING SEPARATE with width 4.
-pub fn parse_pic(picture: &[u8], usage: Usage, sign: SignClause) -> PicAnswer
-    ensures { λ r. ⌜ pictureOf r ≡ pictureAnswer usage sign (now (picture .entry)) ⌝ }
-{
-    match text::text_checks(picture) {
-        Check::Passed => {
-            return picture_at(picture, 0, usage, sign);
-        }
-        Check::Refused(r) => {
-            return PicAnswer::Refused(r);
-        }
-    }
-}
-
-// ---------------------------------------------------------------- the mask
-
-// Whether a symbol takes no byte of a mask.
-fn is_hidden(b: u8) -> bool
-    ensures { λ r. ⌜ r ≡ hidden b ⌝ }
-{
-    match b {
-        b'P' | b'S' | b'V' => true,
-        _ => false,
-    }
-}
-
-// Writes n copies of a byte, from k on.
-fn fill(out: &mut [u8], k: usize, n: usize, b: u8)
-    requires { ⌜ k + n ≤ length (now out) ⌝ }
-    ensures { λ _. ⌜ now (out .exit) ≡ sets (now (out .entry)) k (replicate n b) ⌝ }
-{
-    let end = k + n;
-    let mut i = k;
-    while i < end {
-        out[i] = b;
-        i += 1;
-    }
-}
-
-// Writes the mask of a symbol that stands n times, from k on, and answers the place after it.
-fn write_run(out: &mut [u8], k: usize, n: usize, b: u8) -> usize
-    requires { ⌜ k + length (maskOf (replicate n b)) ≤ length (now out) ⌝ }
-    ensures { λ r. ⌜ Wrote (now (out .entry)) k b n r (now (out .exit)) ⌝ }
-{
-    if is_hidden(b) {
-        return k;
-    }
-    fill(out, k, n, b);
-    k + n
-}
-
-// Writes the mask of a trimmed picture that was read already, and whose mask has room.
-fn write_mask(picture: &[u8], out: &mut [u8])
-    requires { ⌜ Room 0 (expand 0 0 0 (now picture)) (length (now out)) ⌝ }
-    ensures { λ _. ⌜ now (out .exit) ≡ put 0 (expand 0 0 0 (now (picture .entry))) (now (out .entry)) ⌝ }
-{
-    let mut k = 0;
-    let mut i = 0;
-    while i < picture.len() {
-        let b = text::upper(picture[i]);
-        let next = i + 1;
-        match symbols::repeat_at(picture, next, 0) {
-            Repeat::Times { n, skip } => {
-                i = next + skip;
-                k = write_run(out, k, n, b);
-            }
-            Repeat::Refused(_) => {
-                return;
-            }
-        }
-    }
-}
-
-// The mask of a picture whose text was checked, as `mask` says.
-fn mask_of(picture: &[u8], usage: Usage, out: &mut [u8]) -> Writing
-    ensures { λ r. ⌜ after (writingOf r) (now (out .exit)) ≡ afterWriting (maskIn usage (now (picture .entry)) (length (now (out .entry)))) (now (out .entry)) [] ⌝ }
-{
-    match read_shape(picture, 0, usage) {
-        Shaped::Shape(s) => {
-            if is_masked(s, usage) {
-                let width = s.width;
-                if out.len() < width {
-                    return Writing::Refused(Refusal {
-                        number: 31,
-                        position: 0,
-                        needed: width,
-                    });
-                }
-                let word = symbols::trim(picture);
-                write_mask(word, out);
-                return Writing::Written(width);
-            }
-            return Writing::Written(0);
-        }
-        Shaped::Refused(r) => {
-            return Writing::Refused(r);
-        }
-    }
-}
-
-// Writes the mask of a picture that is edited under the usage, and answers its length; 0 of any other picture. Refusals are those
-// of `parse_pic`, then 31, with the length of the mask, if it is longer than the output. A refusal changes no byte of the output,
-// and bytes past the mask keep their values.
-// The contract rules out a program that writes before it knows that the mask has room, and one that writes S, V or P.
-pub fn mask(picture: &[u8], usage: Usage, out: &mut [u8]) -> Writing
-    ensures { λ r. ⌜ left (writingOf r) (now (out .exit)) [] ≡ maskCall usage (now (picture .entry)) (now (out .entry)) ⌝ }
-{
-    match text::text_checks(picture) {
-        Check::Passed => {
-            return mask_of(picture, usage, out);
-        }
-        Check::Refused(r) => {
-            return Writing::Refused(r);
         }
     }
 }

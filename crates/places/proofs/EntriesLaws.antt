@@ -1,8 +1,9 @@
--- The entries of a list are read back from the rows that hold their places, and each row names the sibling before it; the entries of a
+-- The entries of a list are read back from the rows that hold their places, and the rows are linked; the entries of a
 -- stretch of rows, one row further.
 -- Assumes nothing.
 use Prim.Native.Nat.{ℕ, zero, suc, _+_, _*_, _-_, _≤_, _<_}
-use mathlib.Core.Path.{_≡_, refl, sym, ap, subst, _∙_}
+use mathlib.Core.Path.{_≡_, refl, sym, ap, ap₂, subst, _∙_}
+use mathlib.Core.Bool.{true, false}
 use mathlib.Core.List.{List, [], _∷_}
 use native.Mathlib.Omega.{arith}
 use lib.Dec.{lit<}
@@ -10,19 +11,26 @@ use lib.ListN.{length}
 use Rattle.definition.specs.declared.Statement.{Statement}
 use Rattle.definition.specs.declared.Entry.{Entry}
 use Rattle.definition.specs.declared.Pictured.{Pictured}
-use Rattle.definition.specs.Tree.{Forest, leaf, item, above, notAbove, forest}
-use Rattle.definition.specs.Fold.{Entries, end, entry}
+use Rattle.definition.specs.declared.Span.{Span}
+use Rattle.definition.specs.Basic.{if_then_else_, given}
+use Rattle.definition.specs.Tree.{Forest, leaf, item, above, notAbove, forest, higher}
+use Rattle.definition.specs.Fold.{Entries, end, entry, sameName}
+use Rattle.definition.specs.Picture.{pictured}
 use Rattle.definition.specs.Layout.{entryOf}
 use Rattle.definition.specs.Owner.{size}
 use Rattle.definition.specs.Search.{entries#}
 use Rattle.definition.proofs.Lists.{tested}
-use Rattle.rows.specs.Table.{cell, statementAt, statementsFrom}
+use Rattle.kinds.specs.Kinds.{kindCode, kindAt, Bytes}
+use Rattle.rows.specs.Columns.{ROW, LEVEL, AT, NAME, PICTURE, DEPENDING, REDEFINES, SAID, LOW, HIGH, OFFSET, WIDTH, KIND, BEFORE, BELOW, SLACK, BASE, NEXT}
+use Rattle.rows.specs.Table.{cell, spanAt, statementAt, statementsFrom}
 use Rattle.rows.proofs.TableLaws.{statement-same, length-statements}
-use Rattle.places.specs.Places.{kindCode, kindOfCode, Bytes, putPlace, putPlaces, entryIn, rowsForest, entriesIn, Linked}
-use Rattle.places.specs.Ends.{ChildrenEnd}
-use Rattle.places.proofs.KindLaws.{kind-back}
-use Rattle.places.proofs.PlaceLaws.{length-place, length-places, kept-place, kept-places, before-places, first-offset, first-width, first-kind, first-last}
-use Rattle.places.proofs.RowLaws.{forest-split}
+use Rattle.places.specs.Places.{putPlaces, entryIn, rowsForest, entriesIn, RowLinked, Linked}
+use Rattle.redefines.specs.Targets.{isTarget, baseAfter}
+use Rattle.places.specs.Children.{ChildrenEnd, Numbered}
+use Rattle.kinds.proofs.Back.{kind-back}
+use Rattle.places.proofs.PlaceLaws.{length-place, kept-place, before-place, after-place, membersPut, firstPut, length-places, kept-places, before-places, statement-places, first-offset, first-width, first-kind, first-last, first-below, first-slack, first-base}
+use Rattle.redefines.proofs.SearchLaws.{back, back-none, back-step, after-same}
+use Rattle.places.proofs.RowLaws.{children-end, forest-split}
 
 -- ---------------------------------------------------------------- sizes
 
@@ -47,7 +55,8 @@ size-stretch w a b = size-forest (statementsFrom w a (b - a)) ∙ length-stateme
 pub record EntryOf (s : Statement) (e : Entry) : Type 0 where
   pub place : ℕ
   pub contents : Pictured
-  pub is : e ≡ entryOf s contents place
+  pub slack : ℕ
+  pub is : e ≡ entryOf s contents place slack
   pub bytes : Bytes (contents .kind)
 
 -- a list of entries has an entry for each statement of a forest, in its shape
@@ -96,33 +105,35 @@ rows-same w w′ h k (item s kids later) r =
 -- ---------------------------------------------------------------- entries in rows
 
 -- an entry is read from its row
-pub entry-same : (w w′ : List ℕ) (k : ℕ) → ((c : ℕ) → c < 18 → cell w k c ≡ cell w′ k c) → entryIn w k ≡ entryIn w′ k
+pub entry-same : (w w′ : List ℕ) (k : ℕ) → ((c : ℕ) → c < BASE → cell w k c ≡ cell w′ k c) → entryIn w k ≡ entryIn w′ k
 entry-same w w′ k h =
     cc (
-      h 2 (lit< tt),
-      h 3 (lit< tt),
-      h 4 (lit< tt),
-      h 5 (lit< tt),
-      h 6 (lit< tt),
-      h 10 (lit< tt),
-      h 11 (lit< tt),
-      h 12 (lit< tt),
-      h 13 (lit< tt),
-      h 14 (lit< tt),
-      h 15 (lit< tt),
+      h LEVEL (lit< tt),
+      h AT (lit< tt),
+      h NAME (lit< tt),
+      h PICTURE (lit< tt),
+      h DEPENDING (lit< tt),
+      h REDEFINES (lit< tt),
+      h SAID (lit< tt),
+      h LOW (lit< tt),
+      h HIGH (lit< tt),
+      h OFFSET (lit< tt),
+      h WIDTH (lit< tt),
+      h KIND (lit< tt),
+      h SLACK (lit< tt),
     )
 
 -- and the entries of a list from its rows
 pub entries-same :
     (w w′ : List ℕ) (k : ℕ) (f : Forest) →
-    ((j c : ℕ) → j < k + size f → c < 18 → cell w j c ≡ cell w′ j c) →
+    ((j c : ℕ) → k ≤ j → j < k + size f → c < BASE → cell w j c ≡ cell w′ j c) →
     entriesIn w k f ≡ entriesIn w′ k f
 unfolding entriesIn
 entries-same w w′ k leaf h = refl
 entries-same w w′ k (item s kids later) h =
-    let own = entry-same w w′ k (λ c l. h k c (omega arith) l) in
-    let members = entries-same w w′ (suc k) kids (λ j c m l. h j c (omega arith) l) in
-    let more = entries-same w w′ (suc k + size kids) later (λ j c m l. h j c (omega arith) l) in
+    let own = entry-same w w′ k (λ c l. h k c (omega arith) (omega arith) l) in
+    let members = entries-same w w′ (suc k) kids (λ j c p m l. h j c (omega arith) (omega arith) l) in
+    let more = entries-same w w′ (suc k + size kids) later (λ j c p m l. h j c (omega arith) (omega arith) l) in
     λ i. entry (own i) (members i) (more i)
 
 -- a row with an entry's statement and place holds the entry
@@ -130,18 +141,20 @@ entry-held :
     (w : List ℕ) (k : ℕ) (s : Statement) (e : Entry) →
     EntryOf s e →
     statementAt w k ≡ s →
-    cell w k 13 ≡ e .offset →
-    cell w k 14 ≡ e .width →
-    cell w k 15 ≡ kindCode (e .kind) →
+    cell w k OFFSET ≡ e .offset →
+    cell w k WIDTH ≡ e .width →
+    cell w k KIND ≡ kindCode (e .kind) →
+    cell w k SLACK ≡ e .slack →
     entryIn w k ≡ e
-entry-held w k s e o h a b c =
-    let kind : kindOfCode (cell w k 15) ≡ o .contents .kind =
-    ap kindOfCode (c ∙ ap (λ (x : Entry). kindCode (x .kind)) (o .is)) ∙ kind-back (o .contents .kind) (o .bytes) in
-    let a′ : cell w k 13 ≡ o .place = a ∙ ap (λ (x : Entry). x .offset) (o .is) in
-    let b′ : cell w k 14 ≡ o .contents .width = b ∙ ap (λ (x : Entry). x .width) (o .is) in
-    let made : Statement → Entry = λ x. record { at = x .at; name = x .name; offset = cell w k 13; width = cell w k 14; kind = kindOfCode (cell w k 15); picture = x .clauses .picture; occurs = x .clauses .occurs; depending = x .clauses .depending; redefines = x .clauses .redefines } in
+entry-held w k s e o h a b c d =
+    let kind : kindAt (cell w k KIND) ≡ o .contents .kind =
+    ap kindAt (c ∙ ap (λ (x : Entry). kindCode (x .kind)) (o .is)) ∙ kind-back (o .contents .kind) (o .bytes) in
+    let a′ : cell w k OFFSET ≡ o .place = a ∙ ap (λ (x : Entry). x .offset) (o .is) in
+    let b′ : cell w k WIDTH ≡ o .contents .width = b ∙ ap (λ (x : Entry). x .width) (o .is) in
+    let d′ : cell w k SLACK ≡ o .slack = d ∙ ap (λ (x : Entry). x .slack) (o .is) in
+    let made : Statement → Entry = λ x. entryOf x (pictured (kindAt (cell w k KIND)) (cell w k WIDTH)) (cell w k OFFSET) (cell w k SLACK) in
     let same : entryIn w k ≡ made s = ap made h in
-    let whole : made s ≡ entryOf s (o .contents) (o .place) = cc (kind, a′, b′) in
+    let whole : made s ≡ entryOf s (o .contents) (o .place) (o .slack) = cc (kind, a′, b′, d′) in
     same ∙ whole ∙ sym (o .is)
 
 -- ---------------------------------------------------------------- a row, its children and the rest
@@ -157,50 +170,107 @@ module _ (w : List ℕ) (i to j : ℕ) (h : ChildrenEnd w i to j) where
       ap (entriesIn w i) (forest-split w i to j h)
       ∙ ap (λ (n : ℕ). entry (entryIn w i) (entriesIn w (suc i) (rowsForest w (suc i) j)) (entriesIn w n (rowsForest w j to))) next-row
 
-  -- each names the sibling before it
-  pub linked-step : (last : ℕ) → Linked w i last (rowsForest w i to) → (cell w i 16 ≡ last) × Linked w j (suc i) (rowsForest w j to)
-  linked-step last l =
-      let both = subst (Linked w i last) (forest-split w i to j h) l in
-      (both .0, subst (λ (n : ℕ). Linked w n (suc i) (rowsForest w j to)) next-row (both .1))
+  pub linked-step :
+      (t : List ℕ) (last : ℕ) →
+      Linked t w i last (rowsForest w i to) →
+      RowLinked t w i last (rowsForest w (suc i) j) × Linked t w (suc i) 0 (rowsForest w (suc i) j) × Linked t w j (suc i) (rowsForest w j to)
+  linked-step t last l =
+      let all = subst (Linked t w i last) (forest-split w i to j h) l in
+      (all .0, all .1, subst (λ (n : ℕ). Linked t w n (suc i) (rowsForest w j to)) next-row (all .2))
+
+-- a row of a list counts the rows below it
+pub linked-numbered : (t w : List ℕ) (i to last : ℕ) → ROW * to ≤ length w → i < to → Linked t w i last (rowsForest w i to) → Numbered w i to
+linked-numbered t w i to last fits h l =
+    let j = suc i + higher (statementAt w i .level) (statementsFrom w (suc i) (to - suc i)) in
+    let c : ChildrenEnd w i to j = children-end w i to h in
+    let at : j ≡ suc i + cell w i BELOW = sym (ap (λ (n : ℕ). suc i + n) (linked-step w i to j c t last l .0 .below) ∙ next-row w i to j c) in
+    record { low = h; fits = fits; is = subst (ChildrenEnd w i to) at c }
+
+-- a list stays linked where its rows stay as they are, and what is found from before it
+pub linked-same :
+    (t w w′ : List ℕ) (f : Forest) (k last : ℕ) →
+    last ≤ k →
+    ((j c : ℕ) → k ≤ j → j < k + size f → c < NEXT → cell w j c ≡ cell w′ j c) →
+    ((target : Span) → back t w target last ≡ back t w′ target last) →
+    Linked t w k last f →
+    Linked t w′ k last f
+linked-same t w w′ leaf k last l h same x = tt
+linked-same t w w′ (item s kids later) k last l h same x =
+    let row : (c : ℕ) → c < NEXT → cell w k c ≡ cell w′ k c = λ c m. h k c (omega arith) (omega arith) m in
+    let before : cell w′ k BEFORE ≡ last = sym (row BEFORE (lit< tt)) ∙ x .0 .before in
+    let r = spanAt (cell w′ k REDEFINES) in (
+      record {
+        before = before;
+        below = sym (row BELOW (lit< tt)) ∙ x .0 .below;
+        base =
+            sym (row BASE (lit< tt))
+            ∙ x .0 .base
+            ∙ ap (λ (n : ℕ). if given (spanAt n) then back t w (spanAt n) last else 0) (row REDEFINES (lit< tt))
+            ∙ ap (λ (n : ℕ). if given r then n else 0) (same r);
+      },
+      linked-same t w w′ kids (suc k) 0 (omega arith) (λ j c p q m. h j c (omega arith) (omega arith) m) (λ target. back-none t w target ∙ sym (back-none t w′ target)) (x .1),
+      linked-same t w w′ later (suc k + size kids) (suc k) (omega arith) (λ j c p q m. h j c (omega arith) (omega arith) m)
+          (λ target.
+          back-step t w target k last (x .0 .before) l
+          ∙ ap₂ (λ (a b : ℕ). if (if given (spanAt a) then false else sameName t target (spanAt b)) then suc k else back t w target last) (row REDEFINES (lit< tt)) (row NAME (lit< tt))
+          ∙ ap (λ (n : ℕ). if isTarget t target true w′ k then suc k else n) (same target)
+          ∙ sym (back-step t w′ target k last before l))
+          (x .2),
+    )
 
 -- ---------------------------------------------------------------- the places of a list
 
--- the entries of a list, and the sibling before each, as the rows hold them
-pub record Held (w : List ℕ) (k last : ℕ) (f : Forest) (es : Entries) : Type 0 where
+-- the entries of a list as the rows hold them, and how the rows stand together
+pub record Held (t w : List ℕ) (k last : ℕ) (f : Forest) (es : Entries) : Type 0 where
   pub entries : entriesIn w k f ≡ es
-  pub linked : Linked w k last f
+  pub linked : Linked t w k last f
 
 pub places-held :
-    (f : Forest) (es : Entries) (w : List ℕ) (k last : ℕ) →
+    (t : List ℕ) (f : Forest) (es : Entries) (w : List ℕ) (k last : ℕ) →
+    last ≤ k →
     Of f es →
     Rows w k f →
-    20 * (k + size f) ≤ length w →
-    Held (putPlaces w k last es) k last f es
+    ROW * (k + size f) ≤ length w →
+    Held t (putPlaces t w k last es) k last f es
 unfolding entriesIn putPlaces
-places-held leaf end w k last o r fits = record { entries = refl; linked = tt }
-places-held leaf (entry e members more) w k last o r fits = absurd o
-places-held (item s kids later) end w k last o r fits = absurd o
-places-held (item s kids later) (entry e members more) w k last o r fits =
+places-held t leaf end w k last b o r fits = record { entries = refl; linked = tt }
+places-held t leaf (entry e members more) w k last b o r fits = absurd o
+places-held t (item s kids later) end w k last b o r fits = absurd o
+places-held t (item s kids later) (entry e members more) w k last b o r fits =
     let m : entries# members ≡ size kids = of-size kids members (o .1) in
-    let w₁ = putPlace w k last (entries# members) e in
-    let w₂ = putPlaces w₁ (suc k) 0 members in
+    let w₁ = membersPut t w k members in
+    let base = baseAfter t w₁ k last in
+    let w₂ = firstPut t w k last e members in
     let n = suc k + entries# members in
     let at : n ≡ suc k + size kids = omega (arith, m) in
-    let w₃ = putPlaces w₂ n (suc k) more in
-    let room : 20 * k + 20 ≤ length w = omega arith in
-    let l₁ : length w₁ ≡ length w = length-place w k last (entries# members) e in
-    let l₂ : length w₂ ≡ length w = length-places members w₁ (suc k) 0 ∙ l₁ in
-    let s₁ : (j : ℕ) → statementAt w j ≡ statementAt w₁ j = λ j. statement-same w j w₁ (λ c l. sym (kept-place w k last (entries# members) e j c l)) in
-    let s₂ : (j : ℕ) → statementAt w j ≡ statementAt w₂ j = λ j. s₁ j ∙ statement-same w₁ j w₂ (λ c l. sym (kept-places members w₁ (suc k) 0 j c l)) in
-    let s₃ : statementAt w₃ k ≡ s = statement-same w₃ k w₂ (λ c l. kept-places more w₂ n (suc k) k c l) ∙ sym (s₂ k) ∙ r .0 in
+    let w₃ = putPlaces t w₂ n (suc k) more in
+    let room : ROW * k + ROW ≤ length w = omega arith in
+    let l₁ : length w₁ ≡ length w = length-places t members w (suc k) 0 in
+    let l₂ : length w₂ ≡ length w = length-place w₁ k last (entries# members) base e ∙ l₁ in
+    let s₁ : (j : ℕ) → statementAt w₁ j ≡ statementAt w j = statement-places t members w (suc k) 0 in
+    let s₂ : (j : ℕ) → statementAt w j ≡ statementAt w₂ j = λ j. sym (statement-same w₂ j w₁ (λ c l. kept-place w₁ k last (entries# members) base e j c l) ∙ s₁ j) in
+    let s₃ : statementAt w₃ k ≡ s = statement-places t more w₂ n (suc k) k ∙ sym (s₂ k) ∙ r .0 in
     let own : entryIn w₃ k ≡ e =
-    entry-held w₃ k s e (o .0) s₃ (first-offset e members more w k last room) (first-width e members more w k last room) (first-kind e members more w k last room) in
-    let inner = places-held kids members w₁ (suc k) 0 (o .1) (rows-same w w₁ s₁ (suc k) kids (r .1)) (omega (arith, l₁)) in
-    let rest = places-held later more w₂ (suc k + size kids) (suc k) (o .2) (rows-same w w₂ s₂ (suc k + size kids) later (r .2)) (omega (arith, l₂)) in
-    let rest′ : Held w₃ (suc k + size kids) (suc k) later more = subst (λ (x : ℕ). Held (putPlaces w₂ x (suc k) more) (suc k + size kids) (suc k) later more) (sym at) rest in
-    let kept : entriesIn w₃ (suc k) kids ≡ members =
-    entries-same w₃ w₂ (suc k) kids (λ j c h l. before-places more w₂ n (suc k) j c (omega arith) (omega arith)) ∙ inner .entries in
+    entry-held w₃ k s e (o .0) s₃ (first-offset t e members more w k last room) (first-width t e members more w k last room) (first-kind t e members more w k last room) (first-slack t e members more w k last room) in
+    let inner = places-held t kids members w (suc k) 0 (omega arith) (o .1) (r .1) (omega arith) in
+    let rest = places-held t later more w₂ (suc k + size kids) (suc k) (omega arith) (o .2) (rows-same w w₂ s₂ (suc k + size kids) later (r .2)) (omega (arith, l₂)) in
+    let rest′ : Held t w₃ (suc k + size kids) (suc k) later more = subst (λ (x : ℕ). Held t (putPlaces t w₂ x (suc k) more) (suc k + size kids) (suc k) later more) (sym at) rest in
+    let low : (j c : ℕ) → j < k → c < ROW → cell w₁ j c ≡ cell w₃ j c =
+    λ j c l q. sym (before-places t more w₂ n (suc k) j c (omega arith) q ∙ before-place w₁ k last (entries# members) base e j c l q) in
+    let kept : (j c : ℕ) → suc k ≤ j → j < suc k + size kids → c < ROW → cell w₁ j c ≡ cell w₃ j c =
+    λ j c l q c′. sym (before-places t more w₂ n (suc k) j c (omega arith) c′ ∙ after-place w₁ k last (entries# members) base e j c l) in
+    let redefines : cell w₁ k REDEFINES ≡ cell w₃ k REDEFINES =
+    sym (kept-places t more w₂ n (suc k) k REDEFINES (lit< tt) ∙ kept-place w₁ k last (entries# members) base e k REDEFINES (lit< tt)) in
+    let members-held : entriesIn w₃ (suc k) kids ≡ members = sym (entries-same w₁ w₃ (suc k) kids (λ j c l q c′. kept j c l q (omega arith))) ∙ inner .entries in
     record {
-      entries = λ i. entry (own i) (kept i) (rest′ .entries i);
-      linked = (first-last e members more w k last room, rest′ .linked);
+      entries = λ i. entry (own i) (members-held i) (rest′ .entries i);
+      linked = (
+        record {
+          before = first-last t e members more w k last room;
+          below = first-below t e members more w k last room ∙ m;
+          base = first-base t e members more w k last room ∙ after-same t w₁ w₃ k last redefines (λ j c l q. low j c (omega arith) q);
+        },
+        linked-same t w₁ w₃ kids (suc k) 0 (omega arith) (λ j c l q c′. kept j c l q (omega arith)) (λ target. back-none t w₁ target ∙ sym (back-none t w₃ target)) (inner .linked),
+        rest′ .linked,
+      );
     }

@@ -1,6 +1,3 @@
-pub mod KindLaws
 pub mod PlaceLaws
-pub mod SearchLaws
 pub mod RowLaws
 pub mod EntriesLaws
-pub mod EndLaws

@@ -1,157 +1,172 @@
--- Laws of the places in the table: what a place leaves alone, and how it is read back; places written in another order; the earlier siblings.
+-- Laws of the places in the table: what a place leaves alone, and how it is read back; the earlier siblings.
 -- Assumes nothing.
 use Prim.Native.Nat.{ℕ, zero, suc, _+_, _*_, _≤_, _<_}
-use mathlib.Core.Path.{_≡_, refl, ap, ap₂, _∙_}
+use mathlib.Core.Path.{_≡_, refl, ap, ap₂, subst, _∙_}
 use mathlib.Core.Bool.{Bool, true, false}
-use mathlib.Core.List.{List, [], _∷_}
+use mathlib.Core.List.{List, _∷_}
 use mathlib.Core.Logic.{⊎-elim}
 use native.Mathlib.Omega.{arith}
 use lib.Dec.{lit<}
-use lib.ListN.{length, getD, set}
-use lib.Seq.{sets, set-comm, length-sets}
+use lib.ListN.{length, getD}
+use lib.Seq.{length-sets}
 use borrow.Author.Tests.{eq-eqb, ne-eqb}
 use Rattle.definition.specs.declared.Statement.{Statement}
 use Rattle.definition.specs.declared.Entry.{Entry}
 use Rattle.definition.specs.Fold.{Entries, end, entry}
 use Rattle.definition.specs.Search.{entries#}
 use Rattle.definition.proofs.Lists.{order}
+use Rattle.kinds.specs.Kinds.{kindCode}
+use Rattle.rows.specs.Columns.{ROW, NAME, REDEFINES, OFFSET, WIDTH, KIND, BEFORE, BELOW, SLACK, BASE, NEXT}
 use Rattle.rows.specs.Table.{cell, statementAt, statementsFrom}
 use Rattle.rows.proofs.TableLaws.{getD-below, getD-above, getD-in, statement-same}
-use Rattle.places.specs.Places.{kindCode, placeCells, putPlace, putPlaces, placeAt, leftOut, seenFrom}
-
--- ---------------------------------------------------------------- runs of stores
-
-set-sets : (vs l : List ℕ) (i j a : ℕ) → j < i → set (sets l i vs) j a ≡ sets (set l j a) i vs
-set-sets [] l i j a h = refl
-set-sets (v ∷ vs) l i j a h =
-    set-sets vs (set l i v) (suc i) j a (omega arith) ∙ ap (λ (x : List ℕ). sets x (suc i) vs) (set-comm l i j v a (omega arith))
-
-sets-sets : (us vs l : List ℕ) (i j : ℕ) → j + length us ≤ i → sets (sets l i vs) j us ≡ sets (sets l j us) i vs
-sets-sets [] vs l i j h = refl
-sets-sets (u ∷ us) vs l i j h =
-    ap (λ (x : List ℕ). sets x (suc j) us) (set-sets vs l i j u (omega arith)) ∙ sets-sets us vs (set l j u) i (suc j) (omega arith)
+use Rattle.places.specs.Places.{placeCells, putPlace, putPlaces}
+use Rattle.redefines.specs.Targets.{baseAfter, placeAt, leftOut, seenFrom}
 
 -- ---------------------------------------------------------------- one place
 
-module _ (w : List ℕ) (a last below : ℕ) (e : Entry) where
-  pub length-place : length (putPlace w a last below e) ≡ length w
+module _ (w : List ℕ) (a last below base : ℕ) (e : Entry) where
+  pub length-place : length (putPlace w a last below base e) ≡ length w
   unfolding putPlace
-  length-place = length-sets w (20 * a + 13) (placeCells e last below)
+  length-place = length-sets w (ROW * a + OFFSET) (placeCells e last below base)
 
-  -- its five columns
-  place-in : 20 * a + 20 ≤ length w → (c : ℕ) → c < 5 → cell (putPlace w a last below e) a (13 + c) ≡ getD (placeCells e last below) c 0
+  -- its seven columns
+  place-in : ROW * a + ROW ≤ length w → (c : ℕ) → c < 8 → cell (putPlace w a last below base e) a (OFFSET + c) ≡ getD (placeCells e last below base) c 0
   unfolding putPlace
-  place-in h c l = getD-in (placeCells e last below) w (20 * a + 13) c (20 * a + (13 + c)) (omega arith) l (omega arith)
+  place-in h c l = getD-in (placeCells e last below base) w (ROW * a + OFFSET) c (ROW * a + (OFFSET + c)) (omega arith) l (omega arith)
 
   -- the columns of the statements
-  pub kept-place : (k c : ℕ) → c < 13 → cell (putPlace w a last below e) k c ≡ cell w k c
+  pub kept-place : (k c : ℕ) → c < OFFSET → cell (putPlace w a last below base e) k c ≡ cell w k c
   unfolding putPlace
   kept-place k c l =
       ⊎-elim
-      (λ (more : a < k). getD-above (placeCells e last below) w (20 * a + 13) (20 * k + c) (omega arith))
-      (λ (less : k ≤ a). getD-below (placeCells e last below) w (20 * a + 13) (20 * k + c) (omega arith))
+      (λ (more : a < k). getD-above (placeCells e last below base) w (ROW * a + OFFSET) (ROW * k + c) (omega arith))
+      (λ (less : k ≤ a). getD-below (placeCells e last below base) w (ROW * a + OFFSET) (ROW * k + c) (omega arith))
       (order a k)
 
   -- the rows before it, and after it
-  before-place : (k c : ℕ) → k < a → c < 20 → cell (putPlace w a last below e) k c ≡ cell w k c
+  pub before-place : (k c : ℕ) → k < a → c < ROW → cell (putPlace w a last below base e) k c ≡ cell w k c
   unfolding putPlace
-  before-place k c h l = getD-below (placeCells e last below) w (20 * a + 13) (20 * k + c) (omega arith)
+  before-place k c h l = getD-below (placeCells e last below base) w (ROW * a + OFFSET) (ROW * k + c) (omega arith)
 
-  after-place : (k c : ℕ) → a < k → cell (putPlace w a last below e) k c ≡ cell w k c
+  pub after-place : (k c : ℕ) → a < k → cell (putPlace w a last below base e) k c ≡ cell w k c
   unfolding putPlace
-  after-place k c h = getD-above (placeCells e last below) w (20 * a + 13) (20 * k + c) (omega arith)
-
-  place-place : (b m n : ℕ) (d : Entry) → a < b → putPlace (putPlace w b m n d) a last below e ≡ putPlace (putPlace w a last below e) b m n d
-  unfolding putPlace
-  place-place b m n d h = sets-sets (placeCells e last below) (placeCells d m n) w (20 * b + 13) (20 * a + 13) (omega arith)
+  after-place k c h = getD-above (placeCells e last below base) w (ROW * a + OFFSET) (ROW * k + c) (omega arith)
 
 -- ---------------------------------------------------------------- the places of a list
 
-pub length-places : (es : Entries) (w : List ℕ) (a last : ℕ) → length (putPlaces w a last es) ≡ length w
-unfolding putPlaces
-length-places end w a last = refl
-length-places (entry e members later) w a last =
-    let w₁ = putPlace w a last (entries# members) e in
-    length-places later (putPlaces w₁ (suc a) 0 members) (suc a + entries# members) (suc a)
-    ∙ length-places members w₁ (suc a) 0
-    ∙ length-place w a last (entries# members) e
+module _ (t : List ℕ) where
+  -- the table with the members' places, and with the first entry's too
+  abbrev pub membersPut : List ℕ → ℕ → Entries → List ℕ
+  membersPut w a members = putPlaces t w (suc a) 0 members
 
--- every statement is as it was
-pub kept-places : (es : Entries) (w : List ℕ) (a last k c : ℕ) → c < 13 → cell (putPlaces w a last es) k c ≡ cell w k c
-unfolding putPlaces
-kept-places end w a last k c l = refl
-kept-places (entry e members later) w a last k c l =
-    let w₁ = putPlace w a last (entries# members) e in
-    kept-places later (putPlaces w₁ (suc a) 0 members) (suc a + entries# members) (suc a) k c l
-    ∙ kept-places members w₁ (suc a) 0 k c l
-    ∙ kept-place w a last (entries# members) e k c l
+  abbrev pub firstPut : List ℕ → ℕ → ℕ → Entry → Entries → List ℕ
+  firstPut w a last e members = putPlace (membersPut w a members) a last (entries# members) (baseAfter t (membersPut w a members) a last) e
 
--- and every row outside
-pub before-places : (es : Entries) (w : List ℕ) (a last k c : ℕ) → k < a → c < 20 → cell (putPlaces w a last es) k c ≡ cell w k c
-unfolding putPlaces
-before-places end w a last k c h l = refl
-before-places (entry e members later) w a last k c h l =
-    let w₁ = putPlace w a last (entries# members) e in
-    before-places later (putPlaces w₁ (suc a) 0 members) (suc a + entries# members) (suc a) k c (omega arith) l
-    ∙ before-places members w₁ (suc a) 0 k c (omega arith) l
-    ∙ before-place w a last (entries# members) e k c h l
-
-pub after-places : (es : Entries) (w : List ℕ) (a last k c : ℕ) → a + entries# es ≤ k → cell (putPlaces w a last es) k c ≡ cell w k c
-unfolding putPlaces
-after-places end w a last k c h = refl
-after-places (entry e members later) w a last k c h =
-    let w₁ = putPlace w a last (entries# members) e in
-    after-places later (putPlaces w₁ (suc a) 0 members) (suc a + entries# members) (suc a) k c (omega arith)
-    ∙ after-places members w₁ (suc a) 0 k c (omega arith)
-    ∙ after-place w a last (entries# members) e k c (omega arith)
-
-module _ (es : Entries) (w : List ℕ) (a last : ℕ) where
-  pub statement-places : (k : ℕ) → statementAt (putPlaces w a last es) k ≡ statementAt w k
-  statement-places k = statement-same (putPlaces w a last es) k w (λ c l. kept-places es w a last k c l)
-
-  pub statements-places : (k n : ℕ) → statementsFrom (putPlaces w a last es) k n ≡ statementsFrom w k n
-  unfolding statementsFrom
-  statements-places k zero = refl
-  statements-places k (suc n) = ap₂ (λ (x : Statement) (xs : List Statement). x ∷ xs) (statement-places k) (statements-places (suc k) n)
-
--- a place written after those of later rows, as if before them
-pub place-late :
-    (es : Entries) (w : List ℕ) (a b last m n : ℕ) (d : Entry) →
-    a < b →
-    putPlace (putPlaces w b last es) a m n d ≡ putPlaces (putPlace w a m n d) b last es
-unfolding putPlaces
-place-late end w a b last m n d h = refl
-place-late (entry e members later) w a b last m n d h =
-    let w₁ = putPlace w b last (entries# members) e in
-    let next = suc b + entries# members in
-    place-late later (putPlaces w₁ (suc b) 0 members) a next (suc b) m n d (omega arith)
-    ∙ ap (λ (x : List ℕ). putPlaces x next (suc b) later)
-    (place-late members w₁ a (suc b) 0 m n d (omega arith) ∙ ap (λ (x : List ℕ). putPlaces x (suc b) 0 members) (place-place w a m n d b last (entries# members) e h))
-
--- the first place of a list is read back
-module _ (e : Entry) (members later : Entries) (w : List ℕ) (a last : ℕ) (fits : 20 * a + 20 ≤ length w) where
-  first-place : (c : ℕ) → c < 5 → cell (putPlaces w a last (entry e members later)) a (13 + c) ≡ getD (placeCells e last (entries# members)) c 0
+  pub length-places : (es : Entries) (w : List ℕ) (a last : ℕ) → length (putPlaces t w a last es) ≡ length w
   unfolding putPlaces
-  first-place c l =
-      let w₁ = putPlace w a last (entries# members) e in
-      before-places later (putPlaces w₁ (suc a) 0 members) (suc a + entries# members) (suc a) a (13 + c) (omega arith) (omega arith)
-      ∙ before-places members w₁ (suc a) 0 a (13 + c) (omega arith) (omega arith)
-      ∙ place-in w a last (entries# members) e fits c l
+  length-places end w a last = refl
+  length-places (entry e members later) w a last =
+      let w₁ = membersPut w a members in
+      length-places later (firstPut w a last e members) (suc a + entries# members) (suc a)
+      ∙ length-place w₁ a last (entries# members) (baseAfter t w₁ a last) e
+      ∙ length-places members w (suc a) 0
 
-  pub first-offset : cell (putPlaces w a last (entry e members later)) a 13 ≡ e .offset
-  first-offset = first-place 0 (lit< tt)
+  -- every statement is as it was
+  pub kept-places : (es : Entries) (w : List ℕ) (a last k c : ℕ) → c < OFFSET → cell (putPlaces t w a last es) k c ≡ cell w k c
+  unfolding putPlaces
+  kept-places end w a last k c l = refl
+  kept-places (entry e members later) w a last k c l =
+      let w₁ = membersPut w a members in
+      kept-places later (firstPut w a last e members) (suc a + entries# members) (suc a) k c l
+      ∙ kept-place w₁ a last (entries# members) (baseAfter t w₁ a last) e k c l
+      ∙ kept-places members w (suc a) 0 k c l
 
-  pub first-width : cell (putPlaces w a last (entry e members later)) a 14 ≡ e .width
-  first-width = first-place 1 (lit< tt)
+  -- and every row outside
+  pub before-places : (es : Entries) (w : List ℕ) (a last k c : ℕ) → k < a → c < ROW → cell (putPlaces t w a last es) k c ≡ cell w k c
+  unfolding putPlaces
+  before-places end w a last k c h l = refl
+  before-places (entry e members later) w a last k c h l =
+      let w₁ = membersPut w a members in
+      before-places later (firstPut w a last e members) (suc a + entries# members) (suc a) k c (omega arith) l
+      ∙ before-place w₁ a last (entries# members) (baseAfter t w₁ a last) e k c h l
+      ∙ before-places members w (suc a) 0 k c (omega arith) l
 
-  pub first-kind : cell (putPlaces w a last (entry e members later)) a 15 ≡ kindCode (e .kind)
-  first-kind = first-place 2 (lit< tt)
+  module _ (es : Entries) (w : List ℕ) (a last : ℕ) where
+    pub statement-places : (k : ℕ) → statementAt (putPlaces t w a last es) k ≡ statementAt w k
+    statement-places k = statement-same (putPlaces t w a last es) k w (λ c l. kept-places es w a last k c l)
 
-  pub first-last : cell (putPlaces w a last (entry e members later)) a 16 ≡ last
-  first-last = first-place 3 (lit< tt)
+    pub statements-places : (k n : ℕ) → statementsFrom (putPlaces t w a last es) k n ≡ statementsFrom w k n
+    unfolding statementsFrom
+    statements-places k zero = refl
+    statements-places k (suc n) = ap₂ (λ (x : Statement) (xs : List Statement). x ∷ xs) (statement-places k) (statements-places (suc k) n)
 
-  pub first-below : cell (putPlaces w a last (entry e members later)) a 17 ≡ entries# members
-  first-below = first-place 4 (lit< tt)
+  -- the first place of a list is read back
+  module _ (e : Entry) (members later : Entries) (w : List ℕ) (a last : ℕ) (fits : ROW * a + ROW ≤ length w) where
+    abbrev whole : List ℕ
+    whole = putPlaces t w a last (entry e members later)
+
+    first-place :
+        (c : ℕ) → c < 8 → cell whole a (OFFSET + c) ≡ getD (placeCells e last (entries# members) (baseAfter t (membersPut w a members) a last)) c 0
+    unfolding putPlaces
+    first-place c l =
+        let w₁ = membersPut w a members in
+        before-places later (firstPut w a last e members) (suc a + entries# members) (suc a) a (OFFSET + c) (omega arith) (omega arith)
+        ∙ place-in w₁ a last (entries# members) (baseAfter t w₁ a last) e (omega (arith, length-places members w (suc a) 0)) c l
+
+    pub first-offset : cell whole a OFFSET ≡ e .offset
+    first-offset = first-place 0 (lit< tt)
+
+    pub first-width : cell whole a WIDTH ≡ e .width
+    first-width = first-place 1 (lit< tt)
+
+    pub first-kind : cell whole a KIND ≡ kindCode (e .kind)
+    first-kind = first-place 2 (lit< tt)
+
+    pub first-last : cell whole a BEFORE ≡ last
+    first-last = first-place 3 (lit< tt)
+
+    pub first-below : cell whole a BELOW ≡ entries# members
+    first-below = first-place 4 (lit< tt)
+
+    pub first-slack : cell whole a SLACK ≡ e .slack
+    first-slack = first-place 5 (lit< tt)
+
+    pub first-base : cell whole a BASE ≡ baseAfter t (membersPut w a members) a last
+    first-base = first-place 6 (lit< tt)
+
+    pub first-next : cell whole a NEXT ≡ 0
+    first-next = first-place 7 (lit< tt)
+
+  -- no row names a next one of its union
+  pub places-next :
+      (es : Entries) (w : List ℕ) (a last : ℕ) →
+      ROW * (a + entries# es) ≤ length w →
+      (k : ℕ) →
+      a ≤ k →
+      k < a + entries# es →
+      cell (putPlaces t w a last es) k NEXT ≡ 0
+  unfolding putPlaces
+  places-next end w a last fits k l h = absurd (omega arith)
+  places-next (entry e members later) w a last fits k l h =
+      let w₁ = membersPut w a members in
+      let w₂ = firstPut w a last e members in
+      let n = suc a + entries# members in
+      let l₁ = length-places members w (suc a) 0 in
+      let l₂ = length-place w₁ a last (entries# members) (baseAfter t w₁ a last) e in
+      let inner = places-next members w (suc a) 0 (omega arith) k in
+      let rest = places-next later w₂ n (suc a) (omega (arith, l₁, l₂)) k in
+      ⊎-elim
+      (λ (p : a < k).
+      ⊎-elim
+      (λ (q : k < n).
+      before-places later w₂ n (suc a) k NEXT q (lit< tt)
+      ∙ after-place w₁ a last (entries# members) (baseAfter t w₁ a last) e k NEXT p
+      ∙ inner p q)
+      (λ (q : n ≤ k). rest q (omega arith))
+      (order k n))
+      (λ (p : k ≤ a).
+      subst (λ (m : ℕ). cell (putPlaces t w a last (entry e members later)) m NEXT ≡ 0) (let z : a ≡ k = omega arith in z) (first-next e members later w a last (omega arith)))
+      (order a k)
 
 -- ---------------------------------------------------------------- the earlier siblings
 
@@ -172,22 +187,22 @@ module _ (bases : Bool) (w : List ℕ) where
 
   -- the latest sibling, and those before it
   module _ (k : ℕ) where
-    pub seen-out : leftOut bases w k ≡ true → seenFrom bases w (suc k) (suc k) ≡ seenFrom bases w k (cell w k 16)
+    pub seen-out : leftOut bases w k ≡ true → seenFrom bases w (suc k) (suc k) ≡ seenFrom bases w k (cell w k BEFORE)
     unfolding seenFrom
     seen-out h = rw (h, eq-eqb (suc k) (suc k) refl, seenFrom)
 
-    pub seen-in : leftOut bases w k ≡ false → seenFrom bases w (suc k) (suc k) ≡ placeAt w k ∷ seenFrom bases w k (cell w k 16)
+    pub seen-in : leftOut bases w k ≡ false → seenFrom bases w (suc k) (suc k) ≡ placeAt w k ∷ seenFrom bases w k (cell w k BEFORE)
     unfolding seenFrom
     seen-in h = rw (h, eq-eqb (suc k) (suc k) refl, seenFrom)
 
 -- they are read from the rows before
 pub seen-same :
     (bases : Bool) (w w′ : List ℕ) (n last : ℕ) →
-    ((k c : ℕ) → k < n → c < 20 → cell w k c ≡ cell w′ k c) →
+    ((k c : ℕ) → k < n → c < ROW → cell w k c ≡ cell w′ k c) →
     seenFrom bases w n last ≡ seenFrom bases w′ n last
 unfolding seenFrom
 seen-same bases w w′ zero last h = refl
 seen-same bases w w′ (suc k) last h =
-    let back = seen-same bases w w′ k (cell w k 16) (λ j c l m. h j c (omega arith) m) in
+    let back = seen-same bases w w′ k (cell w k BEFORE) (λ j c l m. h j c (omega arith) m) in
     let on = seen-same bases w w′ k last (λ j c l m. h j c (omega arith) m) in
-    cc (h k 3 (omega arith) (lit< tt), h k 6 (omega arith) (lit< tt), h k 13 (omega arith) (lit< tt), h k 16 (omega arith) (lit< tt), back, on)
+    cc (h k NAME (omega arith) (lit< tt), h k REDEFINES (omega arith) (lit< tt), h k OFFSET (omega arith) (lit< tt), h k BEFORE (omega arith) (lit< tt), back, on)

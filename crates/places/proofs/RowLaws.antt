@@ -12,7 +12,7 @@ use Rattle.definition.specs.Tree.{leaf, item, forest, higher}
 use Rattle.definition.proofs.TreeLaws.{forest-none, forest-cons, higher-length}
 use Rattle.rows.specs.Table.{statementAt, statementsFrom}
 use Rattle.rows.proofs.TableLaws.{length-statements}
-use Rattle.places.specs.Ends.{ChildrenEnd}
+use Rattle.places.specs.Children.{ChildrenEnd}
 
 module _ (w : List ℕ) where
   -- the rows a to before b: the first and the rest, or none

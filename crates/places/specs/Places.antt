@@ -1,147 +1,64 @@
--- What the layout adds to the rows of the table: columns 13 to 17 of row k hold the offset, the width and the kind of its entry, the previous
--- sibling (0 for none, else its row and 1) and the number of rows below it.
+-- What the layout adds to the rows of the table: columns OFFSET to BASE of row k hold the offset, the width and the
+-- kind of its entry, the previous sibling, the number of rows below it, the slack before it and its base (a sibling and
+-- a base as the row and 1, or 0 for none).
 -- Assumes nothing.
-use Prim.Native.Nat.{ℕ, zero, suc, _+_, _*_, _-_, _/_, _%_, _<_}
+use Prim.Native.Nat.{ℕ, suc, _+_, _*_, _-_, _%_}
 use mathlib.Core.Path.{_≡_}
-use mathlib.Core.Bool.{Bool, true, false, _&&_}
+use mathlib.Core.Bool.{false}
 use mathlib.Core.List.{List, [], _∷_}
-use mathlib.Core.Option.{Option, none, some}
-use lib.Dec.{eqb}
 use lib.Seq.{sets}
-use Rattle.definition.specs.declared.Span.{Span}
-use Rattle.definition.specs.declared.SignKind.{SignKind}
-use Rattle.definition.specs.declared.NumRepr.{NumRepr}
-use Rattle.definition.specs.declared.FieldKind.{FieldKind}
 use Rattle.definition.specs.declared.Entry.{Entry}
-use Rattle.definition.specs.Basic.{if_then_else_, given}
 use Rattle.definition.specs.Tree.{Forest, leaf, item, forest}
-use Rattle.definition.specs.Fold.{Entries, end, entry, sameName, Place}
+use Rattle.definition.specs.Fold.{Entries, end, entry}
 use Rattle.definition.specs.Owner.{size}
-use Rattle.definition.specs.Listing.{flag, signByte, storageByte}
 use Rattle.definition.specs.Search.{entries#}
+use Rattle.kinds.specs.Kinds.{kindCode, kindAt}
+use Rattle.rows.specs.Columns.{ROW, LEVEL, AT, NAME, OFFSET, WIDTH, KIND, BEFORE, BELOW, SLACK, BASE}
 use Rattle.rows.specs.Table.{spanAt, cell, clausesAt, statementsFrom}
-use Rattle.places.specs.declared.Target.{Target}
-
--- ---------------------------------------------------------------- a number for a kind
-
--- the kind's own number, and above it what it holds
-abbrev pub kindCode : FieldKind → ℕ
-kindCode FieldKind.Text = 1
-kindCode (FieldKind.Int signed sign) = 2 + 8 * (flag signed + 2 * signByte sign)
-kindCode (FieldKind.Binary signed) = 3 + 8 * flag signed
-kindCode (FieldKind.Decimal precision scale repr sign) = 4 + 8 * (precision + 256 * (scale + 256 * (storageByte repr + 4 * signByte sign)))
-kindCode (FieldKind.Edited precision scale signed) = 5 + 8 * (precision + 256 * (scale + 256 * flag signed))
-kindCode FieldKind.Group = 6
-
--- a sign from the listing's number
-abbrev pub signOfByte : ℕ → SignKind
-signOfByte n =
-    if eqb n 1 then SignKind.Embedded
-    else if eqb n 2 then SignKind.LeadingSeparate
-    else if eqb n 3 then SignKind.TrailingSeparate
-    else SignKind.Unsigned
-
--- a storage from the listing's number
-abbrev pub storageOfByte : ℕ → NumRepr
-storageOfByte n = if eqb n 1 then NumRepr.Comp3 else if eqb n 2 then NumRepr.Zoned else NumRepr.Display
-
--- a kind from its number
-abbrev pub kindOfCode : ℕ → FieldKind
-kindOfCode n =
-    let k = n % 8 in
-    let d = n / 8 in
-    if eqb k 1 then FieldKind.Text
-    else if eqb k 2 then FieldKind.Int (eqb (d % 2) 1) (signOfByte (d / 2 % 4))
-    else if eqb k 3 then FieldKind.Binary (eqb (d % 2) 1)
-    else if eqb k 4 then FieldKind.Decimal (d % 256) (d / 256 % 256) (storageOfByte (d / 65536 % 4)) (signOfByte (d / 262144 % 4))
-    else if eqb k 5 then FieldKind.Edited (d % 256) (d / 256 % 256) (eqb (d / 65536 % 2) 1)
-    else FieldKind.Group
-
--- a kind that its number gives back: its precision and scale are bytes
-abbrev pub Bytes : FieldKind → Type 0
-Bytes FieldKind.Text = Unit {0}
-Bytes (FieldKind.Int signed sign) = Unit {0}
-Bytes (FieldKind.Binary signed) = Unit {0}
-Bytes (FieldKind.Decimal precision scale repr sign) = (precision < 256) × (scale < 256)
-Bytes (FieldKind.Edited precision scale signed) = (precision < 256) × (scale < 256)
-Bytes FieldKind.Group = Unit {0}
-
--- ---------------------------------------------------------------- places
-
--- columns 13 to 17
-abbrev pub placeCells : Entry → ℕ → ℕ → List ℕ
-placeCells e last below = e .offset ∷ e .width ∷ kindCode (e .kind) ∷ last ∷ below ∷ []
-
--- w with the place of an entry in row k, after the sibling `last`
-unfoldable pub putPlace : List ℕ → ℕ → ℕ → ℕ → Entry → List ℕ
-putPlace w k last below e = sets w (20 * k + 13) (placeCells e last below)
-
--- w with the places of a list of entries, and of those below them, from row k on, after the sibling `last`
-unfoldable pub putPlaces : List ℕ → ℕ → ℕ → Entries → List ℕ
-putPlaces w k last end = w
-putPlaces w k last (entry e members later) =
-    putPlaces (putPlaces (putPlace w k last (entries# members) e) (suc k) 0 members) (suc k + entries# members) (suc k) later
-
--- the last sibling of such a list
-unfoldable pub lastOf : ℕ → ℕ → Entries → ℕ
-lastOf k last end = last
-lastOf k last (entry e members later) = lastOf (suc k + entries# members) (suc k) later
+use Rattle.redefines.specs.Targets.{baseAfter}
 
 -- the entry in row k
 abbrev pub entryIn : List ℕ → ℕ → Entry
 entryIn w k =
     let c = clausesAt w k in
     record {
-      at = cell w k 2;
-      name = spanAt (cell w k 3);
-      offset = cell w k 13;
-      width = cell w k 14;
-      kind = kindOfCode (cell w k 15);
+      at = cell w k AT;
+      level = cell w k LEVEL % 256;
+      name = spanAt (cell w k NAME);
+      offset = cell w k OFFSET;
+      width = cell w k WIDTH;
+      kind = kindAt (cell w k KIND);
       picture = c .picture;
       occurs = c .occurs;
       depending = c .depending;
       redefines = c .redefines;
+      over = c .redefines;
+      slack = cell w k SLACK;
+      folded = false;
     }
 
--- the name and the offset of the entry in row k
-abbrev pub placeAt : List ℕ → ℕ → Place
-placeAt w k = record { name = spanAt (cell w k 3); offset = cell w k 13 }
+-- ---------------------------------------------------------------- places
 
--- a search for bases leaves redefiners out
-abbrev pub leftOut : Bool → List ℕ → ℕ → Bool
-leftOut bases w k = bases && given (spanAt (cell w k 6))
+-- columns OFFSET to NEXT; the next row of its union is not known yet
+abbrev pub placeCells : Entry → ℕ → ℕ → ℕ → List ℕ
+placeCells e last below base = e .offset ∷ e .width ∷ kindCode (e .kind) ∷ last ∷ below ∷ e .slack ∷ base ∷ 0 ∷ []
 
--- among the first n rows, the siblings from `last` back, the latest first, or those of them that are bases
-unfoldable pub seenFrom : Bool → List ℕ → ℕ → ℕ → List Place
-seenFrom bases w zero last = []
-seenFrom bases w (suc k) last =
-    if eqb last (suc k) then
-    (if leftOut bases w k then seenFrom bases w k (cell w k 16) else placeAt w k ∷ seenFrom bases w k (cell w k 16))
-    else seenFrom bases w k last
+-- w with the place of an entry in row k, after the sibling `last`
+unfoldable pub putPlace : List ℕ → ℕ → ℕ → ℕ → ℕ → Entry → List ℕ
+putPlace w k last below base e = sets w (ROW * k + OFFSET) (placeCells e last below base)
 
--- the siblings from `last` back
-abbrev pub seenAt : List ℕ → ℕ → List Place
-seenAt w last = seenFrom false w last last
+-- w with the places of a list of entries, from row k on, after the sibling `last`; the places of the entries below one
+-- come before its own
+unfoldable pub putPlaces : List ℕ → List ℕ → ℕ → ℕ → Entries → List ℕ
+putPlaces text w k last end = w
+putPlaces text w k last (entry e members later) =
+    let w₁ = putPlaces text w (suc k) 0 members in
+    putPlaces text (putPlace w₁ k last (entries# members) (baseAfter text w₁ k last) e) (suc k + entries# members) (suc k) later
 
--- those of them that are bases
-abbrev pub basesAt : List ℕ → ℕ → List Place
-basesAt w last = seenFrom true w last last
-
--- row k is what a search for a name ends at
-abbrev pub isTarget : List ℕ → Span → Bool → List ℕ → ℕ → Bool
-isTarget text target bases w k = if leftOut bases w k then false else sameName text target (spanAt (cell w k 3))
-
--- among the first n rows, the one that a search from the sibling `last` back ends at: its row and 1, or 0 for none
-unfoldable pub rowFrom : List ℕ → Span → Bool → List ℕ → ℕ → ℕ → ℕ
-rowFrom text target bases w zero last = 0
-rowFrom text target bases w (suc k) last =
-    if eqb last (suc k) then (if isTarget text target bases w k then suc k else rowFrom text target bases w k (cell w k 16))
-    else rowFrom text target bases w k last
-
--- the offset that a search found, if it found one
-abbrev pub found : Target → Option ℕ
-found (Target.At offset) = some offset
-found Target.Nothing = none
+-- the last sibling of such a list
+unfoldable pub lastOf : ℕ → ℕ → Entries → ℕ
+lastOf k last end = last
+lastOf k last (entry e members later) = lastOf (suc k + entries# members) (suc k) later
 
 -- ---------------------------------------------------------------- the entries in the table
 
@@ -154,7 +71,15 @@ unfoldable pub entriesIn : List ℕ → ℕ → Forest → Entries
 entriesIn w k leaf = end
 entriesIn w k (item s kids later) = entry (entryIn w k) (entriesIn w (suc k) kids) (entriesIn w (suc k + size kids) later)
 
--- each row of a list, from row k on, names the sibling before it; `last` is the one before the first
-abbrev pub Linked : List ℕ → ℕ → ℕ → Forest → Type 0
-Linked w k last leaf = Unit {0}
-Linked w k last (item s kids later) = (cell w k 16 ≡ last) × Linked w (suc k + size kids) (suc k) later
+-- row k, after the sibling `last` and over the forest of its children, names that sibling and its base and counts the
+-- rows below it
+pub record RowLinked (text w : List ℕ) (k last : ℕ) (kids : Forest) : Type 0 where
+  pub before : cell w k BEFORE ≡ last
+  pub below : cell w k BELOW ≡ size kids
+  pub base : cell w k BASE ≡ baseAfter text w k last
+
+-- each row of a list, from row k on, and of the lists below it does; `last` is the sibling before the first
+abbrev pub Linked : List ℕ → List ℕ → ℕ → ℕ → Forest → Type 0
+Linked text w k last leaf = Unit {0}
+Linked text w k last (item s kids later) =
+    RowLinked text w k last kids × Linked text w (suc k) 0 kids × Linked text w (suc k + size kids) (suc k) later

@@ -8,6 +8,7 @@ use lib.ListN.{length}
 use borrow.Author.Tests.{ltb-false}
 use Rattle.definition.specs.declared.Check.{Check}
 use Rattle.definition.specs.declared.Refusal.{Refusal}
+use Rattle.definition.specs.Limits.{mostBytes, leastWork}
 use Rattle.definition.specs.Basic.{Answer, refuse, give, _>>=_}
 use Rattle.definition.specs.Calls.{textChecks, entryChecks, recordFields, checkOf}
 use Rattle.definition.specs.Tree.{Forest}
@@ -17,19 +18,19 @@ use Rattle.record.specs.Laying.{fieldsOf, laidOf, RecordIs}
 
 -- what a text and n numbers of work memory that pass have
 pub record Passes (text : List ℕ) (n : ℕ) : Type 0 where
-  pub short : length text ≤ 65535
-  pub room : 16384 ≤ n
+  pub short : length text ≤ mostBytes
+  pub room : leastWork ≤ n
   pub is : entryChecks text n ≡ give tt
 
-short-text : (text : List ℕ) → textChecks text ≡ give tt → length text ≤ 65535
+short-text : (text : List ℕ) → textChecks text ≡ give tt → length text ≤ mostBytes
 unfolding textChecks
-short-text text h = through _ _ h λ _ e _. ltb-false 65535 (length text) (not-refused (ltb 65535 (length text)) 1 0 e)
+short-text text h = through _ _ h λ _ e _. ltb-false mostBytes (length text) (not-refused (ltb mostBytes (length text)) 1 0 e)
 
 entry-passes : (text : List ℕ) (n : ℕ) → entryChecks text n ≡ give tt → Passes text n
 unfolding entryChecks
 entry-passes text n h =
     through _ _ h λ _ e q.
-    record { short = short-text text e; room = ltb-false n 16384 (not-refused (ltb n 16384) 3 0 q); is = h }
+    record { short = short-text text e; room = ltb-false n leastWork (not-refused (ltb n leastWork) 3 0 q); is = h }
 
 module _ (text : List ℕ) (n : ℕ) {c : Check} (p : checkOf c ≡ entryChecks text n) where
   pub passes : c ≡ Check.Passed → Passes text n
@@ -46,5 +47,5 @@ module _ (text : List ℕ) (n : ℕ) (p : Passes text n) where
   fields-read = rw (p .is)
 
   -- past the checks it is what lays the record that answers
-  pub record-read : (r : RecordLaid) (w : List ℕ) → RecordIs text (fieldsOf text) r w → RecordIs text (recordFields text n) r w
-  record-read r w h = subst (λ (a : Answer Forest). RecordIs text a r w) fields-read h
+  pub record-read : (r : RecordLaid) (w t : List ℕ) → RecordIs text (fieldsOf text) r w t → RecordIs text (recordFields text n) r w t
+  record-read r w t h = subst (λ (a : Answer Forest). RecordIs text a r w t) fields-read h

@@ -1,4 +1,4 @@
--- A table that was laid: every row names the sibling before it, counts the rows below it, and none is too large.
+-- A table that was laid: every row is linked, and none is too large; the record of the table.
 -- Assumes nothing.
 use Prim.Native.Nat.{ℕ, suc, _+_, _*_, _-_, max, _≤_, _<_}
 use mathlib.Core.Path.{_≡_, refl, sym, ap, subst, _∙_}
@@ -6,42 +6,42 @@ use mathlib.Core.Bool.{false, _||_}
 use mathlib.Core.List.{List, [], _∷_}
 use mathlib.Core.Logic.{⊎-elim}
 use native.Mathlib.Omega.{arith}
-use lib.Dec.{lit<, ltb}
+use lib.Dec.{ltb}
 use lib.ListN.{length}
 use borrow.Author.Tests.{ltb-false}
 use Rattle.definition.specs.declared.Check.{Check}
 use Rattle.definition.specs.declared.Refusal.{Refusal}
 use Rattle.definition.specs.declared.Entry.{Entry}
+use Rattle.definition.specs.Limits.{mostStatements, largest}
 use Rattle.definition.specs.Basic.{Answer, refuse, give, _>>=_}
 use Rattle.definition.specs.declared.Statement.{Statement}
 use Rattle.definition.specs.Tree.{Forest, leaf, item, forest, fields}
-use Rattle.definition.specs.Fold.{Entries, end, entry, times, total, entryEnd, largest, Place, placeOf}
-use Rattle.definition.specs.Layout.{entryOf, tooLarge, advance, Laid}
+use Rattle.definition.specs.Fold.{Entries, end, entry, times, total, entryEnd, Place, placeOf, foldCheck, foldedAll}
+use Rattle.definition.specs.Layout.{entryOf, tooLarge, advance, Laid, lay}
 use Rattle.definition.specs.Owner.{size}
-use Rattle.definition.specs.Search.{entries#}
 use Rattle.definition.proofs.Answers.{or-false, through, given-same}
 use Rattle.definition.proofs.Lists.{order}
 use Rattle.definition.specs.Statement.{statements}
 use Rattle.definition.specs.Words.{statementWords}
+use Rattle.rows.specs.Columns.{ROW, NEXT}
 use Rattle.rows.specs.Table.{cell, statementAt, statementsFrom}
-use Rattle.reading.proofs.ReadingLaws.{Stored}
+use Rattle.tree.proofs.ReadingLaws.{Stored}
 use Rattle.definition.specs.Calls.{checkOf}
-use Rattle.definition.specs.Record.{recordLength, endsFit}
-use Rattle.layout.specs.Bare.{foldCheck, foldedAll, bare, bareRecord}
-use Rattle.places.specs.Places.{putPlace, putPlaces, seenFrom, entryIn, entriesIn, rowsForest}
-use Rattle.layout.specs.Outcomes.{stopped, after, layTable}
+use Rattle.definition.specs.Record.{recordLength, endsFit, unfolded}
+use Rattle.places.specs.Places.{putPlaces, entryIn, entriesIn, rowsForest}
+use Rattle.redefines.specs.Targets.{seenFrom}
+use Rattle.layout.specs.Outcomes.{layTable}
 use Rattle.layout.specs.declared.LaidList.{LaidList}
-use Rattle.places.specs.Ends.{ChildrenEnd}
+use Rattle.places.specs.Children.{ChildrenEnd}
 use Rattle.layout.specs.Steps.{listOf}
 use Rattle.places.proofs.EntriesLaws.{size-stretch}
-use Rattle.places.proofs.EntriesLaws.{Of, of-size}
-use Rattle.layout.proofs.ListLaws.{bare-split, item-is, bare-is}
+use Rattle.layout.proofs.ListLaws.{bare-split, item-is}
 use Rattle.layout.proofs.LayLaws.{LaidRows, laid-rows, stopped-was}
 use Rattle.places.proofs.RowLaws.{children-end, forest-split, forest-empty}
-use Rattle.places.proofs.PlaceLaws.{length-place, length-places, before-places, statements-places, first-last, first-below}
-use Rattle.folded.specs.Shown.{listIn}
-use Rattle.record.specs.Marks.{Column, Chained, Counted, Tallied}
-use Rattle.record.proofs.KeptLaws.{column-same, forest-kept, list-kept, Ready, marked-tree}
+use Rattle.places.proofs.PlaceLaws.{length-places, statements-places, places-next}
+use Rattle.unions.specs.Shown.{listIn}
+use Rattle.record.specs.Marks.{UnionsLinked}
+use Rattle.record.proofs.KeptLaws.{forest-kept, list-kept, Ready, marked-tree}
 use Rattle.record.specs.declared.RecordLaid.{RecordLaid}
 use Rattle.record.specs.Laying.{FieldsFrom, fieldsOf, laidOf, Listed, RecordIs, recordOf}
 
@@ -50,9 +50,9 @@ use Rattle.record.specs.Laying.{FieldsFrom, fieldsOf, laidOf, Listed, Re
 -- every entry of a list and of those below it has at most 2,147,483,647 bytes
 abbrev SizedAll : Entries → Type 0
 SizedAll end = Unit {0}
-SizedAll (entry e members later) = (total e ≤ 2147483647) × SizedAll members × SizedAll later
+SizedAll (entry e members later) = (total e ≤ largest) × SizedAll members × SizedAll later
 
-total-within : (e : Entry) → tooLarge e ≡ false → total e ≤ 2147483647
+total-within : (e : Entry) → tooLarge e ≡ false → total e ≤ largest
 total-within e h =
     let a = or-false (ltb largest (times (e .occurs)) || ltb largest (e .offset) || ltb largest (total e)) (ltb largest (entryEnd e)) h in
     let b = or-false (ltb largest (times (e .occurs)) || ltb largest (e .offset)) (ltb largest (total e)) (a .0) in
@@ -60,9 +60,9 @@ total-within e h =
 
 bare-sized :
     (text : List ℕ) (f : Forest) (depth : ℕ) (seen : List Place) (cursor reach : ℕ) {l : Laid} →
-    bare text depth seen cursor reach f ≡ give l →
+    lay text depth seen cursor reach f ≡ give l →
     SizedAll (l .entries)
-unfolding bare
+unfolding lay
 bare-sized text leaf depth seen cursor reach e = subst (λ (l : Laid). SizedAll (l .entries)) (given-same e) tt
 bare-sized text (item s kids later) depth seen cursor reach e =
     through _ _ (sym (bare-split text depth seen cursor reach s kids later) ∙ e) λ x e₁ h₁.
@@ -70,11 +70,11 @@ bare-sized text (item s kids later) depth seen cursor reach e =
     let i = item-is text depth seen cursor s kids e₁ in
     let members = bare-sized text kids (suc depth) [] 0 0 (i .inner-laid) in
     let rest = bare-sized text later depth (placeOf (x .own) ∷ seen) (advance cursor (x .own)) (max reach (entryEnd (x .own))) e₂ in
-    let own : total (x .own) ≤ 2147483647 = subst (λ (y : Entry). total y ≤ 2147483647) (i .own) (total-within (entryOf s (i .contents) (i .offset)) (i .fits)) in
+    let own : total (x .own) ≤ largest = subst (λ (y : Entry). total y ≤ largest) (i .own) (total-within (entryOf s (i .contents) (i .offset) (i .slack)) (i .fits)) in
     subst (λ (l : Laid). SizedAll (l .entries)) (given-same h₂) (own, subst SizedAll (i .members) members, rest)
 
 -- and no row that holds one
-rows-sized : (w : List ℕ) (f : Forest) (k : ℕ) → SizedAll (entriesIn w k f) → (m : ℕ) → k ≤ m → m < k + size f → total (entryIn w m) ≤ 2147483647
+rows-sized : (w : List ℕ) (f : Forest) (k : ℕ) → SizedAll (entriesIn w k f) → (m : ℕ) → k ≤ m → m < k + size f → total (entryIn w m) ≤ largest
 unfolding entriesIn
 rows-sized w leaf k h m l u = absurd (omega arith)
 rows-sized w (item s kids later) k h m l u =
@@ -82,84 +82,29 @@ rows-sized w (item s kids later) k h m l u =
     let rest = rows-sized w later (suc k + size kids) (h .2) m in
     ⊎-elim
     (λ (p : k < m). ⊎-elim (λ (q : m < suc k + size kids). inner (omega arith) q) (λ (q : suc k + size kids ≤ m). rest q (omega arith)) (order m (suc k + size kids)))
-    (λ (p : m ≤ k). subst (λ (n : ℕ). total (entryIn w n) ≤ 2147483647) (let e : k ≡ m = omega arith in e) (h .0))
+    (λ (p : m ≤ k). subst (λ (n : ℕ). total (entryIn w n) ≤ largest) (let e : k ≡ m = omega arith in e) (h .0))
     (order k m)
-
--- ---------------------------------------------------------------- the columns that say how rows stand together
-
--- a column that the place of each entry fills
-module _
-    (c : ℕ) (value : ℕ → Forest → ℕ) (small : c < 20)
-    (first :
-    (e : Entry) (members more : Entries) (w : List ℕ) (k last : ℕ) (kids : Forest) →
-    entries# members ≡ size kids →
-    20 * k + 20 ≤ length w →
-    cell (putPlaces w k last (entry e members more)) k c ≡ value last kids)
-  where
-    places-column :
-        (f : Forest) (es : Entries) (w : List ℕ) (k last : ℕ) →
-        Of f es →
-        20 * (k + size f) ≤ length w →
-        Column c value (putPlaces w k last es) k last f
-    unfolding putPlaces
-    places-column leaf end w k last o fits = tt
-    places-column leaf (entry e members more) w k last o fits = absurd o
-    places-column (item s kids later) end w k last o fits = absurd o
-    places-column (item s kids later) (entry e members more) w k last o fits =
-        let m : entries# members ≡ size kids = of-size kids members (o .1) in
-        let w₁ = putPlace w k last (entries# members) e in
-        let w₂ = putPlaces w₁ (suc k) 0 members in
-        let n = suc k + entries# members in
-        let at : n ≡ suc k + size kids = omega (arith, m) in
-        let w₃ = putPlaces w₂ n (suc k) more in
-        let l₁ : length w₁ ≡ length w = length-place w k last (entries# members) e in
-        let l₂ : length w₂ ≡ length w = length-places members w₁ (suc k) 0 ∙ l₁ in
-        let inner = places-column kids members w₁ (suc k) 0 (o .1) (omega (arith, l₁)) in
-        let rest = places-column later more w₂ (suc k + size kids) (suc k) (o .2) (omega (arith, l₂)) in (
-          first e members more w k last kids m (omega arith),
-          column-same c value w₂ w₃ kids (suc k) 0 (λ j l. sym (before-places more w₂ n (suc k) j c (omega arith) small)) inner,
-          subst (λ (x : ℕ). Column c value (putPlaces w₂ x (suc k) more) (suc k + size kids) (suc k) later) (sym at) rest,
-        )
-
--- every row names the sibling before it
-places-chained : (f : Forest) (es : Entries) (w : List ℕ) (k last : ℕ) → Of f es → 20 * (k + size f) ≤ length w → Chained (putPlaces w k last es) k last f
-places-chained = places-column 16 (λ before kids. before) (lit< tt) (λ e members more w k last kids m fits. first-last e members more w k last fits)
-
--- and counts the rows below it
-places-counted : (f : Forest) (es : Entries) (w : List ℕ) (k last : ℕ) → Of f es → 20 * (k + size f) ≤ length w → Counted (putPlaces w k last es) k last f
-places-counted = places-column 17 (λ before kids. size kids) (lit< tt) (λ e members more w k last kids m fits. first-below e members more w k last fits ∙ m)
 
 -- ---------------------------------------------------------------- a list that was laid
 
-module _ (text w : List ℕ) (a b depth : ℕ) {width : ℕ} {w₁ : List ℕ} (h : a ≤ b) (fits : 20 * b ≤ length w) (n : LaidRows text w a b depth width w₁) where
+module _ (text w : List ℕ) (a b depth : ℕ) {width : ℕ} {w₁ : List ℕ} (h : a ≤ b) (fits : ROW * b ≤ length w) (n : LaidRows text w a b depth width w₁) where
   -- the statements are as they were
-  same-places : rowsForest w a b ≡ rowsForest (putPlaces w a 0 (n .laid .entries)) a b
-  same-places = ap forest (sym (statements-places (n .laid .entries) w a 0 a (b - a)))
+  same-places : rowsForest w a b ≡ rowsForest (putPlaces text w a 0 (n .laid .entries)) a b
+  same-places = ap forest (sym (statements-places text (n .laid .entries) w a 0 a (b - a)))
 
   pub same-fields : rowsForest w a b ≡ rowsForest w₁ a b
   same-fields = same-places ∙ ap (λ (x : List ℕ). rowsForest x a b) (n .put)
 
-  of-rows : Of (rowsForest w a b) (n .laid .entries)
-  of-rows = bare-is text (rowsForest w a b) depth [] 0 0 (omega arith) (n .is) .of
-
-  -- a column that the places fill is filled in the table
-  laid-column :
-      (c : ℕ) (value : ℕ → Forest → ℕ) →
-      Column c value (putPlaces w a 0 (n .laid .entries)) a 0 (rowsForest w a b) →
-      Column c value w₁ a 0 (rowsForest w₁ a b)
-  laid-column c value x =
-      subst (λ (y : List ℕ). Column c value y a 0 (rowsForest y a b)) (n .put) (subst (Column c value (putPlaces w a 0 (n .laid .entries)) a 0) same-places x)
-
-  pub laid-ready : Ready w₁ a b
+  pub laid-ready : Ready text w₁ a b
   laid-ready =
       let f = rowsForest w a b in
       let es = n .laid .entries in
       let sized : SizedAll (entriesIn w₁ a (rowsForest w₁ a b)) = subst SizedAll (sym (n .held .entries)) (bare-sized text f depth [] 0 0 (n .is)) in
       let many₁ = size-stretch w₁ a b in
       record {
-        fits = subst (λ (x : List ℕ). 20 * b ≤ length x) (n .put) (omega (arith, length-places es w a 0));
-        chained = laid-column 16 (λ before kids. before) (places-chained f es w a 0 of-rows (omega (arith, size-stretch w a b)));
-        counted = laid-column 17 (λ before kids. size kids) (places-counted f es w a 0 of-rows (omega (arith, size-stretch w a b)));
+        fits = subst (λ (x : List ℕ). ROW * b ≤ length x) (n .put) (omega (arith, length-places text es w a 0));
+        linked = n .held .linked;
+        nexts = subst (λ (x : List ℕ). (k : ℕ) → a ≤ k → k < b → cell x k NEXT ≡ 0) (n .put) (λ k l u. places-next text es w a 0 (omega (arith, n .many)) k l (omega (arith, n .many)));
         sized = record { totals = λ k l u. rows-sized w₁ (rowsForest w₁ a b) a sized k l (omega (arith, many₁)) };
       }
 
@@ -220,22 +165,22 @@ few-rows w n h =
 module _ (text w : List ℕ) (a b : ℕ) where
   module _ {x : LaidList} (w₁ : List ℕ) (p : listOf x w₁ ≡ layTable text w a b 0) where
     -- the list is laid
-    pub list-laid : a ≤ b → 20 * b ≤ length w → {width last : ℕ} → x ≡ LaidList.Done width last → LaidRows text w a b 0 width w₁
+    pub list-laid : a ≤ b → ROW * b ≤ length w → {width last : ℕ} → x ≡ LaidList.Done width last → LaidRows text w a b 0 width w₁
     list-laid h fits e = laid-rows text w a b 0 h fits (sym p ∙ ap (λ (y : LaidList). listOf y w₁) e)
 
     -- or refused
     pub list-refused : {r : Refusal} → x ≡ LaidList.Refused r → laidOf text (give (rowsForest w a b)) ≡ refuse r
-    unfolding bareRecord seenFrom _>>=_
+    unfolding unfolded seenFrom _>>=_
     list-refused e =
         ap (λ (y : Answer Laid). y >>= λ l. foldCheck text [] (l .entries) >>= λ _. endsFit (foldedAll text (l .entries)) >>= λ _. give (l .entries))
-        (stopped-was w a 0 (bare text 0 [] 0 0 (rowsForest w a b)) (sym p ∙ ap (λ (y : LaidList). listOf y w₁) e))
+        (stopped-was text w a 0 (lay text 0 [] 0 0 (rowsForest w a b)) (sym p ∙ ap (λ (y : LaidList). listOf y w₁) e))
 
   module _ {width : ℕ} {w₁ : List ℕ} (n : LaidRows text w a b 0 width w₁) where
     -- the checks of the list, as the rows hold it
     record-split :
         laidOf text (give (rowsForest w a b))
         ≡ (foldCheck text [] (listIn w₁ a b) >>= λ _. endsFit (foldedAll text (listIn w₁ a b)) >>= λ _. give (listIn w₁ a b))
-    unfolding bareRecord _>>=_
+    unfolding unfolded _>>=_
     record-split =
         ap (λ (x : Answer Laid). x >>= λ l. foldCheck text [] (l .entries) >>= λ _. endsFit (foldedAll text (l .entries)) >>= λ _. give (l .entries)) (n .is)
         ∙ ap (λ (es : Entries). foldCheck text [] es >>= λ _. endsFit (foldedAll text es) >>= λ _. give es) (sym (n .held .entries))
@@ -251,7 +196,7 @@ module _ (text w : List ℕ) (a b : ℕ) where
       unfolding _>>=_
       fold-refused {r} e = checked (Check.Refused r) e
 
-      module _ (e : c ≡ Check.Passed) {w₂ : List ℕ} (m : Tallied text w₁ a b w₂) {d : Check} (q : checkOf d ≡ endsFit (foldedAll text (listIn w₂ a b))) where
+      module _ (e : c ≡ Check.Passed) {w₂ : List ℕ} (m : UnionsLinked w₁ a b w₂) {d : Check} (q : checkOf d ≡ endsFit (foldedAll text (listIn w₂ a b))) where
         passed : (x : Check) → d ≡ x → laidOf text (give (rowsForest w a b)) ≡ (checkOf x >>= λ _. give (listIn w₂ a b))
         unfolding _>>=_
         passed x f =
@@ -268,8 +213,8 @@ module _ (text w : List ℕ) (a b : ℕ) where
         pub laid-listed :
             d ≡ Check.Passed →
             a ≤ b →
-            20 * b ≤ length w →
-            b ≤ 800 →
+            ROW * b ≤ length w →
+            b ≤ mostStatements →
             {l : ℕ} →
             l ≡ recordLength (foldedAll text (listIn w₂ a b)) →
             Listed text (give (rowsForest w a b)) w₂ a b l
@@ -305,7 +250,7 @@ module _ (text : List ℕ) where
       {w w′ : List ℕ} {n from : ℕ} →
       Stored text w w′ n →
       FieldsFrom w′ n from →
-      (w″ : List ℕ) (r : RecordLaid) →
-      RecordIs text (give (rowsForest w′ from n)) r w″ →
-      RecordIs text (fieldsOf text) r w″
-  fields-laid s f w″ r h = subst (λ (a : Answer Forest). RecordIs text a r w″) (rows-read s f) h
+      (w″ t : List ℕ) (r : RecordLaid) →
+      RecordIs text (give (rowsForest w′ from n)) r w″ t →
+      RecordIs text (fieldsOf text) r w″ t
+  fields-laid s f w″ t r h = subst (λ (a : Answer Forest). RecordIs text a r w″ t) (rows-read s f) h

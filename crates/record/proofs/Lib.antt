@@ -1,4 +1,5 @@
 pub mod MarkLaws
 pub mod KeptLaws
+pub mod LinkLaws
 pub mod LaidLaws
 pub mod EntryLaws

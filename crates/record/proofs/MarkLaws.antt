@@ -1,266 +1,218 @@
--- How many rows redefine a row: the rows count backwards, each finding its base, and the definition counts forwards, from each base to the next of
--- its name. The two agree.
+-- What linked rows name. Among the rows from one on, the first that names a base is the first later sibling that does,
+-- so the chain that the rows make from the last one back is the one along each list.
 -- Assumes nothing.
 use Prim.Native.Nat.{ℕ, zero, suc, _+_, _-_, _≤_, _<_}
 use mathlib.Core.Path.{_≡_, refl, sym, ap, ap₂, subst, _∙_}
 use mathlib.Core.Bool.{Bool, true, false}
 use mathlib.Core.List.{List}
+use mathlib.Core.Logic.{⊎-elim}
 use native.Mathlib.Omega.{arith}
 use lib.Dec.{eqb}
-use borrow.Author.Tests.{ne-eqb}
+use borrow.Author.Tests.{lt-ltb, le-ltb, ne-eqb}
 use Rattle.definition.specs.declared.Span.{Span}
 use Rattle.definition.specs.Basic.{if_then_else_, given}
 use Rattle.definition.specs.Tree.{Forest, leaf, item}
-use Rattle.definition.specs.Fold.{sameName, redefiners}
-use Rattle.definition.specs.Listing.{members#}
+use Rattle.definition.specs.Fold.{sameName}
 use Rattle.definition.specs.Owner.{size}
-use Rattle.definition.proofs.LayoutLaws.{redefiners-hit, redefiners-miss, redefiners-ends, redefiners-next}
+use Rattle.definition.proofs.Lists.{order}
+use Rattle.rows.specs.Columns.{NAME, REDEFINES, BASE, NEXT}
 use Rattle.rows.specs.Table.{cell, spanAt}
-use Rattle.places.specs.Places.{isTarget, rowFrom, placeAt, entryIn, entriesIn}
-use Rattle.places.proofs.SearchLaws.{if-most, row-low, row-most}
+use Rattle.redefines.specs.Targets.{isTarget}
+use Rattle.places.specs.Places.{RowLinked, Linked}
+use Rattle.redefines.proofs.SearchLaws.{if-most, row-most, back, back-none, back-step}
 use Rattle.layout.proofs.SizeLaws.{never}
-use Rattle.folded.specs.Shown.{baseFrom, Open, Marked}
-use Rattle.folded.proofs.BaseLaws.{if-not, back, back-none, back-step, swapped, opens, passes, differs, closes}
-use Rattle.record.specs.Marks.{Chained, Counted, baseOf, hit, hits}
+use Rattle.unions.specs.Shown.{unionOf, nextIn, Marked}
+use Rattle.unions.proofs.BaseLaws.{if-not}
+use Rattle.record.specs.Marks.{firstFrom}
 
-if-neither : (b : Bool) {x y z : ℕ} → (b ≡ true → x ≡ z → ⊥) → (y ≡ z → ⊥) → (if b then x else y) ≡ z → ⊥
-if-neither true p q e = p refl e
-if-neither false p q e = q e
+-- ---------------------------------------------------------------- the first row that names a base
+
+module _ (w : List ℕ) (u : ℕ) where
+  -- rows of which none names it
+  first-skip : (k m n : ℕ) → firstFrom w u k m ≡ 0 → firstFrom w u k (m + n) ≡ firstFrom w u (k + m) n
+  unfolding firstFrom
+  first-skip k zero n h = ap₂ (firstFrom w u) (let e : k ≡ k + 0 = omega arith in e) (let e : 0 + n ≡ n = omega arith in e)
+  first-skip k (suc m) n h =
+      let on = first-skip (suc k) m n in
+      ap (firstFrom w u k) (let e : suc m + n ≡ suc (m + n) = omega arith in e)
+      ∙ go (eqb (cell w k BASE) u) h on
+      ∙ ap (λ (x : ℕ). firstFrom w u x n) (let e : suc k + m ≡ k + suc m = omega arith in e)
+    where
+      go :
+          (b : Bool) →
+          (if b then suc k else firstFrom w u (suc k) m) ≡ 0 →
+          (firstFrom w u (suc k) m ≡ 0 → firstFrom w u (suc k) (m + n) ≡ firstFrom w u (suc k + m) n) →
+          (if b then suc k else firstFrom w u (suc k) (m + n)) ≡ firstFrom w u (suc k + m) n
+      go true h on = absurd (omega arith)
+      go false h on = on h
+
+  first-stop : (k m n : ℕ) → firstFrom w u (k + m) n ≡ 0 → firstFrom w u k (m + n) ≡ firstFrom w u k m
+  unfolding firstFrom
+  first-stop k zero n h = ap₂ (firstFrom w u) (let e : k ≡ k + 0 = omega arith in e) (let e : 0 + n ≡ n = omega arith in e) ∙ h
+  first-stop k (suc m) n h =
+      ap (firstFrom w u k) (let e : suc m + n ≡ suc (m + n) = omega arith in e)
+      ∙ ap (λ (x : ℕ). if eqb (cell w k BASE) u then suc k else x)
+      (first-stop (suc k) m n (ap (λ (x : ℕ). firstFrom w u x n) (let e : suc k + m ≡ k + suc m = omega arith in e) ∙ h))
+
+-- by the rows' bases alone
+pub first-same : (w w′ : List ℕ) → ((i : ℕ) → cell w i BASE ≡ cell w′ i BASE) → (u k n : ℕ) → firstFrom w u k n ≡ firstFrom w′ u k n
+unfolding firstFrom
+first-same w w′ h u k zero = refl
+first-same w w′ h u k (suc n) = ap₂ (λ (x y : ℕ). if eqb x u then suc k else y) (h k) (first-same w w′ h u (suc k) n)
+
+-- ---------------------------------------------------------------- the bases that linked rows name
 
 module _ (t w : List ℕ) where
-  -- the base of a row, after the sibling `last`
-  base-own : (k last : ℕ) → cell w k 16 ≡ last → last ≤ k → baseOf t w k ≡ (if given (spanAt (cell w k 6)) then back t w (spanAt (cell w k 6)) last else 0)
-  base-own k last e l =
-      let r = spanAt (cell w k 6) in
-      ap (λ (x : ℕ). if given r then x else 0) (ap (baseFrom t r w k) e ∙ row-low t w r true k last l)
-
-  pub base-within : (k : ℕ) → baseOf t w k ≤ k
-  base-within k = let r = spanAt (cell w k 6) in if-most (given r) (row-most t w r true k (cell w k 16)) (omega arith)
-
-  -- ---------------------------------------------------------------- rows that redefine another
-
-  no-hit : (i k : ℕ) → (baseOf t w k ≡ suc i → ⊥) → hit t w i k ≡ 0
-  no-hit i k h = ap (λ (b : Bool). if b then 1 else 0) (ne-eqb (baseOf t w k) (suc i) h)
-
-  low-hit : (i k : ℕ) → k ≤ i → hit t w i k ≡ 0
-  low-hit i k h = no-hit i k (λ e. omega (arith, base-within k))
-
-  pub hit-most : (i k : ℕ) → hit t w i k ≤ 1
-  hit-most i k = if-most (eqb (baseOf t w k) (suc i)) (omega arith) (omega arith)
-
-  pub hits-most : (i k n : ℕ) → hits t w i k n ≤ n
-  unfolding hits
-  hits-most i k zero = omega arith
-  hits-most i k (suc n) = omega (arith, hit-most i k, hits-most i (suc k) n)
-
-  pub hits-append : (i k m n : ℕ) → hits t w i k (m + n) ≡ hits t w i k m + hits t w i (k + m) n
-  unfolding hits
-  hits-append i k zero n = ap₂ (hits t w i) (let e : k ≡ k + 0 = omega arith in e) (let e : 0 + n ≡ n = omega arith in e) ∙ omega arith
-  hits-append i k (suc m) n =
-      ap (hits t w i k) (let e : suc m + n ≡ suc (m + n) = omega arith in e)
-      ∙ ap (λ (x : ℕ). hit t w i k + x) (hits-append i (suc k) m n)
-      ∙ ap (λ (x : ℕ). hit t w i k + (hits t w i (suc k) m + hits t w i x n)) (let e : suc k + m ≡ k + suc m = omega arith in e)
-      ∙ omega arith
-
-  -- no row up to i redefines it
-  pub hits-low : (i k n : ℕ) → k + n ≤ suc i → hits t w i k n ≡ 0
-  unfolding hits
-  hits-low i k zero h = refl
-  hits-low i k (suc n) h = omega (arith, low-hit i k (omega arith), hits-low i (suc k) n (omega arith))
-
-  -- the rows of a forest that redefine row i
-  abbrev hitsIn : ℕ → ℕ → Forest → ℕ
-  hitsIn i k leaf = 0
-  hitsIn i k (item s kids later) = hit t w i k + (hitsIn i (suc k) kids + hitsIn i (suc k + size kids) later)
-
-  hits-forest : (f : Forest) (i k : ℕ) → hits t w i k (size f) ≡ hitsIn i k f
-  unfolding hits
-  hits-forest leaf i k = refl
-  hits-forest (item s kids later) i k =
-      let a = hits-forest kids i (suc k) in
-      let b = hits-forest later i (suc k + size kids) in
-      omega (arith, hits-append i (suc k) (size kids) (size later), a, b)
-
-  high-forest : (f : Forest) (i k : ℕ) → k + size f ≤ i → hitsIn i k f ≡ 0
-  high-forest leaf i k h = refl
-  high-forest (item s kids later) i k h =
-      omega (arith, low-hit i k (omega arith), high-forest kids i (suc k) (omega arith), high-forest later i (suc k + size kids) (omega arith))
-
-  -- no row of a list redefines row i, where no search from before the list finds it
+  -- no row of a list names a base that no search from before the list finds
   none-forest :
-      (f : Forest) (i k last : ℕ) →
-      Chained w k last f →
+      (f : Forest) (u k last : ℕ) →
+      Linked t w k last f →
       last ≤ k →
-      i < k →
-      ((target : Span) → back t w target last ≡ suc i → ⊥) →
-      hitsIn i k f ≡ 0
-  none-forest leaf i k last ch l h apart = refl
-  none-forest (item s kids later) i k last ch l h apart =
-      let r = spanAt (cell w k 6) in
-      let own = no-hit i k (λ e. if-not′ (given r) (apart r) (sym (base-own k last (ch .0) l) ∙ e)) in
-      let inner = none-forest kids i (suc k) 0 (ch .1) (omega arith) (omega arith) (λ target e. zero-suc i (sym (back-none t w target) ∙ e)) in
+      0 < u →
+      u ≤ k →
+      ((target : Span) → back t w target last ≡ u → ⊥) →
+      firstFrom w u k (size f) ≡ 0
+  unfolding firstFrom
+  none-forest leaf u k last x l p h apart = refl
+  none-forest (item s kids later) u k last x l p h apart =
+      let r = spanAt (cell w k REDEFINES) in
+      let own : eqb (cell w k BASE) u ≡ false = ne-eqb (cell w k BASE) u (λ e. not-given (given r) (apart r) (sym (x .0 .base) ∙ e)) in
+      let inner = none-forest kids u (suc k) 0 (x .1) (omega arith) p (omega arith) (λ target e. omega (arith, back-none t w target)) in
       let rest =
-      none-forest later i (suc k + size kids) (suc k) (ch .2) (omega arith) (omega arith)
-      (λ target e. if-not (isTarget t target true w k) (λ q. omega arith) (λ _. apart target) (sym (back-step t w target k last (ch .0) l) ∙ e)) in
-      omega (arith, own, inner, rest)
+      none-forest later u (suc k + size kids) (suc k) (x .2) (omega arith) p (omega arith)
+      (λ target e. if-not (isTarget t target true w k) (λ q. omega arith) (λ _. apart target) (sym (back-step t w target k last (x .0 .before) l) ∙ e)) in
+      ap (λ (b : Bool). if b then suc k else firstFrom w u (suc k) (size kids + size later)) own
+      ∙ first-skip w u (suc k) (size kids) (size later) inner
+      ∙ rest
     where
-      zero-suc : (i : ℕ) → 0 ≡ suc i → ⊥
-      zero-suc i e = omega arith
+      not-given : (b : Bool) {x : ℕ} → (x ≡ u → ⊥) → (if b then x else 0) ≡ u → ⊥
+      not-given true q e = q e
+      not-given false q e = omega arith
 
-      if-not′ : (b : Bool) {x z : ℕ} → (x ≡ suc z → ⊥) → (if b then x else 0) ≡ suc z → ⊥
-      if-not′ true p e = p e
-      if-not′ false p e = omega arith
+  base-most : {k last : ℕ} {kids : Forest} → RowLinked t w k last kids → last ≤ k → cell w k BASE ≤ k
+  base-most {k} {last} x l =
+      let r = spanAt (cell w k REDEFINES) in
+      omega (arith, x .base, if-most (given r) (row-most t w r true last last) (let z : 0 ≤ last = omega arith in z))
 
-  -- no row redefines a redefiner
-  never-found : (i : ℕ) → given (spanAt (cell w i 6)) ≡ true → (target : Span) (n last : ℕ) → baseFrom t target w n last ≡ suc i → ⊥
-  unfolding rowFrom
-  never-found i g target zero last e = omega arith
-  never-found i g target (suc k) last e =
-      let back = never-found i g target k (cell w k 16) in
-      let on = never-found i g target k last in
-      if-not (eqb last (suc k)) (if-neither (isTarget t target true w k) left-out back) (λ _. on) e
-    where
-      left-out : isTarget t target true w k ≡ true → suc k ≡ suc i → ⊥
-      left-out h q =
-          let same : i ≡ k = omega arith in
-          let g′ : given (spanAt (cell w k 6)) ≡ true = subst (λ (n : ℕ). given (spanAt (cell w n 6)) ≡ true) same g in
-          never (sym (ap (λ (b : Bool). if b then false else sameName t target (spanAt (cell w k 3))) g′) ∙ h)
+  -- b names no base, or one after the row `low` that names none
+  abbrev Bare : ℕ → ℕ → Type 0
+  Bare low b = 0 < b → (low < b) × (cell w (b - 1) BASE ≡ 0)
 
-  redefiner-forest : (f : Forest) (i k : ℕ) → given (spanAt (cell w i 6)) ≡ true → hitsIn i k f ≡ 0
-  redefiner-forest leaf i k g = refl
-  redefiner-forest (item s kids later) i k g =
-      let r = spanAt (cell w k 6) in
-      let own = no-hit i k (λ e. if-given (given r) (never-found i g r k (cell w k 16)) e) in
-      omega (arith, own, redefiner-forest kids i (suc k) g, redefiner-forest later i (suc k + size kids) g)
-    where
-      if-given : (b : Bool) {x z : ℕ} → (x ≡ suc z → ⊥) → (if b then x else 0) ≡ suc z → ⊥
-      if-given true p e = p e
-      if-given false p e = omega arith
-
-  -- ---------------------------------------------------------------- the definition's count
-
-  -- the rows of a list that redefine row i are its redefiners
-  count-forest :
-      (f : Forest) (i k last : ℕ) →
-      Chained w k last f →
+  -- each row of a list, and of those below it, names an earlier row so, where a search from before the list finds none
+  -- but such
+  bases-forest :
+      (f : Forest) (k last low : ℕ) →
+      Linked t w k last f →
       last ≤ k →
-      i < k →
-      Open t w i last →
-      hitsIn i k f ≡ members# (redefiners t (placeAt w i) (entriesIn w k f))
-  unfolding entriesIn redefiners
-  count-forest leaf i k last ch l h o = refl
-  count-forest (item s kids later) i k last ch l h o =
-      let r = spanAt (cell w k 6) in
-      let n = suc k + size kids in
-      let inner = none-forest kids i (suc k) 0 (ch .1) (omega arith) (omega arith) (λ target e. zero-suc i (sym (back-none t w target) ∙ e)) in
-      let rest = count-forest later i n (suc k) (ch .2) (omega arith) (omega arith) in
-      let none = none-forest later i n (suc k) (ch .2) (omega arith) (omega arith) in
-      let base = placeAt w i in
-      let e = entryIn w k in
-      let es = entriesIn w (suc k) kids in
-      let more = entriesIn w n later in
-      let own : eqb (baseOf t w k) (suc i) ≡ eqb (if given r then back t w r last else 0) (suc i) = ap (λ (x : ℕ). eqb x (suc i)) (base-own k last (ch .0) l) in
-      go (given r) refl (sameName t (spanAt (cell w i 3)) r) refl (sameName t (spanAt (cell w i 3)) (spanAt (cell w k 3))) refl inner rest none own
+      low ≤ k →
+      ((target : Span) → Bare low (back t w target last)) →
+      (i : ℕ) →
+      k ≤ i →
+      i < k + size f →
+      (cell w i BASE ≤ i) × Bare low (cell w i BASE)
+  bases-forest leaf k last low x l b fine i p q = absurd (omega arith)
+  bases-forest (item s kids later) k last low x l b fine i p q =
+      let inner = bases-forest kids (suc k) 0 low (x .1) (omega arith) (omega arith) (λ target z. absurd (omega (arith, back-none t w target))) i in
+      let rest =
+      bases-forest later (suc k + size kids) (suc k) low (x .2) (omega arith) (omega arith)
+      (λ target. subst (Bare low) (sym (back-step t w target k last (x .0 .before) l)) (next-bare (isTarget t target true w k) (target-bare target) (fine target))) i in
+      ⊎-elim
+      (λ (more : k < i). ⊎-elim (λ (y : i < suc k + size kids). inner (omega arith) y) (λ (y : suc k + size kids ≤ i). rest y (omega arith)) (order i (suc k + size kids)))
+      (λ (less : i ≤ k). subst (λ (n : ℕ). (cell w n BASE ≤ n) × Bare low (cell w n BASE)) (let e : k ≡ i = omega arith in e) own)
+      (order k i)
     where
-      zero-suc : (i : ℕ) → 0 ≡ suc i → ⊥
-      zero-suc i e = omega arith
+      if-bare : (g : Bool) {n : ℕ} → Bare low n → Bare low (if g then n else 0)
+      if-bare true h = h
+      if-bare false h = λ z. absurd (omega arith)
 
-      go :
-          (g : Bool) →
-          given (spanAt (cell w k 6)) ≡ g →
-          (a : Bool) →
-          sameName t (spanAt (cell w i 3)) (spanAt (cell w k 6)) ≡ a →
-          (b : Bool) →
-          sameName t (spanAt (cell w i 3)) (spanAt (cell w k 3)) ≡ b →
-          hitsIn i (suc k) kids ≡ 0 →
-          (Open t w i (suc k) → hitsIn i (suc k + size kids) later ≡ members# (redefiners t (placeAt w i) (entriesIn w (suc k + size kids) later))) →
-          (((target : Span) → back t w target (suc k) ≡ suc i → ⊥) → hitsIn i (suc k + size kids) later ≡ 0) →
-          eqb (baseOf t w k) (suc i) ≡ eqb (if given (spanAt (cell w k 6)) then back t w (spanAt (cell w k 6)) last else 0) (suc i) →
-          hit t w i k + (hitsIn i (suc k) kids + hitsIn i (suc k + size kids) later)
-          ≡ members# (redefiners t (placeAt w i) (entriesIn w k (item s kids later)))
-      go true g a p b q inner rest none own =
-          let found : eqb (baseOf t w k) (suc i) ≡ a =
-          own ∙ ap (λ (x : Bool). eqb (if x then back t w (spanAt (cell w k 6)) last else 0) (suc i)) g ∙ o (spanAt (cell w k 6)) ∙ swapped t w (spanAt (cell w k 6)) (spanAt (cell w i 3)) ∙ p in
-          redefined a p g found inner (rest (passes t w i k last (ch .0) l o g))
+      own : (cell w k BASE ≤ k) × Bare low (cell w k BASE)
+      own =
+          let r = spanAt (cell w k REDEFINES) in
+          (base-most (x .0) l, subst (Bare low) (sym (x .0 .base)) (if-bare (given r) (fine r)))
+
+      -- a base names none
+      target-bare : (target : Span) → isTarget t target true w k ≡ true → cell w k BASE ≡ 0
+      target-bare target h = go (given (spanAt (cell w k REDEFINES))) refl h
         where
-          redefined :
-              (a : Bool) →
-              sameName t (spanAt (cell w i 3)) (spanAt (cell w k 6)) ≡ a →
-              given (spanAt (cell w k 6)) ≡ true →
-              eqb (baseOf t w k) (suc i) ≡ a →
-              hitsIn i (suc k) kids ≡ 0 →
-              hitsIn i (suc k + size kids) later ≡ members# (redefiners t (placeAt w i) (entriesIn w (suc k + size kids) later)) →
-              hit t w i k + (hitsIn i (suc k) kids + hitsIn i (suc k + size kids) later)
-              ≡ members# (redefiners t (placeAt w i) (entriesIn w k (item s kids later)))
-          redefined true p g found inner rest =
-              let one : hit t w i k ≡ 1 = ap (λ (x : Bool). if x then 1 else 0) found in
-              let whole = ap members# (redefiners-hit t (placeAt w i) (entryIn w k) (entriesIn w (suc k) kids) (entriesIn w (suc k + size kids) later) g p) in
-              omega (arith, one, inner, rest, whole)
-          redefined false p g found inner rest =
-              let zero : hit t w i k ≡ 0 = ap (λ (x : Bool). if x then 1 else 0) found in
-              let whole = ap members# (redefiners-miss t (placeAt w i) (entryIn w k) (entriesIn w (suc k) kids) (entriesIn w (suc k + size kids) later) g p) in
-              omega (arith, zero, inner, rest, whole)
-      go false g a p true q inner rest none own =
-          let zero : hit t w i k ≡ 0 = ap (λ (x : Bool). if x then 1 else 0) (own ∙ ap (λ (x : Bool). eqb (if x then back t w (spanAt (cell w k 6)) last else 0) (suc i)) g ∙ ne-eqb 0 (suc i) (λ x. omega arith)) in
-          let whole = ap members# (redefiners-ends t (placeAt w i) (entryIn w k) (entriesIn w (suc k) kids) (entriesIn w (suc k + size kids) later) g q) in
-          omega (arith, zero, inner, none (closes t w i k last (ch .0) l h o g q), whole)
-      go false g a p false q inner rest none own =
-          let zero : hit t w i k ≡ 0 = ap (λ (x : Bool). if x then 1 else 0) (own ∙ ap (λ (x : Bool). eqb (if x then back t w (spanAt (cell w k 6)) last else 0) (suc i)) g ∙ ne-eqb 0 (suc i) (λ x. omega arith)) in
-          let whole = ap members# (redefiners-next t (placeAt w i) (entryIn w k) (entriesIn w (suc k) kids) (entriesIn w (suc k + size kids) later) g q) in
-          omega (arith, zero, inner, rest (differs t w i k last (ch .0) l h o g q), whole)
+          go :
+              (g : Bool) →
+              given (spanAt (cell w k REDEFINES)) ≡ g →
+              (if g then false else sameName t target (spanAt (cell w k NAME))) ≡ true →
+              cell w k BASE ≡ 0
+          go true e z = absurd (never z)
+          go false e z = x .0 .base ∙ ap (λ (g : Bool). if g then back t w (spanAt (cell w k REDEFINES)) last else 0) e
+
+      next-bare : (c : Bool) → (c ≡ true → cell w k BASE ≡ 0) → {n : ℕ} → Bare low n → Bare low (if c then suc k else n)
+      next-bare true h fine′ = λ z. (omega arith, subst (λ (n : ℕ). cell w n BASE ≡ 0) (let e : k ≡ suc k - 1 = omega arith in e) (h refl))
+      next-bare false h fine′ = fine′
+
+  -- the first row of a list that names a base stands in the list, and not below it
+  first-forest : (f : Forest) (u k last : ℕ) → Linked t w k last f → 0 < u → u ≤ k → firstFrom w u k (size f) ≡ nextIn w u k f
+  unfolding firstFrom nextIn
+  first-forest leaf u k last x p h = refl
+  first-forest (item s kids later) u k last x p h =
+      let inner = none-forest kids u (suc k) 0 (x .1) (omega arith) p (omega arith) (λ target e. omega (arith, back-none t w target)) in
+      ap (λ (n : ℕ). if eqb (cell w k BASE) u then suc k else n)
+      (first-skip w u (suc k) (size kids) (size later) inner ∙ first-forest later u (suc k + size kids) (suc k) (x .2) p (omega arith))
 
   -- ---------------------------------------------------------------- every row
 
-  -- rows that hold how many rows redefine them are marked
+  -- a row stands in the union of its base, or in its own
+  module _ (i : ℕ) where
+    union-based : 0 < cell w i BASE → unionOf w i ≡ cell w i BASE
+    union-based h = ap (λ (b : Bool). if b then cell w i BASE else suc i) (lt-ltb 0 (cell w i BASE) h)
+
+    union-own : cell w i BASE ≤ 0 → unionOf w i ≡ suc i
+    union-own h = ap (λ (b : Bool). if b then cell w i BASE else suc i) (le-ltb 0 (cell w i BASE) h)
+
+    union-within : (low : ℕ) → low ≤ i → cell w i BASE ≤ i → (0 < cell w i BASE → low < cell w i BASE) → (low < unionOf w i) × (unionOf w i ≤ suc i)
+    union-within low l most least =
+        ⊎-elim
+        (λ (p : 0 < cell w i BASE). (omega (arith, union-based p, least p), omega (arith, union-based p)))
+        (λ (p : cell w i BASE ≤ 0). (omega (arith, union-own p), omega (arith, union-own p)))
+        (order 0 (cell w i BASE))
+
+  -- rows that name the first of the rows after them that stands in their union are marked
   marked-forest :
       (f : Forest) (k last : ℕ) →
-      Chained w k last f →
-      Counted w k last f →
+      Linked t w k last f →
       last ≤ k →
-      ((i : ℕ) → k ≤ i → i < k + size f → cell w i 18 ≡ baseOf t w i + hitsIn i k f) →
+      ((i : ℕ) → k ≤ i → i < k + size f → cell w i NEXT ≡ firstFrom w (unionOf w i) (suc i) (k + size f - suc i)) →
       Marked t w k last f
-  marked-forest leaf k last ch co l h = tt
-  marked-forest (item s kids later) k last ch co l h =
+  marked-forest leaf k last x l h = tt
+  marked-forest (item s kids later) k last x l h =
       let n = suc k + size kids in
-      let inner = marked-forest kids (suc k) 0 (ch .1) (co .1) (omega arith) in
-      let rest = marked-forest later n (suc k) (ch .2) (co .2) (omega arith) in
-      let row = h k (omega arith) (omega arith) in
-      let own = low-hit k k (omega arith) in
-      let below = none-forest kids k (suc k) 0 (ch .1) (omega arith) (omega arith) (λ target e. zero-suc k (sym (back-none t w target) ∙ e)) in
-      let after = count-forest later k n (suc k) (ch .2) (omega arith) (omega arith) in (
+      let below = bases-forest kids (suc k) 0 (suc k) (x .1) (omega arith) (omega arith) (λ target z. absurd (omega (arith, back-none t w target))) in
+      let inner = marked-forest kids (suc k) 0 (x .1) (omega arith) in
+      let rest = marked-forest later n (suc k) (x .2) (omega arith) in
+      let u = union-within k 0 (omega arith) (base-most (x .0) l) (λ p. p) in
+      let kids-none = none-forest kids (unionOf w k) (suc k) 0 (x .1) (omega arith) (u .0) (u .1) (λ target e. omega (arith, back-none t w target, u .0)) in (
         record {
-          before = ch .0;
-          below = co .0;
-          count = λ g. (let none : baseOf t w k ≡ 0 = ap (λ (b : Bool). if b then baseFrom t (spanAt (cell w k 6)) w k (cell w k 16) else 0) g in omega (arith, row, none, own, below, after (opens t w k k last (ch .0) l refl g)));
-          under =
-              λ g.
-              (let some = base-own k last (ch .0) l ∙ ap (λ (b : Bool). if b then back t w (spanAt (cell w k 6)) last else 0) g in
-              omega (arith, row, some, redefiner-forest (item s kids later) k k g));
+          row = x .0;
+          next =
+              h k (omega arith) (omega arith)
+              ∙ ap (firstFrom w (unionOf w k) (suc k)) (let e : k + size (item s kids later) - suc k ≡ size kids + size later = omega arith in e)
+              ∙ first-skip w (unionOf w k) (suc k) (size kids) (size later) kids-none
+              ∙ first-forest later (unionOf w k) n (suc k) (x .2) (u .0) (omega (arith, u .1));
         },
         inner
-            (λ i a b.
-            omega (
-              arith,
-              h i (omega arith) (omega arith),
-              low-hit i k (omega arith),
-              none-forest later i n (suc k) (ch .2) (omega arith) (omega arith) (λ target e. omega (arith, row-most t w target true (suc k) (suc k))),
-            )),
-        rest (λ i a b. omega (arith, h i (omega arith) (omega arith), low-hit i k (omega arith), high-forest kids i (suc k) (omega arith))),
+            (λ i p q.
+            let v = union-within i (suc k) p (below i p q .0) (λ z. below i p q .1 z .0) in
+            h i (omega arith) (omega arith)
+            ∙ ap (firstFrom w (unionOf w i) (suc i)) (let e : k + size (item s kids later) - suc i ≡ n - suc i + size later = omega arith in e)
+            ∙ first-stop w (unionOf w i) (suc i) (n - suc i) (size later)
+            (ap (λ (m : ℕ). firstFrom w (unionOf w i) m (size later)) (let e : suc i + (n - suc i) ≡ n = omega arith in e)
+            ∙ none-forest later (unionOf w i) n (suc k) (x .2) (omega arith) (omega (arith, v .0)) (omega (arith, v .1))
+            (λ target e. omega (arith, row-most t w target true (suc k) (suc k), v .0)))),
+        rest (λ i p q. h i (omega arith) (omega arith) ∙ ap (firstFrom w (unionOf w i) (suc i)) (let e : k + size (item s kids later) - suc i ≡ n + size later - suc i = omega arith in e)),
       )
-    where
-      zero-suc : (i : ℕ) → 0 ≡ suc i → ⊥
-      zero-suc i e = omega arith
 
-  pub marked-all :
-      (f : Forest) (k : ℕ) →
-      Chained w k 0 f →
-      Counted w k 0 f →
-      ((i : ℕ) → k ≤ i → i < k + size f → cell w i 18 ≡ baseOf t w i + hits t w i k (size f)) →
-      Marked t w k 0 f
-  marked-all f k ch co h = marked-forest f k 0 ch co (omega arith) (λ i a b. h i a b ∙ ap (λ (n : ℕ). baseOf t w i + n) (hits-forest f i k))
+  -- of a whole table
+  module _ (f : Forest) (k n : ℕ) (x : Linked t w k 0 f) (many : k + size f ≡ n) where
+    pub bases-all : (i : ℕ) → k ≤ i → i < n → (cell w i BASE ≤ i) × (0 < cell w i BASE → (k < cell w i BASE) × (cell w (cell w i BASE - 1) BASE ≡ 0))
+    bases-all i p q = bases-forest f k 0 k x (omega arith) (omega arith) (λ target z. absurd (omega (arith, back-none t w target))) i p (omega (arith, many))
 
-  -- and each counts the rows below it
-  pub marked-counted : (f : Forest) (k last : ℕ) → Marked t w k last f → Counted w k last f
-  marked-counted leaf k last m = tt
-  marked-counted (item s kids later) k last m =
-      (m .0 .below, marked-counted kids (suc k) 0 (m .1), marked-counted later (suc k + size kids) (suc k) (m .2))
+    pub marked-all : ((i : ℕ) → k ≤ i → i < n → cell w i NEXT ≡ firstFrom w (unionOf w i) (suc i) (n - suc i)) → Marked t w k 0 f
+    marked-all h =
+        marked-forest f k 0 x (omega arith)
+        (λ i p q. h i p (omega (arith, many)) ∙ ap (λ (m : ℕ). firstFrom w (unionOf w i) (suc i) (m - suc i)) (sym many))

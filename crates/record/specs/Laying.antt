@@ -1,18 +1,20 @@
--- What laying a whole record says: why it is refused, or which rows hold its bare entries, and its length.
+-- What laying a whole record says: why it is refused, or which rows hold its entries, and its length.
 -- Assumes nothing.
 use Prim.Native.Nat.{ℕ, _≤_}
 use mathlib.Core.Path.{_≡_}
 use mathlib.Core.List.{List}
+use Rattle.definition.specs.Limits.{mostStatements}
 use Rattle.definition.specs.Basic.{Answer, refuse, give, _>>=_}
 use Rattle.definition.specs.Statement.{statements}
 use Rattle.definition.specs.Tree.{Forest, forest, fields}
 use Rattle.definition.specs.Words.{statementWords}
-use Rattle.definition.specs.Fold.{Entries}
-use Rattle.definition.specs.Record.{recordLength}
-use Rattle.layout.specs.Bare.{bareRecord, foldedAll}
+use Rattle.definition.specs.Fold.{Entries, foldedAll}
+use Rattle.definition.specs.Record.{recordLength, unfolded}
 use Rattle.places.specs.Places.{rowsForest}
 use Rattle.record.specs.declared.RecordLaid.{RecordLaid}
-use Rattle.folded.specs.Shown.{listIn, Tree}
+use Rattle.definition.specs.Listing.{members#}
+use Rattle.unions.specs.Shown.{listIn, Tree}
+use Rattle.entries.specs.Entered.{Entered}
 
 -- the fields of a record that has n rows are the rows from r on
 pub record FieldsFrom (w : List ℕ) (n r : ℕ) : Type 0 where
@@ -27,20 +29,21 @@ fieldsOf text = do
 
 -- these fields laid, with no list folded
 abbrev pub laidOf : List ℕ → Answer Forest → Answer Entries
-laidOf text read = read >>= λ f. bareRecord text f
+laidOf text read = read >>= λ f. unfolded text f
 
 -- the rows from `from` up to `to` hold the fields that were read, and their places
 pub record Listed (text : List ℕ) (read : Answer Forest) (w : List ℕ) (from to length : ℕ) : Type 0 where
   pub fields : read ≡ give (rowsForest w from to)
   pub is : laidOf text read ≡ give (listIn w from to)
   pub tree : Tree text w from to
-  pub few : to ≤ 800
+  pub few : to ≤ mostStatements
   pub long : length ≡ recordLength (foldedAll text (listIn w from to))
 
--- what an answer says of the fields that were read, with the table as the call leaves it
-abbrev pub RecordIs : List ℕ → Answer Forest → RecordLaid → List ℕ → Type 0
-RecordIs text read (RecordLaid.Refused r) w = laidOf text read ≡ refuse r
-RecordIs text read (RecordLaid.Record from to length) w = Listed text read w from to length
+-- what an answer says of the fields that were read, with the rows and the table of entries as the call leaves them
+abbrev pub RecordIs : List ℕ → Answer Forest → RecordLaid → List ℕ → List ℕ → Type 0
+RecordIs text read (RecordLaid.Refused r) w t = laidOf text read ≡ refuse r
+RecordIs text read (RecordLaid.Record from to length count top) w t =
+    Listed text read w from to length × Entered text w from to t count × (top ≡ members# (foldedAll text (listIn w from to)))
 
 -- the record of a text, with no list folded
 abbrev pub recordOf : List ℕ → Answer Entries

@@ -1,60 +1,42 @@
--- What columns 16 to 18 of the table hold: a row names the sibling before it and counts the rows below it; a redefiner names its base (its row
--- and 1, or 0 for none), and a base counts its redefiners.
+-- What linking the rows of each union does: from the last row back each comes before what its base names, and so each
+-- names the next of its union.
 -- Assumes nothing.
-use Prim.Native.Nat.{ℕ, zero, suc, _+_, _-_, _≤_, _<_}
+use Prim.Native.Nat.{ℕ, zero, suc, _+_, _*_, _-_, _≤_, _<_}
 use mathlib.Core.Path.{_≡_}
 use mathlib.Core.List.{List}
-use lib.Dec.{eqb}
-use lib.ListN.{length}
-use Rattle.definition.specs.Basic.{if_then_else_, given}
-use Rattle.definition.specs.Tree.{Forest, leaf, item}
-use Rattle.definition.specs.Owner.{size}
-use Rattle.rows.specs.Table.{cell, spanAt}
-use Rattle.folded.specs.Shown.{baseFrom}
+use lib.Dec.{eqb, ltb}
+use lib.ListN.{length, set}
+use Rattle.definition.specs.Limits.{mostStatements}
+use Rattle.definition.specs.Basic.{if_then_else_}
+use Rattle.rows.specs.Columns.{ROW, BASE, NEXT}
+use Rattle.rows.specs.Table.{cell}
+use Rattle.unions.specs.Shown.{unionOf}
 
--- column c of each row of a list, and of the lists below it, holds what `value` says of the sibling before the row and of the forest below it
-abbrev pub Column : ℕ → (ℕ → Forest → ℕ) → List ℕ → ℕ → ℕ → Forest → Type 0
-Column c value w k last leaf = Unit {0}
-Column c value w k last (item s kids later) =
-    (cell w k c ≡ value last kids) × Column c value w (suc k) 0 kids × Column c value w (suc k + size kids) (suc k) later
+-- w with row k before what its base names
+abbrev pub linkRow : List ℕ → ℕ → List ℕ
+linkRow w k =
+    let b = cell w k BASE in
+    if ltb 0 b then set (set w (ROW * k + NEXT) (cell w (b - 1) NEXT)) (ROW * (b - 1) + NEXT) (k + 1) else w
 
--- each row names the sibling before it
-abbrev pub Chained : List ℕ → ℕ → ℕ → Forest → Type 0
-Chained w k last f = Column 16 (λ before kids. before) w k last f
+-- the first of the n rows from k on that names the base u: its row and 1, or 0 for none
+unfoldable pub firstFrom : List ℕ → ℕ → ℕ → ℕ → ℕ
+firstFrom w u k zero = 0
+firstFrom w u k (suc n) = if eqb (cell w k BASE) u then suc k else firstFrom w u (suc k) n
 
--- each row counts the rows below it
-abbrev pub Counted : List ℕ → ℕ → ℕ → Forest → Type 0
-Counted w k last f = Column 17 (λ before kids. size kids) w k last f
-
--- the base that row k redefines: its row and 1, or 0 for none
-abbrev pub baseOf : List ℕ → List ℕ → ℕ → ℕ
-baseOf text w k = if given (spanAt (cell w k 6)) then baseFrom text (spanAt (cell w k 6)) w k (cell w k 16) else 0
-
--- 1 where row k redefines row i
-abbrev pub hit : List ℕ → List ℕ → ℕ → ℕ → ℕ
-hit text w i k = if eqb (baseOf text w k) (suc i) then 1 else 0
-
--- how many of the n rows from k on redefine row i
-unfoldable pub hits : List ℕ → List ℕ → ℕ → ℕ → ℕ → ℕ
-hits text w i k zero = 0
-hits text w i k (suc n) = hit text w i k + hits text w i (suc k) n
-
--- the columns below 18 are as they were
+-- the columns before NEXT are as they were
 pub record Kept (w w′ : List ℕ) : Type 0 where
   pub long : length w′ ≡ length w
-  pub same : (k c : ℕ) → c < 18 → cell w′ k c ≡ cell w k c
+  pub same : (k c : ℕ) → c < NEXT → cell w′ k c ≡ cell w k c
 
--- the rows from `from` up to k can be counted up once more
-pub record Countable (w : List ℕ) (from k : ℕ) : Type 0 where
-  pub small : (i : ℕ) → from ≤ i → i < k → cell w i 18 < 4294967295
+-- no row from `from` up to `to` names a next one; a base is an earlier of these rows, and has no base
+pub record Unlinked (w : List ℕ) (from to : ℕ) : Type 0 where
+  pub fits : ROW * to ≤ length w
+  pub few : to ≤ mostStatements
+  pub nexts : (i : ℕ) → from ≤ i → i < to → cell w i NEXT ≡ 0
+  pub back : (i : ℕ) → from ≤ i → i < to → cell w i BASE ≤ i
+  pub bases : (i : ℕ) → from ≤ i → i < to → 0 < cell w i BASE → (from < cell w i BASE) × (cell w (cell w i BASE - 1) BASE ≡ 0)
 
--- row k holds its base, and the row that it redefines has one more
-pub record RowTallied (text w : List ℕ) (from k : ℕ) (w′ : List ℕ) : Type 0 where
+-- each row from `from` up to `to` names the next of its union
+pub record UnionsLinked (w : List ℕ) (from to : ℕ) (w′ : List ℕ) : Type 0 where
   pub kept : Kept w w′
-  pub own : cell w′ k 18 ≡ baseOf text w k
-  pub others : (i : ℕ) → from ≤ i → i < k → cell w′ i 18 ≡ cell w i 18 + hit text w i k
-
--- each row from `from` up to `to` holds its base, and how many of these rows redefine it: one of the two is 0
-pub record Tallied (text w : List ℕ) (from to : ℕ) (w′ : List ℕ) : Type 0 where
-  pub kept : Kept w w′
-  pub counts : (i : ℕ) → from ≤ i → i < to → cell w′ i 18 ≡ baseOf text w i + hits text w i from (to - from)
+  pub nexts : (i : ℕ) → from ≤ i → i < to → cell w′ i NEXT ≡ firstFrom w (unionOf w i) (suc i) (to - suc i)

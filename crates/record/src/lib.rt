@@ -1,86 +1,72 @@
-// A record laid out in work memory: a copybook read, laid and checked, and its redefiners marked.
+// A record laid out in work memory: a copybook read, laid and checked, and its redefiners linked.
 ghost use mathlib.Core.Path.{_≡_};
 ghost use Prim.Native.Nat.{_+_, _*_, _≤_, _<_};
-ghost use lib.ListN.{length, set};
+ghost use lib.ListN.{length};
+ghost use Rattle.definition.specs.Limits.{mostBytes, leastWork, mostStatements};
 ghost use Rattle.definition.specs.Basic.{give};
 ghost use Rattle.definition.specs.Calls.{recordFields};
 ghost use Rattle.places.specs.Places.{rowsForest};
 ghost use Rattle.layout.specs.Steps.{Room};
+ghost use Rattle.rows.specs.Columns.{ROW, BASE};
 ghost use Rattle.rows.specs.Table.{cell};
-ghost use Rattle.record.specs.Marks.{baseOf, Countable, RowTallied, Tallied};
+ghost use Rattle.record.specs.Marks.{linkRow, Unlinked, UnionsLinked};
 ghost use Rattle.record.specs.Laying.{FieldsFrom, RecordIs, fieldsOf};
 use definition::Check;
+use definition::DEEPEST;
 use definition::Refusal;
 use layout::LaidList;
-use reading::RowsRead;
+use rows::BASE;
+use rows::BEFORE;
+use rows::NEXT;
+use rows::REDEFINES;
+use rows::ROW;
+use tree::RowsRead;
 
-// ---------------------------------------------------------------- the redefiners counted
+// ---------------------------------------------------------------- the redefiners linked
 
-// The base that row k redefines: its row and 1, or 0 for none.
-fn base_of(text: &[u8], work: &[u32], k: usize) -> usize
-    requires { ⌜ 20 * k + 20 ≤ length (now work) ⌝ }
-    ensures { λ r. ⌜ r ≡ baseOf (now (text .entry)) (now (work .entry)) k ⌝ }
+// Row k before the rows of its union so far: its base names it then.
+fn link_row(work: &mut [u32], k: usize)
+    requires { ⌜ (ROW * k + ROW ≤ length (now work)) × (k < 4294967295) × (cell (now work) k BASE ≤ k) ⌝ }
+    ensures { λ _. ⌜ now (work .exit) ≡ linkRow (now (work .entry)) k ⌝ }
 {
-    let redefines = rows::span_at(work[20 * k + 6]);
-    if 0 < redefines.len {
-        let last = places::wide(work[20 * k + 16]);
-        if k < last {
-            return 0;
-        }
-        return places::find_row(text, work, redefines, last, true);
-    }
-    0
-}
-
-// One redefiner more for row i.
-fn count_up(work: &mut [u32], i: usize)
-    requires { ⌜ (20 * i + 20 ≤ length (now work)) × (cell (now work) i 18 < 4294967295) ⌝ }
-    ensures { λ _. ⌜ now (work .exit) ≡ set (now (work .entry)) (20 * i + 18) (cell (now (work .entry)) i 18 + 1) ⌝ }
-{
-    let at = 20 * i + 18;
-    work[at] = work[at] + 1;
-}
-
-// Row k holds the base that it redefines, or 0, and the base, if it is a row from `from` on, has one redefiner more.
-fn mark_row(text: &[u8], work: &mut [u32], from: usize, k: usize)
-    requires { ⌜ (20 * k + 20 ≤ length (now work)) × (k < 4294967296) × Countable (now work) from k ⌝ }
-    ensures { λ _. ⌜ RowTallied (now (text .entry)) (now (work .entry)) from k (now (work .exit)) ⌝ }
-{
-    let base = base_of(text, work, k);
-    work[20 * k + 18] = base as u32;
-    if from < base {
-        count_up(work, base - 1);
+    let base = rows::wide(work[ROW * k + BASE]);
+    if 0 < base {
+        let row = base - 1;
+        work[ROW * k + NEXT] = work[ROW * row + NEXT];
+        work[ROW * row + NEXT] = (k + 1) as u32;
         return;
     }
 }
 
-// Has each row from `from` up to `to` hold its base, or how many of these rows redefine it.
-fn mark_redefiners(text: &[u8], work: &mut [u32], from: usize, to: usize)
-    requires { ⌜ (20 * to ≤ length (now work)) × (to ≤ 800) ⌝ }
-    ensures { λ _. ⌜ Tallied (now (text .entry)) (now (work .entry)) from to (now (work .exit)) ⌝ }
+// Has each row from `from` up to `to` name the next row of its union: from the last row back, for a base is told of its redefiners by them.
+fn link_unions(work: &mut [u32], from: usize, to: usize)
+    requires { ⌜ Unlinked (now work) from to ⌝ }
+    ensures { λ _. ⌜ UnionsLinked (now (work .entry)) from to (now (work .exit)) ⌝ }
 {
-    let mut k = from;
-    while k < to {
-        mark_row(text, work, from, k);
-        k += 1;
+    let mut k = to;
+    while from < k {
+        k -= 1;
+        link_row(work, k);
     }
 }
 
 // ---------------------------------------------------------------- a record
 
-// The rows that hold a record and its length, or why it is refused.
+// The rows that hold a record, its length, and how many entries its table has, in all and at the top; or why it is refused.
 pub enum RecordLaid {
     Record {
         from: usize,
         to: usize,
         length: usize,
+        count: usize,
+        top: usize,
     },
     Refused(Refusal),
 }
 
 // The first row of the fields of a record that has n rows: an only root with children is dropped.
 pub fn first_field(work: &[u32], n: usize) -> usize
-    requires { ⌜ 20 * n ≤ length (now work) ⌝ }
+    requires { ⌜ ROW * n ≤ length (now work) ⌝ }
     ensures { λ r. ⌜ FieldsFrom (now (work .entry)) n r ⌝ }
 {
     if n < 2 {
@@ -93,20 +79,30 @@ pub fn first_field(work: &[u32], n: usize) -> usize
 }
 
 // Lays out the fields in the rows from `from` up to `to`: their places, then 30, then 29 for an end in the folded list.
-pub fn lay_fields(text: &[u8], work: &mut [u32], from: usize, to: usize) -> RecordLaid
-    requires { ⌜ (from ≤ to) × Room (now work) to × (to ≤ 800) ⌝ }
-    ensures { λ r. ⌜ RecordIs (now (text .entry)) (give (rowsForest (now (work .entry)) from to)) r (now (work .exit)) ⌝ }
+pub fn lay_fields(
+    text: &[u8],
+    work: &mut [u32],
+    entries: &mut [u32],
+    from: usize,
+    to: usize,
+) -> RecordLaid
+    requires { ⌜ (from ≤ to) × Room (now work) to × (to ≤ mostStatements) × (8400 ≤ length (now entries)) ⌝ }
+    ensures { λ r. ⌜ RecordIs (now (text .entry)) (give (rowsForest (now (work .entry)) from to)) r (now (work .exit)) (now (entries .exit)) ⌝ }
 {
-    match layout::lay_list(text, work, from, to, 64) {
+    match layout::lay_list(text, work, from, to, DEEPEST) {
         LaidList::Done { width, last } => match layout::fold_check(text, work, from, to) {
             Check::Passed => {
-                mark_redefiners(text, work, from, to);
-                match folded::ends_fit(text, work, from, to) {
+                link_unions(work, from, to);
+                let made = entries::make_entries(text, work, from, to, entries);
+                let count = made.next;
+                match entries::ends_fit(work, entries, count) {
                     Check::Passed => {
                         return RecordLaid::Record {
                             from,
                             to,
-                            length: folded::record_length(text, work, from, to),
+                            length: entries::record_length(work, entries, count),
+                            count,
+                            top: made.count,
                         };
                     }
                     Check::Refused(r) => {
@@ -125,14 +121,14 @@ pub fn lay_fields(text: &[u8], work: &mut [u32], from: usize, to: usize) -> Reco
 }
 
 // Reads a text into rows of work memory and lays its record out there.
-pub fn lay_record(text: &[u8], work: &mut [u32]) -> RecordLaid
-    requires { ⌜ (length (now text) ≤ 65535) × (16384 ≤ length (now work)) ⌝ }
-    ensures { λ r. ⌜ RecordIs (now (text .entry)) (fieldsOf (now (text .entry))) r (now (work .exit)) ⌝ }
+pub fn lay_record(text: &[u8], work: &mut [u32], entries: &mut [u32]) -> RecordLaid
+    requires { ⌜ (length (now text) ≤ mostBytes) × (leastWork ≤ length (now work)) × (8400 ≤ length (now entries)) ⌝ }
+    ensures { λ r. ⌜ RecordIs (now (text .entry)) (fieldsOf (now (text .entry))) r (now (work .exit)) (now (entries .exit)) ⌝ }
 {
-    match reading::read_rows(text, work) {
+    match tree::read_rows(text, work) {
         RowsRead::Rows(n) => {
             let from = first_field(work, n);
-            return lay_fields(text, work, from, n);
+            return lay_fields(text, work, entries, from, n);
         }
         RowsRead::Refused(r) => {
             return RecordLaid::Refused(r);
@@ -142,12 +138,13 @@ pub fn lay_record(text: &[u8], work: &mut [u32]) -> RecordLaid
 
 // Checks what a caller lends, reads the text into rows of work memory and lays its record out there, or says why not: 1, 2, 3, then
 // the statements' 10 to 14, then 20 to 30. Every entry that speaks of a copybook's record starts so.
-pub fn read_record(text: &[u8], work: &mut [u32]) -> RecordLaid
-    ensures { λ r. ⌜ RecordIs (now (text .entry)) (recordFields (now (text .entry)) (length (now (work .entry)))) r (now (work .exit)) ⌝ }
+pub fn read_record(text: &[u8], work: &mut [u32], entries: &mut [u32]) -> RecordLaid
+    requires { ⌜ 8400 ≤ length (now entries) ⌝ }
+    ensures { λ r. ⌜ RecordIs (now (text .entry)) (recordFields (now (text .entry)) (length (now (work .entry)))) r (now (work .exit)) (now (entries .exit)) ⌝ }
 {
-    match reading::entry_checks(text, work.len()) {
+    match tree::entry_checks(text, work.len()) {
         Check::Passed => {
-            return lay_record(text, work);
+            return lay_record(text, work, entries);
         }
         Check::Refused(r) => {
             return RecordLaid::Refused(r);

@@ -9,6 +9,7 @@ use mir.Val.{Fits}
 use mir.Syntax.{w64}
 use Rattle.definition.specs.declared.Token.{Token}
 use Rattle.text.specs.declared.Next.{Next}
+use Rattle.text.specs.declared.Stand.{Stand}
 use Rattle.text.specs.Tokens.{First}
 use Rattle.replay.specs.declared.Reached.{Reached}
 use Rattle.replay.specs.declared.Word.{Word}
@@ -26,15 +27,15 @@ inside-at list p at i e = rw e at i
 
 module _ (list : List ℕ) (at : ℕ) (r : Next) (b : Bounded list at r) where
   -- the token is a word
-  module _ {start len next : ℕ} (e : r ≡ Next.Word start len next) where
-    pub word-in : WordIn list at start len next
+  module _ {start len : ℕ} {next : Stand} (e : r ≡ Next.Word start len next) where
+    pub word-in : WordIn list at start len (next .at)
     word-in = rw e at b
 
-    pub word-holds : Holds list (record { start = start; len = len; place = Reached.At next })
+    pub word-holds : Holds list (record { start = start; len = len; place = Reached.At (next .at) })
     word-holds = let w = word-in in record { fits = w .fits; inside = w .after .within }
 
   -- the token ends a case
-  pub stop-in : {next : ℕ} → r ≡ Next.Stop next → Later list at next
+  pub stop-in : {next : Stand} → r ≡ Next.Stop next → Later list at (next .at)
   stop-in e = rw e at b
 
 -- no word holds as well

@@ -11,6 +11,7 @@ use definition::Refusal;
 use libc::STDOUT_FILENO;
 use text::Next;
 use text::Number;
+use text::Stand;
 
 // ---------------------------------------------------------------- places in a list
 
@@ -25,7 +26,13 @@ fn token(list: &[u8], at: usize) -> Next
     requires { ⌜ at ≤ length (now list) ⌝ }
     ensures { λ r. ⌜ Bounded (now (list .entry)) at r ⌝ }
 {
-    text::next_token(list, at, at == 0)
+    text::next_token(
+        list,
+        Stand {
+            at: at,
+            fresh: at == 0,
+        },
+    )
 }
 
 // Whether a case begins at a place or after it.
@@ -56,10 +63,10 @@ pub fn after_case(list: &[u8], at: usize) -> usize
                 len: _,
                 next,
             } => {
-                place = next;
+                place = next.at;
             }
             Next::Stop { next } => {
-                return next;
+                return next.at;
             }
             Next::End => {
                 return list.len();
@@ -116,7 +123,7 @@ fn next_word(list: &[u8], p: Reached) -> Word
             Next::Word { start, len, next } => Word {
                 start,
                 len,
-                place: Reached::At(next),
+                place: Reached::At(next.at),
             },
             Next::Stop { next: _ } => no_word(),
             Next::End => no_word(),

@@ -12,17 +12,18 @@ use lib.Dec.{eqb, lit<}
 use lib.ListN.{length, getD, set, length-set}
 use lib.Seq.{sets, length-sets, getD-set-other, getD-set-same}
 use Rattle.definition.specs.declared.Span.{Span}
-use Rattle.definition.specs.declared.Usage.{Usage}
-use Rattle.definition.specs.declared.UsageClause.{UsageClause}
-use Rattle.definition.specs.declared.SignWords.{SignWords}
 use Rattle.definition.specs.declared.Occurs.{Occurs}
+use Rattle.definition.specs.declared.Clauses.{Clauses}
 use Rattle.definition.specs.declared.Statement.{Statement}
 use Rattle.definition.specs.Basic.{span}
 use Rattle.definition.specs.Listing.{flag}
 use Rattle.definition.specs.Statement.{clausesOf}
 use Rattle.definition.proofs.Lists.{order}
-use Rattle.rows.specs.Table.{spanCode, spanAt, usageCode, usageAt, signCode, signAt, markOf, countOf, occursAt}
-use Rattle.rows.specs.Table.{Short, Storable, Storables, cells, putRow, putRows, cell, depthAt, clausesAt, statementAt, statementsFrom, depthsFrom}
+use Rattle.kinds.specs.Usages.{usageCode, usageClauseAt, signCode, signWordsAt}
+use Rattle.kinds.proofs.Back.{flag-back, flag-few, usage-back, usage-few, sign-words-back, sign-words-few}
+use Rattle.rows.specs.Columns.{ROW, LEVEL, PARENT, AT, NAME, PICTURE, DEPENDING, REDEFINES, SAID, LOW, HIGH, OFFSET}
+use Rattle.rows.specs.Table.{spanCode, spanAt, markOf, countOf, occursAt, saidCode}
+use Rattle.rows.specs.Table.{Short, Storable, Storables, cells, putRow, putRows, cell, parentAt, clausesAt, statementAt, statementsFrom, parentsFrom}
 
 -- ---------------------------------------------------------------- the parts, read back
 
@@ -32,26 +33,31 @@ span-back w h =
     let len : spanCode w % 65536 ≡ w .len = omega arith in
     ap₂ span start len
 
-usage-back : (u : UsageClause) → usageAt (usageCode u) ≡ u
-usage-back UsageClause.Absent = refl
-usage-back (UsageClause.Given Usage.Display) = refl
-usage-back (UsageClause.Given Usage.Comp3) = refl
-usage-back (UsageClause.Given Usage.Comp) = refl
-
-sign-back : (s : SignWords) → signAt (signCode s) ≡ s
-sign-back SignWords.Absent = refl
-sign-back (SignWords.Said false false) = refl
-sign-back (SignWords.Said true false) = refl
-sign-back (SignWords.Said false true) = refl
-sign-back (SignWords.Said true true) = refl
-
-pub flag-back : (b : Bool) → eqb (flag b) 1 ≡ b
-flag-back true = refl
-flag-back false = refl
-
 occurs-back : (o : Occurs) → occursAt (markOf o) (countOf o % 4294967296) (countOf o / 4294967296) ≡ o
 occurs-back Occurs.Once = refl
 occurs-back (Occurs.Times n) = ap Occurs.Times (div-add-mod' n 4294967296)
+
+mark-few : (o : Occurs) → markOf o < 2
+mark-few Occurs.Once = omega arith
+mark-few (Occurs.Times n) = omega arith
+
+-- the parts of what is said
+module _ (c : Clauses) where
+  said-usage : saidCode c % 8 ≡ usageCode (c .usage)
+  said-usage = omega (arith, usage-few (c .usage))
+
+  said-sign : saidCode c / 8 % 8 ≡ signCode (c .sign)
+  said-sign =
+      let d : saidCode c / 8 ≡ signCode (c .sign) + 8 * (flag (c .sync) + 2 * markOf (c .occurs)) = omega (arith, usage-few (c .usage)) in
+      rw d (omega (arith, sign-words-few (c .sign)))
+
+  said-sync : saidCode c / 64 % 2 ≡ flag (c .sync)
+  said-sync =
+      let d : saidCode c / 64 ≡ flag (c .sync) + 2 * markOf (c .occurs) = omega (arith, usage-few (c .usage), sign-words-few (c .sign)) in
+      rw d (omega (arith, flag-few (c .sync)))
+
+  said-mark : saidCode c / 128 ≡ markOf (c .occurs)
+  said-mark = omega (arith, usage-few (c .usage), sign-words-few (c .sign), flag-few (c .sync))
 
 -- ---------------------------------------------------------------- a run of stores
 
@@ -71,54 +77,54 @@ getD-in (v ∷ vs) l i (suc c) j e h fits = getD-in vs (set l i v) (suc i) c j (
 
 -- ---------------------------------------------------------------- columns
 
-module _ (w : List ℕ) (a depth : ℕ) (s : Statement) where
-  pub length-putRow : length (putRow w a depth s) ≡ length w
+module _ (w : List ℕ) (a parent : ℕ) (s : Statement) where
+  pub length-putRow : length (putRow w a parent s) ≡ length w
   unfolding putRow
-  length-putRow = length-sets w (20 * a) (cells depth s)
+  length-putRow = length-sets w (ROW * a) (cells parent s)
 
   -- a stored column, the columns of a row that no statement takes, and the columns of another row
-  cell-put : 20 * a + 20 ≤ length w → (c : ℕ) → c < 13 → cell (putRow w a depth s) a c ≡ getD (cells depth s) c 0
+  cell-put : ROW * a + ROW ≤ length w → (c : ℕ) → c < OFFSET → cell (putRow w a parent s) a c ≡ getD (cells parent s) c 0
   unfolding putRow
-  cell-put h c l = getD-in (cells depth s) w (20 * a) c (20 * a + c) refl l (omega arith)
+  cell-put h c l = getD-in (cells parent s) w (ROW * a) c (ROW * a + c) refl l (omega arith)
 
-  pub cell-beyond : (c : ℕ) → 13 ≤ c → cell (putRow w a depth s) a c ≡ cell w a c
+  pub cell-beyond : (c : ℕ) → OFFSET ≤ c → cell (putRow w a parent s) a c ≡ cell w a c
   unfolding putRow
-  cell-beyond c l = getD-above (cells depth s) w (20 * a) (20 * a + c) (omega arith)
+  cell-beyond c l = getD-above (cells parent s) w (ROW * a) (ROW * a + c) (omega arith)
 
-  pub cell-other : (k : ℕ) → (k ≡ a → ⊥) → (c : ℕ) → c < 20 → cell (putRow w a depth s) k c ≡ cell w k c
+  pub cell-other : (k : ℕ) → (k ≡ a → ⊥) → (c : ℕ) → c < ROW → cell (putRow w a parent s) k c ≡ cell w k c
   unfolding putRow
   cell-other k n c l =
       ⊎-elim
-      (λ (less : k < a). getD-below (cells depth s) w (20 * a) (20 * k + c) (omega arith))
-      (λ (more : a ≤ k). getD-above (cells depth s) w (20 * a) (20 * k + c) (omega arith))
+      (λ (less : k < a). getD-below (cells parent s) w (ROW * a) (ROW * k + c) (omega arith))
+      (λ (more : a ≤ k). getD-above (cells parent s) w (ROW * a) (ROW * k + c) (omega arith))
       (order k a)
 
 -- ---------------------------------------------------------------- one row
 
 module _ (w : List ℕ) (k : ℕ) where
-  -- a statement depends on its 13 columns alone
-  pub statement-same : (w′ : List ℕ) → ((c : ℕ) → c < 13 → cell w k c ≡ cell w′ k c) → statementAt w k ≡ statementAt w′ k
+  -- a statement depends on its columns alone
+  pub statement-same : (w′ : List ℕ) → ((c : ℕ) → c < OFFSET → cell w k c ≡ cell w′ k c) → statementAt w k ≡ statementAt w′ k
   statement-same w′ h =
-      cc (h 0 (lit< tt), h 2 (lit< tt), h 3 (lit< tt), h 4 (lit< tt), h 5 (lit< tt), h 6 (lit< tt), h 7 (lit< tt), h 8 (lit< tt), h 9 (lit< tt), h 10 (lit< tt), h 11 (lit< tt), h 12 (lit< tt))
+      cc (h LEVEL (lit< tt), h AT (lit< tt), h NAME (lit< tt), h PICTURE (lit< tt), h DEPENDING (lit< tt), h REDEFINES (lit< tt), h SAID (lit< tt), h LOW (lit< tt), h HIGH (lit< tt))
 
   -- columns that are a statement's hold the statement
-  module _ (depth : ℕ) (s : Statement) (h : (c : ℕ) → c < 13 → cell w k c ≡ getD (cells depth s) c 0) (fits : Storable s) where
+  module _ (parent : ℕ) (s : Statement) (h : (c : ℕ) → c < OFFSET → cell w k c ≡ getD (cells parent s) c 0) (fits : Storable s) where
     clauses-held : clausesAt w k ≡ s .clauses
     clauses-held =
         let c = s .clauses in
         let b = fits .placed .clauses in
         let same : clausesAt w k ≡ clausesOf (c .picture) (c .usage) (c .sign) (c .sync) (c .occurs) (c .depending) (c .redefines) =
         cc (
-          ap spanAt (h 4 (lit< tt)) ∙ span-back (c .picture) (b .picture),
-          ap usageAt (h 7 (lit< tt)) ∙ usage-back (c .usage),
-          ap signAt (h 8 (lit< tt)) ∙ sign-back (c .sign),
-          ap (λ (n : ℕ). eqb n 1) (h 9 (lit< tt)) ∙ flag-back (c .sync),
-          h 10 (lit< tt),
-          h 11 (lit< tt),
-          h 12 (lit< tt),
+          ap spanAt (h PICTURE (lit< tt)) ∙ span-back (c .picture) (b .picture),
+          ap (λ (n : ℕ). usageClauseAt (n % 8)) (h SAID (lit< tt)) ∙ ap usageClauseAt (said-usage c) ∙ usage-back (c .usage),
+          ap (λ (n : ℕ). signWordsAt (n / 8 % 8)) (h SAID (lit< tt)) ∙ ap signWordsAt (said-sign c) ∙ sign-words-back (c .sign),
+          ap (λ (n : ℕ). eqb (n / 64 % 2) 1) (h SAID (lit< tt)) ∙ ap (λ (n : ℕ). eqb n 1) (said-sync c) ∙ flag-back (c .sync),
+          ap (λ (n : ℕ). n / 128) (h SAID (lit< tt)) ∙ said-mark c,
+          h LOW (lit< tt),
+          h HIGH (lit< tt),
           occurs-back (c .occurs),
-          ap spanAt (h 5 (lit< tt)) ∙ span-back (c .depending) (b .depending),
-          ap spanAt (h 6 (lit< tt)) ∙ span-back (c .redefines) (b .redefines),
+          ap spanAt (h DEPENDING (lit< tt)) ∙ span-back (c .depending) (b .depending),
+          ap spanAt (h REDEFINES (lit< tt)) ∙ span-back (c .redefines) (b .redefines),
         ) in
         same
 
@@ -126,34 +132,34 @@ module _ (w : List ℕ) (k : ℕ) where
     statement-held =
         let same : statementAt w k ≡ record { level = s .level; at = s .at; name = s .name; clauses = s .clauses } =
         cc (
-          ap (λ (n : ℕ). n % 256) (h 0 (lit< tt)) ∙ mod-eq-of-lt (fits .level),
-          h 2 (lit< tt),
-          ap spanAt (h 3 (lit< tt)) ∙ span-back (s .name) (fits .placed .name),
+          ap (λ (n : ℕ). n % 256) (h LEVEL (lit< tt)) ∙ mod-eq-of-lt (fits .level),
+          h AT (lit< tt),
+          ap spanAt (h NAME (lit< tt)) ∙ span-back (s .name) (fits .placed .name),
           clauses-held,
         ) in
         same
 
-module _ (w : List ℕ) (a depth : ℕ) (s : Statement) where
-  -- a stored statement is read back, and its depth
-  pub statement-put : 20 * a + 20 ≤ length w → Storable s → statementAt (putRow w a depth s) a ≡ s
-  statement-put h fits = statement-held (putRow w a depth s) a depth s (cell-put w a depth s h) fits
+module _ (w : List ℕ) (a parent : ℕ) (s : Statement) where
+  -- a stored statement is read back, and its parent
+  pub statement-put : ROW * a + ROW ≤ length w → Storable s → statementAt (putRow w a parent s) a ≡ s
+  statement-put h fits = statement-held (putRow w a parent s) a parent s (cell-put w a parent s h) fits
 
-  pub depth-put : 20 * a + 20 ≤ length w → depthAt (putRow w a depth s) a ≡ depth
-  depth-put h = cell-put w a depth s h 1 (lit< tt)
+  pub parent-put : ROW * a + ROW ≤ length w → parentAt (putRow w a parent s) a ≡ parent
+  parent-put h = cell-put w a parent s h PARENT (lit< tt)
 
   -- and the other rows are as before
-  pub statement-other : (k : ℕ) → (k ≡ a → ⊥) → statementAt (putRow w a depth s) k ≡ statementAt w k
-  statement-other k n = statement-same (putRow w a depth s) k w (λ c l. cell-other w a depth s k n c (omega arith))
+  pub statement-other : (k : ℕ) → (k ≡ a → ⊥) → statementAt (putRow w a parent s) k ≡ statementAt w k
+  statement-other k n = statement-same (putRow w a parent s) k w (λ c l. cell-other w a parent s k n c (omega arith))
 
 -- a number stored in a column that no statement takes leaves the statements alone
-module _ (w : List ℕ) (a c v : ℕ) (low : 13 ≤ c) (high : c < 20) where
-  cell-set : (k d : ℕ) → d < 13 → cell (set w (20 * a + c) v) k d ≡ cell w k d
-  cell-set k d h = getD-set-other w (20 * a + c) (20 * k + d) v 0 (λ e. omega arith)
+module _ (w : List ℕ) (a c v : ℕ) (low : OFFSET ≤ c) (high : c < ROW) where
+  cell-set : (k d : ℕ) → d < OFFSET → cell (set w (ROW * a + c) v) k d ≡ cell w k d
+  cell-set k d h = getD-set-other w (ROW * a + c) (ROW * k + d) v 0 (λ e. omega arith)
 
-  pub statement-set : (k : ℕ) → statementAt (set w (20 * a + c) v) k ≡ statementAt w k
-  statement-set k = statement-same (set w (20 * a + c) v) k w (cell-set k)
+  pub statement-set : (k : ℕ) → statementAt (set w (ROW * a + c) v) k ≡ statementAt w k
+  statement-set k = statement-same (set w (ROW * a + c) v) k w (cell-set k)
 
-  pub statements-set : (k n : ℕ) → statementsFrom (set w (20 * a + c) v) k n ≡ statementsFrom w k n
+  pub statements-set : (k n : ℕ) → statementsFrom (set w (ROW * a + c) v) k n ≡ statementsFrom w k n
   unfolding statementsFrom
   statements-set k zero = refl
   statements-set k (suc n) = ap₂ (λ (x : Statement) (xs : List Statement). x ∷ xs) (statement-set k) (statements-set (suc k) n)
@@ -167,7 +173,7 @@ length-putRows [] (s ∷ ss) w a = refl
 length-putRows (d ∷ ds) (s ∷ ss) w a = length-putRows ds ss (putRow w a d s) (suc a) ∙ length-putRow w a d s
 
 -- rows before the run are as before
-cell-before : (ds : List ℕ) (ss : List Statement) (w : List ℕ) (a k : ℕ) → k < a → (c : ℕ) → c < 20 → cell (putRows w a ds ss) k c ≡ cell w k c
+cell-before : (ds : List ℕ) (ss : List Statement) (w : List ℕ) (a k : ℕ) → k < a → (c : ℕ) → c < ROW → cell (putRows w a ds ss) k c ≡ cell w k c
 unfolding putRows
 cell-before ds [] w a k h c l = refl
 cell-before [] (s ∷ ss) w a k h c l = refl
@@ -181,7 +187,7 @@ statement-before ds ss w a k h = statement-same (putRows w a ds ss) k w (λ c l.
 pub statements-put :
     (ds : List ℕ) (ss : List Statement) (w : List ℕ) (a : ℕ) →
     length ds ≡ length ss →
-    20 * (a + length ss) ≤ length w →
+    ROW * (a + length ss) ≤ length w →
     Storables ss →
     statementsFrom (putRows w a ds ss) a (length ss) ≡ ss
 unfolding putRows statementsFrom
@@ -193,20 +199,20 @@ statements-put (d ∷ ds) (s ∷ ss) w a e h fits =
     let more = statements-put ds ss w₁ (suc a) (omega arith) (omega (arith, length-putRow w a d s)) (fits .1) in
     ap₂ (λ (x : Statement) (xs : List Statement). x ∷ xs) first more
 
--- and their depths
-pub depths-put :
+-- and their parents
+pub parents-put :
     (ds : List ℕ) (ss : List Statement) (w : List ℕ) (a : ℕ) →
     length ds ≡ length ss →
-    20 * (a + length ss) ≤ length w →
-    depthsFrom (putRows w a ds ss) a (length ss) ≡ ds
-unfolding putRows depthsFrom
-depths-put [] [] w a e h = refl
-depths-put (d ∷ ds) [] w a e h = absurd (omega arith)
-depths-put [] (s ∷ ss) w a e h = absurd (omega arith)
-depths-put (d ∷ ds) (s ∷ ss) w a e h =
+    ROW * (a + length ss) ≤ length w →
+    parentsFrom (putRows w a ds ss) a (length ss) ≡ ds
+unfolding putRows parentsFrom
+parents-put [] [] w a e h = refl
+parents-put (d ∷ ds) [] w a e h = absurd (omega arith)
+parents-put [] (s ∷ ss) w a e h = absurd (omega arith)
+parents-put (d ∷ ds) (s ∷ ss) w a e h =
     let w₁ = putRow w a d s in
-    let first = cell-before ds ss w₁ (suc a) a (omega arith) 1 (lit< tt) ∙ depth-put w a d s (omega arith) in
-    let more = depths-put ds ss w₁ (suc a) (omega arith) (omega (arith, length-putRow w a d s)) in
+    let first = cell-before ds ss w₁ (suc a) a (omega arith) 1 (lit< tt) ∙ parent-put w a d s (omega arith) in
+    let more = parents-put ds ss w₁ (suc a) (omega arith) (omega (arith, length-putRow w a d s)) in
     ap₂ (λ (x : ℕ) (xs : List ℕ). x ∷ xs) first more
 
 pub length-statements : (w : List ℕ) (a n : ℕ) → length (statementsFrom w a n) ≡ n

@@ -1,24 +1,22 @@
--- A table of rows in lent work memory: row k stands at 20 * k, one row for each kept statement, in copybook order. Columns 0 to 12 hold the
--- statement and its depth; the others are the layout's.
---   0 level  1 depth  2 at  3 name  4 picture  5 depending  6 redefines  7 usage  8 sign  9 sync  10 occurs or not  11, 12 its count, low and high
+-- A table of rows in lent work memory: row k stands at ROW * k, one row for each kept statement, in copybook order (`Columns` names what stands
+-- where). A statement is stored in its columns, and read back from them.
 -- A span is one number, for a text has at most 65,535 bytes; a count takes two.
 -- Assumes nothing.
 use Prim.Native.Nat.{ℕ, zero, suc, _+_, _*_, _/_, _%_, _≤_, _<_}
 use mathlib.Core.List.{List, [], _∷_}
-use mathlib.Core.Bool.{true, false}
 use lib.Dec.{eqb}
 use lib.ListN.{getD}
 use lib.Seq.{sets}
 use Rattle.definition.specs.declared.Span.{Span}
-use Rattle.definition.specs.declared.Usage.{Usage}
-use Rattle.definition.specs.declared.UsageClause.{UsageClause}
-use Rattle.definition.specs.declared.SignWords.{SignWords}
 use Rattle.definition.specs.declared.Occurs.{Occurs}
 use Rattle.definition.specs.declared.Clauses.{Clauses}
 use Rattle.definition.specs.declared.Statement.{Statement}
+use Rattle.definition.specs.Limits.{mostBytes}
 use Rattle.definition.specs.Basic.{if_then_else_, span}
 use Rattle.definition.specs.Listing.{flag}
 use Rattle.definition.specs.Statement.{clausesOf}
+use Rattle.kinds.specs.Usages.{usageCode, usageClauseAt, signCode, signWordsAt}
+use Rattle.rows.specs.Columns.{ROW, LEVEL, PARENT, AT, NAME, PICTURE, DEPENDING, REDEFINES, SAID, LOW, HIGH}
 
 -- ---------------------------------------------------------------- a number for each part
 
@@ -28,36 +26,6 @@ spanCode w = w .start * 65536 + w .len
 
 abbrev pub spanAt : ℕ → Span
 spanAt n = span (n / 65536) (n % 65536)
-
--- a usage as a number, and back
-abbrev pub usageCode : UsageClause → ℕ
-usageCode UsageClause.Absent = 0
-usageCode (UsageClause.Given Usage.Display) = 1
-usageCode (UsageClause.Given Usage.Comp3) = 2
-usageCode (UsageClause.Given Usage.Comp) = 3
-
-abbrev pub usageAt : ℕ → UsageClause
-usageAt n =
-    if eqb n 1 then UsageClause.Given Usage.Display
-    else if eqb n 2 then UsageClause.Given Usage.Comp3
-    else if eqb n 3 then UsageClause.Given Usage.Comp
-    else UsageClause.Absent
-
--- what is said of the sign as a number, and back
-abbrev pub signCode : SignWords → ℕ
-signCode SignWords.Absent = 0
-signCode (SignWords.Said false false) = 1
-signCode (SignWords.Said true false) = 2
-signCode (SignWords.Said false true) = 3
-signCode (SignWords.Said true true) = 4
-
-abbrev pub signAt : ℕ → SignWords
-signAt n =
-    if eqb n 1 then SignWords.Said false false
-    else if eqb n 2 then SignWords.Said true false
-    else if eqb n 3 then SignWords.Said false true
-    else if eqb n 4 then SignWords.Said true true
-    else SignWords.Absent
 
 -- whether OCCURS is said, and its count
 abbrev pub markOf : Occurs → ℕ
@@ -72,12 +40,16 @@ countOf (Occurs.Times n) = n
 abbrev pub occursAt : ℕ → ℕ → ℕ → Occurs
 occursAt mark low high = if eqb mark 0 then Occurs.Once else Occurs.Times (high * 4294967296 + low)
 
+-- usage, sign, SYNC and whether OCCURS is said, as one number
+abbrev pub saidCode : Clauses → ℕ
+saidCode c = usageCode (c .usage) + 8 * (signCode (c .sign) + 8 * (flag (c .sync) + 2 * markOf (c .occurs)))
+
 -- ---------------------------------------------------------------- what a row can hold
 
 -- a span of a text that has at most 65,535 bytes
 pub record Short (w : Span) : Type 0 where
-  pub starts : w .start ≤ 65535
-  pub runs : w .len ≤ 65535
+  pub starts : w .start ≤ mostBytes
+  pub runs : w .len ≤ mostBytes
 
 -- clauses in such a text
 pub record Brief (c : Clauses) : Type 0 where
@@ -87,7 +59,7 @@ pub record Brief (c : Clauses) : Type 0 where
 
 -- a statement in such a text
 pub record Placed (s : Statement) : Type 0 where
-  pub at : s .at ≤ 65535
+  pub at : s .at ≤ mostBytes
   pub name : Short (s .name)
   pub clauses : Brief (s .clauses)
 
@@ -102,28 +74,25 @@ Storables (s ∷ ss) = Storable s × Storables ss
 
 -- ---------------------------------------------------------------- rows
 
--- the columns of the clauses, and of a statement at a depth
+-- the columns of the clauses, and of a statement at a parent
 abbrev pub clauseCells : Clauses → List ℕ
 clauseCells c =
     spanCode (c .picture)
     ∷ spanCode (c .depending)
     ∷ spanCode (c .redefines)
-    ∷ usageCode (c .usage)
-    ∷ signCode (c .sign)
-    ∷ flag (c .sync)
-    ∷ markOf (c .occurs)
+    ∷ saidCode c
     ∷ countOf (c .occurs) % 4294967296
     ∷ countOf (c .occurs) / 4294967296
     ∷ []
 
 abbrev pub cells : ℕ → Statement → List ℕ
-cells depth s = s .level ∷ depth ∷ s .at ∷ spanCode (s .name) ∷ clauseCells (s .clauses)
+cells parent s = s .level ∷ parent ∷ s .at ∷ spanCode (s .name) ∷ clauseCells (s .clauses)
 
 -- w with a statement in row k
 unfoldable pub putRow : List ℕ → ℕ → ℕ → Statement → List ℕ
-putRow w k depth s = sets w (20 * k) (cells depth s)
+putRow w k parent s = sets w (ROW * k) (cells parent s)
 
--- w with statements, and their depths, from row k on
+-- w with statements, and their parents, from row k on
 unfoldable pub putRows : List ℕ → ℕ → List ℕ → List Statement → List ℕ
 putRows w k ds [] = w
 putRows w k [] (s ∷ ss) = w
@@ -131,33 +100,37 @@ putRows w k (d ∷ ds) (s ∷ ss) = putRows (putRow w k d s) (suc k) ds ss
 
 -- a column of row k
 abbrev pub cell : List ℕ → ℕ → ℕ → ℕ
-cell w k c = getD w (20 * k + c) 0
+cell w k c = getD w (ROW * k + c) 0
 
--- the depth of the statement in row k
-abbrev pub depthAt : List ℕ → ℕ → ℕ
-depthAt w k = cell w k 1
+-- the parent of the statement in row k
+abbrev pub parentAt : List ℕ → ℕ → ℕ
+parentAt w k = cell w k PARENT
+
+-- the OCCURS of the statement in row k
+abbrev pub occursIn : List ℕ → ℕ → Occurs
+occursIn w k = occursAt (cell w k SAID / 128) (cell w k LOW) (cell w k HIGH)
 
 -- the clauses of the statement in row k
 abbrev pub clausesAt : List ℕ → ℕ → Clauses
 clausesAt w k =
     clausesOf
-    (spanAt (cell w k 4))
-    (usageAt (cell w k 7))
-    (signAt (cell w k 8))
-    (eqb (cell w k 9) 1)
-    (occursAt (cell w k 10) (cell w k 11) (cell w k 12))
-    (spanAt (cell w k 5))
-    (spanAt (cell w k 6))
+    (spanAt (cell w k PICTURE))
+    (usageClauseAt (cell w k SAID % 8))
+    (signWordsAt (cell w k SAID / 8 % 8))
+    (eqb (cell w k SAID / 64 % 2) 1)
+    (occursIn w k)
+    (spanAt (cell w k DEPENDING))
+    (spanAt (cell w k REDEFINES))
 
 -- the statement in row k
 abbrev pub statementAt : List ℕ → ℕ → Statement
-statementAt w k = record { level = cell w k 0 % 256; at = cell w k 2; name = spanAt (cell w k 3); clauses = clausesAt w k }
+statementAt w k = record { level = cell w k LEVEL % 256; at = cell w k AT; name = spanAt (cell w k NAME); clauses = clausesAt w k }
 
--- n statements from row k on, and their depths
+-- n statements from row k on, and their parents
 unfoldable pub statementsFrom : List ℕ → ℕ → ℕ → List Statement
 statementsFrom w k zero = []
 statementsFrom w k (suc n) = statementAt w k ∷ statementsFrom w (suc k) n
 
-unfoldable pub depthsFrom : List ℕ → ℕ → ℕ → List ℕ
-depthsFrom w k zero = []
-depthsFrom w k (suc n) = depthAt w k ∷ depthsFrom w (suc k) n
+unfoldable pub parentsFrom : List ℕ → ℕ → ℕ → List ℕ
+parentsFrom w k zero = []
+parentsFrom w k (suc n) = parentAt w k ∷ parentsFrom w (suc k) n

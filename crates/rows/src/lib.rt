@@ -5,16 +5,52 @@ ghost use mathlib.Core.List.{[], _∷_};
 ghost use lib.ListN.{length};
 ghost use lib.Seq.{sets};
 ghost use Rattle.definition.specs.Calls.{cleared};
-ghost use Rattle.definition.specs.Listing.{flag};
-ghost use Rattle.rows.specs.Table.{spanCode, spanAt, usageCode, usageAt, signCode, signAt, markOf, countOf, occursAt};
+ghost use Rattle.rows.specs.Columns.{ROW};
+ghost use Rattle.rows.specs.Table.{spanCode, spanAt, markOf, countOf, occursAt, saidCode, occursIn};
 ghost use Rattle.rows.specs.Table.{Short, Brief, Placed, clauseCells, putRow, clausesAt, statementAt};
 use definition::Clauses;
 use definition::Occurs;
-use definition::SignWords;
 use definition::Span;
 use definition::Statement;
-use definition::Usage;
-use definition::UsageClause;
+
+// The columns of a row, as `specs/Columns` has them.
+pub const ROW: usize = 20;
+
+pub const LEVEL: usize = 0;
+
+pub const PARENT: usize = 1;
+
+pub const AT: usize = 2;
+
+pub const NAME: usize = 3;
+
+pub const PICTURE: usize = 4;
+
+pub const DEPENDING: usize = 5;
+
+pub const REDEFINES: usize = 6;
+
+pub const SAID: usize = 7;
+
+pub const LOW: usize = 8;
+
+pub const HIGH: usize = 9;
+
+pub const OFFSET: usize = 10;
+
+pub const WIDTH: usize = 11;
+
+pub const KIND: usize = 12;
+
+pub const BEFORE: usize = 13;
+
+pub const BELOW: usize = 14;
+
+pub const SLACK: usize = 15;
+
+pub const BASE: usize = 16;
+
+pub const NEXT: usize = 17;
 
 // Work memory to zero.
 pub fn clear(work: &mut [u32])
@@ -25,6 +61,13 @@ pub fn clear(work: &mut [u32])
         work[i] = 0;
         i += 1;
     }
+}
+
+// A number of 32 bits as a place.
+pub fn wide(n: u32) -> usize
+    ensures { λ r. ⌜ (r ≡ n) × (r < 4294967296) ⌝ }
+{
+    n as usize
 }
 
 // A span as one number.
@@ -45,100 +88,8 @@ pub fn span_at(n: u32) -> Span
     }
 }
 
-// A usage as a number.
-fn usage_code(u: UsageClause) -> u32
-    ensures { λ r. ⌜ r ≡ usageCode u ⌝ }
-{
-    match u {
-        UsageClause::Absent => 0,
-        UsageClause::Given(v) => match v {
-            Usage::Display => 1,
-            Usage::Comp3 => 2,
-            Usage::Comp => 3,
-        },
-    }
-}
-
-// The usage that a number holds.
-fn usage_at(n: u32) -> UsageClause
-    ensures { λ r. ⌜ r ≡ usageAt n ⌝ }
-{
-    if n == 1 {
-        return UsageClause::Given(Usage::Display);
-    }
-    if n == 2 {
-        return UsageClause::Given(Usage::Comp3);
-    }
-    if n == 3 {
-        return UsageClause::Given(Usage::Comp);
-    }
-    UsageClause::Absent
-}
-
-// What is said of the sign as a number.
-fn sign_code(s: SignWords) -> u32
-    ensures { λ r. ⌜ r ≡ signCode s ⌝ }
-{
-    match s {
-        SignWords::Absent => 0,
-        SignWords::Said { leading, separate } => {
-            if leading {
-                if separate {
-                    return 4;
-                }
-                return 2;
-            }
-            if separate {
-                return 3;
-            }
-            1
-        }
-    }
-}
-
-// What is said of the sign, from its number.
-fn sign_at(n: u32) -> SignWords
-    ensures { λ r. ⌜ r ≡ signAt n ⌝ }
-{
-    if n == 1 {
-        return SignWords::Said {
-            leading: false,
-            separate: false,
-        };
-    }
-    if n == 2 {
-        return SignWords::Said {
-            leading: true,
-            separate: false,
-        };
-    }
-    if n == 3 {
-        return SignWords::Said {
-            leading: false,
-            separate: true,
-        };
-    }
-    if n == 4 {
-        return SignWords::Said {
-            leading: true,
-            separate: true,
-        };
-    }
-    SignWords::Absent
-}
-
-// 1 for true, 0 for false; no more than a small number for the sums that it stands in.
-pub fn flag_of(b: bool) -> u32
-    ensures { λ r. ⌜ (r ≡ flag b) × (r ≤ 1) ⌝ }
-{
-    if b {
-        return 1;
-    }
-    0
-}
-
 // Whether OCCURS is said, as a number.
-fn occurs_mark(o: Occurs) -> u32
+fn occurs_mark(o: Occurs) -> u8
     ensures { λ r. ⌜ r ≡ markOf o ⌝ }
 {
     match o {
@@ -178,16 +129,25 @@ fn put_four(work: &mut [u32], at: usize, a: u32, b: u32, c: u32, d: u32)
     work[at + 3] = d;
 }
 
+// Usage, sign, SYNC and whether OCCURS is said, as one number.
+fn said_code(c: Clauses) -> u32
+    ensures { λ r. ⌜ r ≡ saidCode c ⌝ }
+{
+    let usage = c.usage;
+    let sign = c.sign;
+    let occurs = c.occurs;
+    let marks = kinds::wide(kinds::flag_byte(c.sync)) + 2 * kinds::wide(occurs_mark(occurs));
+    kinds::wide(kinds::usage_code(usage)) + 8 * (kinds::wide(kinds::sign_code(sign)) + 8 * marks)
+}
+
 // The columns of the clauses, from a place on.
 fn put_clauses(work: &mut [u32], at: usize, c: Clauses)
-    requires { ⌜ (at + 9 ≤ length (now work)) × Brief c ⌝ }
+    requires { ⌜ (at + 6 ≤ length (now work)) × Brief c ⌝ }
     ensures { λ _. ⌜ now (work .exit) ≡ sets (now (work .entry)) at (clauseCells c) ⌝ }
 {
     let picture = c.picture;
     let depending = c.depending;
     let redefines = c.redefines;
-    let usage = c.usage;
-    let sign = c.sign;
     let occurs = c.occurs;
     let count = occurs_count(occurs);
     put_four(
@@ -196,63 +156,69 @@ fn put_clauses(work: &mut [u32], at: usize, c: Clauses)
         span_code(picture),
         span_code(depending),
         span_code(redefines),
-        usage_code(usage),
+        said_code(c),
     );
-    put_four(
-        work,
-        at + 4,
-        sign_code(sign),
-        flag_of(c.sync),
-        occurs_mark(occurs),
-        (count % 4294967296) as u32,
-    );
-    work[at + 8] = (count / 4294967296) as u32;
+    work[at + 4] = (count % 4294967296) as u32;
+    work[at + 5] = (count / 4294967296) as u32;
 }
 
-// A statement and its depth into row k.
-pub fn put_row(work: &mut [u32], k: usize, depth: u32, s: Statement)
-    requires { ⌜ (20 * k + 20 ≤ length (now work)) × Placed s ⌝ }
-    ensures { λ _. ⌜ now (work .exit) ≡ putRow (now (work .entry)) k depth s ⌝ }
+// A statement and its parent, the row and 1, or 0 for none, into row k.
+pub fn put_row(work: &mut [u32], k: usize, parent: u32, s: Statement)
+    requires { ⌜ (ROW * k + ROW ≤ length (now work)) × Placed s ⌝ }
+    ensures { λ _. ⌜ now (work .exit) ≡ putRow (now (work .entry)) k parent s ⌝ }
 {
-    let base = 20 * k;
+    let base = ROW * k;
     let name = s.name;
     let clauses = s.clauses;
     put_four(
         work,
         base,
         s.level as u32,
-        depth,
+        parent,
         s.at as u32,
         span_code(name),
     );
     put_clauses(work, base + 4, clauses);
 }
 
+// The OCCURS of the statement in row k.
+pub fn occurs_in(work: &[u32], k: usize) -> Occurs
+    requires { ⌜ ROW * k + ROW ≤ length (now work) ⌝ }
+    ensures { λ r. ⌜ r ≡ occursIn (now (work .entry)) k ⌝ }
+{
+    occurs_at(
+        work[ROW * k + SAID] / 128,
+        work[ROW * k + LOW],
+        work[ROW * k + HIGH],
+    )
+}
+
 // The clauses of the statement in row k.
 fn clauses_at(work: &[u32], k: usize) -> Clauses
-    requires { ⌜ 20 * k + 20 ≤ length (now work) ⌝ }
+    requires { ⌜ ROW * k + ROW ≤ length (now work) ⌝ }
     ensures { λ r. ⌜ r ≡ clausesAt (now (work .entry)) k ⌝ }
 {
+    let said = work[ROW * k + SAID];
     Clauses {
-        picture: span_at(work[20 * k + 4]),
-        usage: usage_at(work[20 * k + 7]),
-        sign: sign_at(work[20 * k + 8]),
-        sync: work[20 * k + 9] == 1,
-        occurs: occurs_at(work[20 * k + 10], work[20 * k + 11], work[20 * k + 12]),
-        depending: span_at(work[20 * k + 5]),
-        redefines: span_at(work[20 * k + 6]),
+        picture: span_at(work[ROW * k + PICTURE]),
+        usage: kinds::usage_clause_at((said % 8) as u8),
+        sign: kinds::sign_words_at((said / 8 % 8) as u8),
+        sync: said / 64 % 2 == 1,
+        occurs: occurs_in(work, k),
+        depending: span_at(work[ROW * k + DEPENDING]),
+        redefines: span_at(work[ROW * k + REDEFINES]),
     }
 }
 
 // The statement in row k.
 pub fn statement_at(work: &[u32], k: usize) -> Statement
-    requires { ⌜ 20 * k + 20 ≤ length (now work) ⌝ }
+    requires { ⌜ ROW * k + ROW ≤ length (now work) ⌝ }
     ensures { λ r. ⌜ r ≡ statementAt (now (work .entry)) k ⌝ }
 {
     Statement {
-        level: (work[20 * k] % 256) as u8,
-        at: work[20 * k + 2] as usize,
-        name: span_at(work[20 * k + 3]),
+        level: (work[ROW * k + LEVEL] % 256) as u8,
+        at: work[ROW * k + AT] as usize,
+        name: span_at(work[ROW * k + NAME]),
         clauses: clauses_at(work, k),
     }
 }

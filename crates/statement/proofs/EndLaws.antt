@@ -6,40 +6,42 @@ use mathlib.Core.List.{List}
 use native.Mathlib.Omega.{arith}
 use lib.ListN.{length}
 use Rattle.definition.specs.declared.Mode.the-variants.{Between}
+use Rattle.text.specs.declared.Stand.{Stand}
 use Rattle.definition.proofs.WordLaws.{tokens-end}
 use Rattle.definition.specs.Words.{afterStop}
 use Rattle.text.specs.declared.Next.{Next}
-use Rattle.text.specs.Tokens.{tokensFrom, First}
+use Rattle.text.specs.Tokens.{behind, tokensAt, First}
 use Rattle.text.proofs.TokenLaws.{end-first, word-first, stop-first}
 use Rattle.statement.specs.Reading.{Ends}
 
 -- the statement that goes on at `from` goes on at `place`
-pub record Reached (t : List ℕ) (from place : ℕ) : Type 0 where
-  pub up : from ≤ place
-  pub within : place ≤ length t
-  pub rest : afterStop (tokensFrom t Between from) ≡ afterStop (tokensFrom t Between place)
+pub record Reached (t : List ℕ) (from place : Stand) : Type 0 where
+  pub up : from .at ≤ place .at
+  pub within : place .at ≤ length t
+  pub rest : afterStop (tokensAt t from) ≡ afterStop (tokensAt t place)
 
 -- at its first place
-pub reached-start : {t : List ℕ} {from : ℕ} → from ≤ length t → Reached t from from
+pub reached-start : {t : List ℕ} {from : Stand} → from .at ≤ length t → Reached t from from
 reached-start h = record { up = omega arith; within = h; rest = refl }
 
-module _ {t : List ℕ} {from place : ℕ} (inv : Reached t from place) {r : Next} (f : First (tokensFrom t Between place) t place r) where
+module _ {t : List ℕ} {from place : Stand} (inv : Reached t from place) {r : Next} (f : First (tokensAt t place) t (place .at) r) where
   -- past a word it goes on
-  pub reached-word : {s l n : ℕ} → r ≡ Next.Word s l n → Reached t from n
-  reached-word e = let w = word-first _ t place f e in record { up = omega arith; within = w .within; rest = inv .rest ∙ ap afterStop (w .all-are) }
+  pub reached-word : {s l : ℕ} {n : Stand} → r ≡ Next.Word s l n → Reached t from n
+  reached-word e = let w = word-first _ t (place .at) f e in record { up = omega arith; within = w .within; rest = inv .rest ∙ ap afterStop (w .all-are) }
 
   -- it ends at its period, or with the text
-  pub ends-stop : {n : ℕ} → r ≡ Next.Stop n → Ends t from n
-  ends-stop e = let s = stop-first _ t place f e in record { up = omega arith; within = s .within; rest = inv .rest ∙ ap afterStop (s .all-are) }
+  pub ends-stop : {n : Stand} → r ≡ Next.Stop n → Ends t from n
+  ends-stop e = let s = stop-first _ t (place .at) f e in record { up = omega arith; within = s .within; rest = inv .rest ∙ ap afterStop (s .all-are) }
 
-  pub ends-text : r ≡ Next.End → Ends t from (length t)
-  ends-text e =
-      record {
+  pub ends-text : {n : Stand} → r ≡ Next.End → n ≡ behind (length t) → Ends t from n
+  ends-text e b =
+      rw b
+      (record {
         up = omega arith;
         within = omega arith;
-        rest = inv .rest ∙ ap afterStop (end-first _ t place f e) ∙ sym (tokens-end t Between (length t) (omega arith));
-      }
+        rest = inv .rest ∙ ap afterStop (end-first _ t (place .at) f e) ∙ sym (tokens-end t Between (length t) (omega arith));
+      })
 
 -- where it goes on, it ends as from there
-pub ends-on : {t : List ℕ} {from place n : ℕ} → Reached t from place → Ends t place n → Ends t from n
+pub ends-on : {t : List ℕ} {from place n : Stand} → Reached t from place → Ends t place n → Ends t from n
 ends-on inv e = record { up = omega arith; within = e .within; rest = inv .rest ∙ e .rest }

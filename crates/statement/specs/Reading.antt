@@ -7,7 +7,6 @@ use mathlib.Core.Option.{none, some}
 use lib.ListN.{length}
 use Rattle.definition.specs.declared.Clauses.{Clauses}
 use Rattle.definition.specs.declared.Expect.{Expect}
-use Rattle.definition.specs.declared.Mode.the-variants.{Between}
 use Rattle.definition.specs.declared.Refusal.{Refusal}
 use Rattle.definition.specs.declared.Span.{Span}
 use Rattle.definition.specs.declared.Statement.{Statement}
@@ -15,7 +14,8 @@ use Rattle.definition.specs.declared.Token.{Token}
 use Rattle.definition.specs.Basic.{Answer, refuse, give}
 use Rattle.definition.specs.Statement.{noClauses, clauses, named, statement}
 use Rattle.definition.specs.Words.{sentences, firstWords, afterStop}
-use Rattle.text.specs.Tokens.{tokensFrom}
+use Rattle.text.specs.declared.Stand.{Stand}
+use Rattle.text.specs.Tokens.{tokensAt}
 use Rattle.clauses.specs.Places.{Inside, Fits}
 use Rattle.statement.specs.declared.Finished.{Finished}
 use Rattle.statement.specs.declared.ClausesRead.{ClausesRead}
@@ -32,15 +32,15 @@ pub record StatementFits (text : List ℕ) (s : Statement) : Type 0 where
 
 -- ---------------------------------------------------------------- the words of a statement
 
--- the words of the statement that goes on at a place
-abbrev pub wordsFrom : List ℕ → ℕ → List Span
-wordsFrom text from = firstWords (tokensFrom text Between from)
+-- the words of the statement that goes on there
+abbrev pub wordsFrom : List ℕ → Stand → List Span
+wordsFrom text from = firstWords (tokensAt text from)
 
--- the statement that goes on at a place ends before `next`
-pub record Ends (text : List ℕ) (from next : ℕ) : Type 0 where
-  pub up : from ≤ next
-  pub within : next ≤ length text
-  pub rest : afterStop (tokensFrom text Between from) ≡ tokensFrom text Between next
+-- the statement that goes on at `from` ends before `next`
+pub record Ends (text : List ℕ) (from next : Stand) : Type 0 where
+  pub up : from .at ≤ next .at
+  pub within : next .at ≤ length text
+  pub rest : afterStop (tokensAt text from) ≡ tokensAt text next
 
 -- what the end of a statement gives
 abbrev pub finishedOf : Finished → Answer Clauses
@@ -48,48 +48,48 @@ finishedOf (Finished.Whole c) = give c
 finishedOf (Finished.Refused r) = refuse r
 
 -- the answer of a statement that ends before `next`
-abbrev pub closing : ℕ → Answer Clauses → ClausesRead
+abbrev pub closing : Stand → Answer Clauses → ClausesRead
 closing next (give c) = ClausesRead.Done c next
 closing next (refuse r) = ClausesRead.Refused r
 
 -- the clauses of the words from a place on, and where they end
-pub record ClausesDone (text : List ℕ) (at from : ℕ) (c : Clauses) (next : ℕ) : Type 0 where
+pub record ClausesDone (text : List ℕ) (at : ℕ) (from : Stand) (c : Clauses) (next : Stand) : Type 0 where
   pub is : clauses text at Expect.Clause noClauses (wordsFrom text from) ≡ give c
   pub fits : Fits text c
   pub ends : Ends text from next
 
 -- what an answer says of the clauses from a place on, of the statement that begins at a position
-abbrev pub ClausesAre : List ℕ → ℕ → ℕ → ClausesRead → Type 0
+abbrev pub ClausesAre : List ℕ → ℕ → Stand → ClausesRead → Type 0
 ClausesAre text at from (ClausesRead.Done c next) = ClausesDone text at from c next
 ClausesAre text at from (ClausesRead.Refused r) = clauses text at Expect.Clause noClauses (wordsFrom text from) ≡ refuse r
 
 -- the statement of the name and the clauses from a place on, and where they end
-pub record NamedDone (text : List ℕ) (at level from : ℕ) (s : Statement) (next : ℕ) : Type 0 where
+pub record NamedDone (text : List ℕ) (at level : ℕ) (from : Stand) (s : Statement) (next : Stand) : Type 0 where
   pub is : named text at level (wordsFrom text from) ≡ give s
   pub fits : StatementFits text s
   pub ends : Ends text from next
 
 -- what an answer says of the words after the level
-abbrev pub NamedAre : List ℕ → ℕ → ℕ → ℕ → NamedRead → Type 0
+abbrev pub NamedAre : List ℕ → ℕ → ℕ → Stand → NamedRead → Type 0
 NamedAre text at level from (NamedRead.Done s next) = NamedDone text at level from s next
 NamedAre text at level from (NamedRead.Refused r) = named text at level (wordsFrom text from) ≡ refuse r
 
 -- ---------------------------------------------------------------- the first statement of the tokens
 
 -- the other statements are those from `next` on, which is `low` or after it
-pub record Followed (ts : List Token) (text : List ℕ) (low next : ℕ) : Type 0 where
-  pub all-are : sentences ts ≡ firstWords ts ∷ sentences (tokensFrom text Between next)
-  pub up : low ≤ next
-  pub within : next ≤ length text
+pub record Followed (ts : List Token) (text : List ℕ) (low : ℕ) (next : Stand) : Type 0 where
+  pub all-are : sentences ts ≡ firstWords ts ∷ sentences (tokensAt text next)
+  pub up : low ≤ next .at
+  pub within : next .at ≤ length text
 
 -- the first statement is kept
-pub record FirstKept (ts : List Token) (text : List ℕ) (low : ℕ) (s : Statement) (next : ℕ) : Type 0 where
+pub record FirstKept (ts : List Token) (text : List ℕ) (low : ℕ) (s : Statement) (next : Stand) : Type 0 where
   pub is : statement text (firstWords ts) ≡ give (some s)
   pub fits : StatementFits text s
   pub followed : Followed ts text low next
 
 -- it is skipped
-pub record FirstSkipped (ts : List Token) (text : List ℕ) (low next : ℕ) : Type 0 where
+pub record FirstSkipped (ts : List Token) (text : List ℕ) (low : ℕ) (next : Stand) : Type 0 where
   pub is : statement text (firstWords ts) ≡ give none
   pub followed : Followed ts text low next
 

@@ -5,9 +5,8 @@ ghost use Prim.Native.Nat.{_+_, _≤_, _<_};
 ghost use lib.ListN.{length};
 ghost use Rattle.definition.specs.Basic.{span, refused};
 ghost use Rattle.definition.specs.Statement.{finish as finishOf};
-ghost use Rattle.definition.specs.declared.Mode.the-variants.{Between};
 ghost use Rattle.definition.specs.declared.Token.the-variants.{Word};
-ghost use Rattle.text.specs.Tokens.{between, tokensFrom};
+ghost use Rattle.text.specs.Tokens.{tokensAt};
 ghost use Rattle.statement.specs.Reading.{finishedOf, closing, ClausesAre, Ends, NamedAre, FirstStatement};
 use definition::Clauses;
 use definition::Expect;
@@ -17,6 +16,7 @@ use definition::Statement;
 use definition::Step;
 use text::Level;
 use text::Next;
+use text::Stand;
 
 // What the end of a statement gives: its clauses, or a refusal.
 enum Finished {
@@ -59,14 +59,14 @@ fn finish(at: usize, e: Expect, c: Clauses) -> Finished
     }
 }
 
-// The clauses of a statement and the place after it, or a refusal.
+// The clauses of a statement and where the reader stands after it, or a refusal.
 pub enum ClausesRead {
-    Done(Clauses, usize),
+    Done(Clauses, Stand),
     Refused(Refusal),
 }
 
 // The clauses of a statement that ends before `next`.
-fn closed(at: usize, e: Expect, c: Clauses, next: usize) -> ClausesRead
+fn closed(at: usize, e: Expect, c: Clauses, next: Stand) -> ClausesRead
     ensures { λ r. ⌜ r ≡ closing next (finishOf at e c) ⌝ }
 {
     match finish(at, e, c) {
@@ -75,16 +75,16 @@ fn closed(at: usize, e: Expect, c: Clauses, next: usize) -> ClausesRead
     }
 }
 
-// The clauses from a place on, of the statement that begins at `at`.
-pub fn read_clauses(text: &[u8], at: usize, from: usize) -> ClausesRead
-    requires { ⌜ from ≤ length (now text) ⌝ }
+// The clauses from there on, of the statement that begins at `at`.
+pub fn read_clauses(text: &[u8], at: usize, from: Stand) -> ClausesRead
+    requires { ⌜ from .at ≤ length (now text) ⌝ }
     ensures { λ r. ⌜ ClausesAre (now (text .entry)) at from r ⌝ }
 {
     let mut place = from;
     let mut e = Expect::Clause;
     let mut c = clauses::no_clauses();
     loop {
-        match text::next_token(text, place, false) {
+        match words::word_at(text, place) {
             Next::Word { start, len, next } => {
                 match clauses::step(
                     e,
@@ -113,20 +113,20 @@ pub fn read_clauses(text: &[u8], at: usize, from: usize) -> ClausesRead
                 return closed(at, e, c, next);
             }
             Next::End => {
-                return closed(at, e, c, text.len());
+                return closed(at, e, c, text::behind(text.len()));
             }
         }
     }
 }
 
-// The place after the statement that goes on at a place.
-fn skip_statement(text: &[u8], from: usize) -> usize
-    requires { ⌜ from ≤ length (now text) ⌝ }
+// Where the reader stands after the statement that goes on there.
+fn skip_statement(text: &[u8], from: Stand) -> Stand
+    requires { ⌜ from .at ≤ length (now text) ⌝ }
     ensures { λ r. ⌜ Ends (now (text .entry)) from r ⌝ }
 {
     let mut place = from;
     loop {
-        match text::next_token(text, place, false) {
+        match words::word_at(text, place) {
             Next::Word {
                 start: _,
                 len: _,
@@ -138,24 +138,24 @@ fn skip_statement(text: &[u8], from: usize) -> usize
                 return next;
             }
             Next::End => {
-                return text.len();
+                return text::behind(text.len());
             }
         }
     }
 }
 
-// A statement of the words after its level, and the place after it, or a refusal.
+// A statement of the words after its level, and where the reader stands after it, or a refusal.
 enum NamedRead {
-    Done(Statement, usize),
+    Done(Statement, Stand),
     Refused(Refusal),
 }
 
-// The words after the level, from a place on: a name, or none, and clauses.
-fn read_named(text: &[u8], at: usize, level: u8, from: usize) -> NamedRead
-    requires { ⌜ (at < length (now text)) × (from ≤ length (now text)) ⌝ }
+// The words after the level, from there on: a name, or none, and clauses.
+fn read_named(text: &[u8], at: usize, level: u8, from: Stand) -> NamedRead
+    requires { ⌜ (at < length (now text)) × (from .at ≤ length (now text)) ⌝ }
     ensures { λ r. ⌜ NamedAre (now (text .entry)) at level from r ⌝ }
 {
-    match text::next_token(text, from, false) {
+    match words::word_at(text, from) {
         Next::Word { start, len, next } => {
             match read_clauses(text, at, next) {
                 ClausesRead::Done(c, after) => {
@@ -196,24 +196,24 @@ fn read_named(text: &[u8], at: usize, level: u8, from: usize) -> NamedRead
                     name: clauses::nowhere(),
                     clauses: clauses::no_clauses(),
                 },
-                text.len(),
+                text::behind(text.len()),
             );
         }
     }
 }
 
-// A kept statement and the place after it; the place after one that is skipped; a refusal; or the end of the text.
+// A kept statement and where the reader stands after it; where it stands after one that is skipped; a refusal; or the end of the text.
 pub enum StatementRead {
-    Kept(Statement, usize),
-    Skipped(usize),
+    Kept(Statement, Stand),
+    Skipped(Stand),
     Refused(Refusal),
     End,
 }
 
 // The statement whose first word is given, and goes on at `from`: its level, then the rest.
-fn read_levelled(text: &[u8], start: usize, len: usize, from: usize) -> StatementRead
-    requires { ⌜ (start < length (now text)) × (start + len ≤ length (now text)) × (from ≤ length (now text)) ⌝ }
-    ensures { λ r. ⌜ FirstStatement (Word (span start len) ∷ tokensFrom (now (text .entry)) Between from) (now (text .entry)) from r ⌝ }
+fn read_levelled(text: &[u8], start: usize, len: usize, from: Stand) -> StatementRead
+    requires { ⌜ (start < length (now text)) × (start + len ≤ length (now text)) × (from .at ≤ length (now text)) ⌝ }
+    ensures { λ r. ⌜ FirstStatement (Word (span start len) ∷ tokensAt (now (text .entry)) from) (now (text .entry)) (from .at) r ⌝ }
 {
     match text::level_of(&text[start..start + len]) {
         Level::Value(level) => {
@@ -239,12 +239,12 @@ fn read_levelled(text: &[u8], start: usize, len: usize, from: usize) -> Statemen
     }
 }
 
-// The first statement at a place or after it; `fresh` says that the line has only blanks before the place.
-pub fn read_statement(text: &[u8], at: usize, fresh: bool) -> StatementRead
-    requires { ⌜ at ≤ length (now text) ⌝ }
-    ensures { λ r. ⌜ FirstStatement (tokensFrom (now (text .entry)) (between fresh) at) (now (text .entry)) (at + 1) r ⌝ }
+// The first statement from where a reader stands.
+pub fn read_statement(text: &[u8], from: Stand) -> StatementRead
+    requires { ⌜ from .at ≤ length (now text) ⌝ }
+    ensures { λ r. ⌜ FirstStatement (tokensAt (now (text .entry)) from) (now (text .entry)) (from .at + 1) r ⌝ }
 {
-    match text::next_token(text, at, fresh) {
+    match words::word_at(text, from) {
         Next::Word { start, len, next } => {
             return read_levelled(text, start, len, next);
         }

@@ -9,6 +9,7 @@ use native.Mathlib.Omega.{arith}
 use lib.Dec.{eqb}
 use lib.ListN.{length, replicate, length-append, length-replicate}
 use borrow.Author.Tests.{eqb-true}
+use Rattle.definition.specs.Limits.{mostSymbols}
 use Rattle.definition.specs.Basic.{if_then_else_, among}
 use Rattle.definition.specs.Picture.{tally, beforePoint}
 use Rattle.definition.proofs.PictureLaws.{tally-append, tally-run, tally-le, before-append, before-run, tally-sides}
@@ -43,12 +44,12 @@ module _ (l : List ℕ) (b n : ℕ) where
 -- small counts make small tallies
 small-tallied :
     (symbols whole : ℕ) (count : String → ℕ) →
-    symbols ≤ 65535 →
+    symbols ≤ mostSymbols →
     whole ≤ count "9Z*" →
     ((s : String) → count s ≤ symbols) →
     Small (tallied symbols whole count)
 small-tallied symbols whole count few part le =
-    let small : (s : String) → count s ≤ 65535 = λ s. omega (arith, le s) in
+    let small : (s : String) → count s ≤ mostSymbols = λ s. omega (arith, le s) in
     record {
       symbols = few;
       text = small "XA";
@@ -65,7 +66,7 @@ small-tallied symbols whole count few part le =
     }
 
 -- so few symbols have small tallies
-pub small : (l : List ℕ) → length l ≤ 65535 → Small (tallies l)
+pub small : (l : List ℕ) → length l ≤ mostSymbols → Small (tallies l)
 small l h =
     small-tallied (length l) (tally "9Z*" (beforePoint l)) (λ s. tally s l) h (omega (arith, tally-sides "9Z*" l no-digit))
     (λ s. tally-le s l)

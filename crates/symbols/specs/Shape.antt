@@ -7,6 +7,7 @@ use mathlib.Core.List.{List, [], _∷_}
 use lib.Dec.{ltb}
 use lib.ListN.{length}
 use mathlib.Core.Path.{_≡_}
+use Rattle.definition.specs.Limits.{mostSymbols}
 use Rattle.definition.specs.Basic.{if_then_else_, is, among, Answer, refuse, give, _>>=_}
 use Rattle.definition.specs.Picture.{expand, symbol, tally, beforePoint}
 use Rattle.symbols.specs.declared.Tallies.{Tallies}
@@ -67,23 +68,23 @@ joined s t =
 
 -- no tally is above 65,535, and those of a part are not above the whole's
 pub record Small (s : Tallies) : Type 0 where
-  pub symbols : s .symbols ≤ 65535
-  pub text : s .text ≤ 65535
-  pub digits : s .digits ≤ 65535
+  pub symbols : s .symbols ≤ mostSymbols
+  pub text : s .text ≤ mostSymbols
+  pub digits : s .digits ≤ mostSymbols
   pub whole : s .whole ≤ s .digits
-  pub scaled : s .scaled ≤ 65535
-  pub points : s .points ≤ 65535
-  pub dollars : s .dollars ≤ 65535
-  pub pluses : s .pluses ≤ 65535
-  pub minuses : s .minuses ≤ 65535
-  pub signs : s .signs ≤ 65535
-  pub edits : s .edits ≤ 65535
+  pub scaled : s .scaled ≤ mostSymbols
+  pub points : s .points ≤ mostSymbols
+  pub dollars : s .dollars ≤ mostSymbols
+  pub pluses : s .pluses ≤ mostSymbols
+  pub minuses : s .minuses ≤ mostSymbols
+  pub signs : s .signs ≤ mostSymbols
+  pub edits : s .edits ≤ mostSymbols
   pub hidden : s .hidden ≤ s .symbols
 
 -- n symbols more can be added
 pub record Adds (s : Tallies) (n : ℕ) : Type 0 where
   pub small : Small s
-  pub few : n ≤ 65535
+  pub few : n ≤ mostSymbols
 
 -- what of CR or DB is awaited after one more byte
 abbrev pub next : Half → ℕ → Half

@@ -7,6 +7,7 @@ ghost use lib.ListN.{length, replicate, drop};
 ghost use Rattle.definition.specs.Picture.{trimStart, trim as trimmed, symbol};
 ghost use Rattle.symbols.specs.Repeats.{Closed, Repeated};
 ghost use Rattle.symbols.specs.Shape.{tallies, runOf, unless, joined, Adds, next, halves, nothing, Counts};
+use definition::MOST_SYMBOLS;
 use definition::Refusal;
 use text::Number;
 
@@ -375,7 +376,7 @@ pub fn count_symbols(picture: &[u8], at: usize) -> Counted
         let next = i + 1;
         match repeat_after(picture, next, at) {
             Repeat::Times { n, skip } => {
-                let left = (65535 - s.symbols) as usize;
+                let left = (MOST_SYMBOLS - s.symbols) as usize;
                 if left < n {
                     return Counted::Refused(Refusal {
                         number: 24,

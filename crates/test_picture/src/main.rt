@@ -157,7 +157,7 @@ fn rust_mask(list: &[u8], p: Reached, picture: &[u8], usage: Usage, edited: bool
     ensures { λ r. ⌜ Inside (now (list .entry)) r ⌝ }
 {
     let mut out = [FILL; 300];
-    match picture::mask(picture, usage, &mut out) {
+    match copybook::mask(picture, usage, &mut out) {
         Writing::Written(n) => {
             if edited {
                 return mask_bytes(list, p, &out, n);
@@ -174,7 +174,7 @@ fn rust_mask(list: &[u8], p: Reached, picture: &[u8], usage: Usage, edited: bool
 // Whether the mask is refused with this number at position 0, and the output is untouched.
 fn is_mask_refused(picture: &[u8], usage: Usage, number: u32) -> bool {
     let mut out = [FILL; 300];
-    match picture::mask(picture, usage, &mut out) {
+    match copybook::mask(picture, usage, &mut out) {
         Writing::Written(_) => {
             return false;
         }
@@ -198,7 +198,7 @@ fn rust_answer(list: &[u8], p: Reached, picture: &[u8], usage: Usage, sign: Sign
     requires { ⌜ Inside (now list) p ⌝ }
     ensures { λ r. ⌜ Inside (now (list .entry)) r ⌝ }
 {
-    match picture::parse_pic(picture, usage, sign) {
+    match copybook::parse_pic(picture, usage, sign) {
         PicAnswer::Accepted(a) => {
             let k = a.kind;
             let p = replay::number(list, p, 1);
@@ -229,7 +229,7 @@ fn document_picture(
     requires { ⌜ Inside (now list) p ⌝ }
     ensures { λ r. ⌜ Inside (now (list .entry)) r ⌝ }
 {
-    match picture::parse_pic(picture, usage, sign) {
+    match copybook::parse_pic(picture, usage, sign) {
         PicAnswer::Accepted(a) => {
             let k = a.kind;
             let p = replay::number(list, p, 1);
@@ -254,7 +254,7 @@ fn mask_within(
     requires { ⌜ Inside (now list) p × (end ≤ length (now out)) ⌝ }
     ensures { λ r. ⌜ Inside (now (list .entry)) r ⌝ }
 {
-    match picture::mask(picture, usage, &mut out[0..end]) {
+    match copybook::mask(picture, usage, &mut out[0..end]) {
         Writing::Written(n) => {
             let p = replay::number(list, p, 1);
             return mask_bytes(list, p, out, n);
@@ -371,7 +371,7 @@ fn replay_file(name: &[u8], what: &[u8], document: bool) {
 
 // Whether a picture is text of this width.
 fn is_text(picture: &[u8], width: usize) -> bool {
-    match picture::parse_pic(picture, Usage::Display, SignClause::Absent) {
+    match copybook::parse_pic(picture, Usage::Display, SignClause::Absent) {
         PicAnswer::Accepted(a) => {
             let k = a.kind;
             match k {
@@ -391,7 +391,7 @@ fn is_text(picture: &[u8], width: usize) -> bool {
 
 // Whether a picture is refused with this number, at this position.
 fn is_refused(picture: &[u8], number: u32, position: usize) -> bool {
-    match picture::parse_pic(picture, Usage::Display, SignClause::Absent) {
+    match copybook::parse_pic(picture, Usage::Display, SignClause::Absent) {
         PicAnswer::Accepted(_) => {
             return false;
         }

@@ -2,6 +2,7 @@
 // answers, which names the numbers; where the Rust has an answer, that was compared with it when the list was made.
 ghost use Prim.Native.Nat.{_+_, _*_, _≤_, _<_};
 ghost use lib.ListN.{length};
+ghost use Rattle.rows.specs.Columns.{ROW};
 ghost use Rattle.replay.specs.Places.{Inside, Fair};
 use definition::Check;
 use definition::Clauses;
@@ -10,9 +11,11 @@ use definition::SignWords;
 use definition::Span;
 use definition::Usage;
 use definition::UsageClause;
-use reading::RowsRead;
 use replay::Reached;
 use replay::Tally;
+use rows::PARENT;
+use rows::ROW;
+use tree::RowsRead;
 
 // What stands in work memory before a call.
 const FILL: u32 = 4294967295;
@@ -101,9 +104,9 @@ fn clauses(list: &[u8], p: Reached, c: Clauses) -> Reached
     span(list, p, redefines)
 }
 
-// Goes on where the next words are the statement in row k and its depth.
+// Goes on where the next words are the statement in row k and its parent.
 fn row(list: &[u8], p: Reached, work: &[u32], k: usize) -> Reached
-    requires { ⌜ Inside (now list) p × (20 * k + 20 ≤ length (now work)) ⌝ }
+    requires { ⌜ Inside (now list) p × (ROW * k + ROW ≤ length (now work)) ⌝ }
     ensures { λ r. ⌜ Inside (now (list .entry)) r ⌝ }
 {
     let s = rows::statement_at(work, k);
@@ -111,14 +114,14 @@ fn row(list: &[u8], p: Reached, work: &[u32], k: usize) -> Reached
     let c = s.clauses;
     let p = replay::byte(list, p, s.level);
     let p = replay::number(list, p, s.at as u64);
-    let p = replay::number(list, p, wide(work[20 * k + 1]));
+    let p = replay::number(list, p, wide(work[ROW * k + PARENT]));
     let p = span(list, p, name);
     clauses(list, p, c)
 }
 
 // Goes on where the next words are the first n rows.
 fn all_rows(list: &[u8], p: Reached, work: &[u32], n: usize) -> Reached
-    requires { ⌜ Inside (now list) p × (20 * n ≤ length (now work)) ⌝ }
+    requires { ⌜ Inside (now list) p × (ROW * n ≤ length (now work)) ⌝ }
     ensures { λ r. ⌜ Inside (now (list .entry)) r ⌝ }
 {
     let mut place = p;
@@ -137,7 +140,7 @@ fn read_answer(list: &[u8], p: Reached, text: &[u8], work: &mut [u32]) -> Reache
     requires { ⌜ Inside (now list) p × (length (now text) ≤ 65535) × (16384 ≤ length (now work)) ⌝ }
     ensures { λ r. ⌜ Inside (now (list .entry)) r ⌝ }
 {
-    match reading::read_rows(text, work) {
+    match tree::read_rows(text, work) {
         RowsRead::Rows(n) => {
             if 800 < n {
                 return Reached::Differs;
@@ -157,7 +160,7 @@ fn answer(list: &[u8], p: Reached, text: &[u8], work: &mut [u32]) -> Reached
     requires { ⌜ Inside (now list) p ⌝ }
     ensures { λ r. ⌜ Inside (now (list .entry)) r ⌝ }
 {
-    match reading::entry_checks(text, work.len()) {
+    match tree::entry_checks(text, work.len()) {
         Check::Passed => {
             if 65535 < text.len() {
                 return Reached::Differs;

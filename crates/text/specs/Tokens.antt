@@ -13,6 +13,7 @@ use Rattle.definition.specs.declared.Token.{Token}
 use Rattle.definition.specs.Basic.{span}
 use Rattle.definition.specs.Words.{upTo, tokens}
 use Rattle.text.specs.declared.Next.{Next}
+use Rattle.text.specs.declared.Stand.{Stand}
 
 -- between words, where a line has only blanks so far or not
 abbrev pub between : Bool → Mode
@@ -22,6 +23,17 @@ between false = Between
 -- the tokens of a text from a place on
 abbrev pub tokensFrom : List ℕ → Mode → ℕ → List Token
 tokensFrom text m at = tokens m at (drop at text)
+
+-- a reader at the beginning of a text, and behind a token
+abbrev pub atStart : Stand
+atStart = record { at = 0; fresh = true }
+
+abbrev pub behind : ℕ → Stand
+behind at = record { at = at; fresh = false }
+
+-- the tokens from where a reader stands
+abbrev pub tokensAt : List ℕ → Stand → List Token
+tokensAt text s = tokensFrom text (between (s .fresh)) (s .at)
 
 -- a byte of this kind goes on with a word
 abbrev pub inWord : ByteKind → Bool
@@ -45,19 +57,19 @@ pub record WordEnd (text : List ℕ) (at r : ℕ) : Type 0 where
   pub rest : (s : ℕ) → tokensFrom text (Within s) at ≡ upTo s r ∷ tokensFrom text Between r
 
 -- the first of the tokens from a place on is a word, and the others are those from `next` on
-pub record FirstWord (all : List Token) (text : List ℕ) (at start len next : ℕ) : Type 0 where
-  pub all-are : all ≡ Token.Word (span start len) ∷ tokensFrom text Between next
-  pub up : at < next
-  pub within : next ≤ length text
+pub record FirstWord (all : List Token) (text : List ℕ) (at start len : ℕ) (next : Stand) : Type 0 where
+  pub all-are : all ≡ Token.Word (span start len) ∷ tokensAt text next
+  pub up : at < next .at
+  pub within : next .at ≤ length text
   pub begins : at ≤ start
   pub fits : start + len ≤ length text
   pub nonempty : 0 < len
 
 -- the first of the tokens from a place on ends a statement
-pub record FirstStop (all : List Token) (text : List ℕ) (at next : ℕ) : Type 0 where
-  pub all-are : all ≡ Token.Stop ∷ tokensFrom text Between next
-  pub up : at < next
-  pub within : next ≤ length text
+pub record FirstStop (all : List Token) (text : List ℕ) (at : ℕ) (next : Stand) : Type 0 where
+  pub all-are : all ≡ Token.Stop ∷ tokensAt text next
+  pub up : at < next .at
+  pub within : next .at ≤ length text
 
 -- what an answer says of all tokens from a place on
 abbrev pub First : List Token → List ℕ → ℕ → Next → Type 0

@@ -6,13 +6,15 @@ ghost use mathlib.Core.List.{map};
 ghost use lib.Dec.{ltb};
 ghost use Prim.Native.Nat.{_+_, _≤_, _<_};
 ghost use lib.ListN.{length, drop, getD};
+ghost use Rattle.definition.specs.Limits.{largest};
 ghost use Rattle.definition.specs.Basic.{white, upper as upperOf, uppers, same, numeral, below, number, count};
 ghost use Rattle.definition.specs.Calls.{firstWide, textChecks, checkOf};
 ghost use Rattle.definition.specs.Words.{cutHere, ends, byteKind};
 ghost use Rattle.text.specs.Words.{folded as foldedOf, valued, levelled, isFound, wideCheck};
-ghost use Rattle.text.specs.Tokens.{between, tokensFrom, inWord, NextLine, WordEnd, First};
+ghost use Rattle.text.specs.Tokens.{atStart, behind as behindOf, tokensAt, inWord, NextLine, WordEnd, First};
 use definition::ByteKind;
 use definition::Check;
+use definition::MOST_BYTES;
 use definition::Refusal;
 
 // Whether a byte is white space.
@@ -206,7 +208,7 @@ fn wide_check(text: &[u8]) -> Check
 pub fn text_checks(text: &[u8]) -> Check
     ensures { λ r. ⌜ checkOf r ≡ textChecks (now (text .entry)) ⌝ }
 {
-    if 65535 < text.len() {
+    if MOST_BYTES < text.len() {
         return Check::Refused(Refusal {
             number: 1,
             position: 0,
@@ -320,26 +322,49 @@ fn word_end(text: &[u8], at: usize) -> usize
     i
 }
 
-// A word and the place after it, the end of a statement and the place after it, or the end of the text.
+// Where a reader stands between words: the place that it has reached, and whether the line has only blanks before it.
+pub struct Stand {
+    pub at: usize,
+    pub fresh: bool,
+}
+
+// A word and where the reader stands after it, the end of a statement and where it stands after that, or the end of the text.
 pub enum Next {
     Word {
         start: usize,
         len: usize,
-        next: usize,
+        next: Stand,
     },
     Stop {
-        next: usize,
+        next: Stand,
     },
     End,
 }
 
-// The first token at a place or after it; `fresh` says that the line has only blanks before the place.
-pub fn next_token(text: &[u8], at: usize, fresh: bool) -> Next
-    requires { ⌜ at ≤ length (now text) ⌝ }
-    ensures { λ r. ⌜ First (tokensFrom (now (text .entry)) (between fresh) at) (now (text .entry)) at r ⌝ }
+// The beginning of a text.
+pub fn at_start() -> Stand
+    ensures { λ r. ⌜ r ≡ atStart ⌝ }
 {
-    let mut i = at;
-    let mut f = fresh;
+    Stand { at: 0, fresh: true }
+}
+
+// A place behind a token.
+pub fn behind(at: usize) -> Stand
+    ensures { λ r. ⌜ r ≡ behindOf at ⌝ }
+{
+    Stand {
+        at: at,
+        fresh: false,
+    }
+}
+
+// The first token from where a reader stands.
+pub fn next_token(text: &[u8], s: Stand) -> Next
+    requires { ⌜ s .at ≤ length (now text) ⌝ }
+    ensures { λ r. ⌜ First (tokensAt (now (text .entry)) s) (now (text .entry)) (s .at) r ⌝ }
+{
+    let mut i = s.at;
+    let mut f = s.fresh;
     while i < text.len() {
         match byte_kind(text, i) {
             ByteKind::Newline => {
@@ -361,19 +386,30 @@ pub fn next_token(text: &[u8], at: usize, fresh: bool) -> Next
                     return Next::Word {
                         start: i,
                         len: e - i,
-                        next: e,
+                        next: Stand {
+                            at: e,
+                            fresh: false,
+                        },
                     };
                 }
             }
             ByteKind::Period => {
-                return Next::Stop { next: i + 1 };
+                return Next::Stop {
+                    next: Stand {
+                        at: i + 1,
+                        fresh: false,
+                    },
+                };
             }
             ByteKind::Other => {
                 let e = word_end(text, i + 1);
                 return Next::Word {
                     start: i,
                     len: e - i,
-                    next: e,
+                    next: Stand {
+                        at: e,
+                        fresh: false,
+                    },
                 };
             }
         }

@@ -1,4 +1,1 @@
-pub mod WriteLaws
-pub mod WalkLaws
-pub mod VaryLaws
 pub mod ListedLaws

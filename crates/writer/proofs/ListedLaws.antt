@@ -1,13 +1,11 @@
 -- Laws of the listing of a record in the table: how many bytes it has, its parts, and what the output holds after it.
 -- Assumes nothing.
 use Prim.Native.Nat.{ℕ, suc, _+_, _*_, _-_, _≤_, _<_}
-use mathlib.Core.Path.{_≡_, refl, sym, _∙_, ap}
+use mathlib.Core.Path.{_≡_, sym, _∙_, ap}
 use mathlib.Core.Bool.{Bool}
 use mathlib.Core.List.{List, [], _∷_, _++_}
 use native.Mathlib.Omega.{arith}
-use native.Mathlib.Nat.{zero-add}
-use lib.ListN.{length, drop, length-append}
-use borrow.Author.Tests.{lt-ltb, le-ltb}
+use lib.ListN.{length, length-append}
 use Rattle.definition.specs.declared.Writing.{Writing}
 use Rattle.definition.specs.Calls.{fitting, left, afterWriting, writingOf}
 use Rattle.definition.specs.Fold.{Entries}
@@ -17,39 +15,10 @@ use Rattle.places.specs.Places.{rowsForest}
 use Rattle.places.proofs.EntriesLaws.{size-stretch}
 use Rattle.layout.proofs.SizeLaws.{listing-few}
 use Rattle.listing.specs.Puts.{Put, headBytes}
-use Rattle.listing.proofs.PutLaws.{_and_, put-first, listing-parts}
-use Rattle.folded.specs.Shown.{listIn}
-use Rattle.folded.proofs.ShownLaws.{entries-size}
-use Rattle.writer.specs.Written.{Fits, listBytes}
+use Rattle.listing.proofs.PutLaws.{_and_, room, listing-parts}
+use Rattle.unions.specs.Shown.{listIn}
+use Rattle.unions.proofs.ShownLaws.{entries-size}
 use Rattle.writer.specs.Listed.{entriesOf, listingOf}
-
--- a list has an entry for each row, so its bytes can be counted
-pub list-fits : (text w : List ℕ) (from to at : ℕ) → to ≤ 800 → at ≤ 10 → Fits at (listBytes text w from to)
-list-fits text w from to at few small =
-    omega (arith, listing-few text (listIn w from to), entries-size w (rowsForest w from to) from, size-stretch w from to)
-
--- the head and then the entries are the listing
-pub whole :
-    (es : Entries) {m : ℕ} {v : Bool} {t : ℕ} →
-    m ≡ recordLength es →
-    v ≡ variable es →
-    t ≡ members# es →
-    {out : List ℕ} {r r′ : ℕ} {o o′ : List ℕ} →
-    Put out 0 (headBytes m v t) r o →
-    Put o r (entriesBytes es) r′ o′ →
-    Put out 0 (listing es) r′ o′
-whole es p q s a b = rw (listing-parts es, ← p, ← q, ← s) (a and b)
-
-module _ (bs out : List ℕ) {n : ℕ} (e : n ≡ length bs) where
-  -- 31 where the listing is longer than the output
-  pub no-room :
-      length out < n →
-      left (writingOf (Writing.Refused (record { number = 31; position = 0; needed = n }))) out [] ≡ afterWriting (fitting (length out) bs) out []
-  no-room h = rw (lt-ltb (length out) (length bs) (omega arith), e)
-
-  -- else it stands in front of what was there
-  pub room : n ≤ length out → {m : ℕ} {o : List ℕ} → Put out 0 bs m o → left (writingOf (Writing.Written n)) o [] ≡ afterWriting (fitting (length out) bs) out []
-  room h p = rw (le-ltb (length out) (length bs) (omega arith), e, put-first p (omega arith))
 
 -- a listing has at most 98 bytes for each row, and its head
 listing-most : (text w : List ℕ) (from to : ℕ) → length (listingOf text w from to) ≤ 98 * to + 10

@@ -1,29 +1,48 @@
-//! How fast the product is beside the original Rust, in this one program, on the same inputs. `tools/benchmark/run` builds and starts it; docs/BENCHMARKS.md says what
-//! its tables mean. They are printed as Markdown.
+//! How fast the product is beside the original Rust, in this one program, on the same inputs. `tools/benchmark/run`
+//! builds and starts it; docs/BENCHMARKS.md says what its tables mean. They are printed as Markdown.
 //!
-//! The product is called through the Rust binding with buffers that are lent once. A time is that of one call, the best of ROUNDS rounds; a round calls each side in
-//! turn, so often that it takes at least ROUND seconds. Before an input is measured, both sides must accept it, and agree on the record length or the width.
+//! The product is called through the Rust binding with buffers that are lent once, and through the binding's drop-in
+//! for the Rust. A time is the processor time of one call, the best of ROUNDS rounds; a round calls each side in turn,
+//! so often that it takes at least ROUND seconds. Before an input is measured, both sides must accept it, and agree on
+//! the record length or the width.
 
 mod inputs;
 
-include!(concat!(env!("OUT_DIR"), "/modules.rs"));
-
-use product::{lent, SignKind, Usage, LONGEST_LISTING, LONGEST_MASK, WORK};
+use fixedformat_core::{copybook, numbers};
+use inputs::{Shape, OWNED, SHAPES, SIZES};
+use product::{fixedformat, lent, SignKind, Usage, LONGEST_LISTING, LONGEST_MASK, WORK};
 use std::hint::black_box;
-use std::time::Instant;
 
 const ROUNDS: usize = 15;
 const ROUND: f64 = 0.01;
 
 // ---------------------------------------------------------------- timing
 
+/// Seconds of processor time that this thread has had, so that what else the machine does counts as little as can be.
+fn processor_time() -> f64 {
+    /// `struct timespec` and CLOCK_THREAD_CPUTIME_ID of x86-64 Linux, for which the library is made.
+    #[repr(C)]
+    struct Time {
+        seconds: i64,
+        nanoseconds: i64,
+    }
+    const THREAD: i32 = 3;
+    extern "C" {
+        fn clock_gettime(clock: i32, time: *mut Time) -> i32;
+    }
+    let mut time = Time { seconds: 0, nanoseconds: 0 };
+    // SAFETY: `time` is good for one such struct.
+    assert_eq!(unsafe { clock_gettime(THREAD, &mut time) }, 0);
+    time.seconds as f64 + time.nanoseconds as f64 / 1e9
+}
+
 /// Seconds for so many calls.
 fn seconds(call: &mut dyn FnMut(), times: u64) -> f64 {
-    let start = Instant::now();
+    let start = processor_time();
     for _ in 0..times {
         call();
     }
-    start.elapsed().as_secs_f64()
+    processor_time() - start
 }
 
 /// How many calls take a round.
@@ -72,108 +91,127 @@ fn check_copybook(text: &str, lent: &mut Buffers) {
     assert_eq!((layout.record_len(), layout.top_len()), (original.record_len, original.fields.len()));
 }
 
+/// Microseconds for a copybook: the Rust's `parse`, our listing, our listing with every entry read from it, and the
+/// drop-in's `parse`.
 struct Measured {
+    shape: &'static Shape,
     size: usize,
+    bytes: usize,
     rust: f64,
     ours: f64,
+    read: f64,
+    drop_in: f64,
 }
 
 impl Measured {
+    fn new(shape: &'static Shape, size: usize) -> Measured {
+        let text = &shape.text(size)[..];
+        let (mut a, mut b) = (Buffers::new(), Buffers::new());
+        check_copybook(text, &mut a);
+        let [rust, ours, read, drop_in] = best([
+            &mut || drop(black_box(copybook::parse(black_box(text)))),
+            &mut || drop(black_box(a.layout(black_box(text)))),
+            &mut || b.layout(black_box(text)).entries().for_each(|entry| _ = black_box(entry)),
+            &mut || drop(black_box(fixedformat::parse(black_box(text)))),
+        ]);
+        Measured { shape, size, bytes: text.len(), rust, ours, read, drop_in }
+    }
+
+    /// How many times as fast as the Rust the listing is.
     fn ratio(&self) -> f64 {
         self.rust / self.ours
     }
-}
 
-/// A copybook: the Rust's `parse`, our listing, and our listing with every entry read from it.
-fn listing(name: &str, size: usize, text: &str) -> Measured {
-    let (mut a, mut b) = (Buffers::new(), Buffers::new());
-    check_copybook(text, &mut a);
-    let [rust, ours, read] = best([
-        &mut || drop(black_box(copybook::parse(black_box(text)))),
-        &mut || drop(black_box(a.layout(black_box(text)))),
-        &mut || b.layout(black_box(text)).entries().for_each(|entry| _ = black_box(entry)),
-    ]);
-    let m = Measured { size, rust, ours };
-    println!("| {name} | {size} | {} | {rust:.2} | {ours:.2} | {:.2} | {read:.2} |", text.len(), m.ratio());
-    m
-}
-
-/// The times at a size.
-fn at(measured: &[Measured], size: usize) -> &Measured {
-    measured.iter().find(|m| m.size == size).expect("a size that was measured")
-}
-
-fn listings() -> Vec<(&'static str, Vec<Measured>)> {
-    println!("## The listing, beside `parse`\n");
-    println!("| Copybook | Statements | Bytes | Rust, µs | Ours, µs | Rust / ours | Ours with the entries read, µs |");
-    println!("|---|---|---|---|---|---|---|");
-    let measure = |name, shape| inputs::SIZES.map(|n| listing(name, n, &inputs::text(shape, n))).into();
-    inputs::SHAPES.map(|(name, shape)| (name, measure(name, shape))).into()
-}
-
-fn growth(all: &[(&str, Vec<Measured>)]) {
-    println!("\nHow the cost grows, as time at 800 statements / time at 100:\n");
-    println!("| Copybook | Rust | Ours |");
-    println!("|---|---|---|");
-    for (name, measured) in all {
-        let (small, large) = (at(measured, 100), at(measured, 800));
-        println!("| {name} | {:.1} | {:.1} |", large.rust / small.rust, large.ours / small.ours);
+    /// How many times as fast as the Rust the drop-in is.
+    fn drop_in_ratio(&self) -> f64 {
+        self.rust / self.drop_in
     }
 }
 
-/// The goals: how many times as fast as the Rust at a size, for every shape.
-const GOALS: [(usize, f64); 3] = [(5, 1.0), (100, 3.0), (800, 5.0)];
+fn listings() -> Vec<Measured> {
+    println!("## The listing, beside `parse`\n");
+    println!("| Copybook | Statements | Bytes | Rust, µs | Ours, µs | Rust / ours | Ours with the entries read, µs |");
+    println!("|---|---|---|---|---|---|---|");
+    let mut all = Vec::new();
+    for shape in &SHAPES {
+        for size in shape.sizes() {
+            let m = Measured::new(shape, size);
+            print!("| {} | {size} | {} | {:.2} | {:.2} |", shape.name, m.bytes, m.rust, m.ours);
+            println!(" {:.2} | {:.2} |", m.ratio(), m.read);
+            all.push(m);
+        }
+    }
+    all
+}
 
-fn goals(all: &[(&str, Vec<Measured>)]) {
-    println!("\n| Statements | Goal, Rust / ours | Least seen | |");
+fn drop_ins(all: &[Measured]) {
+    println!("\n## The drop-in, beside `parse`: the tree of fields made and dropped on both sides\n");
+    println!("| Copybook | Statements | Rust, µs | Drop-in, µs | Rust / drop-in |");
+    println!("|---|---|---|---|---|");
+    for m in all {
+        let (name, ratio) = (m.shape.name, m.drop_in_ratio());
+        println!("| {name} | {} | {:.2} | {:.2} | {ratio:.2} |", m.size, m.rust, m.drop_in);
+    }
+}
+
+fn growth(all: &[Measured]) {
+    println!("\n## How the cost grows, as time at 800 statements / time at 100\n");
+    println!("| Copybook | Rust | Ours |");
+    println!("|---|---|---|");
+    let at = |size: usize| all.iter().filter(move |m| m.size == size);
+    for (small, large) in at(100).zip(at(800)) {
+        println!("| {} | {:.1} | {:.1} |", small.shape.name, large.rust / small.rust, large.ours / small.ours);
+    }
+}
+
+/// A goal: of which copybooks, and how many times as fast as the Rust.
+struct Goal {
+    what: &'static str,
+    of: fn(&Measured) -> bool,
+    ratio: fn(&Measured) -> f64,
+    least: f64,
+}
+
+const GOALS: [Goal; 6] = [
+    Goal { what: "every copybook", of: |_| true, ratio: Measured::ratio, least: 1.0 },
+    Goal { what: "every copybook of 800", of: |m| m.size == 800, ratio: Measured::ratio, least: 3.0 },
+    Goal { what: "the first four, 5", of: |m| m.shape.plain && m.size == 5, ratio: Measured::ratio, least: 2.5 },
+    Goal { what: "the first four, 100", of: |m| m.shape.plain && m.size == 100, ratio: Measured::ratio, least: 5.0 },
+    Goal { what: "the first four, 800", of: |m| m.shape.plain && m.size == 800, ratio: Measured::ratio, least: 5.0 },
+    Goal { what: "the drop-in, every one of 100", of: |m| m.size == 100, ratio: Measured::drop_in_ratio, least: 3.0 },
+];
+
+fn goals(all: &[Measured]) {
+    println!("\n## Goals\n");
+    println!("| Copybooks | Goal, Rust / ours | Least seen | |");
     println!("|---|---|---|---|");
-    for (size, goal) in GOALS {
-        let (least, name) = all
-            .iter()
-            .map(|(name, measured)| (at(measured, size).ratio(), name))
-            .min_by(|a, b| a.0.total_cmp(&b.0))
-            .expect("some shape");
-        println!("| {size} | {goal} | {least:.2}, {name} | {} |", if least >= goal { "met" } else { "missed" });
+    for Goal { what, of, ratio, least } in GOALS {
+        let seen = all.iter().filter(|m| of(m)).min_by(|a, b| ratio(a).total_cmp(&ratio(b))).expect("some copybook");
+        let met = if ratio(seen) >= least { "met" } else { "missed" };
+        println!("| {what} | {least} | {:.2}, {} of {} | {met} |", ratio(seen), seen.shape.name, seen.size);
     }
 }
 
 // ---------------------------------------------------------------- pictures
 
-fn original_usage(usage: Usage) -> copybook::Usage {
-    match usage {
-        Usage::Display => copybook::Usage::Display,
-        Usage::Comp3 => copybook::Usage::Comp3,
-        Usage::Comp => copybook::Usage::Comp,
-    }
-}
-
-fn original_sign(sign: SignKind) -> layout::SignKind {
-    match sign {
-        SignKind::Unsigned => layout::SignKind::Unsigned,
-        SignKind::Embedded => layout::SignKind::Embedded,
-        SignKind::LeadingSeparate => layout::SignKind::LeadingSeparate,
-        SignKind::TrailingSeparate => layout::SignKind::TrailingSeparate,
-    }
-}
-
-/// A picture: the Rust's `parse_pic`, and our picture answer; of an edited picture our mask too, since the Rust's answer holds it.
+/// A picture: the Rust's `parse_pic`, and our picture answer; of an edited picture our mask too, since the Rust's
+/// answer holds it.
 fn picture(text: &str, usage: Usage, sign: Option<SignKind>) {
-    let (u, s) = (original_usage(usage), sign.map(original_sign));
+    let u = numbers::USAGES[usize::from(usage.number())];
+    let s = sign.and_then(|sign| numbers::SIGNS[usize::from(sign.number()) + 1]);
     let original = || copybook::parse_pic(black_box(text), u, s).unwrap_or_else(|e| panic!("{e}"));
     let ours = || product::picture(black_box(text.as_bytes()), usage, sign).unwrap_or_else(|r| panic!("{r}"));
     assert_eq!(ours().width, original().1);
     let edited = matches!(ours().kind, product::FieldKind::Edited { .. });
     let mut out = [0; LONGEST_MASK];
-    let [rust, ours] = best([
-        &mut || drop(black_box(original())),
-        &mut || {
-            black_box(ours());
-            if edited {
-                let _ = black_box(lent::mask(black_box(text.as_bytes()), usage, &mut out));
-            }
-        },
-    ]);
-    println!("| `{text}` {usage:?}{} | {rust:.3} | {ours:.3} | {:.2} |", if edited { ", with its mask" } else { "" }, rust / ours);
+    let [rust, ours] = best([&mut || drop(black_box(original())), &mut || {
+        black_box(ours());
+        if edited {
+            let _ = black_box(lent::mask(black_box(text.as_bytes()), usage, &mut out));
+        }
+    }]);
+    let mask = if edited { ", with its mask" } else { "" };
+    println!("| `{text}` {usage:?}{mask} | {rust:.3} | {ours:.3} | {:.2} |", rust / ours);
 }
 
 fn pictures() {
@@ -202,10 +240,10 @@ fn owners() {
     println!("\n## The byte owner, of the record's last byte\n");
     println!("| Copybook | Statements | Record, bytes | Ours, µs |");
     println!("|---|---|---|---|");
-    for (name, shape) in inputs::OWNED {
-        for n in inputs::SIZES {
-            let (length, time) = last_owner(&inputs::text(shape, n));
-            println!("| {name} | {n} | {length} | {time:.2} |");
+    for shape in &SHAPES[..OWNED] {
+        for n in SIZES {
+            let (length, time) = last_owner(&shape.text(n));
+            println!("| {} | {n} | {length} | {time:.2} |", shape.name);
         }
     }
     for (expected, text) in inputs::RECORDS {
@@ -217,6 +255,7 @@ fn owners() {
 
 fn main() {
     let all = listings();
+    drop_ins(&all);
     growth(&all);
     goals(&all);
     pictures();

@@ -1,5 +1,6 @@
-//! Copybooks and pictures at random, from a seed. The lists of written inputs and what is made of them in every combination are those of
-//! tools/inputs.py, which `run` asks for a part of the inputs; the random families are made here, since there are many of them:
+//! Copybooks and pictures at random, from a seed. The lists of written inputs and what is made of them in every
+//! combination are those of tools/inputs.py, which `run` asks for a part of the inputs; the random families are made
+//! here, since there are many of them:
 //!   nested groups with every clause, SYNC, OCCURS DEPENDING ON, dropped roots     nested, long
 //!   folds with few names, names in any case, own-name groups                      folded
 //!   absent names beside FILLER                                                    fillers
@@ -68,28 +69,35 @@ impl Input {
 }
 
 const KEYWORDS: [&str; 36] = [
-    "PIC", "PICTURE", "IS", "REDEFINES", "OCCURS", "TO", "TIMES", "DEPENDING", "ON", "USAGE", "DISPLAY", "COMP", "COMPUTATIONAL", "COMP-3", "COMPUTATIONAL-3",
-    "PACKED-DECIMAL", "COMP-4", "COMPUTATIONAL-4", "COMP-5", "COMPUTATIONAL-5", "BINARY", "COMP-1", "SIGN", "LEADING", "TRAILING", "SEPARATE", "CHARACTER", "SYNC",
+    "PIC", "PICTURE", "IS", "REDEFINES", "OCCURS", "TO", "TIMES", "DEPENDING", "ON", "USAGE", "DISPLAY", "COMP",
+    "COMPUTATIONAL", "COMP-3", "COMPUTATIONAL-3", "PACKED-DECIMAL", "COMP-4", "COMPUTATIONAL-4", "COMP-5",
+    "COMPUTATIONAL-5", "BINARY", "COMP-1", "SIGN", "LEADING", "TRAILING", "SEPARATE", "CHARACTER", "SYNC",
     "SYNCHRONIZED", "LEFT", "RIGHT", "VALUE", "VALUES", "FILLER", "JUSTIFIED", "BLANK",
 ];
-const SYMBOLS: [&str; 19] = ["X", "A", "9", "P", "V", "S", "Z", "*", ".", ",", "/", "B", "0", "$", "+", "-", "C", "D", "R"];
+const SYMBOLS: [&str; 19] =
+    ["X", "A", "9", "P", "V", "S", "Z", "*", ".", ",", "/", "B", "0", "$", "+", "-", "C", "D", "R"];
 const COUNTS: [&str; 30] = [
-    "0", "00", "+0", "1", "+3", "003", "2147483646", "2147483647", "2147483648", "4294967295", "4294967296", "9223372036854775807", "9223372036854775808",
-    "18446744073709551614", "18446744073709551615", "18446744073709551616", "+18446744073709551615", "000018446744073709551615", "184467440737095516150",
+    "0", "00", "+0", "1", "+3", "003", "2147483646", "2147483647", "2147483648", "4294967295", "4294967296",
+    "9223372036854775807", "9223372036854775808", "18446744073709551614", "18446744073709551615",
+    "18446744073709551616", "+18446744073709551615", "000018446744073709551615", "184467440737095516150",
     "36893488147419103233", "-1", "-0", "+", "++3", "3A", "A", "3,", "3.5", "TO", "TIMES",
 ];
-const LARGE: [u64; 12] =
-    [2, 3, 255, 32_767, 65_535, 65_536, 1_073_741_823, 1_073_741_824, 2_147_483_640, 2_147_483_645, 2_147_483_646, 2_147_483_647];
+const LARGE: [u64; 12] = [
+    2, 3, 255, 32_767, 65_535, 65_536, 1_073_741_823, 1_073_741_824, 2_147_483_640, 2_147_483_645, 2_147_483_646,
+    2_147_483_647,
+];
 const SNIPPETS: [&str; 44] = [
-    ".", ". ", " .", "..", ". .", "*", "*>", "**>", "***>", "* >", ".*>", ".**>", ". *>", ">", "\n", "\n*", "\n *", "\n*>", "\n.", "\n .*", "*>\n", "*\n", ".\n", ".\n*",
-    "\r", "\r\n", ".\r\n", "\r\n*", "\r*", ".\r", "\x0b", "\x0c", "\t", "\x0b*", ".\x0b", ".\x0c*", "\n\x0c*", "\x1c", ".\x1f", "\x00", "\x7f", " *> C.\n", " 88 Q. ", "\u{80}",
+    ".", ". ", " .", "..", ". .", "*", "*>", "**>", "***>", "* >", ".*>", ".**>", ". *>", ">", "\n", "\n*", "\n *",
+    "\n*>", "\n.", "\n .*", "*>\n", "*\n", ".\n", ".\n*", "\r", "\r\n", ".\r\n", "\r\n*", "\r*", ".\r", "\x0b", "\x0c",
+    "\t", "\x0b*", ".\x0b", ".\x0c*", "\n\x0c*", "\x1c", ".\x1f", "\x00", "\x7f", " *> C.\n", " 88 Q. ", "\u{80}",
 ];
 const NAMES: [&str; 22] = [
-    "A", "B", "C", "a", "b", "D", "N", "n", "GRP", "Grp", "FILLER", "filler", "X-1", "X-1", "AMOUNT", "PIC", "OCCURS", "5", "A.B", "*A", "A*", "CUSTOMER-NUMBER",
+    "A", "B", "C", "a", "b", "D", "N", "n", "GRP", "Grp", "FILLER", "filler", "X-1", "X-1", "AMOUNT", "PIC", "OCCURS",
+    "5", "A.B", "*A", "A*", "CUSTOMER-NUMBER",
 ];
 const GOOD_PICTURES: [&str; 27] = [
-    "X", "X(3)", "X(5)", "XX", "A(2)", "9", "99", "9(4)", "9(5)", "9(9)", "9(10)", "S9(4)", "S9(9)", "S9(5)V99", "9(3)V9", "SV99", "99P", "ZZ9", "ZZ9.99", "$$$9", "--9.9",
-    "9(3)CR", "9/9", "S", "X(0)", "9(0)", "x(2)",
+    "X", "X(3)", "X(5)", "XX", "A(2)", "9", "99", "9(4)", "9(5)", "9(9)", "9(10)", "S9(4)", "S9(9)", "S9(5)V99",
+    "9(3)V9", "SV99", "99P", "ZZ9", "ZZ9.99", "$$$9", "--9.9", "9(3)CR", "9/9", "S", "X(0)", "9(0)", "x(2)",
 ];
 
 /// The maker of inputs. `pool` holds texts to be damaged.
@@ -152,7 +160,8 @@ impl Maker {
 
     fn picture_edited(&mut self) -> String {
         let zs = format!("Z({})", self.r.below(10));
-        let head = self.one(&["", "$", "$$$", "+", "+++", "-", "---", "$$,$$", &zs, "***", "ZZ,ZZ", "+$$$"]).to_string();
+        let head =
+            self.one(&["", "$", "$$$", "+", "+++", "-", "---", "$$,$$", &zs, "***", "ZZ,ZZ", "+$$$"]).to_string();
         let nines = "9".repeat(self.r.below(4));
         let tail = self.one(&["", ".99", ".9(3)", "V99", ".ZZ", "BB", "/9", "0"]);
         let end = self.one(&["", "", "+", "-", "CR", "DB", "C(1)R", "D(1)B(1)", "cr", "db"]);
@@ -162,7 +171,9 @@ impl Maker {
     /// Around the limits of 255 digits, 255 bytes of mask and 65,535 symbols, and of counts.
     fn picture_limit(&mut self) -> String {
         let symbol = self.one(&SYMBOLS);
-        let base = *[255usize, 255, 255, 9, 4, 128, 65_535, 65_535, 65_534, 32_768][self.r.below(10)..].first().expect("below 10");
+        let base = *[255usize, 255, 255, 9, 4, 128, 65_535, 65_535, 65_534, 32_768][self.r.below(10)..]
+            .first()
+            .expect("below 10");
         let n = base + self.r.below(4) - 1;
         let more = self.picture_of(&SYMBOLS, 2);
         let back = self.one(&["", "", "V9", "9", "CR", "-", "S", "P", "X"]);
@@ -186,7 +197,12 @@ impl Maker {
         let mut p = p.into_bytes();
         for _ in 0..self.r.within(1, 2) {
             let i = self.r.below(p.len() + 1);
-            let put = self.one(&["(", ")", "X", "Q", "9", ".", "C", "R", "D", "B", " ", "(2)", "(0)", "( 1 )", "(\t2\r)", "\x1c", "(255)", "(256)", "(3", "3)", "()", "((2))", "\n"]).bytes();
+            let put = self
+                .one(&[
+                    "(", ")", "X", "Q", "9", ".", "C", "R", "D", "B", " ", "(2)", "(0)", "( 1 )", "(\t2\r)", "\x1c",
+                    "(255)", "(256)", "(3", "3)", "()", "((2))", "\n",
+                ])
+                .bytes();
             let drop = self.r.below(3);
             if drop > 0 && i < p.len() {
                 p.remove(i);
@@ -285,7 +301,10 @@ impl Maker {
             parts.push(format!("{key} {}", self.word_picture()));
         }
         if self.chance(30) {
-            let usage = self.one(&["COMP", "COMP", "COMP", "BINARY", "COMP-4", "COMPUTATIONAL-5", "COMP-3", "PACKED-DECIMAL", "DISPLAY", "COMP-1"]);
+            let usage = self.one(&[
+                "COMP", "COMP", "COMP", "BINARY", "COMP-4", "COMPUTATIONAL-5", "COMP-3", "PACKED-DECIMAL", "DISPLAY",
+                "COMP-1",
+            ]);
             parts.push(format!("{}{usage}", self.one(&["", "USAGE ", "USAGE IS "])));
         }
         if self.chance(30) {
@@ -313,7 +332,8 @@ impl Maker {
             parts.push(format!("SIGN{side}{}", self.one(&["", " SEPARATE", " SEPARATE CHARACTER"])));
         }
         if self.chance(5) {
-            parts.push(self.one(&["JUSTIFIED", "BLANK WHEN ZERO", "VALUE ZERO", "VALUE 'A. B'", "INDEXED BY I"]).into());
+            parts
+                .push(self.one(&["JUSTIFIED", "BLANK WHEN ZERO", "VALUE ZERO", "VALUE 'A. B'", "INDEXED BY I"]).into());
         }
         if self.chance(30) {
             self.r.shuffle(&mut parts);
@@ -390,12 +410,18 @@ impl Maker {
         for s in self.statements(6) {
             for w in s.split(' ') {
                 text += &if KEYWORDS.contains(&w) { self.cased(w) } else { w.into() };
-                text += self.one(&[" ", " ", " ", "  ", "\n", "\r\n", "\t", "\x0b", "\x0c", "\n   ", " \r ", " *> X. Y\n", "\n* Z.\n", "\n \t* Z.\r\n"]);
+                text += self.one(&[
+                    " ", " ", " ", "  ", "\n", "\r\n", "\t", "\x0b", "\x0c", "\n   ", " \r ", " *> X. Y\n", "\n* Z.\n",
+                    "\n \t* Z.\r\n",
+                ]);
             }
             if self.chance(80) {
                 text.truncate(text.trim_end().len());
             }
-            text += self.one(&[". ", ".\n", ".\n", ".\r\n", ".\t", ".*> C\n", ". *> C. D\n", " .\n", "\n.\n", ".\n\n* C\n", ".\x0c", "."]);
+            text += self.one(&[
+                ". ", ".\n", ".\n", ".\r\n", ".\t", ".*> C\n", ". *> C. D\n", " .\n", "\n.\n", ".\n\n* C\n", ".\x0c",
+                ".",
+            ]);
         }
         text.into_bytes()
     }
@@ -427,7 +453,11 @@ impl Maker {
     fn folded_item(&mut self) -> String {
         let n = self.r.below(10);
         let x = format!("PIC X({n})");
-        self.one(&["PIC X", "PIC X(2)", &x, "PIC 9(4) COMP SYNC", "PIC 9(9) COMP", "PIC 9(10) COMP SYNC", "PIC ZZ9.9", "PIC S9(3) COMP-3"]).into()
+        self.one(&[
+            "PIC X", "PIC X(2)", &x, "PIC 9(4) COMP SYNC", "PIC 9(9) COMP", "PIC 9(10) COMP SYNC", "PIC ZZ9.9",
+            "PIC S9(3) COMP-3",
+        ])
+        .into()
     }
 
     fn folded_occurs(&mut self, pool: &[&str]) -> String {
@@ -446,7 +476,8 @@ impl Maker {
             let name = self.r.one(pool).to_string();
             let mut target = String::new();
             if !seen.is_empty() && self.chance(55) {
-                let to = if self.chance(93) { seen[self.r.below(seen.len())].clone() } else { self.r.one(pool).to_string() };
+                let to =
+                    if self.chance(93) { seen[self.r.below(seen.len())].clone() } else { self.r.one(pool).to_string() };
                 target = format!(" REDEFINES {}", self.cased(&to));
             }
             let occurs = self.folded_occurs(pool);
@@ -472,7 +503,8 @@ impl Maker {
 
     /// Sibling lists of few names, of which most redefine one another.
     fn folded(&mut self) -> Vec<u8> {
-        let pools: [&[&str]; 5] = [&["A", "B"], &["A", "a", "B"], &["A", "B", "C"], &["G", "g", "A"], &["A", "B", "C", "D"]];
+        let pools: [&[&str]; 5] =
+            [&["A", "B"], &["A", "a", "B"], &["A", "B", "C"], &["G", "g", "A"], &["A", "B", "C", "D"]];
         let pool = pools[self.r.below(5)];
         let mut out = Vec::new();
         if self.chance(30) {
@@ -488,11 +520,19 @@ impl Maker {
         let mut out: Vec<String> = Vec::new();
         for _ in 0..self.r.within(2, 5) {
             let name = self.one(&["FILLER", "filler", "Filler", "A", "", ""]);
-            let target = if out.is_empty() || name.is_empty() { "" } else { self.one(&["", "", " REDEFINES FILLER", " REDEFINES filler", " REDEFINES A"]) };
+            let target = if out.is_empty() || name.is_empty() {
+                ""
+            } else {
+                self.one(&["", "", " REDEFINES FILLER", " REDEFINES filler", " REDEFINES A"])
+            };
             if name.is_empty() || self.chance(30) {
                 out.push(format!("05 {name}{target}").trim_end().into());
                 for _ in 0..self.r.within(1, 2) {
-                    out.push(format!("10 {} PIC {}", self.one(&["FILLER", "filler", "A", "B"]), self.one(&["X", "X(3)"])));
+                    out.push(format!(
+                        "10 {} PIC {}",
+                        self.one(&["FILLER", "filler", "A", "B"]),
+                        self.one(&["X", "X(3)"])
+                    ));
                 }
             } else {
                 out.push(format!("05 {name}{target} PIC {}", self.one(&["X", "X(2)", "9(4) COMP SYNC"])));
@@ -515,9 +555,16 @@ impl Maker {
                 _ => (LARGE[self.r.below(12)] + self.r.below(3) as u64 - 1).to_string(),
             };
             let name = format!("F{k}");
-            let target = if self.chance(25) { format!(" REDEFINES {}", names[self.r.below(names.len())]) } else { String::new() };
+            let target = if self.chance(25) {
+                format!(" REDEFINES {}", names[self.r.below(names.len())])
+            } else {
+                String::new()
+            };
             let depending = if self.chance(20) { " DEPENDING ON N" } else { "" };
-            let item = self.one(&["PIC X", "PIC X(2)", "PIC X(3)", "PIC 9(4) COMP SYNC", "PIC 9(18) COMP SYNC", "PIC X(0)", "PIC X(65535)", "PIC 9(9) COMP SYNC"]);
+            let item = self.one(&[
+                "PIC X", "PIC X(2)", "PIC X(3)", "PIC 9(4) COMP SYNC", "PIC 9(18) COMP SYNC", "PIC X(0)",
+                "PIC X(65535)", "PIC 9(9) COMP SYNC",
+            ]);
             if self.chance(30) {
                 out.push(format!("05 {name}{target} OCCURS {times}{depending}"));
                 let inner = (LARGE[self.r.below(12)] + self.r.below(3) as u64 - 1).to_string();
@@ -531,7 +578,10 @@ impl Maker {
             names.push(name);
         }
         if self.chance(50) {
-            out.push(format!("05 E {}", self.one(&["PIC X", "PIC 9(4) COMP SYNC", "PIC 9(10) COMP SYNC", "PIC X(0)", "PIC Q", ""])));
+            out.push(format!(
+                "05 E {}",
+                self.one(&["PIC X", "PIC 9(4) COMP SYNC", "PIC 9(10) COMP SYNC", "PIC X(0)", "PIC Q", ""])
+            ));
         }
         Self::joined(&out).into_bytes()
     }
@@ -565,7 +615,11 @@ impl Maker {
         let levels: &[&str] = if self.chance(60) { &["05"] } else { &["05", "05", "05", "10", "07"] };
         for k in 0..n {
             let level = self.r.one(levels);
-            let target = if k > 0 && self.chance(8) { format!(" REDEFINES F{}", k - 1 - self.r.below(k.min(3))) } else { String::new() };
+            let target = if k > 0 && self.chance(8) {
+                format!(" REDEFINES F{}", k - 1 - self.r.below(k.min(3)))
+            } else {
+                String::new()
+            };
             let item = self.one(&["PIC X", "PIC X(3)", "PIC 9(4) COMP SYNC", "PIC ZZ9.9", "PIC S9(5)V9 COMP-3"]);
             text += &format!("{level} F{k}{target} {item}.\n");
             if self.chance(3) {

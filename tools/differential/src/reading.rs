@@ -1,5 +1,6 @@
-//! A reading of document 01 of its own: it gives what the Rust does not have, that is places in the text, positions of refusals and the
-//! added refusals 1, 2, 14, 24, 27, 29, 30, 40 and 41, and the owners of bytes. Offsets, widths and kinds of a listing are taken from the Rust, never from here.
+//! A reading of the rules (docs/RULES.md) of its own: it gives what the Rust does not have, that is places in the text,
+//! positions of refusals and the added refusals 1, 2, 14, 24, 27, 29, 30, 40 and 41, and the owners of bytes. Offsets,
+//! widths and kinds of a listing are taken from the Rust, never from here.
 
 /// A part of the text; length 0 means absent.
 #[derive(Clone, Copy, PartialEq, Eq, Debug, Default)]
@@ -54,13 +55,14 @@ pub struct Statement {
     pub below: Vec<usize>,
 }
 
-/// An entry of the folded listing, as far as the text says it: the statement behind it, whether it is the group that stands for a base and
-/// its redefiners, whether its REDEFINES is kept, and its members.
+/// An entry of the folded listing, as far as the text says it: the statement behind it, whether it is the group that
+/// stands for a base and its redefiners, whether its REDEFINES is kept, the slack before it, and its members.
 #[derive(Clone, Debug)]
 pub struct Shape {
     pub statement: usize,
     pub union: bool,
     pub redefines: bool,
+    pub slack: usize,
     pub members: Vec<Shape>,
 }
 
@@ -69,8 +71,8 @@ pub struct Reading {
     /// The record's fields, and whether the only root was dropped.
     pub fields: Vec<usize>,
     pub dropped: bool,
-    /// The folded top list, or why there is none. The last check, 29 for a top-level end, needs the widths of folds, and is made on the Rust's
-    /// answer (`answer::copybook`).
+    /// The folded top list, or why there is none. The last check, 29 for a top-level end, needs the widths of folds,
+    /// and is made on the Rust's answer (`answer::copybook`).
     pub top: Answer<Vec<Shape>>,
 }
 
@@ -218,7 +220,9 @@ fn statement(text: &[u8], words: &[Span]) -> Answer<Option<Statement>> {
             }
             "USAGE" => i += usize::from(is(i, "IS")),
             "COMP-3" | "COMPUTATIONAL-3" | "PACKED-DECIMAL" => s.usage = Usage::Comp3,
-            "COMP" | "COMPUTATIONAL" | "COMP-4" | "COMPUTATIONAL-4" | "COMP-5" | "COMPUTATIONAL-5" | "BINARY" => s.usage = Usage::Comp,
+            "COMP" | "COMPUTATIONAL" | "COMP-4" | "COMPUTATIONAL-4" | "COMP-5" | "COMPUTATIONAL-5" | "BINARY" => {
+                s.usage = Usage::Comp
+            }
             "SIGN" => {
                 i += usize::from(is(i, "IS"));
                 let separate = (i..words.len()).any(|j| is(j, "SEPARATE"));
@@ -369,7 +373,16 @@ pub fn picture(picture: &[u8], usage: Usage, sign: Option<Sign>) -> Result<(u128
             (digits + u128::from(separate), false)
         }
         Usage::Comp3 => (digits / 2 + 1, false),
-        Usage::Comp => (if digits < 5 { 2 } else if digits < 10 { 4 } else { 8 }, true),
+        Usage::Comp => (
+            if digits < 5 {
+                2
+            } else if digits < 10 {
+                4
+            } else {
+                8
+            },
+            true,
+        ),
     })
 }
 
@@ -421,7 +434,8 @@ impl Laying<'_> {
                 if s.picture.len == 0 {
                     return Err(Refused(21, s.at));
                 }
-                let (width, binary) = picture(s.picture.of(self.text), s.usage, s.sign).map_err(|n| Refused(n, s.at))?;
+                let (width, binary) =
+                    picture(s.picture.of(self.text), s.usage, s.sign).map_err(|n| Refused(n, s.at))?;
                 (Vec::new(), width, binary)
             } else {
                 let (inner, width) = self.list(&s.below, depth + 1)?;
@@ -438,7 +452,8 @@ impl Laying<'_> {
             } else {
                 cursor
             };
-            let shape = Shape { statement: k, union: false, redefines, members };
+            let slack = if redefines { 0 } else { (offset - cursor) as usize };
+            let shape = Shape { statement: k, union: false, redefines, slack, members };
             let item = Item { shape, offset, width, times: s.occurs.unwrap_or(1), depending: s.depending.len > 0 };
             let end = offset + item.reserved();
             if [item.times, offset, item.width * item.times, end].iter().any(|&n| n > LARGEST) {
@@ -481,7 +496,7 @@ impl Laying<'_> {
                 let first = Shape { union: false, redefines: false, ..base.shape.clone() };
                 base.shape.members = vec![first];
             }
-            base.shape.union = true;
+            (base.shape.union, base.shape.slack) = (true, 0);
             base.shape.members.push(item.shape);
         }
         Ok(out)
@@ -523,20 +538,23 @@ impl Reading {
         kept.iter().any(|s| s.redefines.len > 0 || s.depending.len > 0)
     }
 
-    /// The pieces and the slack of an accepted record that is not overlaid, in order; nothing where they are too many to lay.
+    /// The pieces and the slack of an accepted record that is not overlaid, in order; nothing where they are too many
+    /// to lay.
     pub fn laid(&self, text: &[u8]) -> Option<Vec<Laid>> {
         let mut out = Vec::new();
         self.lay(text, &self.fields, &mut out)?;
         Some(out)
     }
 
-    /// Lays a list from place 0, and answers the place after it. Without REDEFINES no list is folded, so entries are numbered as statements.
+    /// Lays a list from place 0, and answers the place after it. Without REDEFINES no list is folded, so entries are
+    /// numbered as statements.
     fn lay(&self, text: &[u8], list: &[usize], out: &mut Vec<Laid>) -> Option<u128> {
         let mut place = 0;
         for &k in list {
             let s = &self.statements[k];
             let entry = k - usize::from(self.dropped);
-            let item = s.below.is_empty().then(|| picture(s.picture.of(text), s.usage, s.sign).expect("an accepted picture"));
+            let item =
+                s.below.is_empty().then(|| picture(s.picture.of(text), s.usage, s.sign).expect("an accepted picture"));
             if let Some((width, true)) = item {
                 let slack = if s.sync { (width - place % width) % width } else { 0 };
                 out.push(Laid { slack: true, entry, len: slack });

@@ -1,7 +1,8 @@
 //! The original Rust as an oracle. Each line of standard input is a request, each line of standard output its answer:
 //! decimal numbers with a blank between them. To build it, where FOLDER holds the Rust files:
 //!
-//!     ORACLE_SRC=FOLDER CARGO_TARGET_DIR=target/oracle cargo build --release --offline --manifest-path tools/oracle/Cargo.toml
+//!     ORACLE_SRC=FOLDER CARGO_TARGET_DIR=target/oracle \
+//!         cargo build --release --offline --manifest-path tools/oracle/Cargo.toml
 //!
 //! Requests; HEX is the text, two digits a byte:
 //! - `C HEX`: a copybook, read by `copybook::parse`.
@@ -10,9 +11,9 @@
 //!
 //! Answers:
 //! - `0 N`: refused. N is the number that the rules give to the error, 0 if they know no such error.
-//! - `1 RECORD-LENGTH VARIABLE TOP-COUNT` and the entries, a group before its members. An entry is: length and bytes of its name;
-//!   offset; width; kind and details; occurs mark and count (`0 0` if none); length and bytes of its DEPENDING ON name, and of its
-//!   REDEFINES name (0 if none).
+//! - `1 RECORD-LENGTH VARIABLE TOP-COUNT` and the entries, a group before its members. An entry is: length and bytes of
+//!   its name; offset; width; kind and details; occurs mark and count (`0 0` if none); length and bytes of its
+//!   DEPENDING ON name, and of its REDEFINES name (0 if none).
 //! - `1 WIDTH` and kind and details, for a picture.
 //! - `2`: the Rust panicked. It is built with overflow checks.
 //! - `3`: the Rust was not asked, see `asked`.
@@ -24,10 +25,8 @@
 use std::io::{self, BufRead, Write};
 use std::panic;
 
-include!(concat!(env!("OUT_DIR"), "/modules.rs"));
-
-use copybook::Usage;
-use layout::{Field, FieldKind, NumRepr, SignKind};
+use fixedformat_core::copybook::{self, Usage};
+use fixedformat_core::{numbers, Error, Field, FieldKind, SignKind};
 
 type Numbers = Vec<u64>;
 
@@ -66,16 +65,12 @@ fn small(word: &str) -> bool {
     true
 }
 
-/// The Rust writes every symbol of a picture out, so a repeat count can ask for any amount of memory: a text with a word that,
-/// as a picture, would expand to over MOST_SYMBOLS symbols is not handed to it, and gets the answer `3`. So does a text that is
-/// no UTF-8, since the Rust takes a `&str`.
+/// The Rust writes every symbol of a picture out, so a repeat count can ask for any amount of memory: a text with a
+/// word that, as a picture, would expand to over MOST_SYMBOLS symbols is not handed to it, and gets the answer `3`. So
+/// does a text that is no UTF-8, since the Rust takes a `&str`.
 fn asked(bytes: &[u8], one_word: bool) -> Option<&str> {
     let text = std::str::from_utf8(bytes).ok()?;
-    let fits = if one_word {
-        small(text.trim())
-    } else {
-        text.split_whitespace().all(small)
-    };
+    let fits = if one_word { small(text.trim()) } else { text.split_whitespace().all(small) };
     fits.then_some(text)
 }
 
@@ -84,52 +79,13 @@ fn put_bytes(out: &mut Numbers, text: &str) {
     out.extend(text.bytes().map(u64::from));
 }
 
-fn sign_number(sign: SignKind) -> u64 {
-    match sign {
-        SignKind::Unsigned => 0,
-        SignKind::Embedded => 1,
-        SignKind::LeadingSeparate => 2,
-        SignKind::TrailingSeparate => 3,
-    }
-}
-
-fn storage_number(repr: NumRepr) -> u64 {
-    match repr {
-        NumRepr::Display => 0,
-        NumRepr::Comp3 => 1,
-        NumRepr::Zoned => 2,
-    }
-}
-
 fn put_kind(out: &mut Numbers, kind: &FieldKind) {
+    // the copybook reader makes no kind without numbers
+    out.extend(numbers::kind(kind).unwrap_or(vec![0]).into_iter().map(u64::from));
     match kind {
-        FieldKind::Text { .. } => out.push(1),
-        FieldKind::Int { signed, sign } => out.extend([2, *signed as u64, sign_number(*sign)]),
-        FieldKind::Binary { signed, .. } => out.extend([3, *signed as u64]),
-        FieldKind::Decimal {
-            precision,
-            scale,
-            repr,
-            sign,
-        } => out.extend([
-            4,
-            *precision as u64,
-            *scale as u64,
-            storage_number(*repr),
-            sign_number(*sign),
-        ]),
-        FieldKind::Edited {
-            precision,
-            scale,
-            signed,
-            mask,
-        } => {
-            out.extend([5, *precision as u64, *scale as u64, *signed as u64]);
-            put_bytes(out, mask);
-        }
-        FieldKind::Group(members) => out.extend([6, members.len() as u64]),
-        // the copybook reader makes no other kind
-        _ => out.push(0),
+        FieldKind::Edited { mask, .. } => put_bytes(out, mask),
+        FieldKind::Group(members) => out.push(members.len() as u64),
+        _ => {}
     }
 }
 
@@ -157,12 +113,7 @@ fn copybook_answer(bytes: &[u8]) -> Numbers {
     match copybook::parse(text) {
         Err(e) => refused(&e),
         Ok(layout) => {
-            let mut out = vec![
-                1,
-                layout.record_len as u64,
-                layout.variable as u64,
-                layout.fields.len() as u64,
-            ];
+            let mut out = vec![1, layout.record_len as u64, layout.variable as u64, layout.fields.len() as u64];
             for field in &layout.fields {
                 put_field(&mut out, field);
             }
@@ -189,30 +140,15 @@ fn bytes_of(hex: &str) -> Option<Vec<u8>> {
     if hex.len() % 2 != 0 || !hex.is_ascii() {
         return None;
     }
-    (0..hex.len())
-        .step_by(2)
-        .map(|i| u8::from_str_radix(&hex[i..i + 2], 16).ok())
-        .collect()
+    (0..hex.len()).step_by(2).map(|i| u8::from_str_radix(&hex[i..i + 2], 16).ok()).collect()
 }
 
 fn usage_of(word: &str) -> Option<Usage> {
-    match word {
-        "0" => Some(Usage::Display),
-        "1" => Some(Usage::Comp3),
-        "2" => Some(Usage::Comp),
-        _ => None,
-    }
+    numbers::USAGES.get(word.parse::<usize>().ok()?).copied()
 }
 
 fn sign_of(word: &str) -> Option<Option<SignKind>> {
-    match word {
-        "0" => Some(None),
-        "1" => Some(Some(SignKind::Unsigned)),
-        "2" => Some(Some(SignKind::Embedded)),
-        "3" => Some(Some(SignKind::LeadingSeparate)),
-        "4" => Some(Some(SignKind::TrailingSeparate)),
-        _ => None,
-    }
+    numbers::SIGNS.get(word.parse::<usize>().ok()?).copied()
 }
 
 /// The answer to a request, or nothing where the line is no request. An empty text may leave its HEX out.

@@ -12,8 +12,8 @@ no-usage-requires c κs = search needs
 returns : tie.Need-returns
 returns c = rw (← c .before .no-usage .ensures, c .if1 .taken) (refl, (refl, refl))
 
-usage-of-requires : tie.Need-usage-of-requires
-usage-of-requires c κs = search needs
+usage-at-requires : tie.Need-usage-at-requires
+usage-at-requires c κs = search needs
 
 mask-requires : tie.Need-mask-requires
 mask-requires c κs = search needs
@@ -30,7 +30,7 @@ same-length-2 c = search needs
 returns-2 : tie.Need-returns-2
 returns-2 c =
     let f = handed _ _ _ _ _ _ _ (c .before .before .before .before .before .before .mask .ensures) (c .before .before .hand-on .ensures) in
-    rw (← c .before .before .before .before .before .before .before .before .before .before .no-usage .ensures, c .before .before .before .before .before .before .before .before .before .if1 .left, ← c .before .before .before .before .before .before .before .before .usage-of .ensures) (f .0, (f .1 .0, f .1 .1 .0))
+    rw (← c .before .before .before .before .before .before .before .before .before .before .no-usage .ensures, c .before .before .before .before .before .before .before .before .before .if1 .left, ← c .before .before .before .before .before .before .before .before .usage-at .ensures) (f .0, (f .1 .0, f .1 .1 .0))
 
 pub copybook-mask-spec : {M : Type 1} → statement M
 copybook-mask-spec =
@@ -38,7 +38,7 @@ copybook-mask-spec =
     (tie.spec
     no-usage-requires
     returns
-    usage-of-requires
+    usage-at-requires
     mask-requires
     hand-on-requires
     same-length

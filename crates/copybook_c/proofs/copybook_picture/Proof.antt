@@ -15,11 +15,11 @@ returns c = rw (← c .before .no-usage .ensures, c .if1 .taken) (refl, refl)
 returns-2 : tie.Need-returns-2
 returns-2 c = rw (← c .before .before .no-usage .ensures, c .before .if1 .left, lt-ltb 4 _ (c .if2 .taken)) (refl, refl)
 
-usage-of-requires : tie.Need-usage-of-requires
-usage-of-requires c κs = search needs
+usage-at-requires : tie.Need-usage-at-requires
+usage-at-requires c κs = search needs
 
-sign-of-requires : tie.Need-sign-of-requires
-sign-of-requires c κs = search needs
+sign-clause-at-requires : tie.Need-sign-clause-at-requires
+sign-clause-at-requires c κs = search needs
 
 parse-pic-requires : tie.Need-parse-pic-requires
 parse-pic-requires c κs = search needs
@@ -32,7 +32,7 @@ same-length c = search needs
 
 returns-3 : tie.Need-returns-3
 returns-3 c =
-    rw (← c .before .before .before .before .before .before .before .before .before .no-usage .ensures, c .before .before .before .before .before .before .before .before .if1 .left, le-ltb 4 _ (c .before .before .before .before .before .before .before .if2 .left), ← c .before .before .before .before .before .before .usage-of .ensures, ← c .before .before .before .before .before .sign-of .ensures, ← c .before .before .before .before .parse-pic .ensures)
+    rw (← c .before .before .before .before .before .before .before .before .before .no-usage .ensures, c .before .before .before .before .before .before .before .before .if1 .left, le-ltb 4 _ (c .before .before .before .before .before .before .before .if2 .left), ← c .before .before .before .before .before .before .usage-at .ensures, ← c .before .before .before .before .before .sign-clause-at .ensures, ← c .before .before .before .before .parse-pic .ensures)
     (c .before .before .hand-on-picture .ensures)
 
 pub copybook-picture-spec : {M : Type 1} → statement M
@@ -42,8 +42,8 @@ copybook-picture-spec =
     no-usage-requires
     returns
     returns-2
-    usage-of-requires
-    sign-of-requires
+    usage-at-requires
+    sign-clause-at-requires
     parse-pic-requires
     hand-on-picture-requires
     same-length

@@ -14,16 +14,18 @@ use Rattle.definition.specs.declared.PicAnswer.{PicAnswer}
 use Rattle.definition.specs.declared.Pictured.{Pictured}
 use Rattle.definition.specs.declared.Refusal.{Refusal}
 use Rattle.definition.specs.declared.Statement.{Statement}
+use Rattle.definition.specs.Limits.{largest}
 use Rattle.definition.specs.Tree.{leaf}
 use Rattle.definition.specs.Picture.{pictured}
 use Rattle.definition.specs.Layout.{content}
 use Rattle.definition.specs.Calls.{pictureOf, checkOf}
+use Rattle.rows.specs.Columns.{AT}
 use Rattle.rows.specs.Table.{cell, statementAt}
 use Rattle.places.specs.Places.{entriesIn, Linked, rowsForest}
-use Rattle.places.specs.Ends.{ChildrenEnd}
+use Rattle.places.specs.Children.{ChildrenEnd}
 use Rattle.layout.specs.declared.ItemAnswer.{ItemAnswer}
 use Rattle.layout.specs.declared.LaidList.{LaidList}
-use Rattle.layout.specs.Bare.{foldCheck}
+use Rattle.definition.specs.Fold.{foldCheck}
 use Rattle.layout.specs.Outcomes.{Outcome, stopped, ready, layRest, layTable, ItemOutcome, halted, layItem, placeRow}
 use Rattle.layout.specs.Steps.{itemOf, listOf, Room}
 use Rattle.layout.proofs.LayLaws.{list-stop, list-step, list-none, item-within, leaf-stop, leaf-place, leaf-narrow, LaidRows, laid-rows, too-deep, inner-stop, fold-stop, group-place}
@@ -38,9 +40,9 @@ use Rattle.layout.proofs.+lay_item+lay_list.Lts-lay_list as lay-list-lt
 use Rattle.layout.proofs.elementary.Reads as elementary-reads
 use Rattle.places.proofs.end_of.Reads as end-of-reads
 use Rattle.layout.proofs.fold_check.Reads as fold-check-reads
-use Rattle.places.proofs.most.Reads as most-reads
+use Rattle.limits.proofs.most.Reads as most-reads
 use Rattle.layout.proofs.place.Reads as place-reads
-use Rattle.places.proofs.wide.Reads as wide-reads
+use Rattle.rows.proofs.wide.Reads as wide-reads
 use Rattle.rows.proofs.statement_at.Reads as statement-at-reads
 use Rattle.layout.proofs.+lay_item+lay_list.{statement}
 use Rattle.layout.proofs.+lay_item+lay_list.Tie.{close}
@@ -52,7 +54,7 @@ record Laying (t w₀ w : List ℕ) (from to depth i last cursor reach : ℕ) : 
   same-length : length w ≡ length w₀
   room : Room w to
   back : last ≤ i
-  moves : cursor ≤ 2147483647
+  moves : cursor ≤ largest
   rest : layTable t w₀ from to depth ≡ layRest t w i to depth last cursor reach
 
 starting : (t w : List ℕ) (from to depth : ℕ) → Room w to → Laying t w w from to depth from 0 0 0
@@ -93,9 +95,9 @@ module _ {t w₀ w : List ℕ} {from to depth i last cursor reach : ℕ} (inv : 
 -- ---------------------------------------------------------------- the item
 
 module _ (t w : List ℕ) (i j left last cursor : ℕ) where
-  deep : i + 1 < j → left ≡ 0 → {n : ℕ} → n ≡ cell w (i + 1) 2 → halted (record { number = 20; position = n; needed = 0 }) ≡ layItem t w i j (64 - left) last cursor
+  deep : i + 1 < j → left ≡ 0 → {n : ℕ} → n ≡ cell w (i + 1) AT → halted (record { number = 20; position = n; needed = 0 }) ≡ layItem t w i j (64 - left) last cursor
   deep h z e =
-      ap (λ (x : ℕ). halted (record { number = 20; position = x; needed = 0 })) (e ∙ ap (λ (x : ℕ). cell w x 2) (add-one i))
+      ap (λ (x : ℕ). halted (record { number = 20; position = x; needed = 0 })) (e ∙ ap (λ (x : ℕ). cell w x AT) (add-one i))
       ∙ too-deep t w i j (64 - left) last cursor (omega arith) (omega arith)
 
   module _ (h : i + 1 < j) (z : left ≡ 0 → ⊥) (f : left ≤ 64) where
@@ -118,8 +120,8 @@ module _ (t w : List ℕ) (i j left last cursor : ℕ) where
     inner-halts w₁ p q = inner-stop t w i j (64 - left) last cursor (omega arith) (omega arith) (called p ∙ ap (λ (x : LaidList). listOf x w₁) q)
 
     module _ {width : ℕ} {w₁ : List ℕ} (n : LaidRows t w (suc i) j (suc (64 - left)) width w₁) where
-      linked : Linked w₁ (i + 1) 0 (rowsForest w₁ (i + 1) j)
-      linked = subst (λ (x : ℕ). Linked w₁ x 0 (rowsForest w₁ x j)) (sym (add-one i)) (n .held .linked)
+      linked : Linked t w₁ (i + 1) 0 (rowsForest w₁ (i + 1) j)
+      linked = subst (λ (x : ℕ). Linked t w₁ x 0 (rowsForest w₁ x j)) (sym (add-one i)) (n .held .linked)
 
       fold-halts : {a : Check} {r : Refusal} → checkOf a ≡ foldCheck t [] (entriesIn w₁ (i + 1) (rowsForest w₁ (i + 1) j)) → a ≡ Check.Refused r → halted r ≡ layItem t w i j (64 - left) last cursor
       fold-halts p q =
@@ -154,7 +156,7 @@ module _ (t w : List ℕ) (i j left last cursor : ℕ) where
     leafed p q e = e ∙ leaf-place t w i j (64 - left) last cursor (omega arith) (sym (ap pictureOf q) ∙ p ∙ ap (λ (x : Statement). content t x leaf 0) ps)
 
 -- an elementary item is narrow
-narrow : (t : List ℕ) (s : Statement) {a : PicAnswer} {c : Pictured} → pictureOf a ≡ content t s leaf 0 → a ≡ PicAnswer.Accepted c → c .width ≤ 2147483647
+narrow : (t : List ℕ) (s : Statement) {a : PicAnswer} {c : Pictured} → pictureOf a ≡ content t s leaf 0 → a ≡ PicAnswer.Accepted c → c .width ≤ largest
 narrow t s p q = leaf-narrow t s (sym (ap pictureOf q) ∙ p)
 
 abbrev μ-lay-item : Measures 2 lay-item-kinds.ps ℕ

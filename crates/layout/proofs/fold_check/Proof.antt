@@ -1,66 +1,46 @@
 -- `layout::fold_check` meets its contract: the check of the whole list is the check of the rest, after the bases so far.
 -- Assumes nothing.
 use borrow.Author.Needs.{needs}
-use Prim.Native.Nat.{ℕ, _+_, _-_, _*_, _≤_, _<_}
-use mathlib.Core.Path.{_≡_, refl, sym, ap, _∙_}
+use Prim.Native.Nat.{ℕ, _-_, _<_}
+use mathlib.Core.Path.{_≡_, sym, ap, _∙_}
 use mathlib.Core.List.{List, []}
-use native.Mathlib.Numerals.{add-one}
-use native.Mathlib.Omega.{arith}
-use lib.ListN.{length}
 use Rattle.definition.specs.declared.Check.{Check}
 use Rattle.definition.specs.declared.Refusal.{Refusal}
-use Rattle.definition.specs.Basic.{refuse, give}
+use Rattle.definition.specs.Basic.{refuse}
 use Rattle.definition.specs.Calls.{checkOf}
-use Rattle.places.specs.Places.{basesAt, entryIn, entriesIn, rowsForest}
-use Rattle.places.specs.Ends.{ChildrenEnd}
-use Rattle.places.proofs.RowLaws.{forest-empty, children-end}
-use Rattle.layout.specs.Bare.{foldCheck}
-use Rattle.layout.specs.Steps.{checkEntry}
-use Rattle.layout.proofs.FoldLaws.{Checking, checking-starts, checking-on, checking-refused}
+use Rattle.definition.specs.Fold.{foldCheck}
+use Rattle.places.specs.Places.{entriesIn, rowsForest}
+use Rattle.places.specs.Children.{ChildrenEnd}
+use Rattle.places.proofs.RowLaws.{children-end}
+use Rattle.layout.specs.Steps.{checkRow}
+use Rattle.layout.proofs.FoldLaws.{Checking, checking-starts, checking-row, checking-numbered, checking-on, checking-refused, checking-ends}
 use Rattle.layout.proofs.fold_check.Statement.{statement}
 use Rattle.layout.proofs.fold_check.Tie as tie
 
--- what the loop keeps
-record Left (t w : List ℕ) (from to i last : ℕ) : Type 0 where
-  fits : 20 * to ≤ length w
-  back : last ≤ i
-  rest : Checking t w from to i last
+module _ {t w : List ℕ} {from to i : ℕ} (inv : Checking t w from to i) {a : Check} (p : checkOf a ≡ checkRow w i) where
+  next : {j : ℕ} → a ≡ Check.Passed → ChildrenEnd w i to j → Checking t w from to j
+  next e h = checking-on inv h (sym p ∙ ap checkOf e)
 
-begin : {t w : List ℕ} {from to : ℕ} → 20 * to ≤ length w → Checking t w from to from 0 → Left t w from to from 0
-begin h c = record { fits = h; back = omega arith; rest = c }
-
-module _ {t w : List ℕ} {from to i last : ℕ} (inv : Left t w from to i last) where
-  next : {a : Check} {j : ℕ} → checkOf a ≡ checkEntry t (basesAt w last) (entryIn w i) → a ≡ Check.Passed → ChildrenEnd w i to j → Left t w from to j (i + 1)
-  next {j = j} p e h =
-      record {
-        fits = inv .fits;
-        back = omega (arith, h .low);
-        rest = rw add-one (checking-on (inv .rest) h (sym p ∙ ap checkOf e));
-      }
-
-  refused-here :
-      {a : Check} {r : Refusal} →
-      i < to →
-      checkOf a ≡ checkEntry t (basesAt w last) (entryIn w i) →
-      a ≡ Check.Refused r →
-      refuse r ≡ foldCheck t [] (entriesIn w from (rowsForest w from to))
-  refused-here h p e = sym (checking-refused (inv .rest) (children-end w i to h) (sym p ∙ ap checkOf e))
-
-  passed : to ≤ i → give tt ≡ foldCheck t [] (entriesIn w from (rowsForest w from to))
-  unfolding foldCheck entriesIn
-  passed h = sym (inv .rest .same ∙ ap (λ (f : _). foldCheck t (basesAt w last) (entriesIn w i f)) (forest-empty w i to h))
+  refused-here : {r : Refusal} → i < to → a ≡ Check.Refused r → refuse r ≡ foldCheck t [] (entriesIn w from (rowsForest w from to))
+  refused-here h e = sym (checking-refused inv (children-end w i to h) (sym p ∙ ap checkOf e))
 
 abbrev Inv-loop : tie.InvT-loop
-Inv-loop text work from to i₀ last₀ i last = Left text work from to i last
+Inv-loop text work from to i₀ i = Checking text work from to i
 
 abbrev μ-loop : tie.MeasureT-loop
-μ-loop text work from to i₀ last₀ i last = to - i
+μ-loop text work from to i₀ i = to - i
 
 loop-holds : tie.Need-loop-holds Inv-loop μ-loop
 loop-holds c =
     let s = c .before .before in
     let a = s .args in
-    begin (s .pre .0) (checking-starts (a .text .now) (a .work .now) (a .from) (a .to) (s .pre .1))
+    checking-starts (a .text .now) (a .work .now) (a .from) (a .to) (s .pre .0) (s .pre .1)
+
+check-row-requires : tie.Need-check-row-requires Inv-loop μ-loop
+check-row-requires c κs = checking-row (c .before .loop .inv) (c .loop-test .taken)
+
+next-of-requires : tie.Need-next-of-requires Inv-loop μ-loop
+next-of-requires c κs = search checking-numbered
 
 loop-again : tie.Need-loop-again Inv-loop μ-loop
 loop-again c = search next
@@ -69,7 +49,7 @@ returns : tie.Need-returns Inv-loop μ-loop
 returns c = search refused-here
 
 returns-2 : tie.Need-returns-2 Inv-loop μ-loop
-returns-2 c = search passed
+returns-2 c = search checking-ends
 
 pub fold-check-spec : {M : Type 1} → statement M
 fold-check-spec =
@@ -78,10 +58,9 @@ fold-check-spec =
     Inv-loop
     μ-loop
     loop-holds
-    (λ c κs. search needs)
+    check-row-requires
     (λ c. search needs)
-    (λ c. search needs)
-    (λ c κs. search needs)
+    next-of-requires
     (λ c. search needs)
     loop-again
     (λ c. search needs)

@@ -1,7 +1,8 @@
 -- `layout::place` meets its contract.
 -- Assumes nothing.
 use borrow.Author.Needs.{needs}
-use Prim.Native.Nat.{ℕ, _≤_, _<_}
+use Prim.Native.Nat.{ℕ, _+_, _-_, _≤_, _<_}
+use mathlib.Core.Bool.{Bool, true, false, _&&_}
 use mathlib.Core.Path.{_≡_, refl, sym, ap, _∙_}
 use mathlib.Core.List.{List}
 use native.Mathlib.Omega.{arith}
@@ -9,71 +10,156 @@ use Rattle.definition.specs.declared.Refusal.{Refusal}
 use Rattle.definition.specs.declared.Statement.{Statement}
 use Rattle.definition.specs.declared.Entry.{Entry}
 use Rattle.definition.specs.declared.Pictured.{Pictured}
-use Rattle.definition.specs.Basic.{if_then_else_, given, Answer, give}
-use Rattle.definition.specs.Layout.{start, entryOf, tooLarge}
+use Rattle.definition.specs.Limits.{largest}
+use Rattle.definition.specs.Basic.{if_then_else_, given, fewest, Answer, give, orRefuse}
+use Rattle.definition.specs.Picture.{isBinary}
+use Rattle.definition.specs.Fold.{find}
+use Rattle.definition.specs.Layout.{start, slackFrom, entryOf, tooLarge}
 use Rattle.rows.specs.Table.{statementAt}
-use Rattle.places.specs.declared.Ending.{Ending}
-use Rattle.places.specs.Places.{putPlace, seenAt}
-use Rattle.places.specs.Ends.{endOf, endingOf}
-use Rattle.places.proofs.EndLaws.{ends-at, ends-not}
+use Rattle.limits.specs.declared.Ending.{Ending}
+use Rattle.places.specs.Places.{putPlace}
+use Rattle.redefines.specs.Targets.{seenAt, rowFrom, offsetOf, targetFrom, baseFrom, baseAfter}
+use Rattle.redefines.proofs.SearchLaws.{row-found, base-on, back-none}
+use Rattle.limits.specs.Ends.{endOf, endingOf}
+use Rattle.limits.proofs.EndLaws.{ends-at, ends-not}
 use Rattle.layout.specs.declared.Start.{Start}
 use Rattle.layout.specs.Bare.{placed}
 use Rattle.layout.specs.Outcomes.{halted, placing, afterOwn, placeRow}
-use Rattle.layout.specs.Steps.{startOf}
+use Rattle.layout.specs.Steps.{startAt, startOf}
 use Rattle.layout.proofs.ItemLaws.{placed-refused, placed-large, placed-fits}
 use Rattle.layout.proofs.place.Statement.{statement}
 use Rattle.layout.proofs.place.Tie as tie
 
-module _ (s : Statement) {c : Pictured} {offset : ℕ} {d : Entry} (pd : d ≡ entryOf s c offset) where
-  narrow : c .width ≤ 2147483647 → d .width ≤ 2147483647
+slack-low : (cursor : ℕ) (s : Statement) (offset : ℕ) → slackFrom cursor s offset ≤ offset
+slack-low cursor s offset = by-test (given (s .clauses .redefines))
+  where
+    by-test : (b : Bool) → (if b then 0 else offset - cursor) ≤ offset
+    by-test true = omega arith
+    by-test false = omega arith
+
+module _ (s : Statement) {c : Pictured} {offset slack : ℕ} {d : Entry} (pd : d ≡ entryOf s c offset slack) where
+  close : (cursor : ℕ) {n : ℕ} {x : Ending} → slack ≡ slackFrom cursor s offset → endingOf x ≡ endOf d → x ≡ Ending.At n → d .slack < 4294967296
+  close cursor p px e =
+      omega (
+        arith,
+        p,
+        slack-low cursor s offset,
+        ap (λ (y : Entry). y .slack) pd,
+        ap (λ (y : Entry). y .offset) pd,
+        ends-at d (sym (ap endingOf e) ∙ px) .starts,
+      )
+
+  narrow : c .width ≤ largest → d .width ≤ largest
   narrow h = rw pd h
 
-  slim : c .width ≤ 2147483647 → d .width < 4294967296
+  slim : c .width ≤ largest → d .width < 4294967296
   slim h = omega (arith, narrow h)
 
 near : (d : Entry) {x : Ending} {n : ℕ} → endingOf x ≡ endOf d → x ≡ Ending.At n → d .offset < 4294967296
 near d px e = omega (arith, ends-at d (sym (ap endingOf e) ∙ px) .starts)
 
 module _ (t w : List ℕ) (i below last cursor : ℕ) (c : Pictured) {s : Statement} (ps : s ≡ statementAt w i) where
-  in-row : {a : Answer Entry} → placed t s c (seenAt w last) cursor ≡ a → afterOwn w i last below cursor a ≡ placeRow t w i below last cursor c
-  in-row h = sym (ap (λ (x : Statement). afterOwn w i last below cursor (placed t x c (seenAt w last) cursor)) (sym ps) ∙ ap (afterOwn w i last below cursor) h)
+  in-row : {a : Answer Entry} → placed t s c (seenAt w last) cursor ≡ a → afterOwn t w i last below cursor a ≡ placeRow t w i below last cursor c
+  in-row h = sym (ap (λ (x : Statement). afterOwn t w i last below cursor (placed t x c (seenAt w last) cursor)) (sym ps) ∙ ap (afterOwn t w i last below cursor) h)
 
-  no-start : {o : Start} {r : Refusal} → startOf o ≡ start t s c (seenAt w last) cursor → o ≡ Start.Refused r → halted r ≡ placeRow t w i below last cursor c
-  no-start po e = in-row (placed-refused t s c (seenAt w last) cursor (sym (ap startOf e) ∙ po))
+  module _ {k : ℕ} (pk : k ≡ targetFrom t (s .clauses .redefines) w last) where
+    -- the offset of the sibling that the REDEFINES names
+    starts : startAt s c (offsetOf w k) cursor ≡ start t s c (seenAt w last) cursor
+    starts = ap (λ (n : ℕ). startAt s c (offsetOf w n) cursor) pk ∙ go (given (s .clauses .redefines))
+      where
+        other : Answer ℕ
+        other = if s .clauses .sync && isBinary (c .kind) then give (cursor + fewest (c .width) cursor) else give cursor
 
-  module _ {o : Start} {offset : ℕ} (po : startOf o ≡ start t s c (seenAt w last) cursor) (e : o ≡ Start.At offset) where
-    begins : give offset ≡ start t s c (seenAt w last) cursor
-    begins = sym (ap startOf e) ∙ po
+        go :
+            (g : Bool) →
+            (if g then orRefuse 28 (s .at) (offsetOf w (if g then rowFrom t (s .clauses .redefines) false w last last else 0)) else other)
+            ≡ (if g then orRefuse 28 (s .at) (find t (s .clauses .redefines) (seenAt w last)) else other)
+        go true = ap (orRefuse 28 (s .at)) (sym (row-found t w (s .clauses .redefines) false last last))
+        go false = refl
 
-    large :
-        {d : Entry} {x : Ending} →
-        d ≡ entryOf s c offset →
-        endingOf x ≡ endOf d →
-        x ≡ Ending.TooLarge →
-        halted (record { number = 29; position = s .at; needed = 0 }) ≡ placeRow t w i below last cursor c
-    large {d} pd px q = in-row (placed-large t s c (seenAt w last) cursor begins (sym (ap tooLarge pd) ∙ ends-not d (sym (ap endingOf q) ∙ px)))
+    -- the base is found from there back
+    based : {b : ℕ} → b ≡ baseFrom t (s .clauses .redefines) w k k → b ≡ baseAfter t w i last
+    based p =
+        p
+        ∙ ap (λ (n : ℕ). baseFrom t (s .clauses .redefines) w n n) pk
+        ∙ go (given (s .clauses .redefines))
+        ∙ ap (λ (x : Statement). if given (x .clauses .redefines) then baseFrom t (x .clauses .redefines) w last last else 0) ps
+      where
+        go :
+            (g : Bool) →
+            baseFrom t (s .clauses .redefines) w (if g then rowFrom t (s .clauses .redefines) false w last last else 0) (if g then rowFrom t (s .clauses .redefines) false w last last else 0)
+            ≡ (if g then baseFrom t (s .clauses .redefines) w last last else 0)
+        go true = sym (base-on t w (s .clauses .redefines) last last)
+        go false = back-none t w (s .clauses .redefines)
 
-    fits :
-        {d : Entry} {x : Ending} {n m : ℕ} {w′ : List ℕ} →
-        d ≡ entryOf s c offset →
-        endingOf x ≡ endOf d →
-        x ≡ Ending.At n →
-        w′ ≡ putPlace w i last below d →
-        m ≡ (if given (d .redefines) then cursor else n) →
-        placing m n w′ ≡ placeRow t w i below last cursor c
-    fits {d} pd px q pw pm =
-        let z = ends-at d (sym (ap endingOf q) ∙ px) in
-        let g = in-row (placed-fits t s c (seenAt w last) cursor begins (sym (ap tooLarge pd) ∙ z .fits)) in
-        rw (pm, pw, ← z .is, pd) g
+    module _ {o : Start} (po : startOf o ≡ startAt s c (offsetOf w k) cursor) where
+      no-start : {r : Refusal} → o ≡ Start.Refused r → halted r ≡ placeRow t w i below last cursor c
+      no-start e = in-row (placed-refused t s c (seenAt w last) cursor (sym (ap startOf e) ∙ po ∙ starts))
+
+      module _ {offset : ℕ} (e : o ≡ Start.At offset) where
+        begins : give offset ≡ start t s c (seenAt w last) cursor
+        begins = sym (ap startOf e) ∙ po ∙ starts
+
+        module _ {slack : ℕ} (pl : slack ≡ slackFrom cursor s offset) {d : Entry} (pd : d ≡ entryOf s c offset slack) where
+          made : d ≡ entryOf s c offset (slackFrom cursor s offset)
+          made = pd ∙ ap (entryOf s c offset) pl
+
+          large :
+              {x : Ending} →
+              endingOf x ≡ endOf d →
+              x ≡ Ending.TooLarge →
+              halted (record { number = 29; position = s .at; needed = 0 }) ≡ placeRow t w i below last cursor c
+          large px q = in-row (placed-large t s c (seenAt w last) cursor begins (sym (ap tooLarge made) ∙ ends-not d (sym (ap endingOf q) ∙ px)))
+
+          fits :
+              {x : Ending} {n m b : ℕ} {w′ : List ℕ} →
+              endingOf x ≡ endOf d →
+              x ≡ Ending.At n →
+              b ≡ baseFrom t (s .clauses .redefines) w k k →
+              w′ ≡ putPlace w i last below b d →
+              m ≡ (if given (s .clauses .redefines) then cursor else n) →
+              placing m n w′ ≡ placeRow t w i below last cursor c
+          fits px q pb pw pm =
+              let z = ends-at d (sym (ap endingOf q) ∙ px) in
+              let g = in-row (placed-fits t s c (seenAt w last) cursor begins (sym (ap tooLarge made) ∙ z .fits)) in
+              rw (pm, pw, based pb, ← z .is, made) g
 
 entry-end-requires : tie.Need-entry-end-requires
-entry-end-requires c κs = search narrow
+entry-end-requires c κs = narrow (c .before .before .before .before .before .before .before .before .before .before .before .statement-at .result) (c .entry-of .ensures) (c .before .before .before .before .before .before .before .before .before .before .before .before .before .before .before .pre .5)
+
+find-row-requires : tie.Need-find-row-requires
+find-row-requires c κs = let s = c .before .before .before .before .before .before .before .before .before .before .before .before .before .before .before .before .before .before .before .before in omega (arith, c .before .before .before .before .before .before .before .before .before .before .before .before .target-of .ensures .1, s .pre .0, s .pre .1)
 
 put-place-requires : tie.Need-put-place-requires
-put-place-requires c κs = (search needs, search needs, search needs, search near, search slim)
+put-place-requires c κs =
+    let s = c .before .before .before .before .before .before .before .before .before .before .before .before .before .before .before .before .before .before .before .before .before .before in
+    let p = s .pre in
+    let said = c .before .before .before .before .before .before .before .before .before .before .before .before .before .before .before .before .before .before .statement-at .result in
+    let slack = c .before .before .before .before .before .before .before .before in
+    let d = c .before .before .before .before .before .before .before .entry-of in
+    let ends = c .before .before .before .before .before .before .entry-end .ensures in
+    let end = c .before .before .before .before .end .given .1 in (
+      p .0,
+      omega (arith, p .1, p .2),
+      p .3,
+      omega (arith, c .before .find-row .ensures .1, c .before .before .before .before .before .before .before .before .before .before .before .before .before .before .target-of .ensures .1, p .1, p .2),
+      near (d .result) ends end,
+      slim said (d .ensures) (p .5),
+      close said (d .ensures) (s .args .cursor) (slack .slack-from .ensures) ends end,
+    )
 
 returns : tie.Need-returns
-returns c = search fits
+returns c =
+    let a = c .before .before .before .before .before .before .before .before .before .before .before .before .before .before .before .before .before .before .before .before .before .before .before .before .before .before .args in
+    let placed = c .before .before .before in
+    let found = placed .before .before in
+    let end = found .before .before .before in
+    let made = end .before .before .before in
+    let start = made .before .before .before in
+    let target = start .before .before .before .before in
+    fits (a .text .now) (a .work .now) (a .i) (a .below) (a .last) (a .cursor) (a .c) (target .before .before .before .before .statement-at .ensures) (target .target-of .ensures .0)
+    (start .before .before .start-of .ensures) (start .offset .given .1) (made .before .slack-from .ensures) (made .entry-of .ensures) (end .before .before .entry-end .ensures) (end .end .given .1)
+    (found .find-row .ensures .0) (placed .put-place .ensures) (c .advanced .ensures)
 
 returns-2 : tie.Need-returns-2
 returns-2 c = search large
@@ -87,10 +173,13 @@ place-spec =
     (tie.spec
     (λ c κs. search needs)
     (λ c κs. search needs)
+    (λ c κs. search needs)
     (λ c. search needs)
+    (λ c κs. search needs)
     (λ c κs. search needs)
     entry-end-requires
     (λ c. search needs)
+    find-row-requires
     put-place-requires
     (λ c κs. search needs)
     (λ c. search needs)

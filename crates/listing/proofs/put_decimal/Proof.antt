@@ -8,11 +8,11 @@ use Rattle.listing.proofs.put_decimal.Tie as tie
 put-pair-requires : tie.Need-put-pair-requires
 put-pair-requires c κs = search needs
 
-storage-of-requires : tie.Need-storage-of-requires
-storage-of-requires c κs = search needs
+storage-byte-requires : tie.Need-storage-byte-requires
+storage-byte-requires c κs = search needs
 
-sign-of-requires : tie.Need-sign-of-requires
-sign-of-requires c κs = search needs
+sign-byte-requires : tie.Need-sign-byte-requires
+sign-byte-requires c κs = search needs
 
 put-pair-requires-2 : tie.Need-put-pair-requires-2
 put-pair-requires-2 c κs = search needs
@@ -24,15 +24,15 @@ returns : tie.Need-returns
 returns c =
     let second = c .before .before in
     let first = second .before .before .before .before .before .before in
-    rw (← second .before .before .storage-of .ensures, ← second .before .sign-of .ensures) (first .put-pair .ensures and second .put-pair2 .ensures)
+    rw (← second .before .before .storage-byte .ensures, ← second .before .sign-byte .ensures) (first .put-pair .ensures and second .put-pair2 .ensures)
 
 pub put-decimal-spec : {M : Type 1} → statement M
 put-decimal-spec =
     tie.close
     (tie.spec
     put-pair-requires
-    storage-of-requires
-    sign-of-requires
+    storage-byte-requires
+    sign-byte-requires
     put-pair-requires-2
     same-length
     returns)

@@ -8,8 +8,8 @@ use Rattle.listing.proofs.put_edited.Tie as tie
 put-pair-requires : tie.Need-put-pair-requires
 put-pair-requires c κs = search needs
 
-flag-of-requires : tie.Need-flag-of-requires
-flag-of-requires c κs = search needs
+flag-byte-requires : tie.Need-flag-byte-requires
+flag-byte-requires c κs = search needs
 
 put-byte-requires : tie.Need-put-byte-requires
 put-byte-requires c κs = search needs
@@ -25,14 +25,14 @@ returns c =
     let third = c .before .before in
     let second = third .before .before .before .before in
     let first = second .before .before .before .before .before in
-    rw (← second .before .flag-of .ensures) (first .put-pair .ensures and second .put-byte .ensures and third .put-span .ensures)
+    rw (← second .before .flag-byte .ensures) (first .put-pair .ensures and second .put-byte .ensures and third .put-span .ensures)
 
 pub put-edited-spec : {M : Type 1} → statement M
 put-edited-spec =
     tie.close
     (tie.spec
     put-pair-requires
-    flag-of-requires
+    flag-byte-requires
     put-byte-requires
     put-span-requires
     same-length

@@ -4,11 +4,11 @@ use borrow.Author.Needs.{needs}
 use Rattle.listing.proofs.put_int.Statement.{statement}
 use Rattle.listing.proofs.put_int.Tie as tie
 
-flag-of-requires : tie.Need-flag-of-requires
-flag-of-requires c κs = search needs
+flag-byte-requires : tie.Need-flag-byte-requires
+flag-byte-requires c κs = search needs
 
-sign-of-requires : tie.Need-sign-of-requires
-sign-of-requires c κs = search needs
+sign-byte-requires : tie.Need-sign-byte-requires
+sign-byte-requires c κs = search needs
 
 put-pair-requires : tie.Need-put-pair-requires
 put-pair-requires c κs = search needs
@@ -17,8 +17,8 @@ same-length : tie.Need-same-length
 same-length c = search needs
 
 returns : tie.Need-returns
-returns c = rw (← c .before .before .before .before .flag-of .ensures, ← c .before .before .before .sign-of .ensures) (c .before .before .put-pair .ensures)
+returns c = rw (← c .before .before .before .before .flag-byte .ensures, ← c .before .before .before .sign-byte .ensures) (c .before .before .put-pair .ensures)
 
 pub put-int-spec : {M : Type 1} → statement M
 put-int-spec =
-    tie.close (tie.spec flag-of-requires sign-of-requires put-pair-requires same-length returns)
+    tie.close (tie.spec flag-byte-requires sign-byte-requires put-pair-requires same-length returns)

@@ -5,8 +5,8 @@ use Rattle.listing.proofs.PutLaws.{_and_}
 use Rattle.listing.proofs.put_place.Statement.{statement}
 use Rattle.listing.proofs.put_place.Tie as tie
 
-kind-of-requires : tie.Need-kind-of-requires
-kind-of-requires c κs = search needs
+kind-byte-requires : tie.Need-kind-byte-requires
+kind-byte-requires c κs = search needs
 
 put-byte-requires : tie.Need-put-byte-requires
 put-byte-requires c κs = search needs
@@ -29,13 +29,13 @@ returns c =
     let third = fourth .before .before .before .before in
     let second = third .before .before .before .before in
     let first = second .before .before .before .before in
-    rw (← first .before .kind-of .ensures) (first .put-byte .ensures and second .put-span .ensures and third .put4 .ensures and fourth .put42 .ensures)
+    rw (← first .before .kind-byte .ensures) (first .put-byte .ensures and second .put-span .ensures and third .put4 .ensures and fourth .put42 .ensures)
 
 pub put-place-spec : {M : Type 1} → statement M
 put-place-spec =
     tie.close
     (tie.spec
-    kind-of-requires
+    kind-byte-requires
     put-byte-requires
     put-span-requires
     put4-requires

@@ -10,9 +10,6 @@ use Rattle.numbers.proofs.put_seven.Tie as tie
 returns : tie.Need-returns
 returns c = search short
 
-slice-write-answer : tie.Need-slice-write-answer
-slice-write-answer c = search needs
-
 slice-write-answer-2 : tie.Need-slice-write-answer-2
 slice-write-answer-2 c = simp length-set (omega arith)
 
@@ -29,10 +26,7 @@ slice-write-answer-6 : tie.Need-slice-write-answer-6
 slice-write-answer-6 c = simp length-set (omega arith)
 
 slice-write-answer-7 : tie.Need-slice-write-answer-7
-slice-write-answer-7 c = search needs
-
-same-length : tie.Need-same-length
-same-length c = search needs
+slice-write-answer-7 c = simp length-set (omega arith)
 
 returns-2 : tie.Need-returns-2
 returns-2 c = search seven
@@ -42,12 +36,17 @@ put-seven-spec =
     tie.close
     (tie.spec
     returns
-    slice-write-answer
+    (λ c. search needs)
     slice-write-answer-2
+    (λ c. search needs)
     slice-write-answer-3
+    (λ c. search needs)
     slice-write-answer-4
+    (λ c. search needs)
     slice-write-answer-5
+    (λ c. search needs)
     slice-write-answer-6
+    (λ c. search needs)
     slice-write-answer-7
-    same-length
+    (λ c. search needs)
     returns-2)

@@ -8,16 +8,17 @@ use mathlib.Core.List.{List}
 use borrow.Author.Tests.{lt-ltb, le-ltb}
 use Rattle.definition.specs.declared.Span.{Span}
 use Rattle.definition.specs.Basic.{given}
+use Rattle.rows.specs.Columns.{DEPENDING, REDEFINES}
 use Rattle.rows.specs.Table.{spanAt, cell, statementAt}
 use Rattle.owner.specs.Walked.{overlays}
 use Rattle.owner.proofs.is_overlay.Statement.{statement}
 use Rattle.owner.proofs.is_overlay.Tie as tie
 
-module _ (w : List ℕ) (k : ℕ) {r : Span} (p : r ≡ spanAt (cell w k 6)) where
+module _ (w : List ℕ) (k : ℕ) {r : Span} (p : r ≡ spanAt (cell w k REDEFINES)) where
   redefines : 0 < r .len → true ≡ overlays (statementAt w k)
-  redefines h = ap (λ (b : Bool). b || given (spanAt (cell w k 5))) (sym (lt-ltb 0 (r .len) h) ∙ ap given p)
+  redefines h = ap (λ (b : Bool). b || given (spanAt (cell w k DEPENDING))) (sym (lt-ltb 0 (r .len) h) ∙ ap given p)
 
-  module _ (h : r .len ≤ 0) {d : Span} (e : d ≡ spanAt (cell w k 5)) where
+  module _ (h : r .len ≤ 0) {d : Span} (e : d ≡ spanAt (cell w k DEPENDING)) where
     -- the other clause decides
     other : given d ≡ overlays (statementAt w k)
     other = ap₂ (λ (b c : Bool). b || c) (sym (le-ltb 0 (r .len) h) ∙ ap given p) (ap given e)

@@ -9,8 +9,9 @@ use native.Mathlib.Omega.{arith}
 use lib.ListN.{getD}
 use Rattle.definition.specs.Tree.{higher}
 use Rattle.definition.proofs.TreeLaws.{higher-none, higher-hit, higher-miss}
+use Rattle.rows.specs.Columns.{ROW, LEVEL}
 use Rattle.rows.specs.Table.{statementAt, statementsFrom}
-use Rattle.places.specs.Ends.{ChildrenEnd}
+use Rattle.places.specs.Children.{ChildrenEnd}
 use Rattle.places.proofs.RowLaws.{stretch-cons, stretch-none}
 use Rattle.places.proofs.end_of.Statement.{statement}
 use Rattle.places.proofs.end_of.Tie as tie
@@ -22,11 +23,11 @@ record Left (w : List ℕ) (i to level j : ℕ) : Type 0 where
   high : j ≤ to
   is : j + higher level (statementsFrom w j (to - j)) ≡ suc i + higher level (statementsFrom w (suc i) (to - suc i))
 
-start : (w : List ℕ) (i to : ℕ) → i < to → Left w i to (getD w (20 * i + 0) 0 % 256) (i + 1)
+start : (w : List ℕ) (i to : ℕ) → i < to → Left w i to (getD w (ROW * i + LEVEL) 0 % 256) (i + 1)
 start w i to h = record { same-level = refl; low = omega arith; high = omega arith; is = rw add-one }
 
 module _ {w : List ℕ} {i to level j : ℕ} (inv : Left w i to level j) where
-  next : j < to → level < getD w (20 * j + 0) 0 % 256 → Left w i to level (j + 1)
+  next : j < to → level < getD w (ROW * j + LEVEL) 0 % 256 → Left w i to level (j + 1)
   next h l =
       let step : higher level (statementsFrom w j (to - j)) ≡ suc (higher level (statementsFrom w (suc j) (to - suc j))) =
       ap (higher level) (stretch-cons w j to h) ∙ higher-hit level (statementAt w j) (statementsFrom w (suc j) (to - suc j)) l in
@@ -40,7 +41,7 @@ module _ {w : List ℕ} {i to level j : ℕ} (inv : Left w i to level j) where
         is = rw (← inv .same-level) (omega (arith, inv .is));
       }
 
-  found : j < to → getD w (20 * j + 0) 0 % 256 ≤ level → ChildrenEnd w i to j
+  found : j < to → getD w (ROW * j + LEVEL) 0 % 256 ≤ level → ChildrenEnd w i to j
   found h l = ended (ap (higher level) (stretch-cons w j to h) ∙ higher-miss level (statementAt w j) (statementsFrom w (suc j) (to - suc j)) l)
 
   done : to ≤ j → ChildrenEnd w i to j

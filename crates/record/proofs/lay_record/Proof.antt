@@ -3,9 +3,9 @@
 use borrow.Author.Needs.{needs}
 use mathlib.Core.Path.{subst}
 use native.Mathlib.Omega.{arith}
-use Rattle.reading.specs.declared.RowsRead.{RowsRead}
-use Rattle.reading.specs.Reading.{RowsAre}
-use Rattle.reading.proofs.ReadingLaws.{Stored, stored, turned-down}
+use Rattle.tree.specs.declared.RowsRead.{RowsRead}
+use Rattle.tree.specs.Reading.{RowsAre}
+use Rattle.tree.proofs.ReadingLaws.{Stored, stored, turned-down}
 use Rattle.record.proofs.LaidLaws.{fields-laid, reading-refused}
 use Rattle.record.proofs.lay_record.Statement.{statement}
 use Rattle.record.proofs.lay_record.Tie as tie
@@ -14,25 +14,25 @@ use Rattle.record.proofs.lay_record.Tie as tie
 rows-read :
     (x : tie.After-n) →
     let rr = x .before .before .before .before in
-    let a = rr .before .before .before .before .args in
+    let a = rr .before .before .before .before .before .args in
     Stored (a .text .now) (a .work .now) (rr .read-rows .last .1 .0) (x .n .given .0 .0)
 rows-read x =
     let rr = x .before .before .before .before in
-    let s = rr .before .before .before .before in
+    let s = rr .before .before .before .before .before in
     let a = s .args in
     stored (x .n .given .0 .0) (s .pre .1) (subst (λ (y : RowsRead). RowsAre (a .text .now) (a .work .now) y (rr .read-rows .last .1 .0)) (x .n .given .1) (rr .read-rows .ensures))
 
 first-field-requires : tie.Need-first-field-requires
-first-field-requires c κs = let r = rows-read (c .before .before) in let p = c .before .before .before .before .before .before .before .before .before .before .pre in omega (arith, r .few, r .long, p .1)
+first-field-requires c κs = let r = rows-read (c .before .before) in let p = c .before .before .before .before .before .before .before .before .before .before .before .pre in omega (arith, r .few, r .long, p .1)
 
 lay-fields-requires : tie.Need-lay-fields-requires
-lay-fields-requires c κs = let r = rows-read (c .before .before .before .before) in let p = c .before .before .before .before .before .before .before .before .before .before .before .before .pre in (c .before .first-field .ensures .low, record { fits = omega (arith, r .few, r .long, p .1); small = omega (arith, r .few) }, r .few)
+lay-fields-requires c κs = let r = rows-read (c .before .before .before .before .before) in let p = c .before .before .before .before .before .before .before .before .before .before .before .before .before .before .pre in (c .before .before .first-field .ensures .low, record { fits = omega (arith, r .few, r .long, p .1); small = omega (arith, r .few) }, r .few, p .2)
 
 returns : tie.Need-returns
-returns c = fields-laid (c .before .before .before .before .before .before .before .before .before .before .before .before .before .before .before .args .text .now) (rows-read (c .before .before .before .before .before .before .before)) (c .before .before .before .before .first-field .ensures) (c .before .before .lay-fields .last .1 .0) (c .before .before .lay-fields .result) (c .before .before .lay-fields .ensures)
+returns c = fields-laid (c .before .before .before .before .before .before .before .before .before .before .before .before .before .before .before .before .before .before .before .args .text .now) (rows-read (c .before .before .before .before .before .before .before .before .before .before)) (c .before .before .before .before .before .before .before .first-field .ensures) (c .before .before .before .before .lay-fields .last .1 .0) (c .before .before .before .before .lay-fields .last .1 .1 .0) (c .before .before .before .before .lay-fields .result) (c .before .before .before .before .lay-fields .ensures)
 
 returns-2 : tie.Need-returns-2
-returns-2 c = let rr = c .before .before .before .before .before in let a = c .before .before .before .before .before .before .before .before .before .args in reading-refused (a .text .now) (turned-down (c .before .r .given .0 .0) (subst (λ (y : RowsRead). RowsAre (a .text .now) (a .work .now) y (rr .read-rows .last .1 .0)) (c .before .r .given .1) (rr .read-rows .ensures)))
+returns-2 c = let rr = c .before .before .before .before .before in let a = c .before .before .before .before .before .before .before .before .before .before .args in reading-refused (a .text .now) (turned-down (c .before .r .given .0 .0) (subst (λ (y : RowsRead). RowsAre (a .text .now) (a .work .now) y (rr .read-rows .last .1 .0)) (c .before .r .given .1) (rr .read-rows .ensures)))
 
 pub lay-record-spec : {M : Type 1} → statement M
 lay-record-spec =
@@ -42,6 +42,7 @@ lay-record-spec =
     (λ c. search needs)
     first-field-requires
     lay-fields-requires
+    (λ c. search needs)
     (λ c. search needs)
     returns
     (λ c. search needs)

@@ -7,6 +7,7 @@ use mathlib.Core.List.{List}
 use native.Mathlib.Omega.{arith}
 use lib.ListN.{length}
 use Rattle.text.specs.declared.Next.{Next}
+use Rattle.text.specs.declared.Stand.{Stand}
 use Rattle.replay.specs.Places.{Later, Bounded}
 use Rattle.replay.proofs.PlaceLaws.{word-in, stop-in}
 use Rattle.replay.proofs.after_case.Statement.{statement}
@@ -21,14 +22,14 @@ start : {list : List ℕ} {at : ℕ} → at < length list → Left list at at
 start h = record { up = omega arith; within = omega arith; begins = h }
 
 module _ {list : List ℕ} {at place : ℕ} (inv : Left list at place) (r : Next) (b : Bounded list place r) where
-  module _ {s l n : ℕ} (e : r ≡ Next.Word s l n) where
-    less : length list - n < length list - place
+  module _ {s l : ℕ} {n : Stand} (e : r ≡ Next.Word s l n) where
+    less : length list - n .at < length list - place
     less = let w = word-in list place r b e in omega arith
 
-    again : Left list at n
+    again : Left list at (n .at)
     again = let w = word-in list place r b e in record { up = omega arith; within = omega arith; begins = inv .begins }
 
-  stopped : {n : ℕ} → r ≡ Next.Stop n → Later list at n
+  stopped : {n : Stand} → r ≡ Next.Stop n → Later list at (n .at)
   stopped e = let w = stop-in list place r b e in record { up = omega arith; within = w .within }
 
 ended : {list : List ℕ} {at place : ℕ} → Left list at place → Later list at (length list)

@@ -7,17 +7,18 @@ use mathlib.Core.List.{List, [], _∷_}
 use native.Mathlib.Numerals.{towards-suc}
 use lib.Seq.{sets}
 use Rattle.definition.specs.declared.Statement.{Statement}
+use Rattle.rows.specs.Columns.{ROW, PICTURE}
 use Rattle.rows.specs.Table.{spanCode, clauseCells, putRow}
 use Rattle.rows.proofs.put_row.Statement.{statement}
 use Rattle.rows.proofs.put_row.Tie as tie
 
-module _ (w : List ℕ) {w₁ w₂ : List ℕ} (k depth : ℕ) (s : Statement) {n : ℕ} where
+module _ (w : List ℕ) {w₁ w₂ : List ℕ} (k parent : ℕ) (s : Statement) {n : ℕ} where
   -- the first four columns, and those of the clauses
   one-run :
-      w₁ ≡ sets w (20 * k) (s .level ∷ depth ∷ s .at ∷ n ∷ []) →
-      w₂ ≡ sets w₁ (20 * k + 4) (clauseCells (s .clauses)) →
+      w₁ ≡ sets w (ROW * k) (s .level ∷ parent ∷ s .at ∷ n ∷ []) →
+      w₂ ≡ sets w₁ (ROW * k + PICTURE) (clauseCells (s .clauses)) →
       n ≡ spanCode (s .name) →
-      w₂ ≡ putRow w k depth s
+      w₂ ≡ putRow w k parent s
   unfolding putRow
   one-run e₁ e₂ en = rw (e₂, e₁, en) (simp towards-suc)
 

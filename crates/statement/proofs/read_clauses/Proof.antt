@@ -12,7 +12,6 @@ use mir.Val.{Fits as FitsIn}
 use mir.Syntax.{w64}
 use Rattle.definition.specs.declared.Clauses.{Clauses}
 use Rattle.definition.specs.declared.Expect.{Expect}
-use Rattle.definition.specs.declared.Mode.the-variants.{Between}
 use Rattle.definition.specs.declared.Step.{Step}
 use Rattle.definition.specs.declared.Step.the-variants.{Go, Fail}
 use Rattle.definition.specs.declared.Token.{Token}
@@ -21,7 +20,8 @@ use Rattle.definition.specs.Statement.{noClauses, step, finish, clauses}
 use Rattle.definition.proofs.StatementLaws.{clauses-none, clauses-go, clauses-fail}
 use Rattle.definition.specs.Words.{firstWords}
 use Rattle.text.specs.declared.Next.{Next}
-use Rattle.text.specs.Tokens.{tokensFrom, FirstWord, First}
+use Rattle.text.specs.declared.Stand.{Stand}
+use Rattle.text.specs.Tokens.{behind, tokensAt, FirstWord, First}
 use Rattle.text.proofs.TokenLaws.{end-first, word-first, word-less, stop-first}
 use Rattle.statement.specs.declared.ClausesRead.{ClausesRead}
 use Rattle.clauses.specs.Places.{Fits}
@@ -33,18 +33,18 @@ use Rattle.statement.proofs.read_clauses.Statement.{statement}
 use Rattle.statement.proofs.read_clauses.Tie as tie
 
 -- the clauses are those of the words from `place` on, after what was read
-record Left (t : List ℕ) (at from place : ℕ) (e : Expect) (c : Clauses) : Type 0 where
+record Left (t : List ℕ) (at : ℕ) (from place : Stand) (e : Expect) (c : Clauses) : Type 0 where
   reached : Reached t from place
   same : clauses t at Expect.Clause noClauses (wordsFrom t from) ≡ clauses t at e c (wordsFrom t place)
   fits : Fits t c
 
 -- before the first word
-start : {t : List ℕ} {at from : ℕ} {c : Clauses} → from ≤ length t → c ≡ noClauses → Left t at from from Expect.Clause c
+start : {t : List ℕ} {at : ℕ} {from : Stand} {c : Clauses} → from .at ≤ length t → c ≡ noClauses → Left t at from from Expect.Clause c
 start {t} h p = record { reached = reached-start h; same = rw p; fits = rw p (none-fit t) }
 
 -- a statement that ends before n, with this answer
 closes :
-    (t : List ℕ) (at from n : ℕ) (a : Answer Clauses) →
+    (t : List ℕ) (at : ℕ) (from n : Stand) (a : Answer Clauses) →
     clauses t at Expect.Clause noClauses (wordsFrom t from) ≡ a →
     AnswerFits t a →
     Ends t from n →
@@ -54,17 +54,17 @@ closes t at from n (refuse r) p f h = p
 
 -- the clauses, where the tokens from the place on are known
 rest :
-    {t : List ℕ} {at from place : ℕ} {e : Expect} {c : Clauses} {ts : List Token} →
+    {t : List ℕ} {at : ℕ} {from place : Stand} {e : Expect} {c : Clauses} {ts : List Token} →
     Left t at from place e c →
-    tokensFrom t Between place ≡ ts →
+    tokensAt t place ≡ ts →
     clauses t at Expect.Clause noClauses (wordsFrom t from) ≡ clauses t at e c (firstWords ts)
 rest {t} {at} {from} {place} {e} {c} inv p = inv .same ∙ ap (λ (ts : List Token). clauses t at e c (firstWords ts)) p
 
-module _ {t : List ℕ} {at from place : ℕ} {e : Expect} {c : Clauses} (inv : Left t at from place e c) {r : Next} (f : First (tokensFrom t Between place) t place r) where
-  module _ {s l n : ℕ} (q : r ≡ Next.Word s l n) where
+module _ {t : List ℕ} {at : ℕ} {from place : Stand} {e : Expect} {c : Clauses} (inv : Left t at from place e c) {r : Next} (f : First (tokensAt t place) t (place .at) r) where
+  module _ {s l : ℕ} {n : Stand} (q : r ≡ Next.Word s l n) where
     -- a word lies in the text, and its end is a place
-    first : FirstWord (tokensFrom t Between place) t place s l n
-    first = word-first _ t place f q
+    first : FirstWord (tokensAt t place) t (place .at) s l n
+    first = word-first _ t (place .at) f q
 
     inside : s + l ≤ length t
     inside = first .fits
@@ -91,49 +91,28 @@ module _ {t : List ℕ} {at from place : ℕ} {e : Expect} {c : Clauses} (inv : 
       fail y = rest inv (first .all-are) ∙ clauses-fail t at e c (span s l) (wordsFrom t n) (sym taken ∙ y)
 
   -- the statement ends at its period, or with the text
-  stop-closed : {n : ℕ} {y : ClausesRead} → r ≡ Next.Stop n → y ≡ closing n (finish at e c) → ClausesAre t at from y
+  stop-closed : {n : Stand} {y : ClausesRead} → r ≡ Next.Stop n → y ≡ closing n (finish at e c) → ClausesAre t at from y
   stop-closed {n} q p =
-      rw p (closes t at from n (finish at e c) (rest inv (stop-first _ t place f q .all-are) ∙ clauses-none t at e c) (finish-fits t at e (inv .fits)) (ends-stop (inv .reached) f q))
+      rw p (closes t at from n (finish at e c) (rest inv (stop-first _ t (place .at) f q .all-are) ∙ clauses-none t at e c) (finish-fits t at e (inv .fits)) (ends-stop (inv .reached) f q))
 
-  end-closed : {y : ClausesRead} → r ≡ Next.End → y ≡ closing (length t) (finish at e c) → ClausesAre t at from y
-  end-closed q p =
-      rw p (closes t at from (length t) (finish at e c) (rest inv (end-first _ t place f q) ∙ clauses-none t at e c) (finish-fits t at e (inv .fits)) (ends-text (inv .reached) f q))
+  end-closed : {n : Stand} {y : ClausesRead} → r ≡ Next.End → n ≡ behind (length t) → y ≡ closing n (finish at e c) → ClausesAre t at from y
+  end-closed {n} q b p =
+      rw p (closes t at from n (finish at e c) (rest inv (end-first _ t (place .at) f q) ∙ clauses-none t at e c) (finish-fits t at e (inv .fits)) (ends-text (inv .reached) f q b))
 
 abbrev Inv-loop : tie.InvT-loop
-Inv-loop text at from place₀ e₀ c₀ place e c = Left text at from place e c
+Inv-loop text at place₀ e₀ c₀ place e c = Left text at place₀ place e c
 
 abbrev μ-loop : tie.MeasureT-loop
-μ-loop text at from place₀ e₀ c₀ place e c = length text - place
-
-no-clauses-requires : tie.Need-no-clauses-requires Inv-loop μ-loop
-no-clauses-requires c κs = search needs
+μ-loop text at place₀ e₀ c₀ place e c = length text - place .at
 
 loop-holds : tie.Need-loop-holds Inv-loop μ-loop
 loop-holds c = search start
 
-next-token-requires : tie.Need-next-token-requires Inv-loop μ-loop
-next-token-requires c κs = search needs
-
-enum-known-start : tie.Need-enum-known-start Inv-loop μ-loop
-enum-known-start c = search needs
-
 add-step : tie.Need-add-step Inv-loop μ-loop
 add-step c = search room
 
-sub-step : tie.Need-sub-step Inv-loop μ-loop
-sub-step c = search needs
-
-part-step-start : tie.Need-part-step-start Inv-loop μ-loop
-part-step-start c = search needs
-
 part-step-end : tie.Need-part-step-end Inv-loop μ-loop
 part-step-end c = search inside
-
-step-requires : tie.Need-step-requires Inv-loop μ-loop
-step-requires c κs = search needs
-
-enum-known-e2 : tie.Need-enum-known-e2 Inv-loop μ-loop
-enum-known-e2 c = search needs
 
 loop-less : tie.Need-loop-less Inv-loop μ-loop
 loop-less c = search word-less
@@ -141,26 +120,11 @@ loop-less c = search word-less
 loop-again : tie.Need-loop-again Inv-loop μ-loop
 loop-again c = search go
 
-enum-known-n : tie.Need-enum-known-n Inv-loop μ-loop
-enum-known-n c = search needs
-
 returns : tie.Need-returns Inv-loop μ-loop
 returns c = search fail
 
-enum-known-next : tie.Need-enum-known-next Inv-loop μ-loop
-enum-known-next c = search needs
-
-closed-requires : tie.Need-closed-requires Inv-loop μ-loop
-closed-requires c κs = search needs
-
 returns-2 : tie.Need-returns-2 Inv-loop μ-loop
 returns-2 c = search stop-closed
-
-enum-told : tie.Need-enum-told Inv-loop μ-loop
-enum-told c = search needs
-
-closed-requires-2 : tie.Need-closed-requires-2 Inv-loop μ-loop
-closed-requires-2 c κs = search needs
 
 returns-3 : tie.Need-returns-3 Inv-loop μ-loop
 returns-3 c = search end-closed
@@ -171,23 +135,24 @@ read-clauses-spec =
     (tie.spec
     Inv-loop
     μ-loop
-    no-clauses-requires
+    (λ c κs. search needs)
     loop-holds
-    next-token-requires
-    enum-known-start
+    (λ c κs. search needs)
+    (λ c. search needs)
     add-step
-    sub-step
-    part-step-start
+    (λ c. search needs)
+    (λ c. search needs)
     part-step-end
-    step-requires
-    enum-known-e2
+    (λ c κs. search needs)
+    (λ c. search needs)
     loop-less
     loop-again
-    enum-known-n
+    (λ c. search needs)
     returns
-    enum-known-next
-    closed-requires
+    (λ c. search needs)
+    (λ c κs. search needs)
     returns-2
-    enum-told
-    closed-requires-2
+    (λ c. search needs)
+    (λ c κs. search needs)
+    (λ c κs. search needs)
     returns-3)

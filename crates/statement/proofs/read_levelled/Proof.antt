@@ -7,7 +7,6 @@ use mathlib.Core.List.{List, _∷_}
 use mathlib.Core.Option.{some}
 use native.Mathlib.Nat.{add-sub-cancel-left}
 use lib.ListN.{take, drop}
-use Rattle.definition.specs.declared.Mode.the-variants.{Between}
 use Rattle.definition.specs.declared.Refusal.{Refusal}
 use Rattle.definition.specs.declared.Statement.{Statement}
 use Rattle.definition.specs.declared.Token.{Token}
@@ -17,7 +16,8 @@ use Rattle.definition.specs.Words.{sentences, firstWords}
 use Rattle.definition.proofs.StatementLaws.{statement-bad, statement-skipped, statement-kept, statement-refused}
 use Rattle.definition.proofs.WordLaws.{sentences-next}
 use Rattle.text.specs.declared.Level.{Level}
-use Rattle.text.specs.Tokens.{tokensFrom}
+use Rattle.text.specs.declared.Stand.{Stand}
+use Rattle.text.specs.Tokens.{tokensAt}
 use Rattle.text.specs.Words.{levelled}
 use Rattle.statement.specs.declared.NamedRead.{NamedRead}
 use Rattle.statement.specs.declared.StatementRead.{StatementRead}
@@ -26,14 +26,14 @@ use Rattle.statement.proofs.read_levelled.Statement.{statement}
 use Rattle.statement.proofs.read_levelled.Tie as tie
 
 -- the tokens of a statement whose first word is known
-abbrev all : List ℕ → ℕ → ℕ → ℕ → List Token
-all t s l from = Word (span s l) ∷ tokensFrom t Between from
+abbrev all : List ℕ → ℕ → ℕ → Stand → List Token
+all t s l from = Word (span s l) ∷ tokensAt t from
 
 -- the statements after it are those after its end
-followed : (t : List ℕ) (s l : ℕ) {from n : ℕ} → Ends t from n → Followed (all t s l from) t from n
+followed : (t : List ℕ) (s l : ℕ) {from n : Stand} → Ends t from n → Followed (all t s l from) t (from .at) n
 followed t s l {from} e =
     record {
-      all-are = sentences-next (tokensFrom t Between from) (Word (span s l)) ∙ ap (λ (ts : List Token). firstWords (all t s l from) ∷ sentences ts) (e .rest);
+      all-are = sentences-next (tokensAt t from) (Word (span s l)) ∙ ap (λ (ts : List Token). firstWords (all t s l from) ∷ sentences ts) (e .rest);
       up = e .up;
       within = e .within;
     }
@@ -42,13 +42,13 @@ followed t s l {from} e =
 level-is : (t : List ℕ) (s l : ℕ) (v : Level) → levelled v ≡ number 256 (take (s + l - s) (drop s t)) → number 256 (part t (span s l)) ≡ levelled v
 level-is t s l v p = sym (simp add-sub-cancel-left at p)
 
-module _ (t : List ℕ) (s l from : ℕ) {v : Level} (p : levelled v ≡ number 256 (take (s + l - s) (drop s t))) where
+module _ (t : List ℕ) (s l : ℕ) (from : Stand) {v : Level} (p : levelled v ≡ number 256 (take (s + l - s) (drop s t))) where
   -- the first word is no level
-  bad : v ≡ Level.Bad → FirstStatement (all t s l from) t from (StatementRead.Refused (record { number = 10; position = s; needed = 0 }))
+  bad : v ≡ Level.Bad → FirstStatement (all t s l from) t (from .at) (StatementRead.Refused (record { number = 10; position = s; needed = 0 }))
   bad e =
       record {
         is = statement-bad t (span s l) (wordsFrom t from) (level-is t s l v p ∙ ap levelled e);
-        all-are = sentences-next (tokensFrom t Between from) (Word (span s l));
+        all-are = sentences-next (tokensAt t from) (Word (span s l));
       }
 
   module _ {k : ℕ} (e : v ≡ Level.Value k) where
@@ -57,22 +57,22 @@ module _ (t : List ℕ) (s l from : ℕ) {v : Level} (p : levelled v ≡ number 
     read = level-is t s l v p ∙ ap levelled e
 
     -- 88 is skipped
-    skipped : {n : ℕ} → k ≡ 88 → Ends t from n → FirstStatement (all t s l from) t from (StatementRead.Skipped n)
+    skipped : {n : Stand} → k ≡ 88 → Ends t from n → FirstStatement (all t s l from) t (from .at) (StatementRead.Skipped n)
     skipped q h = record { is = statement-skipped t (span s l) (wordsFrom t from) read q; followed = followed t s l h }
 
     module _ (q : k ≡ 88 → ⊥) {y : NamedRead} (g : NamedAre t s k from y) where
       -- any other is kept, or refused for what follows
-      kept : {x : Statement} {n : ℕ} → y ≡ NamedRead.Done x n → FirstStatement (all t s l from) t from (StatementRead.Kept x n)
+      kept : {x : Statement} {n : Stand} → y ≡ NamedRead.Done x n → FirstStatement (all t s l from) t (from .at) (StatementRead.Kept x n)
       kept {x} {n} i =
           let d : NamedDone t s k from x n = rw i at g in
           record { is = statement-kept t (span s l) (wordsFrom t from) read q (d .is); fits = d .fits; followed = followed t s l (d .ends) }
 
-      refused : {x : Refusal} → y ≡ NamedRead.Refused x → FirstStatement (all t s l from) t from (StatementRead.Refused x)
+      refused : {x : Refusal} → y ≡ NamedRead.Refused x → FirstStatement (all t s l from) t (from .at) (StatementRead.Refused x)
       refused {x} i =
           let d : NamedAre t s k from (NamedRead.Refused x) = rw i at g in
           record {
             is = statement-refused t (span s l) (wordsFrom t from) read q d;
-            all-are = sentences-next (tokensFrom t Between from) (Word (span s l));
+            all-are = sentences-next (tokensAt t from) (Word (span s l));
           }
 
 add-level-of : tie.Need-add-level-of

@@ -7,7 +7,6 @@ use mathlib.Core.List.{List, []}
 use native.Mathlib.Omega.{arith}
 use lib.ListN.{length}
 use Rattle.definition.specs.declared.Clauses.{Clauses}
-use Rattle.definition.specs.declared.Mode.the-variants.{Between}
 use Rattle.definition.specs.declared.Refusal.{Refusal}
 use Rattle.definition.specs.declared.Span.{Span}
 use Rattle.definition.specs.declared.Statement.{Statement}
@@ -17,7 +16,8 @@ use Rattle.definition.specs.Statement.{noClauses, named}
 use Rattle.definition.proofs.StatementLaws.{named-none, named-given, named-refused}
 use Rattle.definition.specs.Words.{firstWords}
 use Rattle.text.specs.declared.Next.{Next}
-use Rattle.text.specs.Tokens.{tokensFrom, FirstWord, First}
+use Rattle.text.specs.declared.Stand.{Stand}
+use Rattle.text.specs.Tokens.{behind, tokensAt, FirstWord, First}
 use Rattle.text.proofs.TokenLaws.{end-first, word-first, stop-first}
 use Rattle.clauses.proofs.FitLaws.{none-fit}
 use Rattle.statement.specs.declared.ClausesRead.{ClausesRead}
@@ -37,7 +37,7 @@ tokens-named t at level p = ap (λ (vs : List Token). named t at level (firstWor
 
 -- there are none
 bare :
-    {t : List ℕ} {at level from n : ℕ} {w : Span} {c : Clauses} →
+    {t : List ℕ} {at level : ℕ} {from n : Stand} {w : Span} {c : Clauses} →
     at < length t →
     named t at level (wordsFrom t from) ≡ named t at level [] →
     w ≡ absent →
@@ -47,19 +47,19 @@ bare :
 bare {t} {at} {level} h p q q′ e =
     rw (q, q′) (record { is = p ∙ named-none t at level; fits = record { begins = h; name = omega arith; clauses = none-fit t }; ends = e })
 
-module _ (t : List ℕ) (at level from : ℕ) (h : from ≤ length t) {r : Next} (f : First (tokensFrom t Between from) t from r) where
-  module _ {s l n : ℕ} (q : r ≡ Next.Word s l n) where
+module _ (t : List ℕ) (at level : ℕ) (from : Stand) (h : from .at ≤ length t) {r : Next} (f : First (tokensAt t from) t (from .at) r) where
+  module _ {s l : ℕ} {n : Stand} (q : r ≡ Next.Word s l n) where
     -- the name
-    first : FirstWord (tokensFrom t Between from) t from s l n
-    first = word-first _ t from f q
+    first : FirstWord (tokensAt t from) t (from .at) s l n
+    first = word-first _ t (from .at) f q
 
     -- the clauses begin in the text
-    within : n ≤ length t
+    within : n .at ≤ length t
     within = first .within
 
     module _ {y : ClausesRead} (g : ClausesAre t at n y) where
       -- its clauses are read, or refused
-      done : {c : Clauses} {m : ℕ} → at < length t → y ≡ ClausesRead.Done c m → NamedAre t at level from (NamedRead.Done (of level at (span s l) c) m)
+      done : {c : Clauses} {m : Stand} → at < length t → y ≡ ClausesRead.Done c m → NamedAre t at level from (NamedRead.Done (of level at (span s l) c) m)
       done {c} {m} b e =
           let d : ClausesDone t at n c m = rw e at g in
           record {
@@ -75,53 +75,23 @@ module _ (t : List ℕ) (at level from : ℕ) (h : from ≤ length t) {r : Next}
 
   module _ {w : Span} {c : Clauses} (b : at < length t) (p : w ≡ absent) (p′ : c ≡ noClauses) where
     -- the statement ends at its period, or with the text
-    stopped : {n : ℕ} → r ≡ Next.Stop n → NamedAre t at level from (NamedRead.Done (of level at w c) n)
-    stopped q = bare b (tokens-named t at level (stop-first _ t from f q .all-are)) p p′ (ends-stop (reached-start h) f q)
+    stopped : {n : Stand} → r ≡ Next.Stop n → NamedAre t at level from (NamedRead.Done (of level at w c) n)
+    stopped q = bare b (tokens-named t at level (stop-first _ t (from .at) f q .all-are)) p p′ (ends-stop (reached-start h) f q)
 
-    ended : r ≡ Next.End → NamedAre t at level from (NamedRead.Done (of level at w c) (length t))
-    ended q = bare b (tokens-named t at level (end-first _ t from f q)) p p′ (ends-text (reached-start h) f q)
-
-next-token-requires : tie.Need-next-token-requires
-next-token-requires c κs = search needs
-
-enum-known-start : tie.Need-enum-known-start
-enum-known-start c = search needs
+    ended : {n : Stand} → r ≡ Next.End → n ≡ behind (length t) → NamedAre t at level from (NamedRead.Done (of level at w c) n)
+    ended q e = bare b (tokens-named t at level (end-first _ t (from .at) f q)) p p′ (ends-text (reached-start h) f q e)
 
 read-clauses-requires : tie.Need-read-clauses-requires
 read-clauses-requires c κs = search within
 
-enum-known-c : tie.Need-enum-known-c
-enum-known-c c = search needs
-
 returns : tie.Need-returns
 returns c = search done
-
-enum-known-r : tie.Need-enum-known-r
-enum-known-r c = search needs
 
 returns-2 : tie.Need-returns-2
 returns-2 c = search refused
 
-enum-known-next : tie.Need-enum-known-next
-enum-known-next c = search needs
-
-nowhere-requires : tie.Need-nowhere-requires
-nowhere-requires c κs = search needs
-
-no-clauses-requires : tie.Need-no-clauses-requires
-no-clauses-requires c κs = search needs
-
 returns-3 : tie.Need-returns-3
 returns-3 c = search stopped
-
-enum-told : tie.Need-enum-told
-enum-told c = search needs
-
-nowhere-requires-2 : tie.Need-nowhere-requires-2
-nowhere-requires-2 c κs = search needs
-
-no-clauses-requires-2 : tie.Need-no-clauses-requires-2
-no-clauses-requires-2 c κs = search needs
 
 returns-4 : tie.Need-returns-4
 returns-4 c = search ended
@@ -130,18 +100,19 @@ pub read-named-spec : {M : Type 1} → statement M
 read-named-spec =
     tie.close
     (tie.spec
-    next-token-requires
-    enum-known-start
+    (λ c κs. search needs)
+    (λ c. search needs)
     read-clauses-requires
-    enum-known-c
+    (λ c. search needs)
     returns
-    enum-known-r
+    (λ c. search needs)
     returns-2
-    enum-known-next
-    nowhere-requires
-    no-clauses-requires
+    (λ c. search needs)
+    (λ c κs. search needs)
+    (λ c κs. search needs)
     returns-3
-    enum-told
-    nowhere-requires-2
-    no-clauses-requires-2
+    (λ c. search needs)
+    (λ c κs. search needs)
+    (λ c κs. search needs)
+    (λ c κs. search needs)
     returns-4)

@@ -3,18 +3,17 @@
 use borrow.Author.Needs.{needs}
 use Prim.Native.Nat.{ℕ, _+_, _<_, _≤_}
 use mathlib.Core.Path.{_≡_}
-use mathlib.Core.Bool.{Bool}
 use mathlib.Core.List.{List, _∷_}
 use native.Mathlib.Omega.{arith}
 use lib.ListN.{length}
-use Rattle.definition.specs.declared.Mode.the-variants.{Between}
 use Rattle.definition.specs.declared.Token.{Token}
 use Rattle.definition.specs.declared.Token.the-variants.{Word, Stop}
 use Rattle.definition.specs.Basic.{span}
 use Rattle.definition.proofs.StatementLaws.{statement-empty}
 use Rattle.definition.proofs.WordLaws.{sentences-next}
 use Rattle.text.specs.declared.Next.{Next}
-use Rattle.text.specs.Tokens.{between, tokensFrom, FirstWord, First}
+use Rattle.text.specs.declared.Stand.{Stand}
+use Rattle.text.specs.Tokens.{tokensAt, FirstWord, First}
 use Rattle.text.proofs.TokenLaws.{end-first, word-first, stop-first}
 use Rattle.statement.specs.declared.StatementRead.{StatementRead}
 use Rattle.statement.specs.Reading.{Followed, FirstStatement}
@@ -22,7 +21,7 @@ use Rattle.statement.proofs.read_statement.Statement.{statement}
 use Rattle.statement.proofs.read_statement.Tie as tie
 
 -- what holds from a later place on holds from an earlier one on
-earlier-followed : {ts : List Token} {t : List ℕ} {low later n : ℕ} → low ≤ later → Followed ts t later n → Followed ts t low n
+earlier-followed : {ts : List Token} {t : List ℕ} {low later : ℕ} {n : Stand} → low ≤ later → Followed ts t later n → Followed ts t low n
 earlier-followed h f = record { all-are = f .all-are; up = omega arith; within = f .within }
 
 earlier : (ts : List Token) (t : List ℕ) (low later : ℕ) → low ≤ later → (y : StatementRead) → FirstStatement ts t later y → FirstStatement ts t low y
@@ -31,37 +30,37 @@ earlier ts t low later h (StatementRead.Skipped n) g = record { is = g .is; foll
 earlier ts t low later h (StatementRead.Refused r) g = g
 earlier ts t low later h StatementRead.End g = g
 
-module _ (t : List ℕ) (at : ℕ) (fresh : Bool) {r : Next} (f : First (tokensFrom t (between fresh) at) t at r) where
-  module _ {s l n : ℕ} (q : r ≡ Next.Word s l n) where
+module _ (t : List ℕ) (from : Stand) {r : Next} (f : First (tokensAt t from) t (from .at) r) where
+  module _ {s l : ℕ} {n : Stand} (q : r ≡ Next.Word s l n) where
     -- a first word lies in the text
-    first : FirstWord (tokensFrom t (between fresh) at) t at s l n
-    first = word-first _ t at f q
+    first : FirstWord (tokensAt t from) t (from .at) s l n
+    first = word-first _ t (from .at) f q
 
-    places : (s < length t) × (s + l ≤ length t) × (n ≤ length t)
+    places : (s < length t) × (s + l ≤ length t) × (n .at ≤ length t)
     places = let w = first in (omega arith, w .fits, w .within)
 
     -- and its statement is the first one
-    begun : (y : StatementRead) → FirstStatement (Word (span s l) ∷ tokensFrom t Between n) t n y → FirstStatement (tokensFrom t (between fresh) at) t (at + 1) y
-    begun y g = let w = first in rw (w .all-are) (earlier (Word (span s l) ∷ tokensFrom t Between n) t (at + 1) n (omega arith) y g)
+    begun : (y : StatementRead) → FirstStatement (Word (span s l) ∷ tokensAt t n) t (n .at) y → FirstStatement (tokensAt t from) t (from .at + 1) y
+    begun y g = let w = first in rw (w .all-are) (earlier (Word (span s l) ∷ tokensAt t n) t (from .at + 1) (n .at) (omega arith) y g)
 
   -- a period alone is an empty statement
-  empty : {n : ℕ} → r ≡ Next.Stop n → FirstStatement (tokensFrom t (between fresh) at) t (at + 1) (StatementRead.Skipped n)
+  empty : {n : Stand} → r ≡ Next.Stop n → FirstStatement (tokensAt t from) t (from .at + 1) (StatementRead.Skipped n)
   empty {n} q =
-      let s = stop-first _ t at f q in
-      rw (s .all-are) (record { is = statement-empty t; followed = record { all-are = sentences-next (tokensFrom t Between n) Stop; up = omega arith; within = s .within } })
+      let s = stop-first _ t (from .at) f q in
+      rw (s .all-are) (record { is = statement-empty t; followed = record { all-are = sentences-next (tokensAt t n) Stop; up = omega arith; within = s .within } })
 
   -- the text has ended
-  ended : r ≡ Next.End → FirstStatement (tokensFrom t (between fresh) at) t (at + 1) StatementRead.End
-  ended q = end-first _ t at f q
+  ended : r ≡ Next.End → FirstStatement (tokensAt t from) t (from .at + 1) StatementRead.End
+  ended q = end-first _ t (from .at) f q
 
-next-token-requires : tie.Need-next-token-requires
-next-token-requires c κs = search needs
+word-at-requires : tie.Need-word-at-requires
+word-at-requires c κs = search needs
 
 enum-known-start : tie.Need-enum-known-start
 enum-known-start c = search needs
 
 read-levelled-requires : tie.Need-read-levelled-requires
-read-levelled-requires c κs = let a = c .before .before .before .before .before .args in places (a .text .now) (a .at) (a .fresh) (c .before .before .before .next-token .ensures) (c .before .start .given .1)
+read-levelled-requires c κs = let a = c .before .before .before .before .before .args in places (a .text .now) (a .from) (c .before .before .before .word-at .ensures) (c .before .start .given .1)
 
 returns : tie.Need-returns
 returns c = search begun
@@ -82,7 +81,7 @@ pub read-statement-spec : {M : Type 1} → statement M
 read-statement-spec =
     tie.close
     (tie.spec
-    next-token-requires
+    word-at-requires
     enum-known-start
     read-levelled-requires
     returns

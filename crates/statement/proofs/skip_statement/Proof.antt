@@ -9,19 +9,13 @@ use Rattle.statement.proofs.skip_statement.Statement.{statement}
 use Rattle.statement.proofs.skip_statement.Tie as tie
 
 abbrev Inv-loop : tie.InvT-loop
-Inv-loop text from place₀ place = Reached text from place
+Inv-loop text place₀ place = Reached text place₀ place
 
 abbrev μ-loop : tie.MeasureT-loop
-μ-loop text from place₀ place = length text - place
+μ-loop text place₀ place = length text - place .at
 
 loop-holds : tie.Need-loop-holds Inv-loop μ-loop
 loop-holds c = search reached-start
-
-next-token-requires : tie.Need-next-token-requires Inv-loop μ-loop
-next-token-requires c κs = search needs
-
-enum-known-next : tie.Need-enum-known-next Inv-loop μ-loop
-enum-known-next c = search needs
 
 loop-less : tie.Need-loop-less Inv-loop μ-loop
 loop-less c = search word-less
@@ -29,14 +23,8 @@ loop-less c = search word-less
 loop-again : tie.Need-loop-again Inv-loop μ-loop
 loop-again c = search reached-word
 
-enum-known-next-2 : tie.Need-enum-known-next-2 Inv-loop μ-loop
-enum-known-next-2 c = search needs
-
 returns : tie.Need-returns Inv-loop μ-loop
 returns c = search ends-stop
-
-enum-told : tie.Need-enum-told Inv-loop μ-loop
-enum-told c = search needs
 
 returns-2 : tie.Need-returns-2 Inv-loop μ-loop
 returns-2 c = search ends-text
@@ -48,11 +36,12 @@ skip-statement-spec =
     Inv-loop
     μ-loop
     loop-holds
-    next-token-requires
-    enum-known-next
+    (λ c κs. search needs)
+    (λ c. search needs)
     loop-less
     loop-again
-    enum-known-next-2
+    (λ c. search needs)
     returns
-    enum-told
+    (λ c. search needs)
+    (λ c κs. search needs)
     returns-2)

@@ -9,6 +9,7 @@ use native.Mathlib.Omega.{arith}
 use lib.Dec.{ltb}
 use types.Run.{OneOf}
 use borrow.Author.Needs.{needs}
+use Rattle.definition.specs.Limits.{mostSymbols}
 use Rattle.definition.specs.Basic.{if_then_else_, among}
 use Rattle.symbols.specs.declared.Tallies.{Tallies}
 use Rattle.symbols.specs.Shape.{times, runOf, unless, joined}
@@ -17,10 +18,10 @@ use Rattle.symbols.proofs.add_run.Statement.{statement}
 use Rattle.symbols.proofs.add_run.Tie as tie
 
 -- what stands before the point is as small
-unless-le : (points n : ℕ) {r : ℕ} → n ≤ 65535 → r ≡ unless points n → r ≤ 65535
+unless-le : (points n : ℕ) {r : ℕ} → n ≤ mostSymbols → r ≡ unless points n → r ≤ mostSymbols
 unless-le points n {r} h e = go (ltb 0 points) e
   where
-    go : (t : Bool) → r ≡ (if t then 0 else n) → r ≤ 65535
+    go : (t : Bool) → r ≡ (if t then 0 else n) → r ≤ mostSymbols
     go true q = omega arith
     go false q = omega arith
 

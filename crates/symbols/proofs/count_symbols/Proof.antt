@@ -7,6 +7,7 @@ use mathlib.Core.List.{List, [], _++_, append-nil}
 use native.Mathlib.Omega.{arith}
 use lib.ListN.{length, getD, drop, replicate, length-drop}
 use Rattle.definition.specs.declared.Refusal.{Refusal}
+use Rattle.definition.specs.Limits.{mostSymbols}
 use Rattle.definition.specs.Basic.{upper, refuse, give, _>>=_}
 use Rattle.definition.specs.Picture.{repeat, expand}
 use Rattle.definition.proofs.PictureLaws.{onto, onto-nil, onto-onto, expand-end, expand-refused, expand-many, expand-more}
@@ -24,7 +25,7 @@ use Rattle.symbols.proofs.count_symbols.Tie as tie
 -- the symbols seen before i: their tallies, what is awaited after them, and that the others follow them
 record Left (t : List ℕ) (at : ℕ) (s : Tallies) (half : Half) (i : ℕ) : Type 0 where
   within : i ≤ length t
-  few : s .symbols ≤ 65535
+  few : s .symbols ≤ mostSymbols
   seen : List ℕ
   counted : s ≡ tallies seen
   halved : half ≡ halves Half.Nothing seen
@@ -69,14 +70,14 @@ module _ {t : List ℕ} {at : ℕ} {s : Tallies} {half : Half} {i : ℕ} (inv : 
       step : skip ≤ length t - (i + 1)
       step = rw (e, length-drop (i + 1) t) at (read .within)
 
-      many : 65535 - s .symbols < n → Counts at t (Counted.Refused (record { number = 24; position = at; needed = 0 }))
+      many : mostSymbols - s .symbols < n → Counts at t (Counted.Refused (record { number = 24; position = at; needed = 0 }))
       unfolding _>>=_
       many m = record { same = rw (inv .same, expand-many at (s .symbols) t i h given (omega (arith, inv .few))); small = tt }
 
       less : length t - (i + 1 + skip) < length t - i
       less = omega (arith, step)
 
-      module _ (m : n ≤ 65535 - s .symbols) where
+      module _ (m : n ≤ mostSymbols - s .symbols) where
         adds : Adds s n
         adds = record { small = small-s; few = omega arith }
 

@@ -9,6 +9,7 @@ use mathlib.Core.Option.{none, some}
 use native.Mathlib.Omega.{arith}
 use lib.ListN.{length, getD, drop}
 use borrow.Author.Tests.{lt-ltb}
+use Rattle.definition.specs.Limits.{largest}
 use Rattle.definition.specs.Basic.{digits, numeral, below}
 use Rattle.definition.proofs.NumberLaws.{digits-end, digits-low, digits-high, digits-next, too-large, numeral-none, numeral-some}
 use Rattle.text.proofs.digits_up_to.Statement.{statement}

@@ -14,7 +14,7 @@ use Rattle.definition.specs.declared.Token.{Token}
 use Rattle.definition.specs.Words.{next as modeAfter, completed, completedEnd}
 use Rattle.definition.proofs.WordLaws.{kindAt, tokens-next, tokens-end}
 use Rattle.text.specs.declared.Next.{Next}
-use Rattle.text.specs.Tokens.{between, tokensFrom, NextLine, WordEnd, First}
+use Rattle.text.specs.Tokens.{between, behind, tokensFrom, NextLine, WordEnd, First}
 use Rattle.text.proofs.next_token.Statement.{statement}
 use Rattle.text.proofs.next_token.Tie as tie
 
@@ -78,7 +78,11 @@ module _ {t : List ℕ} {at : ℕ} {fresh : Bool} {i : ℕ} {f : Bool} (inv : Le
     note d y l = record { up = omega arith; within = l .within; rest = stepped d ∙ rw y (l .rest) }
 
     -- a word from i to r
-    word : {r : ℕ} → tokensFrom t (between fresh) at ≡ tokensFrom t (Within i) (i + 1) → WordEnd t (i + 1) r → First (tokensFrom t (between fresh) at) t at (Next.Word i (r - i) r)
+    word :
+        {r : ℕ} →
+        tokensFrom t (between fresh) at ≡ tokensFrom t (Within i) (i + 1) →
+        WordEnd t (i + 1) r →
+        First (tokensFrom t (between fresh) at) t at (Next.Word i (r - i) (behind r))
     word q w =
         record {
           all-are = q ∙ w .rest i;
@@ -89,113 +93,41 @@ module _ {t : List ℕ} {at : ℕ} {fresh : Bool} {i : ℕ} {f : Bool} (inv : Le
           nonempty = omega arith;
         }
 
-    star : {r : ℕ} → k ≡ Star → f ≡ false → WordEnd t (i + 1) r → First (tokensFrom t (between fresh) at) t at (Next.Word i (r - i) r)
+    star : {r : ℕ} → k ≡ Star → f ≡ false → WordEnd t (i + 1) r → First (tokensFrom t (between fresh) at) t at (Next.Word i (r - i) (behind r))
     star d y w = word (stepped d ∙ rw y) w
 
-    other : {r : ℕ} → k ≡ Other → WordEnd t (i + 1) r → First (tokensFrom t (between fresh) at) t at (Next.Word i (r - i) r)
+    other : {r : ℕ} → k ≡ Other → WordEnd t (i + 1) r → First (tokensFrom t (between fresh) at) t at (Next.Word i (r - i) (behind r))
     other d w = word (stepped d ∙ other-next t i f) w
 
-    period : k ≡ Period → First (tokensFrom t (between fresh) at) t at (Next.Stop (i + 1))
+    period : k ≡ Period → First (tokensFrom t (between fresh) at) t at (Next.Stop (behind (i + 1)))
     period d = record { all-are = stepped d ∙ period-next t i f; up = omega arith; within = omega arith }
 
 abbrev Inv-loop : tie.InvT-loop
-Inv-loop text at fresh i₀ f₀ i f = Left text at fresh i f
+Inv-loop text i₀ f₀ i f = Left text i₀ f₀ i f
 
 abbrev μ-loop : tie.MeasureT-loop
-μ-loop text at fresh i₀ f₀ i f = length text - i
+μ-loop text i₀ f₀ i f = length text - i
 
 loop-holds : tie.Need-loop-holds Inv-loop μ-loop
 loop-holds c = search start
 
-byte-kind-requires : tie.Need-byte-kind-requires Inv-loop μ-loop
-byte-kind-requires c κs = search needs
-
-enum-told : tie.Need-enum-told Inv-loop μ-loop
-enum-told c = search needs
-
-add-i : tie.Need-add-i Inv-loop μ-loop
-add-i c = search needs
-
-loop-less : tie.Need-loop-less Inv-loop μ-loop
-loop-less c = search needs
-
 loop-again : tie.Need-loop-again Inv-loop μ-loop
 loop-again c = search (newline (c .before .before .before .before .loop .inv))
-
-enum-told-2 : tie.Need-enum-told-2 Inv-loop μ-loop
-enum-told-2 c = search needs
-
-add-i-2 : tie.Need-add-i-2 Inv-loop μ-loop
-add-i-2 c = search needs
-
-loop-less-2 : tie.Need-loop-less-2 Inv-loop μ-loop
-loop-less-2 c = search needs
 
 loop-again-2 : tie.Need-loop-again-2 Inv-loop μ-loop
 loop-again-2 c = search blank
 
-enum-told-3 : tie.Need-enum-told-3 Inv-loop μ-loop
-enum-told-3 c = search needs
-
-add-next-line : tie.Need-add-next-line Inv-loop μ-loop
-add-next-line c = search needs
-
-next-line-requires : tie.Need-next-line-requires Inv-loop μ-loop
-next-line-requires c κs = search needs
-
-loop-less-3 : tie.Need-loop-less-3 Inv-loop μ-loop
-loop-less-3 c = search needs
-
 loop-again-3 : tie.Need-loop-again-3 Inv-loop μ-loop
 loop-again-3 c = search (cut (c .before .before .before .before .before .loop .inv))
-
-enum-told-4 : tie.Need-enum-told-4 Inv-loop μ-loop
-enum-told-4 c = search needs
-
-add-next-line-2 : tie.Need-add-next-line-2 Inv-loop μ-loop
-add-next-line-2 c = search needs
-
-next-line-requires-2 : tie.Need-next-line-requires-2 Inv-loop μ-loop
-next-line-requires-2 c κs = search needs
-
-loop-less-4 : tie.Need-loop-less-4 Inv-loop μ-loop
-loop-less-4 c = search needs
 
 loop-again-4 : tie.Need-loop-again-4 Inv-loop μ-loop
 loop-again-4 c = search note
 
-add-word-end : tie.Need-add-word-end Inv-loop μ-loop
-add-word-end c = search needs
-
-word-end-requires : tie.Need-word-end-requires Inv-loop μ-loop
-word-end-requires c κs = search needs
-
-sub-t14 : tie.Need-sub-t14 Inv-loop μ-loop
-sub-t14 c = search needs
-
 returns : tie.Need-returns Inv-loop μ-loop
 returns c = search star
 
-enum-told-5 : tie.Need-enum-told-5 Inv-loop μ-loop
-enum-told-5 c = search needs
-
-add-t15 : tie.Need-add-t15 Inv-loop μ-loop
-add-t15 c = search needs
-
 returns-2 : tie.Need-returns-2 Inv-loop μ-loop
 returns-2 c = search period
-
-enum-told-6 : tie.Need-enum-told-6 Inv-loop μ-loop
-enum-told-6 c = search needs
-
-add-word-end-2 : tie.Need-add-word-end-2 Inv-loop μ-loop
-add-word-end-2 c = search needs
-
-word-end-requires-2 : tie.Need-word-end-requires-2 Inv-loop μ-loop
-word-end-requires-2 c κs = search needs
-
-sub-t16 : tie.Need-sub-t16 Inv-loop μ-loop
-sub-t16 c = search needs
 
 returns-3 : tie.Need-returns-3 Inv-loop μ-loop
 returns-3 c = search other
@@ -210,35 +142,35 @@ next-token-spec =
     Inv-loop
     μ-loop
     loop-holds
-    byte-kind-requires
-    enum-told
-    add-i
-    loop-less
+    (λ c κs. search needs)
+    (λ c. search needs)
+    (λ c. search needs)
+    (λ c. search needs)
     loop-again
-    enum-told-2
-    add-i-2
-    loop-less-2
+    (λ c. search needs)
+    (λ c. search needs)
+    (λ c. search needs)
     loop-again-2
-    enum-told-3
-    add-next-line
-    next-line-requires
-    loop-less-3
+    (λ c. search needs)
+    (λ c. search needs)
+    (λ c κs. search needs)
+    (λ c. search needs)
     loop-again-3
-    enum-told-4
-    add-next-line-2
-    next-line-requires-2
-    loop-less-4
+    (λ c. search needs)
+    (λ c. search needs)
+    (λ c κs. search needs)
+    (λ c. search needs)
     loop-again-4
-    add-word-end
-    word-end-requires
-    sub-t14
+    (λ c. search needs)
+    (λ c κs. search needs)
+    (λ c. search needs)
     returns
-    enum-told-5
-    add-t15
+    (λ c. search needs)
+    (λ c. search needs)
     returns-2
-    enum-told-6
-    add-word-end-2
-    word-end-requires-2
-    sub-t16
+    (λ c. search needs)
+    (λ c. search needs)
+    (λ c κs. search needs)
+    (λ c. search needs)
     returns-3
     returns-4)

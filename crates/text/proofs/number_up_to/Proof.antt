@@ -7,6 +7,7 @@ use mathlib.Core.List.{List}
 use mathlib.Core.Option.{Option, none}
 use native.Mathlib.Omega.{arith}
 use lib.ListN.{length, getD, drop}
+use Rattle.definition.specs.Limits.{largest}
 use Rattle.definition.specs.Basic.{numeral, below, number}
 use Rattle.definition.proofs.NumberLaws.{number-none, number-plus, number-plain}
 use Rattle.text.proofs.number_up_to.Statement.{statement}

@@ -9,23 +9,24 @@ use mathlib.Core.Option.{Option, none, some}
 use native.Mathlib.Omega.{arith}
 use lib.ListN.{length}
 use borrow.Author.Tests.{lt-ltb, le-ltb}
+use Rattle.definition.specs.Limits.{mostBytes}
 use Rattle.definition.specs.Basic.{Answer, give, refused, _>>=_}
 use Rattle.definition.specs.Calls.{firstWide, textChecks}
 use Rattle.text.specs.Words.{isFound, wideCheck}
 use Rattle.text.proofs.text_checks.Statement.{statement}
 use Rattle.text.proofs.text_checks.Tie as tie
 
-long : (t : List ℕ) → 65535 < length t → refused 1 0 ≡ textChecks t
+long : (t : List ℕ) → mostBytes < length t → refused 1 0 ≡ textChecks t
 unfolding textChecks _>>=_
-long t h = rw (lt-ltb 65535 (length t) h)
+long t h = rw (lt-ltb mostBytes (length t) h)
 
 -- a text that is not too long
-short : (t : List ℕ) → length t ≤ 65535 → (o : Option ℕ) → o ≡ firstWide 0 t → wideCheck o ≡ textChecks t
+short : (t : List ℕ) → length t ≤ mostBytes → (o : Option ℕ) → o ≡ firstWide 0 t → wideCheck o ≡ textChecks t
 unfolding textChecks _>>=_
-short t h none e = rw (le-ltb 65535 (length t) h, ← e)
-short t h (some p) e = rw (le-ltb 65535 (length t) h, ← e)
+short t h none e = rw (le-ltb mostBytes (length t) h, ← e)
+short t h (some p) e = rw (le-ltb mostBytes (length t) h, ← e)
 
-searched : (t : List ℕ) → length t ≤ 65535 → {a : Answer (Unit {0})} → a ≡ wideCheck (firstWide 0 t) → a ≡ textChecks t
+searched : (t : List ℕ) → length t ≤ mostBytes → {a : Answer (Unit {0})} → a ≡ wideCheck (firstWide 0 t) → a ≡ textChecks t
 searched t h e = e ∙ short t h (firstWide 0 t) refl
 
 -- what is not found is not there
@@ -33,7 +34,7 @@ nowhere : (o : Option ℕ) → isFound o ≡ false → give tt ≡ wideCheck o
 nowhere none e = refl
 nowhere (some p) e = absurd (let z : _≡_ {A = ℕ} 0 1 = cc in omega arith)
 
-passed : (t : List ℕ) → length t ≤ 65535 → {r : Bool} → r ≡ isFound (firstWide 0 t) → r ≡ false → give tt ≡ textChecks t
+passed : (t : List ℕ) → length t ≤ mostBytes → {r : Bool} → r ≡ isFound (firstWide 0 t) → r ≡ false → give tt ≡ textChecks t
 passed t h e n = nowhere (firstWide 0 t) (sym e ∙ n) ∙ short t h (firstWide 0 t) refl
 
 returns : tie.Need-returns

@@ -2,38 +2,16 @@
 -- Assumes nothing.
 use borrow.Author.Needs.{needs}
 use native.Mathlib.Omega.{arith}
-use Rattle.writer.proofs.ListedLaws.{list-fits, whole}
+use Rattle.entries.proofs.ListedLaws.{table-fits, table-whole}
 use Rattle.writer.proofs.put_listing.Statement.{statement}
 use Rattle.writer.proofs.put_listing.Tie as tie
 
-list-varies-requires : tie.Need-list-varies-requires
-list-varies-requires c κs = search needs
-
-folded-count-requires : tie.Need-folded-count-requires
-folded-count-requires c κs = search needs
-
-put-head-requires : tie.Need-put-head-requires
-put-head-requires c κs = search needs
-
-write-list-requires : tie.Need-write-list-requires
-write-list-requires c κs =
-    let s = c .before .before .before .before .before .before .before .before .before .before in
-    let a = s .args in
-    (s .pre .0, list-fits (a .text .now) (a .work .now) (a .from) (a .to) (c .before .before .before .put-head .result) (s .pre .1) (omega (arith, c .before .before .before .put-head .ensures .next)))
-
-same-length : tie.Need-same-length
-same-length c = search needs
+put-entries-requires : tie.Need-put-entries-requires
+put-entries-requires c κs = (c .before .before .before .before .before .before .before .before .before .before .pre .table .fits, c .before .before .before .before .before .before .before .before .before .before .pre .table .rows, table-fits (c .before .before .before .before .before .before .before .before .before .before .pre .table) (c .before .before .before .put-head .result) (c .before .before .before .before .before .before .before .before .before .before .pre .few) (omega (arith, c .before .before .before .put-head .ensures .next)))
 
 returns : tie.Need-returns
-returns c = search whole
+returns c = table-whole (c .before .before .before .before .before .before .before .before .before .before .before .before .before .pre .table) (c .before .before .before .before .before .before .before .before .before .before .before .before .before .pre .length) (c .before .before .before .before .before .before .before .before .varies .ensures) (c .before .before .before .before .before .before .before .before .before .before .before .before .before .pre .tops) (c .before .before .before .before .before .before .put-head .ensures) (c .before .before .put-entries .ensures)
 
 pub put-listing-spec : {M : Type 1} → statement M
 put-listing-spec =
-    tie.close
-    (tie.spec
-    list-varies-requires
-    folded-count-requires
-    put-head-requires
-    write-list-requires
-    same-length
-    returns)
+    tie.close (tie.spec (λ c κs. search needs) (λ c κs. search needs) put-entries-requires (λ c. search needs) returns)

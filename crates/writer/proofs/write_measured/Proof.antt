@@ -1,7 +1,7 @@
 -- `writer::write_measured` meets its contract: measured first, and written only where there is room.
 -- Assumes nothing.
 use borrow.Author.Needs.{needs}
-use Rattle.writer.proofs.ListedLaws.{no-room, room}
+use Rattle.listing.proofs.PutLaws.{no-room, room}
 use Rattle.writer.proofs.write_measured.Statement.{statement}
 use Rattle.writer.proofs.write_measured.Tie as tie
 

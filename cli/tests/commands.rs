@@ -1,0 +1,189 @@
+//! What the command does with words, files and pipes: exit status, and what is said.
+
+use std::fs::{self, Permissions};
+use std::io::{Read, Write};
+use std::os::unix::fs::PermissionsExt;
+use std::os::unix::process::CommandExt;
+use std::path::PathBuf;
+use std::process::{Command, Output, Stdio};
+
+const PROGRAM: &str = env!("CARGO_BIN_EXE_copybook");
+const FISH: &str = "01 FISH. 05 TAG PIC X(5). 05 SIRE PIC 9(4) COMP SYNC. 05 WT OCCURS 3 PIC 9(3)V9.";
+
+/// A folder of its own for a test, removed in the end.
+struct Folder(PathBuf);
+
+impl Folder {
+    fn new(name: &str) -> Folder {
+        let folder = std::env::temp_dir().join(format!("copybook-{name}-{}", std::process::id()));
+        fs::create_dir_all(&folder).expect("a folder can be made");
+        fs::set_permissions(&folder, Permissions::from_mode(0o755)).expect("and opened to others");
+        Folder(folder)
+    }
+
+    fn file(&self, name: &str, text: &[u8]) -> String {
+        let file = self.0.join(name);
+        fs::write(&file, text).expect("a file can be written");
+        file.to_str().expect("its name is text").into()
+    }
+}
+
+impl Drop for Folder {
+    fn drop(&mut self) {
+        let _ = fs::remove_dir_all(&self.0);
+    }
+}
+
+fn run(words: &[&str], input: &[u8]) -> Output {
+    let mut child = Command::new(PROGRAM)
+        .args(words)
+        .stdin(Stdio::piped())
+        .stdout(Stdio::piped())
+        .stderr(Stdio::piped())
+        .spawn()
+        .expect("the command starts");
+    let _ = child.stdin.take().expect("its input").write_all(input);
+    child.wait_with_output().expect("it ends")
+}
+
+/// Exit status, standard output and standard error.
+fn ran(words: &[&str], input: &str) -> (i32, String, String) {
+    let output = run(words, input.as_bytes());
+    let text = |bytes: Vec<u8>| String::from_utf8(bytes).expect("text");
+    (output.status.code().expect("a status"), text(output.stdout), text(output.stderr))
+}
+
+/// Misuse, or something that cannot be read: status 2, nothing on standard output, and these words said.
+#[track_caller]
+fn fails(words: &[&str], said: &str) {
+    let (status, out, err) = ran(words, FISH);
+    assert_eq!((status, out.as_str()), (2, ""), "{words:?}: {err}");
+    assert!(err.starts_with("copybook") && err.contains(said), "{words:?}: {err}");
+}
+
+#[test]
+fn misuse_says_what_is_wrong() {
+    fails(&[], "no command");
+    fails(&["lay"], "there is no command \"lay\"");
+    fails(&["help", "lay"], "there is no command \"lay\"");
+    fails(&["layout", "--tables"], "there is no option --tables\nTry: copybook layout --help");
+    fails(&["layout", "--table=1"], "--table takes no value");
+    fails(&["layout", "--json", "--csv"], "one of --json and --csv at a time");
+    fails(&["layout", "--json", "--from-1"], "--from-1 is for the table alone");
+    fails(&["layout", "a.cpy", "b.cpy"], "b.cpy is a second");
+    fails(&["owner", "a.cpy", "five"], "five is no position");
+    fails(&["owner", "a.cpy", "5", "6"], "one FILE and one POSITION");
+    fails(&["picture"], "one PICTURE");
+    fails(&["picture", "X", "--usage"], "--usage needs a value");
+    fails(&["picture", "X", "--usage", "comp-9"], "--usage is display, comp-3 or comp");
+    fails(&["picture", "X", "--sign=left"], "--sign is one of");
+}
+
+#[test]
+fn help_is_an_answer() {
+    let (status, all, err) = ran(&["help"], "");
+    assert_eq!((status, err.as_str()), (0, ""));
+    for command in ["layout", "owner", "picture"] {
+        assert!(all.contains(&format!("\n  {command}")));
+        let (status, help, err) = ran(&[command, "--help"], "");
+        assert_eq!((status, err.as_str()), (0, ""));
+        assert!(help.starts_with(&format!("copybook {command} ")));
+        assert_eq!(ran(&["help", command], "").1, help);
+    }
+    assert_eq!(ran(&["--help"], "").1, all);
+    // the version is the header's
+    let header = include_str!("../../include/copybook.h");
+    let version = ran(&["--version"], "").1;
+    let number = version.strip_prefix("copybook ").and_then(|v| v.strip_suffix('\n')).expect("a version");
+    assert!(header.contains(&format!("#define COPYBOOK_VERSION \"{number}\"\n")), "{version}");
+}
+
+#[test]
+fn files_that_cannot_be_read() {
+    let folder = Folder::new("unreadable");
+    let missing = folder.0.join("none.cpy");
+    fails(&["layout", missing.to_str().unwrap()], "none.cpy: there is no such file");
+    fails(&["owner", folder.0.to_str().unwrap(), "5"], "this is a directory");
+}
+
+/// A file without permission, read as a user who is not root: from a copy of the command that this user may start.
+#[test]
+fn a_file_without_permission() {
+    const NOBODY: u32 = 65_534;
+    let folder = Folder::new("permission");
+    let file = folder.file("secret.cpy", FISH.as_bytes());
+    fs::set_permissions(&file, Permissions::from_mode(0o000)).unwrap();
+    let program = folder.0.join("copybook");
+    fs::copy(PROGRAM, &program).unwrap();
+    let mut command = Command::new(&program);
+    command.args(["layout", &file]).current_dir("/");
+    if fs::read(&file).is_ok() {
+        command.uid(NOBODY);
+    }
+    let output = command.output().expect("the command starts");
+    assert_eq!((output.status.code(), output.stdout.as_slice()), (Some(2), b"".as_slice()));
+    let err = String::from_utf8(output.stderr).unwrap();
+    assert!(err.ends_with("secret.cpy: there is no permission to read it\n"), "{err}");
+}
+
+#[test]
+fn an_output_that_is_closed() {
+    let folder = Folder::new("closed");
+    let file = folder.file("long.cpy", b"01 R. 05 A OCCURS 100000 PIC X. 05 B PIC X.");
+    let mut child = Command::new(PROGRAM)
+        .args(["owner", &file])
+        .stdout(Stdio::piped())
+        .stderr(Stdio::piped())
+        .spawn()
+        .expect("the command starts");
+    let mut first = [0; 4];
+    child.stdout.take().unwrap().read_exact(&mut first).unwrap();
+    let output = child.wait_with_output().unwrap();
+    assert_eq!((output.status.code(), &first), (Some(2), b"0-0 "));
+    assert_eq!(
+        String::from_utf8(output.stderr).unwrap(),
+        "copybook: standard output was closed before all of the answer was written\n"
+    );
+}
+
+#[test]
+fn standard_input_where_no_file_is_named() {
+    let expected = ran(&["layout"], FISH);
+    assert_eq!((expected.0, expected.2.as_str()), (0, ""));
+    assert!(expected.1.starts_with("record 20 fixed 3\n"));
+    assert_eq!(ran(&["layout", "-"], FISH), expected);
+    assert_eq!(ran(&["layout", "--", "-"], FISH), expected);
+    assert_eq!(ran(&["owner", "5"], FISH).1, "5 slack before 1 SIRE\n");
+    assert_eq!(ran(&["owner", "-", "5"], FISH).1, "5 slack before 1 SIRE\n");
+    assert_eq!(ran(&["owner", "99999999999999999999"], FISH).1, "refused 41 0\n");
+}
+
+#[test]
+fn a_refusal_goes_to_both_outputs() {
+    let text = "01 BREEDING.\n    05 TAG PIC X(5).\n    05 PARTS REDEFINES TAGS PIC X(5).\n";
+    for format in [&["layout"][..], &["layout", "--table"], &["layout", "--json"], &["layout", "--csv"], &["owner"]] {
+        let (status, out, err) = ran(format, text);
+        assert_eq!((status, out.as_str()), (1, "refused 28 38\n"));
+        assert!(err.starts_with("(standard input):3:5: no earlier item of this list is called TAGS\n"), "{err}");
+        assert!(err.contains("\n        ^                  ~~~~\n"), "{err}");
+    }
+}
+
+#[test]
+fn an_answer_without_entries_says_so() {
+    let (status, out, err) = ran(&["layout"], "* nothing\n");
+    assert_eq!((status, out.as_str()), (0, "record 0 fixed 0\n"));
+    assert!(err.contains("no item"), "{err}");
+}
+
+/// Whatever a copybook has, the table shows no control character.
+#[test]
+fn names_of_any_bytes() {
+    let text = "05 A\u{1b}[2J\u{7} PIC X. 05 \"B\\\",C PIC X.";
+    let (status, table, _) = ran(&["layout", "--table"], text);
+    assert_eq!(status, 0);
+    assert!(!table.contains(|c: char| c.is_control() && c != '\n'), "{table}");
+    assert!(ran(&["layout", "--json"], text).1.contains(r#""name": "A\u001b[2J\u0007""#));
+    assert!(ran(&["layout", "--json"], text).1.contains(r#""name": "\"B\\\",C""#));
+    assert!(ran(&["layout", "--csv"], text).1.contains(r#","""B\"",C","#));
+}

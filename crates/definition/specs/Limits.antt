@@ -1,0 +1,27 @@
+-- The limits that the rules name, each for its number.
+-- Assumes nothing.
+use Prim.Native.Nat.{ℕ}
+
+-- a text has no more bytes (1)
+abbrev pub mostBytes : ℕ
+mostBytes = 65535
+
+-- work memory has no fewer numbers (3)
+abbrev pub leastWork : ℕ
+leastWork = 16384
+
+-- no more statements are kept (14)
+abbrev pub mostStatements : ℕ
+mostStatements = 800
+
+-- no list is deeper; record fields are depth 0 (20)
+abbrev pub deepest : ℕ
+deepest = 64
+
+-- a picture has no more symbols (24)
+abbrev pub mostSymbols : ℕ
+mostSymbols = 65535
+
+-- no count, aligned cursor, size or end is larger (29)
+abbrev pub largest : ℕ
+largest = 2147483647

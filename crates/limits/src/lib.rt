@@ -1,0 +1,64 @@
+// Where an entry ends, or that one of its numbers is above the largest: refusal 29. Leans on `definition`.
+ghost use mathlib.Core.Path.{_≡_};
+ghost use Prim.Native.Nat.{_+_, _*_, _≤_, _<_, max};
+ghost use Rattle.definition.specs.Limits.{largest};
+ghost use Rattle.definition.specs.Fold.{times, total};
+ghost use Rattle.limits.specs.Ends.{endOf, endingOf};
+use definition::Entry;
+use definition::LARGEST;
+use definition::LARGEST_COUNT;
+use definition::Occurs;
+
+// How often an item stands.
+pub fn times_of(o: Occurs) -> u64
+    ensures { λ r. ⌜ r ≡ times o ⌝ }
+{
+    match o {
+        Occurs::Once => 1,
+        Occurs::Times(n) => n,
+    }
+}
+
+// Where an entry ends, or that one of its numbers is too large.
+pub enum Ending {
+    At(usize),
+    TooLarge,
+}
+
+// Where an entry ends: 29 is due where its count, offset, bytes or end are above 2,147,483,647.
+pub fn entry_end(e: Entry) -> Ending
+    requires { ⌜ e .width ≤ largest ⌝ }
+    ensures { λ r. ⌜ endingOf r ≡ endOf e ⌝ }
+{
+    let occurs = e.occurs;
+    let n = times_of(occurs);
+    if LARGEST_COUNT < n {
+        return Ending::TooLarge;
+    }
+    let offset = e.offset;
+    if LARGEST < offset {
+        return Ending::TooLarge;
+    }
+    let total = e.width * n as usize;
+    if LARGEST < total {
+        return Ending::TooLarge;
+    }
+    let depending = e.depending;
+    if 0 < depending.len {
+        return Ending::At(offset);
+    }
+    if LARGEST < offset + total {
+        return Ending::TooLarge;
+    }
+    Ending::At(offset + total)
+}
+
+// The larger of two numbers.
+pub fn most(a: usize, b: usize) -> usize
+    ensures { λ r. ⌜ r ≡ max a b ⌝ }
+{
+    if a < b {
+        return b;
+    }
+    a
+}

@@ -1,0 +1,65 @@
+-- Siblings in the rows, and the search among them that a REDEFINES makes: its target, the latest earlier sibling of that name, and its base, the
+-- latest of that name that is no redefiner itself.
+-- Assumes nothing.
+use Prim.Native.Nat.{ℕ, zero, suc, _-_}
+use mathlib.Core.Bool.{Bool, true, false, _&&_}
+use mathlib.Core.List.{List, [], _∷_}
+use mathlib.Core.Option.{Option, none, some}
+use lib.Dec.{eqb}
+use Rattle.definition.specs.declared.Span.{Span}
+use Rattle.definition.specs.Basic.{if_then_else_, given}
+use Rattle.definition.specs.Fold.{entry, sameName, Place}
+use Rattle.rows.specs.Columns.{NAME, REDEFINES, OFFSET, BEFORE}
+use Rattle.rows.specs.Table.{spanAt, cell}
+
+-- the name and the offset of the entry in row k
+abbrev pub placeAt : List ℕ → ℕ → Place
+placeAt w k = record { name = spanAt (cell w k NAME); offset = cell w k OFFSET }
+
+-- a search for bases leaves redefiners out
+abbrev pub leftOut : Bool → List ℕ → ℕ → Bool
+leftOut bases w k = bases && given (spanAt (cell w k REDEFINES))
+
+-- among the first n rows, the siblings from `last` back, the latest first, or those of them that are bases
+unfoldable pub seenFrom : Bool → List ℕ → ℕ → ℕ → List Place
+seenFrom bases w zero last = []
+seenFrom bases w (suc k) last =
+    if eqb last (suc k) then
+    (if leftOut bases w k then seenFrom bases w k (cell w k BEFORE) else placeAt w k ∷ seenFrom bases w k (cell w k BEFORE))
+    else seenFrom bases w k last
+
+-- the siblings from `last` back
+abbrev pub seenAt : List ℕ → ℕ → List Place
+seenAt w last = seenFrom false w last last
+
+-- those of them that are bases
+abbrev pub basesAt : List ℕ → ℕ → List Place
+basesAt w last = seenFrom true w last last
+
+-- row k is what a search for a name ends at
+abbrev pub isTarget : List ℕ → Span → Bool → List ℕ → ℕ → Bool
+isTarget text target bases w k = if leftOut bases w k then false else sameName text target (spanAt (cell w k NAME))
+
+-- among the first n rows, the one that a search from the sibling `last` back ends at: its row and 1, or 0 for none
+unfoldable pub rowFrom : List ℕ → Span → Bool → List ℕ → ℕ → ℕ → ℕ
+rowFrom text target bases w zero last = 0
+rowFrom text target bases w (suc k) last =
+    if eqb last (suc k) then (if isTarget text target bases w k then suc k else rowFrom text target bases w k (cell w k BEFORE))
+    else rowFrom text target bases w k last
+
+-- the offset of the row that a search found, if it found one
+abbrev pub offsetOf : List ℕ → ℕ → Option ℕ
+offsetOf w zero = none
+offsetOf w (suc k) = some (cell w k OFFSET)
+
+-- the sibling that a REDEFINES names, from the sibling `last` back: its row and 1, or 0 for none
+abbrev pub targetFrom : List ℕ → Span → List ℕ → ℕ → ℕ
+targetFrom text redefines w last = if given redefines then rowFrom text redefines false w last last else 0
+
+-- among the first n rows, the latest base of that name from the sibling `last` back: its row and 1, or 0 for none
+abbrev pub baseFrom : List ℕ → Span → List ℕ → ℕ → ℕ → ℕ
+baseFrom text target w n last = rowFrom text target true w n last
+
+-- the base that row k redefines, after the sibling `last`: its row and 1, or 0 for none
+abbrev pub baseAfter : List ℕ → List ℕ → ℕ → ℕ → ℕ
+baseAfter text w k last = if given (spanAt (cell w k REDEFINES)) then baseFrom text (spanAt (cell w k REDEFINES)) w last last else 0

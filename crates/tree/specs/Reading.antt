@@ -1,0 +1,49 @@
+-- What the reading of a whole text into rows says.
+-- Assumes nothing.
+use Prim.Native.Nat.{ℕ, suc, _+_, _≤_}
+use mathlib.Core.Path.{_≡_}
+use mathlib.Core.List.{List, [], _∷_}
+use lib.ListN.{length}
+use Rattle.definition.specs.declared.Refusal.{Refusal}
+use Rattle.definition.specs.declared.Statement.{Statement}
+use Rattle.definition.specs.Limits.{mostStatements}
+use Rattle.definition.specs.Basic.{Answer, refuse, give}
+use Rattle.definition.specs.Statement.{statements}
+use Rattle.definition.specs.Tree.{Open, opened, stillOpen, innermost, parents}
+use Rattle.definition.specs.Words.{statementWords}
+use Rattle.tree.specs.declared.OpenLevels.{OpenLevels}
+use Rattle.tree.specs.declared.RowsRead.{RowsRead}
+use Rattle.tree.specs.Levels.{stackOf, Nested}
+use Rattle.rows.specs.Table.{Storable, Storables, putRow, putRows}
+
+-- a statement was stored in row k of w, which is then w′, and r are the levels that are open after it
+pub record Added (w : List ℕ) (k : ℕ) (o : OpenLevels) (s : Statement) (w′ : List ℕ) (r : OpenLevels) : Type 0 where
+  pub row : w′ ≡ putRow w k (innermost (stillOpen (s .level) (stackOf w o))) s
+  pub levels : stackOf w′ r ≡ opened (s .level) (suc k) ∷ stillOpen (s .level) (stackOf w o)
+  pub nested : Nested w′ (suc k) r
+  pub storable : Storable s
+
+-- the text is refused, or so many rows stand in work memory
+pub data Outcome : Type 0 where
+  stopped : Refusal → Outcome
+  ready : ℕ → List ℕ → Outcome
+
+-- what the kept statements of a text lead to from row n on, where these are open
+abbrev pub outcome : List ℕ → ℕ → List Open → Answer (List Statement) → Outcome
+outcome w n os (refuse r) = stopped r
+outcome w n os (give ss) = ready (n + length ss) (putRows w n (parents os n ss) ss)
+
+-- what an answer says, with work memory as the call leaves it; after a refusal its contents are left open
+abbrev pub outcomeOf : RowsRead → List ℕ → Outcome
+outcomeOf (RowsRead.Rows n) w = ready n w
+outcomeOf (RowsRead.Refused r) w = stopped r
+
+-- the statements from row n on can be read back from their rows, of which there are no more than 800
+abbrev pub Held : ℕ → Answer (List Statement) → Type 0
+Held n (refuse r) = Unit {0}
+Held n (give ss) = Storables ss × (n + length ss ≤ mostStatements)
+
+-- the answer r, and work memory w′ after it, of a text and of work memory w
+pub record RowsAre (text w : List ℕ) (r : RowsRead) (w′ : List ℕ) : Type 0 where
+  pub is : outcomeOf r w′ ≡ outcome w 0 [] (statements text 0 (statementWords text))
+  pub held : Held 0 (statements text 0 (statementWords text))

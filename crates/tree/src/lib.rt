@@ -1,0 +1,166 @@
+// A text read into rows of work memory: the entry's own checks, the open levels that give each statement its parent, and the reading.
+ghost use mathlib.Core.Path.{_≡_};
+ghost use Prim.Native.Nat.{_+_, _*_, _-_, _≤_, _<_};
+ghost use lib.ListN.{length};
+ghost use Rattle.definition.specs.Limits.{mostBytes, leastWork, mostStatements};
+ghost use Rattle.definition.specs.Calls.{entryChecks, checkOf};
+ghost use Rattle.rows.specs.Columns.{ROW, PARENT};
+ghost use Rattle.rows.specs.Table.{Placed, cell};
+ghost use Rattle.tree.specs.Levels.{NoneOpen, Nested, Closed, Opened};
+ghost use Rattle.tree.specs.Reading.{Added, RowsAre};
+use definition::Check;
+use definition::LEAST_WORK;
+use definition::MOST_STATEMENTS;
+use definition::Refusal;
+use definition::Statement;
+use rows::PARENT;
+use rows::ROW;
+use statement::StatementRead;
+
+// A number of 32 bits as a place.
+fn wide(n: u32) -> usize
+    ensures { λ r. ⌜ r ≡ n ⌝ }
+{
+    n as usize
+}
+
+// Refusals 1 to 3: those of the text, and work memory under 16,384 numbers.
+pub fn entry_checks(text: &[u8], work_len: usize) -> Check
+    ensures { λ r. ⌜ checkOf r ≡ entryChecks (now (text .entry)) «work_len» ⌝ }
+{
+    match text::text_checks(text) {
+        Check::Passed => {}
+        Check::Refused(r) => {
+            return Check::Refused(r);
+        }
+    }
+    if work_len < LEAST_WORK {
+        return Check::Refused(Refusal {
+            number: 3,
+            position: 0,
+            needed: 0,
+        });
+    }
+    Check::Passed
+}
+
+// The levels that are open, the innermost last, and how many; the row of the innermost and 1, or 0 for none. The rows of the others follow by the
+// parents.
+pub struct OpenLevels {
+    pub levels: [u8; 256],
+    pub count: usize,
+    pub row: usize,
+}
+
+// No level is open.
+fn none_open() -> OpenLevels
+    ensures { λ r. ⌜ NoneOpen r ⌝ }
+{
+    OpenLevels {
+        levels: [0; 256],
+        count: 0,
+        row: 0,
+    }
+}
+
+// The parent of row - 1: its row and 1, or 0 for none.
+fn parent_of(work: &[u32], row: usize) -> usize
+    requires { ⌜ (0 < row) × (ROW * row ≤ length (now work)) ⌝ }
+    ensures { λ r. ⌜ r ≡ cell (now (work .entry)) (row - 1) PARENT ⌝ }
+{
+    let k = row - 1;
+    wide(work[ROW * k + PARENT])
+}
+
+// Closes the levels that are not smaller than a statement's.
+fn close(work: &[u32], o: OpenLevels, level: u8, k: usize) -> OpenLevels
+    requires { ⌜ Nested (now work) k o ⌝ }
+    ensures { λ r. ⌜ Closed (now (work .entry)) k o level r ⌝ }
+{
+    let levels = o.levels;
+    let mut n = o.count;
+    let mut row = o.row;
+    while 0 < n {
+        if levels[n - 1] < level {
+            return OpenLevels {
+                levels: levels,
+                count: n,
+                row: row,
+            };
+        }
+        row = parent_of(work, row);
+        n -= 1;
+    }
+    OpenLevels {
+        levels: levels,
+        count: n,
+        row: 0,
+    }
+}
+
+// Opens a statement's level, in row k, after the others were closed.
+fn open(o: OpenLevels, level: u8, k: usize) -> OpenLevels
+    requires { ⌜ (o .count ≤ level) × (k < 4294967295) ⌝ }
+    ensures { λ r. ⌜ Opened o level k r ⌝ }
+{
+    let mut levels = o.levels;
+    let n = o.count;
+    levels[n] = level;
+    OpenLevels {
+        levels: levels,
+        count: n + 1,
+        row: k + 1,
+    }
+}
+
+// A statement into row k, under the innermost open one of a smaller level; its own is open then.
+fn add_row(work: &mut [u32], k: usize, o: OpenLevels, s: Statement) -> OpenLevels
+    requires { ⌜ (ROW * k + ROW ≤ length (now work)) × (k < mostStatements) × Nested (now work) k o × Placed s ⌝ }
+    ensures { λ r. ⌜ Added (now (work .entry)) k o s (now (work .exit)) r ⌝ }
+{
+    let level = s.level;
+    let outer = close(work, o, level, k);
+    rows::put_row(work, k, outer.row as u32, s);
+    open(outer, level, k)
+}
+
+// The number of rows that a text has, or why it is refused.
+pub enum RowsRead {
+    Rows(usize),
+    Refused(Refusal),
+}
+
+// The kept statements of a text as rows of work memory, from row 0 on.
+pub fn read_rows(text: &[u8], work: &mut [u32]) -> RowsRead
+    requires { ⌜ (length (now text) ≤ mostBytes) × (leastWork ≤ length (now work)) ⌝ }
+    ensures { λ r. ⌜ RowsAre (now (text .entry)) (now (work .entry)) r (now (work .exit)) ⌝ }
+{
+    let mut from = text::at_start();
+    let mut n = 0;
+    let mut levels = none_open();
+    loop {
+        match statement::read_statement(text, from) {
+            StatementRead::Kept(s, next) => {
+                if MOST_STATEMENTS <= n {
+                    return RowsRead::Refused(Refusal {
+                        number: 14,
+                        position: s.at,
+                        needed: 0,
+                    });
+                }
+                levels = add_row(work, n, levels, s);
+                n += 1;
+                from = next;
+            }
+            StatementRead::Skipped(next) => {
+                from = next;
+            }
+            StatementRead::Refused(r) => {
+                return RowsRead::Refused(r);
+            }
+            StatementRead::End => {
+                return RowsRead::Rows(n);
+            }
+        }
+    }
+}

@@ -1,0 +1,2 @@
+      * Nothing but remarks.
+      * 01 FISH.

@@ -19,25 +19,10 @@ use Rattle.definition.specs.Listing.{members#, entryBytes, entriesBytes}
 use Rattle.definition.specs.Search.{entries#}
 use Rattle.definition.proofs.LayoutLaws.{find-none, find-hit, find-miss, redefiners-none, redefiners-hit, redefiners-miss, redefiners-ends, redefiners-next, append-none, append-entry}
 use Rattle.definition.proofs.ListingLaws.{bytes-none, bytes-entry, details#, entry-length}
+use Rattle.names.proofs.SameLaws.{never, same-equal}
 use Rattle.layout.proofs.BareLaws.{list-base, list-alone, list-under}
 
 -- ---------------------------------------------------------------- equal names
-
-pub never : {A : Type 0} → false ≡ true → A
-never e = absurd (let z : _≡_ {A = ℕ} 0 1 = cc in omega arith)
-
-and-both : (a b : Bool) → (a && b) ≡ true → (a ≡ true) × (b ≡ true)
-and-both true b h = (refl, h)
-and-both false b h = never h
-
-pub same-equal : (a b : List ℕ) → same a b ≡ true → a ≡ b
-unfolding same
-same-equal [] [] h = refl
-same-equal [] (y ∷ ys) h = never h
-same-equal (x ∷ xs) [] h = never h
-same-equal (x ∷ xs) (y ∷ ys) h =
-    let both = and-both (eqb x y) (same xs ys) h in
-    λ i. eqb-true x y (both .0) i ∷ same-equal xs ys (both .1) i
 
 eqb-sym : (x y : ℕ) → eqb x y ≡ eqb y x
 eqb-sym x y = go (eqb x y) refl

@@ -2,8 +2,9 @@
 // `definition` and `text`.
 ghost use mathlib.Core.Path.{_≡_};
 ghost use Prim.Native.Nat.{_+_, _<_};
-ghost use Rattle.definition.specs.Basic.{part};
+ghost use Rattle.definition.specs.Basic.{part, same, uppers};
 ghost use Rattle.definition.specs.Fold.{sameName, sameSpelling};
+ghost use Rattle.names.specs.Apart.{Apart};
 use definition::Span;
 
 // The part of the text that a span fills, cut off at the text's end.
@@ -22,18 +23,50 @@ pub fn part_of(text: &[u8], w: Span) -> &[u8]
     &text[start..end]
 }
 
+// Whether two words differ where it is cheap to see: in length, or in the last byte, case aside. Most do that are compared one after the other.
+fn ends_apart(a: &[u8], b: &[u8]) -> bool
+    ensures { λ r. ⌜ Apart (uppers (now (a .entry))) (uppers (now (b .entry))) r ⌝ }
+{
+    if a.len() < b.len() {
+        return true;
+    }
+    if b.len() < a.len() {
+        return true;
+    }
+    let n = a.len();
+    if n == 0 {
+        return false;
+    }
+    let x = text::upper(a[n - 1]);
+    let y = text::upper(b[n - 1]);
+    if x == y {
+        return false;
+    }
+    true
+}
+
+// Whether two words are the same, case aside.
+fn same_words(a: &[u8], b: &[u8]) -> bool
+    ensures { λ r. ⌜ r ≡ same (uppers (now (a .entry))) (uppers (now (b .entry))) ⌝ }
+{
+    if ends_apart(a, b) {
+        return false;
+    }
+    text::same_name(a, b)
+}
+
 // Whether two names are the same, case aside; an absent one means FILLER.
 pub fn same_names(text: &[u8], a: Span, b: Span) -> bool
     ensures { λ r. ⌜ r ≡ sameName (now (text .entry)) a b ⌝ }
 {
     if 0 < a.len {
         if 0 < b.len {
-            return text::same_name(part_of(text, a), part_of(text, b));
+            return same_words(part_of(text, a), part_of(text, b));
         }
-        return text::same_name(part_of(text, a), b"FILLER");
+        return same_words(part_of(text, a), b"FILLER");
     }
     if 0 < b.len {
-        return text::same_name(b"FILLER", part_of(text, b));
+        return same_words(b"FILLER", part_of(text, b));
     }
     true
 }

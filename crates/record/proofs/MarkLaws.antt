@@ -20,7 +20,7 @@ use Rattle.rows.specs.Table.{cell, spanAt}
 use Rattle.redefines.specs.Targets.{isTarget}
 use Rattle.places.specs.Places.{RowLinked, Linked}
 use Rattle.redefines.proofs.SearchLaws.{if-most, row-most, back, back-none, back-step}
-use Rattle.layout.proofs.SizeLaws.{never}
+use Rattle.names.proofs.SameLaws.{never}
 use Rattle.unions.specs.Shown.{unionOf, nextIn, Marked}
 use Rattle.unions.proofs.BaseLaws.{if-not}
 use Rattle.record.specs.Marks.{firstFrom}

@@ -14,7 +14,8 @@ use Rattle.rows.specs.Columns.{NAME, REDEFINES, BEFORE}
 use Rattle.rows.specs.Table.{cell, spanAt}
 use Rattle.redefines.specs.Targets.{seenFrom, offsetOf, baseFrom}
 use Rattle.redefines.proofs.SearchLaws.{row-most, row-found, back, back-step}
-use Rattle.layout.proofs.SizeLaws.{never, same-sym, same-first}
+use Rattle.layout.proofs.SizeLaws.{same-sym, same-first}
+use Rattle.names.proofs.SameLaws.{never}
 use Rattle.unions.specs.Shown.{Open}
 
 pub if-not : (b : Bool) {x y z : ℕ} → (x ≡ z → ⊥) → (b ≡ false → y ≡ z → ⊥) → (if b then x else y) ≡ z → ⊥

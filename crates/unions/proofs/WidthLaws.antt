@@ -19,7 +19,7 @@ use Rattle.rows.specs.Columns.{NAME, REDEFINES, OFFSET, BASE, NEXT}
 use Rattle.rows.specs.Table.{cell, spanAt, statementAt, statementsFrom}
 use Rattle.places.proofs.RowLaws.{children-end, forest-empty, forest-split}
 use Rattle.places.proofs.EntriesLaws.{next-row}
-use Rattle.layout.proofs.SizeLaws.{never}
+use Rattle.names.proofs.SameLaws.{never}
 use Rattle.redefines.specs.Targets.{isTarget, baseAfter}
 use Rattle.places.specs.Places.{entryIn, rowsForest}
 use Rattle.places.specs.Children.{ChildrenEnd, Numbered}

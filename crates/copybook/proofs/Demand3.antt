@@ -1,47 +1,30 @@
--- Demand 3 of what the code answers: from the contracts of `layout_listing` and `byte_owner` alone, and the definition's `demand3`.
+-- Demand 3 of what the code answers: from the contracts of `layout_listing` and `byte_owner` alone, and the
+-- definition's `demand3`.
 -- Assumes nothing.
 use Prim.Native.Nat.{ℕ, _≤_, _<_}
 use mathlib.Core.Path.{_≡_, refl, sym, _∙_, ap, ap₂}
 use mathlib.Core.Bool.{Bool, true, false}
+use mathlib.Core.Logic.{_⊎_, inl, inr}
 use mathlib.Core.List.{List, [], _++_}
 use native.Mathlib.Omega.{arith}
 use lib.Dec.{ltb}
 use lib.ListN.{length, take, drop}
 use lib.Seq.{take-append-seam, drop-append-seam}
-use borrow.Author.Tests.{le-ltb}
+use borrow.Author.Tests.{le-ltb, ltb-true}
 use Rattle.definition.specs.declared.Owner.{Owner}
+use Rattle.definition.specs.declared.Refusal.{Refusal}
 use Rattle.definition.specs.declared.Writing.{Writing}
 use Rattle.definition.specs.Limits.{leastWork}
 use Rattle.definition.specs.Basic.{Answer, refuse, give, _>>=_, refuseIf}
-use Rattle.definition.specs.Calls.{After, entryChecks, recordFields, fitting, layoutListing, ownerIn, written, outputAfter}
+use Rattle.definition.specs.Calls.{After, entryChecks, recordFields, entries, fitting, layoutListing, ownerIn, written, writingOf, outputAfter}
+use Rattle.definition.specs.Fold.{Entries}
 use Rattle.definition.specs.Listing.{listing}
 use Rattle.definition.specs.Statement.{statements}
 use Rattle.definition.specs.Tree.{Forest, forest, fields}
 use Rattle.definition.specs.Words.{statementWords}
 use Rattle.definition.proofs.Answers.{give-next, through, given-same}
 use Rattle.definition.proofs.Demand3.{demand3 as defined, read-fields, refuses-40, refuses-41}
-use Rattle.copybook.specs.Answered.{Listing, Owns, Answered}
-
--- ---------------------------------------------------------------- the listing that was written
-
--- the bytes that a call wrote
-record Wrote (a : Answer (List ℕ)) (out out′ : List ℕ) (n : ℕ) : Type 0 where
-  bytes : List ℕ
-  given : a ≡ give bytes
-  long : n ≡ length bytes
-  after : out′ ≡ bytes ++ drop (length bytes) out
-
-wrote : (a : Answer (List ℕ)) (out out′ : List ℕ) (n : ℕ) → give n ≡ written a → out′ ≡ outputAfter a out → Wrote a out out′ n
-wrote (refuse r) out out′ n h o = absurd (let z : _≡_ {A = ℕ} 0 1 = cc in omega arith)
-wrote (give bs) out out′ n h o = record { bytes = bs; given = refl; long = given-same h; after = o }
-
--- what fits is given as it is
-fits : (room : ℕ) (bs cs : List ℕ) → fitting room bs ≡ give cs → bs ≡ cs
-fits room bs cs h = by-test (ltb room (length bs)) refl
-  where
-    by-test : (b : Bool) → ltb room (length bs) ≡ b → bs ≡ cs
-    by-test true e = absurd (let z : _≡_ {A = ℕ} 0 1 = cc in omega arith)
-    by-test false e = given-same (rw e at h)
+use Rattle.copybook.specs.Answered.{Listing, Owns, Accepted, ListingWritten, TooShort, Answered}
 
 -- ---------------------------------------------------------------- the byte owner
 
@@ -63,23 +46,81 @@ module _ (text : List ℕ) (n : ℕ) (f : Forest) (read : recordFields text n �
 
 -- ---------------------------------------------------------------- the demand
 
--- Every call of `layout_listing` that writes a listing keeps demand 3.
-pub demand3 :
-    (text out work : List ℕ) (n : ℕ) (out′ work′ : List ℕ) →
-    Listing text out work (Writing.Written n) out′ work′ →
-    Answered text out work n out′
-unfolding layoutListing
-demand3 text out work n out′ work′ h =
-    let w = wrote (layoutListing text (length work) (length out)) out out′ n (ap (λ (x : After ℕ). x .answer) h) (ap (λ (x : After ℕ). x .output) h) in
-    through _ _ (w .given) λ es e q.
-    let same : listing es ≡ w .bytes = fits (length out) (listing es) (w .bytes) q in
-    let k = defined text (length work) es e in
-    record {
+-- the refusal is the same where the answers are
+refusal-same : {A : Type 0} {r q : Refusal} → _≡_ {A = Answer A} (refuse r) (refuse q) → r ≡ q
+refusal-same h = cc
+
+-- an accepted copybook
+module _ (text out work : List ℕ) (es : Entries) (read : entries text (length work) ≡ give es) where
+  accepted : Accepted text work es
+  accepted =
+      let k = defined text (length work) es read in
+      record {
+        kept = k;
+        names = λ free q l.
+            owns text (length work) (k .of) (k .read) q
+            (sym (read-fields text (length work) (k .of) (k .read) .1 q) ∙ k .demand free .named q l);
+        ends = λ free q l.
+            owns text (length work) (k .of) (k .read) q (refuses-41 text (k .of) es (k .laidOut) free q l);
+        refuses = λ over q.
+            owns text (length work) (k .of) (k .read) q (refuses-40 text (k .of) es (k .laidOut) over q);
+      }
+
+  -- its listing has room, or hasn't
+  answered :
+      (b : Bool) → ltb (length out) (length (listing es)) ≡ b →
+      (r : Writing) {out′ : List ℕ} →
+      writingOf r ≡ written (fitting (length out) (listing es)) →
+      out′ ≡ outputAfter (fitting (length out) (listing es)) out →
+      Answered text out work r out′
+  answered true e (Writing.Written n) h o = absurd (let z : _≡_ {A = ℕ} 0 1 = cc in omega arith)
+  answered true e (Writing.Refused r) h o = (
+    rw e at o,
+    inl (record {
       shown = es;
-      written = ap₂ take (w .long) (w .after) ∙ take-append-seam (w .bytes) (drop (length (w .bytes)) out) ∙ sym same;
-      behind = ap₂ drop (w .long) (w .after) ∙ drop-append-seam (w .bytes) (drop (length (w .bytes)) out) ∙ ap (λ (m : ℕ). drop m out) (sym (w .long));
-      kept = k;
-      names = λ free p l. owns text (length work) (k .of) (k .read) p (sym (read-fields text (length work) (k .of) (k .read) .1 p) ∙ k .demand free .named p l);
-      ends = λ free p l. owns text (length work) (k .of) (k .read) p (refuses-41 text (k .of) es (k .laidOut) free p l);
-      refuses = λ over p. owns text (length work) (k .of) (k .read) p (refuses-40 text (k .of) es (k .laidOut) over p);
-    }
+      short = ltb-true (length out) (length (listing es)) e;
+      told = refusal-same (rw e at h);
+      accepted = accepted;
+    }),
+  )
+  answered false e (Writing.Refused r) h o = absurd (let z : _≡_ {A = ℕ} 0 1 = cc in omega arith)
+  answered false e (Writing.Written n) h o =
+      let bs = listing es in
+      let long : n ≡ length bs = given-same (rw e at h) in
+      let after : _ ≡ bs ++ drop (length bs) out = rw e at o in
+      record {
+        shown = es;
+        written = ap₂ take long after ∙ take-append-seam bs (drop (length bs) out);
+        behind =
+            ap₂ drop long after ∙ drop-append-seam bs (drop (length bs) out) ∙ ap (λ (m : ℕ). drop m out) (sym long);
+        accepted = accepted;
+      }
+
+-- a copybook that the reader refuses
+not-read :
+    (text out work : List ℕ) (q : Refusal) → entries text (length work) ≡ refuse q →
+    (r : Writing) {out′ : List ℕ} →
+    writingOf r ≡ refuse q →
+    out′ ≡ out →
+    Answered text out work r out′
+not-read text out work q e (Writing.Written n) h o = absurd (let z : _≡_ {A = ℕ} 0 1 = cc in omega arith)
+not-read text out work q e (Writing.Refused r) h o = (o, inr (e ∙ ap refuse (sym (refusal-same h))))
+
+-- Every call of `layout_listing` keeps demand 3.
+pub demand3 :
+    (text out work : List ℕ) (r : Writing) (out′ work′ : List ℕ) →
+    Listing text out work r out′ work′ →
+    Answered text out work r out′
+unfolding layoutListing _>>=_
+demand3 text out work r out′ work′ h = by-reading (entries text (length work)) refl
+  where
+    answer : writingOf r ≡ written (layoutListing text (length work) (length out))
+    answer = ap (λ (x : After ℕ). x .answer) h
+
+    output : out′ ≡ outputAfter (layoutListing text (length work) (length out)) out
+    output = ap (λ (x : After ℕ). x .output) h
+
+    by-reading : (a : Answer Entries) → entries text (length work) ≡ a → Answered text out work r out′
+    by-reading (give es) e =
+        answered text out work es e (ltb (length out) (length (listing es))) refl r (rw e at answer) (rw e at output)
+    by-reading (refuse q) e = not-read text out work q e r (rw e at answer) (rw e at output)

@@ -15,8 +15,9 @@ use Rattle.definition.specs.Details.{Detail, detail, detailsIn, detailBytes, de
 use Rattle.definition.proofs.DetailLaws.{bytes-both, details-length}
 use Rattle.unions.specs.Shown.{listIn}
 use Rattle.listing.specs.Puts.{Put}
-use Rattle.entries.specs.Entered.{Shown, flatIn, itemsFrom, shownAll}
-use Rattle.entries.proofs.FlatLaws.{flat-length}
+use Rattle.table.specs.Items.{itemsFrom}
+use Rattle.table.specs.Entered.{Shown, flatIn, shownAll}
+use Rattle.table.proofs.FlatLaws.{flat-length}
 use Rattle.details.specs.Detailed.{standing, clausePlaces, flatDetails, Within, Listed, detailsOf, Tabled}
 
 -- the parts of an entry's details, in the order in which they are put

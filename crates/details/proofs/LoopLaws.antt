@@ -14,10 +14,11 @@ use Rattle.definition.proofs.DetailLaws.{detail-length}
 use Rattle.definition.proofs.Lists.{order}
 use Rattle.listing.specs.Puts.{Put}
 use Rattle.listing.proofs.PutLaws.{put-none, _and_}
-use Rattle.entries.specs.declared.Item.{Item}
-use Rattle.entries.specs.Entered.{Shown, itemAt, ownOf, shownOf, Sound}
-use Rattle.entries.proofs.OwnLaws.{sound-read}
-use Rattle.entries.proofs.LoopLaws.{all, rest, rest-all, At, at-starts, none-left, rest-next, at-fits, at-sound, at-next}
+use Rattle.table.specs.declared.Item.{Item}
+use Rattle.table.specs.Items.{itemAt}
+use Rattle.table.specs.Entered.{Shown, ownOf, shownOf, Sound}
+use Rattle.table.proofs.OwnLaws.{sound-read}
+use Rattle.table.proofs.LoopLaws.{all, rest, rest-all, At, at-starts, none-left, rest-next, at-fits, at-sound, at-next}
 use Rattle.details.specs.Detailed.{firstIn, detailIn, flatDetails, Within, farthest, First, There, Listed}
 
 -- ---------------------------------------------------------------- one entry

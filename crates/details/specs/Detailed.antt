@@ -11,7 +11,8 @@ use Rattle.definition.specs.Fold.{foldedAll}
 use Rattle.definition.specs.Listing.{flag, spanBytes}
 use Rattle.definition.specs.Details.{Detail, detail, detailBytes, entriesDetails, height}
 use Rattle.unions.specs.Shown.{listIn}
-use Rattle.entries.specs.Entered.{Shown, itemAt, itemsFrom, shownAll, Sound, Rows, Entered}
+use Rattle.table.specs.Items.{itemAt, itemsFrom}
+use Rattle.table.specs.Entered.{Shown, shownAll, Sound, Rows, Entered}
 
 -- ---------------------------------------------------------------- the parts of an entry's details
 

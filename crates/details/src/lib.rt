@@ -7,7 +7,8 @@ ghost use lib.ListN.{length, getD, replicate};
 ghost use Rattle.definition.specs.Calls.{afterWriting, fitting, left, writingOf};
 ghost use Rattle.definition.specs.Details.{detail, detailBytes};
 ghost use Rattle.listing.specs.Puts.{Countable, Put};
-ghost use Rattle.entries.specs.Entered.{itemAt, itemsFrom, shownOf, shownAll};
+ghost use Rattle.table.specs.Items.{itemAt, itemsFrom};
+ghost use Rattle.table.specs.Entered.{shownOf, shownAll};
 ghost use Rattle.details.specs.Detailed.{standing, clausePlaces, farthest, First, detailIn, flatDetails, There, Listed, detailsOf, Tabled};
 use definition::Entry;
 use definition::Refusal;
@@ -61,7 +62,7 @@ fn depth_of(entries: &[u32], k: usize) -> usize
     requires { ⌜ 7 * k + 7 ≤ length (now entries) ⌝ }
     ensures { λ r. ⌜ r ≡ itemAt (now (entries .entry)) k .depth ⌝ }
 {
-    let x = entries::item_at(entries, k);
+    let x = table::item_at(entries, k);
     x.depth
 }
 
@@ -70,9 +71,9 @@ fn first_of(work: &[u32], entries: &[u32], k: usize, starts: &[usize; DEPTHS]) -
     requires { ⌜ There (now work) (now entries) k × (getD (now starts) (itemAt (now entries) k .depth) 0 ≤ farthest) ⌝ }
     ensures { λ r. ⌜ First (now (starts .entry)) (shownOf (now (work .entry)) (itemAt (now (entries .entry)) k)) r ⌝ }
 {
-    let x = entries::item_at(entries, k);
+    let x = table::item_at(entries, k);
     let depth = x.depth;
-    let offset = entries::offset_of(work, x);
+    let offset = table::offset_of(work, x);
     starts[depth] + offset
 }
 
@@ -88,11 +89,11 @@ fn put_own(
     requires { ⌜ There (now work) (now entries) k × (at ≤ 4294967295) ⌝ }
     ensures { λ r. ⌜ Put (now (out .entry)) at (detailBytes (detailIn first (shownOf (now (work .entry)) (itemAt (now (entries .entry)) k)))) r (now (out .exit)) ⌝ }
 {
-    let x = entries::item_at(entries, k);
+    let x = table::item_at(entries, k);
     put_detail(
         out,
         at,
-        entries::own_of(work, x),
+        table::own_of(work, x),
         x.depth as u8,
         x.below,
         first,

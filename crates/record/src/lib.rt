@@ -95,12 +95,12 @@ pub fn lay_fields(
                 link_unions(work, from, to);
                 let made = entries::make_entries(text, work, from, to, entries);
                 let count = made.next;
-                match entries::ends_fit(work, entries, count) {
+                match table::ends_fit(work, entries, count) {
                     Check::Passed => {
                         return RecordLaid::Record {
                             from,
                             to,
-                            length: entries::record_length(work, entries, count),
+                            length: table::record_length(work, entries, count),
                             count,
                             top: made.count,
                         };

@@ -15,7 +15,7 @@ use Rattle.definition.specs.declared.Step.{Step}
 use Rattle.definition.specs.declared.Step.the-variants.{Go, Fail}
 use Rattle.definition.specs.Basic.{if_then_else_, count}
 use Rattle.definition.specs.Statement.{key, keywordOf, noClauses, withPicture, withDepending, withRedefines, withSign, counted, begin, onClause, onDepending, onTimes, onSign, clauseStep, separated, step}
-use Rattle.clauses.specs.Places.{Inside, Fits}
+use Rattle.clauses.specs.Places.{SpanInside, Fits}
 
 module _ (t : List ℕ) where
   -- no clauses, and one span replaced
@@ -23,13 +23,13 @@ module _ (t : List ℕ) where
   none-fit = record { picture = omega arith; depending = omega arith; redefines = omega arith }
 
   module _ {c : Clauses} (f : Fits t c) where
-    picture-fits : (w : Span) → Inside t w → Fits t (withPicture w c)
+    picture-fits : (w : Span) → SpanInside t w → Fits t (withPicture w c)
     picture-fits w h = record { picture = h; depending = f .depending; redefines = f .redefines }
 
-    depending-fits : (w : Span) → Inside t w → Fits t (withDepending w c)
+    depending-fits : (w : Span) → SpanInside t w → Fits t (withDepending w c)
     depending-fits w h = record { picture = f .picture; depending = h; redefines = f .redefines }
 
-    redefines-fits : (w : Span) → Inside t w → Fits t (withRedefines w c)
+    redefines-fits : (w : Span) → SpanInside t w → Fits t (withRedefines w c)
     redefines-fits w h = record { picture = f .picture; depending = f .depending; redefines = h }
 
     sign-fits : (s : SignWords) → Fits t (withSign s c)
@@ -78,7 +78,7 @@ module _ (t : List ℕ) where
       on-sign-fits : StepFits (onSign u c)
       on-sign-fits = sign-fits f (SignWords.Said (key "LEADING" u) false)
 
-      clause-step-fits : (e : Expect) (w : Span) → Inside t w → StepFits (clauseStep e w u c)
+      clause-step-fits : (e : Expect) (w : Span) → SpanInside t w → StepFits (clauseStep e w u c)
       unfolding clauseStep
       clause-step-fits Clause w h = clause-fits
       clause-step-fits IsPicture w h = either (key "IS" u) (Go APicture c) (Go Clause (withPicture w c)) f (picture-fits f w h)
@@ -103,6 +103,6 @@ module _ (t : List ℕ) where
   separated-fits u (Go e c) f = either (key "SEPARATE" u) _ (Go e c) (sign-fits f _) f
 
   -- a word that lies in the text: the step keeps the spans in it
-  pub step-fits : (e : Expect) (w : Span) (u : List ℕ) (c : Clauses) → Inside t w → Fits t c → StepFits (step e w u c)
+  pub step-fits : (e : Expect) (w : Span) (u : List ℕ) (c : Clauses) → SpanInside t w → Fits t c → StepFits (step e w u c)
   unfolding step
   step-fits e w u c h f = separated-fits u (clauseStep e w u c) (clause-step-fits c f u e w h)

@@ -7,11 +7,11 @@ use Rattle.definition.specs.declared.Clauses.{Clauses}
 use Rattle.definition.specs.declared.Span.{Span}
 
 -- a span lies in the text
-abbrev pub Inside : List ℕ → Span → Type 0
-Inside text w = w .start + w .len ≤ length text
+abbrev pub SpanInside : List ℕ → Span → Type 0
+SpanInside text w = w .start + w .len ≤ length text
 
 -- the spans that the clauses name lie in the text
 pub record Fits (text : List ℕ) (c : Clauses) : Type 0 where
-  pub picture : Inside text (c .picture)
-  pub depending : Inside text (c .depending)
-  pub redefines : Inside text (c .redefines)
+  pub picture : SpanInside text (c .picture)
+  pub depending : SpanInside text (c .depending)
+  pub redefines : SpanInside text (c .redefines)

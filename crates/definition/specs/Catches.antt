@@ -56,10 +56,10 @@ sameColumns (c ∷ cs) [] = false
 sameColumns (c ∷ cs) (d ∷ ds) = same c d && sameColumns cs ds
 
 -- an owner in numbers
-abbrev pub ownerNumbers : Owner → List ℕ
-ownerNumbers (Owner.Piece k first place) = 1 ∷ k ∷ first ∷ place ∷ []
-ownerNumbers (Owner.Slack k) = 2 ∷ k ∷ []
-ownerNumbers Owner.Unowned = 0 ∷ []
+abbrev pub ownerShown : Owner → List ℕ
+ownerShown (Owner.Piece k first place) = 1 ∷ k ∷ first ∷ place ∷ []
+ownerShown (Owner.Slack k) = 2 ∷ k ∷ []
+ownerShown Owner.Unowned = 0 ∷ []
 
 -- the answer is such a value, or that refusal: number, position and needed length
 abbrev pub gives : {A : Type 0} → (A → Bool) → Answer A → Bool
@@ -72,27 +72,27 @@ refuses n p l (give a) = false
 
 -- ---------------------------------------------------------------- the table
 
-pub data Row : Type 0 where
+pub data Catch : Type 0 where
   -- a copybook, its record length, whether it is variable, and its columns in the order of the listing
-  accepted : String → ℕ → Bool → List (List ℕ) → Row
+  accepted : String → ℕ → Bool → List (List ℕ) → Catch
   -- a copybook, and the number and position of its refusal
-  turnedDown : String → ℕ → ℕ → Row
+  turnedDown : String → ℕ → ℕ → Catch
   -- a copybook, the length of the lent output, and the bytes of its listing
-  listed : String → ℕ → List ℕ → Row
+  listed : String → ℕ → List ℕ → Catch
   -- a copybook, the length of the lent output, and the needed length of its refusal 31
-  noRoom : String → ℕ → ℕ → Row
+  noRoom : String → ℕ → ℕ → Catch
   -- a copybook, and the bytes of its details
-  detailed : String → List ℕ → Row
+  detailed : String → List ℕ → Catch
   -- a copybook, the length of the lent output, and the needed length of the details' refusal 31
-  noDetails : String → ℕ → ℕ → Row
+  noDetails : String → ℕ → ℕ → Catch
   -- a picture with a usage and a sign, its width, and what it holds
-  pictured : String → Usage → SignClause → ℕ → FieldKind → Row
+  pictured : String → Usage → SignClause → ℕ → FieldKind → Catch
   -- a copybook, a position, and the byte's owner
-  owned : String → ℕ → Owner → Row
+  owned : String → ℕ → Owner → Catch
   -- a copybook, a position, and the number of the refusal
-  notOwned : String → ℕ → ℕ → Row
+  notOwned : String → ℕ → ℕ → Catch
 
-abbrev pub right : Row → Bool
+abbrev pub right : Catch → Bool
 right (accepted text len isVariable cs) =
     gives
     (λ es. eqb (recordLength es) len && (eqb (flag (variable es)) (flag isVariable) && sameColumns (columns es) cs))
@@ -103,10 +103,10 @@ right (noRoom text room needed) = refuses 31 0 needed (layoutListing (bytes text
 right (detailed text l) = gives (same l) (layoutDetails (bytes text) 16384 (length l))
 right (noDetails text room needed) = refuses 31 0 needed (layoutDetails (bytes text) 16384 room)
 right (pictured text u s width kind) = gives (λ p. same (column 0 (p .width) (p .kind)) (column 0 width kind)) (pictureAnswer u s (bytes text))
-right (owned text p o) = gives (λ a. same (ownerNumbers a) (ownerNumbers o)) (byteOwner (bytes text) 16384 p)
+right (owned text p o) = gives (λ a. same (ownerShown a) (ownerShown o)) (byteOwner (bytes text) 16384 p)
 right (notOwned text p n) = refuses n 0 0 (byteOwner (bytes text) 16384 p)
 
-abbrev pub all : List Row → Bool
+abbrev pub all : List Catch → Bool
 all [] = true
 all (r ∷ rs) = elim (right r) [ true ↦ all rs | false ↦ false ]
 
@@ -137,7 +137,7 @@ abbrev pub facts : ℕ → ℕ → ℕ → Bool → ℕ → ℕ → ℕ → Span
 facts at level depth folded below first slack picture over depending =
     le4 at ++ (level ∷ depth ∷ flag folded ∷ le4 below) ++ le8 first ++ le4 slack ++ spanBytes picture ++ spanBytes over ++ spanBytes depending
 
-pub table : List Row
+pub table : List Catch
 table =
     -- empty text: length 0, listing 10 bytes
     accepted "" 0 false []

@@ -18,7 +18,7 @@ use Rattle.redefines.specs.Targets.{offsetOf}
 use Rattle.layout.specs.declared.Start.{Start}
 use Rattle.layout.specs.declared.ItemAnswer.{ItemAnswer}
 use Rattle.layout.specs.declared.LaidList.{LaidList}
-use Rattle.layout.specs.Outcomes.{Outcome, stopped, ready, ItemOutcome, halted, placing}
+use Rattle.layout.specs.Outcomes.{ListOutcome, stopped, ready, ItemOutcome, halted, placing}
 
 -- where an item starts, by the offset that its REDEFINES found: the definition's `start`
 abbrev pub startAt : Statement → Pictured → Option ℕ → ℕ → Answer ℕ
@@ -38,7 +38,7 @@ itemOf (ItemAnswer.Done cursor end) w = placing cursor end w
 itemOf (ItemAnswer.Refused r) w = halted r
 
 -- the same for a list
-abbrev pub listOf : LaidList → List ℕ → Outcome
+abbrev pub listOf : LaidList → List ℕ → ListOutcome
 listOf (LaidList.Done width last) w = ready width last w
 listOf (LaidList.Refused r) w = stopped r
 

@@ -21,11 +21,11 @@ use Rattle.rows.proofs.TableLaws.{statement-same}
 use Rattle.places.specs.Places.{Linked, entriesIn, rowsForest}
 use Rattle.redefines.proofs.SearchLaws.{back-none}
 use Rattle.places.proofs.EntriesLaws.{size-stretch, entry-same, entries-same, linked-same}
-use Rattle.record.specs.Marks.{firstFrom, Kept, Unlinked, UnionsLinked}
+use Rattle.record.specs.Marks.{firstFrom, ColumnsKept, Unlinked, UnionsLinked}
 use Rattle.unions.specs.Shown.{unionOf, listIn, Sized, Tree}
 use Rattle.record.proofs.MarkLaws.{first-same, bases-all, marked-all}
 
-module _ {w w′ : List ℕ} (h : Kept w w′) where
+module _ {w w′ : List ℕ} (h : ColumnsKept w w′) where
   statements-kept : (k n : ℕ) → statementsFrom w k n ≡ statementsFrom w′ k n
   unfolding statementsFrom
   statements-kept k zero = refl
@@ -47,16 +47,16 @@ module _ {w w′ : List ℕ} (h : Kept w w′) where
   sized-kept a b s =
       record { totals = λ k l u. subst (λ (e : Entry). total e ≤ largest) (entry-same w w′ k (λ c m. sym (h .same k c (omega arith)))) (s .totals k l u) }
 
-pub kept-self : (w : List ℕ) → Kept w w
+pub kept-self : (w : List ℕ) → ColumnsKept w w
 kept-self w = record { long = refl; same = λ k c l. refl }
 
-pub kept-on : {w w′ w″ : List ℕ} → Kept w w′ → Kept w′ w″ → Kept w w″
+pub kept-on : {w w′ w″ : List ℕ} → ColumnsKept w w′ → ColumnsKept w′ w″ → ColumnsKept w w″
 kept-on a b = record { long = b .long ∙ a .long; same = λ k c l. b .same k c l ∙ a .same k c l }
 
 -- ---------------------------------------------------------------- a number stored in column NEXT
 
 module _ (w : List ℕ) (a v : ℕ) where
-  pub kept-set : Kept w (set w (ROW * a + NEXT) v)
+  pub kept-set : ColumnsKept w (set w (ROW * a + NEXT) v)
   kept-set = record { long = length-set w (ROW * a + NEXT) v; same = λ k c l. getD-set-other w (ROW * a + NEXT) (ROW * k + c) v 0 (λ e. omega arith) }
 
   pub set-other : (i : ℕ) → (i ≡ a → ⊥) → cell (set w (ROW * a + NEXT) v) i NEXT ≡ cell w i NEXT

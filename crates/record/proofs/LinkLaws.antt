@@ -14,14 +14,14 @@ use Rattle.definition.proofs.Lists.{order}
 use Rattle.rows.specs.Columns.{ROW, BASE, NEXT}
 use Rattle.rows.specs.Table.{cell}
 use Rattle.unions.specs.Shown.{unionOf}
-use Rattle.record.specs.Marks.{linkRow, firstFrom, Kept, Unlinked, UnionsLinked}
+use Rattle.record.specs.Marks.{linkRow, firstFrom, ColumnsKept, Unlinked, UnionsLinked}
 use Rattle.record.proofs.KeptLaws.{kept-self, kept-on, kept-set, set-other, set-own}
 
 -- what the loop keeps: the rows from k on are linked, and an earlier base names the first of them that names it
 pub record Linking (w : List ℕ) (from to k : ℕ) (now : List ℕ) : Type 0 where
   pub start : Unlinked w from to
   pub high : k ≤ to
-  pub kept : Kept w now
+  pub kept : ColumnsKept w now
   pub opened : (i : ℕ) → from ≤ i → i < k → cell w i BASE ≡ 0 → cell now i NEXT ≡ firstFrom w (suc i) k (to - k)
   pub done : (i : ℕ) → from ≤ i → k ≤ i → i < to → cell now i NEXT ≡ firstFrom w (unionOf w i) (suc i) (to - suc i)
 

@@ -24,7 +24,7 @@ firstFrom w u k zero = 0
 firstFrom w u k (suc n) = if eqb (cell w k BASE) u then suc k else firstFrom w u (suc k) n
 
 -- the columns before NEXT are as they were
-pub record Kept (w w′ : List ℕ) : Type 0 where
+pub record ColumnsKept (w w′ : List ℕ) : Type 0 where
   pub long : length w′ ≡ length w
   pub same : (k c : ℕ) → c < NEXT → cell w′ k c ≡ cell w k c
 
@@ -38,5 +38,5 @@ pub record Unlinked (w : List ℕ) (from to : ℕ) : Type 0 where
 
 -- each row from `from` up to `to` names the next of its union
 pub record UnionsLinked (w : List ℕ) (from to : ℕ) (w′ : List ℕ) : Type 0 where
-  pub kept : Kept w w′
+  pub kept : ColumnsKept w w′
   pub nexts : (i : ℕ) → from ≤ i → i < to → cell w′ i NEXT ≡ firstFrom w (unionOf w i) (suc i) (to - suc i)

@@ -5,8 +5,8 @@ ghost use mathlib.Core.Path.{_≡_};
 ghost use mathlib.Core.List.{[], _∷_, reverse};
 ghost use lib.ListN.{length, replicate, drop};
 ghost use Rattle.definition.specs.Picture.{trimStart, trim as trimmed, symbol};
-ghost use Rattle.symbols.specs.Repeats.{Closed, Repeated};
-ghost use Rattle.symbols.specs.Shape.{tallies, runOf, unless, joined, Adds, next, halves, nothing, Counts};
+ghost use Rattle.symbols.specs.Repeats.{ClosedAt, Repeated};
+ghost use Rattle.symbols.specs.Shape.{tallies, runOf, unless, joined, Adds, awaits, halves, nothing, Counts};
 use definition::MOST_SYMBOLS;
 use definition::Refusal;
 use text::Number;
@@ -52,7 +52,7 @@ pub fn trim(s: &[u8]) -> &[u8]
 
 // Where the first `)` of a text stands, or the length of a text that has none.
 fn close_at(s: &[u8]) -> usize
-    ensures { λ r. ⌜ Closed (now (s .entry)) r ⌝ }
+    ensures { λ r. ⌜ ClosedAt (now (s .entry)) r ⌝ }
 {
     let mut i = 0;
     while i < s.len() {
@@ -101,12 +101,12 @@ fn repeat_in(inside: &[u8], at: usize) -> Repeat
 }
 
 // How often a symbol stands, by the text from the place after it on: once, if no `(` is there.
-pub fn repeat_at(picture: &[u8], next: usize, at: usize) -> Repeat
-    ensures { λ r. ⌜ Repeated at (drop next (now (picture .entry))) r ⌝ }
+pub fn repeat_at(picture: &[u8], awaits: usize, at: usize) -> Repeat
+    ensures { λ r. ⌜ Repeated at (drop awaits (now (picture .entry))) r ⌝ }
 {
-    if next < picture.len() {
-        if picture[next] == b'(' {
-            let inside = next + 1;
+    if awaits < picture.len() {
+        if picture[awaits] == b'(' {
+            let inside = awaits + 1;
             return repeat_in(&picture[inside..], at);
         }
         return Repeat::Times { n: 1, skip: 0 };
@@ -116,12 +116,12 @@ pub fn repeat_at(picture: &[u8], next: usize, at: usize) -> Repeat
 
 // The same, for the loop that counts: most symbols have no `(` after them, and `repeat_at`, which others call too, stays out of
 // that loop.
-fn repeat_after(picture: &[u8], next: usize, at: usize) -> Repeat
-    ensures { λ r. ⌜ Repeated at (drop next (now (picture .entry))) r ⌝ }
+fn repeat_after(picture: &[u8], awaits: usize, at: usize) -> Repeat
+    ensures { λ r. ⌜ Repeated at (drop awaits (now (picture .entry))) r ⌝ }
 {
-    if next < picture.len() {
-        if picture[next] == b'(' {
-            return repeat_at(picture, next, at);
+    if awaits < picture.len() {
+        if picture[awaits] == b'(' {
+            return repeat_at(picture, awaits, at);
         }
         return Repeat::Times { n: 1, skip: 0 };
     }
@@ -296,7 +296,7 @@ fn is_symbol(b: u8) -> bool
 
 // What is awaited after a symbol, where nothing was.
 fn first_half(b: u8) -> Half
-    ensures { λ r. ⌜ r ≡ next Half.Nothing b ⌝ }
+    ensures { λ r. ⌜ r ≡ awaits Half.Nothing b ⌝ }
 {
     if b == b'C' {
         return Half::C;
@@ -312,7 +312,7 @@ fn first_half(b: u8) -> Half
 
 // What is awaited after one more symbol.
 fn next_half(p: Half, b: u8) -> Half
-    ensures { λ r. ⌜ r ≡ next p b ⌝ }
+    ensures { λ r. ⌜ r ≡ awaits p b ⌝ }
 {
     match p {
         Half::Nothing => first_half(b),
@@ -374,7 +374,7 @@ pub fn count_symbols(picture: &[u8], at: usize) -> Counted
     while i < picture.len() {
         let b = text::upper(picture[i]);
         let next = i + 1;
-        match repeat_after(picture, next, at) {
+        match repeat_after(picture, awaits, at) {
             Repeat::Times { n, skip } => {
                 let left = (MOST_SYMBOLS - s.symbols) as usize;
                 if left < n {
@@ -384,7 +384,7 @@ pub fn count_symbols(picture: &[u8], at: usize) -> Counted
                         needed: 0,
                     });
                 }
-                i = next + skip;
+                i = awaits + skip;
                 half = half_after(half, b, n);
                 s = add_run(s, b, n as u32);
             }

@@ -26,7 +26,7 @@ use Rattle.places.specs.Children.{ChildrenEnd}
 use Rattle.layout.specs.declared.ItemAnswer.{ItemAnswer}
 use Rattle.layout.specs.declared.LaidList.{LaidList}
 use Rattle.definition.specs.Fold.{foldCheck}
-use Rattle.layout.specs.Outcomes.{Outcome, stopped, ready, layRest, layTable, ItemOutcome, halted, layItem, placeRow}
+use Rattle.layout.specs.Outcomes.{ListOutcome, stopped, ready, layRest, layTable, ItemOutcome, halted, layItem, placeRow}
 use Rattle.layout.specs.Steps.{itemOf, listOf, Room}
 use Rattle.layout.proofs.LayLaws.{list-stop, list-step, list-none, item-within, leaf-stop, leaf-place, leaf-narrow, LaidRows, laid-rows, too-deep, inner-stop, fold-stop, group-place}
 use borrow.Fn.Kinds.{In}
@@ -102,7 +102,7 @@ module _ (t w : List ℕ) (i j left last cursor : ℕ) where
 
   module _ (h : i + 1 < j) (z : left ≡ 0 → ⊥) (f : left ≤ 64) where
     -- the call's list is the inner list
-    called : {o : Outcome} → o ≡ layTable t w (i + 1) j (64 - (left - 1)) → layTable t w (suc i) j (suc (64 - left)) ≡ o
+    called : {o : ListOutcome} → o ≡ layTable t w (i + 1) j (64 - (left - 1)) → layTable t w (suc i) j (suc (64 - left)) ≡ o
     called e =
         let d : suc (64 - left) ≡ 64 - (left - 1) = omega arith in
         sym (e ∙ ap (λ (x : ℕ). layTable t w x j (64 - (left - 1))) (add-one i) ∙ ap (layTable t w (suc i) j) (sym d))

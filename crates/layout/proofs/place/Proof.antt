@@ -23,7 +23,7 @@ use Rattle.redefines.proofs.SearchLaws.{row-found, base-on, back-none}
 use Rattle.limits.specs.Ends.{endOf, endingOf}
 use Rattle.limits.proofs.EndLaws.{ends-at, ends-not}
 use Rattle.layout.specs.declared.Start.{Start}
-use Rattle.layout.specs.Bare.{placed}
+use Rattle.layout.specs.Bare.{placedEntry}
 use Rattle.layout.specs.Outcomes.{halted, placing, afterOwn, placeRow}
 use Rattle.layout.specs.Steps.{startAt, startOf}
 use Rattle.layout.proofs.ItemLaws.{placed-refused, placed-large, placed-fits}
@@ -59,8 +59,8 @@ near : (d : Entry) {x : Ending} {n : ℕ} → endingOf x ≡ endOf d → x ≡ E
 near d px e = omega (arith, ends-at d (sym (ap endingOf e) ∙ px) .starts)
 
 module _ (t w : List ℕ) (i below last cursor : ℕ) (c : Pictured) {s : Statement} (ps : s ≡ statementAt w i) where
-  in-row : {a : Answer Entry} → placed t s c (seenAt w last) cursor ≡ a → afterOwn t w i last below cursor a ≡ placeRow t w i below last cursor c
-  in-row h = sym (ap (λ (x : Statement). afterOwn t w i last below cursor (placed t x c (seenAt w last) cursor)) (sym ps) ∙ ap (afterOwn t w i last below cursor) h)
+  in-row : {a : Answer Entry} → placedEntry t s c (seenAt w last) cursor ≡ a → afterOwn t w i last below cursor a ≡ placeRow t w i below last cursor c
+  in-row h = sym (ap (λ (x : Statement). afterOwn t w i last below cursor (placedEntry t x c (seenAt w last) cursor)) (sym ps) ∙ ap (afterOwn t w i last below cursor) h)
 
   module _ {k : ℕ} (pk : k ≡ targetFrom t (s .clauses .redefines) w last) where
     -- the offset of the sibling that the REDEFINES names
@@ -152,14 +152,14 @@ returns : tie.Need-returns
 returns c =
     let a = c .before .before .before .before .before .before .before .before .before .before .before .before .before .before .before .before .before .before .before .before .before .before .before .before .before .before .args in
     let placed = c .before .before .before in
-    let found = placed .before .before in
+    let found = placedEntry .before .before in
     let end = found .before .before .before in
     let made = end .before .before .before in
     let start = made .before .before .before in
     let target = start .before .before .before .before in
     fits (a .text .now) (a .work .now) (a .i) (a .below) (a .last) (a .cursor) (a .c) (target .before .before .before .before .statement-at .ensures) (target .target-of .ensures .0)
     (start .before .before .start-of .ensures) (start .offset .given .1) (made .before .slack-from .ensures) (made .entry-of .ensures) (end .before .before .entry-end .ensures) (end .end .given .1)
-    (found .find-row .ensures .0) (placed .put-place .ensures) (c .advanced .ensures)
+    (found .find-row .ensures .0) (placedEntry .put-place .ensures) (c .advanced .ensures)
 
 returns-2 : tie.Need-returns-2
 returns-2 c = search large

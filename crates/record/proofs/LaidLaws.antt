@@ -40,8 +40,8 @@ use Rattle.layout.proofs.LayLaws.{LaidRows, laid-rows, stopped-was}
 use Rattle.places.proofs.RowLaws.{children-end, forest-split, forest-empty}
 use Rattle.places.proofs.PlaceLaws.{length-places, statements-places, places-next}
 use Rattle.unions.specs.Shown.{listIn}
-use Rattle.record.specs.Marks.{UnionsLinked}
-use Rattle.record.proofs.KeptLaws.{forest-kept, list-kept, Ready, marked-tree}
+use Rattle.unions.specs.Marks.{UnionsLinked}
+use Rattle.unions.proofs.KeptLaws.{forest-kept, list-kept, Ready, marked-tree}
 use Rattle.record.specs.declared.RecordLaid.{RecordLaid}
 use Rattle.record.specs.Laying.{FieldsFrom, fieldsOf, laidOf, Listed, RecordIs, recordOf}
 

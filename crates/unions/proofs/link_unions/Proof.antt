@@ -1,9 +1,9 @@
--- `record::link_unions` meets its contract: the rows from k on are linked.
+-- `unions::link_unions` meets its contract: the rows from k on are linked.
 -- Assumes nothing.
 use borrow.Author.Needs.{needs}
-use Rattle.record.proofs.LinkLaws.{Linking, linking-starts, linking-row, linking-on, linking-ends}
-use Rattle.record.proofs.link_unions.Statement.{statement}
-use Rattle.record.proofs.link_unions.Tie as tie
+use Rattle.unions.proofs.LinkLaws.{Linking, linking-starts, linking-row, linking-on, linking-ends}
+use Rattle.unions.proofs.link_unions.Statement.{statement}
+use Rattle.unions.proofs.link_unions.Tie as tie
 
 abbrev Inv-loop : tie.InvT-loop
 Inv-loop work₀ from to k₀ work k = Linking work₀ from to k work

@@ -1,4 +1,4 @@
--- `record::link_row` meets its contract: a row with a base, and one without.
+-- `unions::link_row` meets its contract: a row with a base, and one without.
 -- Assumes nothing.
 use borrow.Author.Needs.{needs}
 use Prim.Native.Nat.{ℕ, _+_, _*_, _-_, _≤_, _<_}
@@ -11,9 +11,9 @@ use borrow.Author.Tests.{lt-ltb, le-ltb}
 use Rattle.definition.specs.Basic.{if_then_else_}
 use Rattle.rows.specs.Columns.{ROW, BASE, NEXT}
 use Rattle.rows.specs.Table.{cell}
-use Rattle.record.specs.Marks.{linkRow}
-use Rattle.record.proofs.link_row.Statement.{statement}
-use Rattle.record.proofs.link_row.Tie as tie
+use Rattle.unions.specs.Marks.{linkRow}
+use Rattle.unions.proofs.link_row.Statement.{statement}
+use Rattle.unions.proofs.link_row.Tie as tie
 
 -- row k before what a base names
 abbrev linkedTo : List ℕ → ℕ → ℕ → List ℕ

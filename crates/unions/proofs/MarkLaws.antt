@@ -21,9 +21,9 @@ use Rattle.redefines.specs.Targets.{isTarget}
 use Rattle.places.specs.Places.{RowLinked, Linked}
 use Rattle.redefines.proofs.SearchLaws.{if-most, row-most, back, back-none, back-step}
 use Rattle.names.proofs.SameLaws.{never}
 use Rattle.unions.specs.Shown.{unionOf, nextIn, Marked}
 use Rattle.unions.proofs.BaseLaws.{if-not}
-use Rattle.record.specs.Marks.{firstFrom}
+use Rattle.unions.specs.Marks.{firstFrom}
 
 -- ---------------------------------------------------------------- the first row that names a base
 

@@ -21,9 +21,9 @@ use Rattle.rows.proofs.TableLaws.{statement-same}
 use Rattle.places.specs.Places.{Linked, entriesIn, rowsForest}
 use Rattle.redefines.proofs.SearchLaws.{back-none}
 use Rattle.places.proofs.EntriesLaws.{size-stretch, entry-same, entries-same, linked-same}
-use Rattle.record.specs.Marks.{firstFrom, ColumnsKept, Unlinked, UnionsLinked}
+use Rattle.unions.specs.Marks.{firstFrom, ColumnsKept, Unlinked, UnionsLinked}
 use Rattle.unions.specs.Shown.{unionOf, listIn, Sized, Tree}
-use Rattle.record.proofs.MarkLaws.{first-same, bases-all, marked-all}
+use Rattle.unions.proofs.MarkLaws.{first-same, bases-all, marked-all}
 
 module _ {w w′ : List ℕ} (h : ColumnsKept w w′) where
   statements-kept : (k n : ℕ) → statementsFrom w k n ≡ statementsFrom w′ k n

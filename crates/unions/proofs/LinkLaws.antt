@@ -13,9 +13,9 @@ use Rattle.definition.specs.Basic.{if_then_else_}
 use Rattle.definition.proofs.Lists.{order}
 use Rattle.rows.specs.Columns.{ROW, BASE, NEXT}
 use Rattle.rows.specs.Table.{cell}
 use Rattle.unions.specs.Shown.{unionOf}
-use Rattle.record.specs.Marks.{linkRow, firstFrom, ColumnsKept, Unlinked, UnionsLinked}
-use Rattle.record.proofs.KeptLaws.{kept-self, kept-on, kept-set, set-other, set-own}
+use Rattle.unions.specs.Marks.{linkRow, firstFrom, ColumnsKept, Unlinked, UnionsLinked}
+use Rattle.unions.proofs.KeptLaws.{kept-self, kept-on, kept-set, set-other, set-own}
 
 -- what the loop keeps: the rows from k on are linked, and an earlier base names the first of them that names it
 pub record Linking (w : List ℕ) (from to k : ℕ) (now : List ℕ) : Type 0 where

@@ -101,12 +101,12 @@ fn repeat_in(inside: &[u8], at: usize) -> Repeat
 }
 
 // How often a symbol stands, by the text from the place after it on: once, if no `(` is there.
-pub fn repeat_at(picture: &[u8], awaits: usize, at: usize) -> Repeat
-    ensures { λ r. ⌜ Repeated at (drop awaits (now (picture .entry))) r ⌝ }
+pub fn repeat_at(picture: &[u8], next: usize, at: usize) -> Repeat
+    ensures { λ r. ⌜ Repeated at (drop next (now (picture .entry))) r ⌝ }
 {
-    if awaits < picture.len() {
-        if picture[awaits] == b'(' {
-            let inside = awaits + 1;
+    if next < picture.len() {
+        if picture[next] == b'(' {
+            let inside = next + 1;
             return repeat_in(&picture[inside..], at);
         }
         return Repeat::Times { n: 1, skip: 0 };
@@ -116,12 +116,12 @@ pub fn repeat_at(picture: &[u8], awaits: usize, at: usize) -> Repeat
 
 // The same, for the loop that counts: most symbols have no `(` after them, and `repeat_at`, which others call too, stays out of
 // that loop.
-fn repeat_after(picture: &[u8], awaits: usize, at: usize) -> Repeat
-    ensures { λ r. ⌜ Repeated at (drop awaits (now (picture .entry))) r ⌝ }
+fn repeat_after(picture: &[u8], next: usize, at: usize) -> Repeat
+    ensures { λ r. ⌜ Repeated at (drop next (now (picture .entry))) r ⌝ }
 {
-    if awaits < picture.len() {
-        if picture[awaits] == b'(' {
-            return repeat_at(picture, awaits, at);
+    if next < picture.len() {
+        if picture[next] == b'(' {
+            return repeat_at(picture, next, at);
         }
         return Repeat::Times { n: 1, skip: 0 };
     }
@@ -374,7 +374,7 @@ pub fn count_symbols(picture: &[u8], at: usize) -> Counted
     while i < picture.len() {
         let b = text::upper(picture[i]);
         let next = i + 1;
-        match repeat_after(picture, awaits, at) {
+        match repeat_after(picture, next, at) {
             Repeat::Times { n, skip } => {
                 let left = (MOST_SYMBOLS - s.symbols) as usize;
                 if left < n {
@@ -384,7 +384,7 @@ pub fn count_symbols(picture: &[u8], at: usize) -> Counted
                         needed: 0,
                     });
                 }
-                i = awaits + skip;
+                i = next + skip;
                 half = half_after(half, b, n);
                 s = add_run(s, b, n as u32);
             }

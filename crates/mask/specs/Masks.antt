@@ -28,7 +28,7 @@ put k (give l) out = sets out k (mask l)
 -- the mask of a run was written from k on, and r is the place after it
 pub record Wrote (out : List ℕ) (k b n r : ℕ) (after : List ℕ) : Type 0 where
   pub next : r ≡ k + length (mask (replicate n b))
-  pub same : maskAfter ≡ sets out k (mask (replicate n b))
+  pub same : after ≡ sets out k (mask (replicate n b))
 
 -- the mask of a picture whose text was checked
 abbrev pub maskIn : Usage → List ℕ → ℕ → Answer (List ℕ)

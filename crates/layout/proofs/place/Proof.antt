@@ -152,14 +152,14 @@ returns : tie.Need-returns
 returns c =
     let a = c .before .before .before .before .before .before .before .before .before .before .before .before .before .before .before .before .before .before .before .before .before .before .before .before .before .before .args in
     let placed = c .before .before .before in
-    let found = placedEntry .before .before in
+    let found = placed .before .before in
     let end = found .before .before .before in
     let made = end .before .before .before in
     let start = made .before .before .before in
     let target = start .before .before .before .before in
     fits (a .text .now) (a .work .now) (a .i) (a .below) (a .last) (a .cursor) (a .c) (target .before .before .before .before .statement-at .ensures) (target .target-of .ensures .0)
     (start .before .before .start-of .ensures) (start .offset .given .1) (made .before .slack-from .ensures) (made .entry-of .ensures) (end .before .before .entry-end .ensures) (end .end .given .1)
-    (found .find-row .ensures .0) (placedEntry .put-place .ensures) (c .advanced .ensures)
+    (found .find-row .ensures .0) (placed .put-place .ensures) (c .advanced .ensures)
 
 returns-2 : tie.Need-returns-2
 returns-2 c = search large

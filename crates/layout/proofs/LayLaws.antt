@@ -25,8 +25,9 @@ use Rattle.rows.specs.Columns.{ROW, AT, NAME, OFFSET, BEFORE}
 use Rattle.rows.specs.Table.{cell, spanAt, statementAt}
 use Rattle.places.specs.Places.{putPlaces, lastOf, entriesIn, rowsForest}
 use Rattle.redefines.specs.Targets.{placeAt, seenFrom, seenAt}
+use Rattle.redefines.specs.Prints.{Printed}
 use Rattle.places.specs.Children.{ChildrenEnd}
-use Rattle.places.proofs.PlaceLaws.{kept-places, before-places, statement-places, statements-places, first-offset, first-last, seen-low, seen-in, seen-same}
+use Rattle.places.proofs.PlaceLaws.{kept-places, before-places, statement-places, statements-places, first-offset, first-last, seen-low, seen-in, seen-same, printed-places}
 use Rattle.places.proofs.RowLaws.{forest-empty, forest-split, children-end}
 use Rattle.places.proofs.EntriesLaws.{size-stretch, rows-forest, Held, places-held, next-row, of-size}
 use Rattle.limits.proofs.EndLaws.{within}
@@ -164,6 +165,16 @@ item-within text w i j depth last cursor h q =
     let n = subst (λ (z : Entry). entryEnd z ≤ largest) (y .own) (within (entryOf (statementAt w i) (y .contents) (y .offset) (y .slack)) (y .fits) .ends) in
     record { moves = subst (λ (z : ℕ). z ≤ largest) (g .moves) (advance-within cursor (g .laid .own) h n); ends = subst (λ (z : ℕ). z ≤ largest) (g .ends) n }
 
+-- the fingerprints stay
+pub item-printed :
+    (text w : List ℕ) (i j depth last cursor : ℕ) {c e n : ℕ} {w′ : List ℕ} →
+    layItem text w i j depth last cursor ≡ placing c e w′ →
+    Printed text w n →
+    Printed text w′ n
+item-printed text w i j depth last cursor {n = n} q h =
+    let g = item-given text w i last cursor (bareItem text depth (seenAt w last) cursor (statementAt w i) (rowsForest w (suc i) j)) q in
+    subst (λ (x : List ℕ). Printed text x n) (g .put) (printed-places text (entry (g .laid .own) (g .laid .members) end) w i last h)
+
 -- ---------------------------------------------------------------- one item
 
 -- its own place after its members'
@@ -209,6 +220,10 @@ pub record LaidRows (text w : List ℕ) (a b depth width : ℕ) (w₁ : List ℕ
   pub put : putPlaces text w a 0 (laid .entries) ≡ w₁
   pub many : entries# (laid .entries) ≡ b - a
   pub held : Held text w₁ a 0 (rowsForest w₁ a b) (laid .entries)
+
+-- the fingerprints stay
+pub laid-printed : {text w : List ℕ} {a b depth width n : ℕ} {w₁ : List ℕ} → LaidRows text w a b depth width w₁ → Printed text w n → Printed text w₁ n
+laid-printed {text} {w} {a = a} {n = n} r h = subst (λ (x : List ℕ). Printed text x n) (r .put) (printed-places text (r .laid .entries) w a 0 h)
 
 module _ (text w : List ℕ) (a b depth : ℕ) where
   -- a list begins with no earlier sibling

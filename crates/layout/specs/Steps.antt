@@ -15,6 +15,7 @@ use Rattle.definition.specs.Fold.{Place, find}
 use Rattle.rows.specs.Columns.{ROW, AT, OFFSET, BASE}
 use Rattle.rows.specs.Table.{cell}
 use Rattle.redefines.specs.Targets.{offsetOf}
+use Rattle.redefines.specs.Prints.{Printed}
 use Rattle.layout.specs.declared.Start.{Start}
 use Rattle.layout.specs.declared.ItemAnswer.{ItemAnswer}
 use Rattle.layout.specs.declared.LaidList.{LaidList}
@@ -42,10 +43,11 @@ abbrev pub listOf : LaidList → List ℕ → ListOutcome
 listOf (LaidList.Done width last) w = ready width last w
 listOf (LaidList.Refused r) w = stopped r
 
--- the table has rows up to `to`
-pub record Room (w : List ℕ) (to : ℕ) : Type 0 where
+-- the table has rows up to `to`, with the fingerprints of their names
+pub record Room (text w : List ℕ) (to : ℕ) : Type 0 where
   pub fits : ROW * to ≤ length w
   pub small : to < 4294967296
+  pub printed : Printed text w to
 
 -- 30 for one entry: a redefiner that starts before its base
 abbrev pub checkBase : ℕ → ℕ → Option ℕ → Answer (Unit {0})

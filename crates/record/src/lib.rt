@@ -49,7 +49,7 @@ pub fn lay_fields(
     from: usize,
     to: usize,
 ) -> RecordLaid
-    requires { ⌜ (from ≤ to) × Room (now work) to × (to ≤ mostStatements) × (8400 ≤ length (now entries)) ⌝ }
+    requires { ⌜ (from ≤ to) × Room (now text) (now work) to × (to ≤ mostStatements) × (8400 ≤ length (now entries)) ⌝ }
     ensures { λ r. ⌜ RecordIs (now (text .entry)) (give (rowsForest (now (work .entry)) from to)) r (now (work .exit)) (now (entries .exit)) ⌝ }
 {
     match layout::lay_list(text, work, from, to, DEEPEST) {
@@ -90,6 +90,7 @@ pub fn lay_record(text: &[u8], work: &mut [u32], entries: &mut [u32]) -> RecordL
 {
     match tree::read_rows(text, work) {
         RowsRead::Rows(n) => {
+            redefines::put_prints(text, work, n);
             let from = first_field(work, n);
             return lay_fields(text, work, entries, from, n);
         }

@@ -19,6 +19,7 @@ use Rattle.rows.specs.Columns.{ROW, BASE, NEXT}
 use Rattle.rows.specs.Table.{cell, statementsFrom}
 use Rattle.rows.proofs.TableLaws.{statement-same}
 use Rattle.places.specs.Places.{Linked, entriesIn, rowsForest}
+use Rattle.redefines.specs.Prints.{PrintsPut}
 use Rattle.redefines.proofs.SearchLaws.{back-none}
 use Rattle.places.proofs.EntriesLaws.{size-stretch, entry-same, entries-same, linked-same}
 use Rattle.unions.specs.Marks.{firstFrom, ColumnsKept, Unlinked, UnionsLinked}
@@ -52,6 +53,10 @@ kept-self w = record { long = refl; same = λ k c l. refl }
 
 pub kept-on : {w w′ w″ : List ℕ} → ColumnsKept w w′ → ColumnsKept w′ w″ → ColumnsKept w w″
 kept-on a b = record { long = b .long ∙ a .long; same = λ k c l. b .same k c l ∙ a .same k c l }
+
+-- fingerprints stand behind these columns
+pub prints-kept : {text w w′ : List ℕ} {n : ℕ} → PrintsPut text w n w′ → Kept w w′
+prints-kept p = record { long = p .long; same = λ k c l. p .same k c (omega arith) }
 
 -- ---------------------------------------------------------------- a number stored in column NEXT
 

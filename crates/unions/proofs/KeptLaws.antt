@@ -55,7 +55,7 @@ pub kept-on : {w w′ w″ : List ℕ} → ColumnsKept w w′ → ColumnsKept w�
 kept-on a b = record { long = b .long ∙ a .long; same = λ k c l. b .same k c l ∙ a .same k c l }
 
 -- fingerprints stand behind these columns
-pub prints-kept : {text w w′ : List ℕ} {n : ℕ} → PrintsPut text w n w′ → Kept w w′
+pub prints-kept : {text w w′ : List ℕ} {n : ℕ} → PrintsPut text w n w′ → ColumnsKept w w′
 prints-kept p = record { long = p .long; same = λ k c l. p .same k c (omega arith) }
 
 -- ---------------------------------------------------------------- a number stored in column NEXT

@@ -8,18 +8,18 @@ use lib.ListN.{length}
 use mir.Val.{Fits}
 use mir.Syntax.{w64}
 use Rattle.definition.specs.declared.Token.{Token}
-use Rattle.text.specs.declared.Next.{Next}
-use Rattle.text.specs.declared.Stand.{Stand}
-use Rattle.text.specs.Tokens.{First}
+use Rattle.tokens.specs.declared.Next.{Next}
+use Rattle.tokens.specs.declared.Stand.{Stand}
+use Rattle.tokens.specs.Tokens.{First}
 use Rattle.replay.specs.declared.Reached.{Reached}
 use Rattle.replay.specs.declared.Word.{Word}
 use Rattle.replay.specs.Places.{Later, WordIn, Bounded, Inside, Holds}
 
 -- a token of the text lies within the list
 pub bounded : (all : List Token) (list : List ℕ) (at : ℕ) (r : Next) → First all list at r → Bounded list at r
-bounded all list at (Next.Word start len next) f = record { fits = f .fits; after = record { up = f .up; within = f .within } }
+bounded all list at (Next.Word next start len) f = record { fits = f .fits; after = record { up = f .up; within = f .within } }
 bounded all list at (Next.Stop next) f = record { up = f .up; within = f .within }
-bounded all list at Next.End f = tt
+bounded all list at (Next.End next) f = tt
 
 -- the place that was reached
 pub inside-at : (list : List ℕ) (p : Reached) (at : ℕ) → Inside list p → p ≡ Reached.At at → at ≤ length list
@@ -27,7 +27,7 @@ inside-at list p at i e = rw e at i
 
 module _ (list : List ℕ) (at : ℕ) (r : Next) (b : Bounded list at r) where
   -- the token is a word
-  module _ {start len : ℕ} {next : Stand} (e : r ≡ Next.Word start len next) where
+  module _ {start len : ℕ} {next : Stand} (e : r ≡ Next.Word next start len) where
     pub word-in : WordIn list at start len (next .at)
     word-in = rw e at b
 

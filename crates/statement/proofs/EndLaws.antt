@@ -5,13 +5,12 @@ use mathlib.Core.Path.{_≡_, refl, sym, ap, _∙_}
 use mathlib.Core.List.{List}
 use native.Mathlib.Omega.{arith}
 use lib.ListN.{length}
-use Rattle.definition.specs.declared.Mode.the-variants.{Between}
-use Rattle.text.specs.declared.Stand.{Stand}
-use Rattle.definition.proofs.WordLaws.{tokens-end}
+use Rattle.tokens.specs.declared.Stand.{Stand}
+use Rattle.definition.proofs.WordLaws.{end-after}
 use Rattle.definition.specs.Words.{afterStop}
-use Rattle.text.specs.declared.Next.{Next}
-use Rattle.text.specs.Tokens.{behind, tokensAt, First}
-use Rattle.text.proofs.TokenLaws.{end-first, word-first, stop-first}
+use Rattle.tokens.specs.declared.Next.{Next}
+use Rattle.tokens.specs.Tokens.{saidAt, behind, tokensAt, First}
+use Rattle.tokens.proofs.TokenLaws.{behind-text, end-first, word-first, stop-first}
 use Rattle.statement.specs.Reading.{Ends}
 
 -- the statement that goes on at `from` goes on at `place`
@@ -26,20 +25,20 @@ reached-start h = record { up = omega arith; within = h; rest = refl }
 
 module _ {t : List ℕ} {from place : Stand} (inv : Reached t from place) {r : Next} (f : First (tokensAt t place) t (place .at) r) where
   -- past a word it goes on
-  pub reached-word : {s l : ℕ} {n : Stand} → r ≡ Next.Word s l n → Reached t from n
+  pub reached-word : {s l : ℕ} {n : Stand} → r ≡ Next.Word n s l → Reached t from n
   reached-word e = let w = word-first _ t (place .at) f e in record { up = omega arith; within = w .within; rest = inv .rest ∙ ap afterStop (w .all-are) }
 
   -- it ends at its period, or with the text
   pub ends-stop : {n : Stand} → r ≡ Next.Stop n → Ends t from n
   ends-stop e = let s = stop-first _ t (place .at) f e in record { up = omega arith; within = s .within; rest = inv .rest ∙ ap afterStop (s .all-are) }
 
-  pub ends-text : {n : Stand} → r ≡ Next.End → n ≡ behind (length t) → Ends t from n
-  ends-text e b =
+  pub ends-text : {o n : Stand} → r ≡ Next.End o → n ≡ behind (length t) → Ends t from n
+  ends-text {o} e b =
       rw b
       (record {
         up = omega arith;
         within = omega arith;
-        rest = inv .rest ∙ ap afterStop (end-first _ t (place .at) f e) ∙ sym (tokens-end t Between (length t) (omega arith));
+        rest = inv .rest ∙ ap afterStop (end-first _ t (place .at) f e) ∙ end-after (saidAt o) ∙ sym (behind-text t);
       })
 
 -- where it goes on, it ends as from there

@@ -6,7 +6,8 @@ use mathlib.Core.List.{List, []}
 use Rattle.definition.specs.declared.Refusal.{Refusal}
 use Rattle.definition.specs.declared.Statement.{Statement}
 use Rattle.definition.specs.declared.Token.{Token}
-use Rattle.text.specs.declared.Stand.{Stand}
+use Rattle.definition.specs.Words.{sentences}
+use Rattle.tokens.specs.declared.Stand.{Stand}
 use Rattle.statement.specs.declared.StatementRead.{StatementRead}
 use Rattle.statement.specs.Reading.{FirstKept, FirstSkipped, FirstRefused, FirstStatement}
 
@@ -22,5 +23,5 @@ module _ (ts : List Token) (t : List ℕ) (low : ℕ) {r : StatementRead} (f : F
   refused-read e = rw e at f
 
   -- or there is none
-  pub end-read : r ≡ StatementRead.End → ts ≡ []
+  pub end-read : r ≡ StatementRead.End → sentences ts ≡ []
   end-read e = let g : FirstStatement ts t low StatementRead.End = rw e at f in g

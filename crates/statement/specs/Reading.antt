@@ -14,8 +14,8 @@ use Rattle.definition.specs.declared.Token.{Token}
 use Rattle.definition.specs.Basic.{Answer, refuse, give}
 use Rattle.definition.specs.Statement.{noClauses, clauses, named, statement}
 use Rattle.definition.specs.Words.{sentences, firstWords, afterStop}
-use Rattle.text.specs.declared.Stand.{Stand}
-use Rattle.text.specs.Tokens.{tokensAt}
+use Rattle.tokens.specs.declared.Stand.{Stand}
+use Rattle.tokens.specs.Tokens.{tokensAt}
 use Rattle.clauses.specs.Places.{Inside, Fits}
 use Rattle.statement.specs.declared.Finished.{Finished}
 use Rattle.statement.specs.declared.ClausesRead.{ClausesRead}
@@ -103,4 +103,4 @@ abbrev pub FirstStatement : List Token → List ℕ → ℕ → StatementRead �
 FirstStatement ts text low (StatementRead.Kept s next) = FirstKept ts text low s next
 FirstStatement ts text low (StatementRead.Skipped next) = FirstSkipped ts text low next
 FirstStatement ts text low (StatementRead.Refused r) = FirstRefused ts text r
-FirstStatement ts text low StatementRead.End = ts ≡ []
+FirstStatement ts text low StatementRead.End = sentences ts ≡ []

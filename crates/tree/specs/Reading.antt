@@ -8,9 +8,8 @@ use Rattle.definition.specs.declared.Refusal.{Refusal}
 use Rattle.definition.specs.declared.Statement.{Statement}
 use Rattle.definition.specs.Limits.{mostStatements}
 use Rattle.definition.specs.Basic.{Answer, refuse, give}
-use Rattle.definition.specs.Statement.{statements}
+use Rattle.definition.specs.Calls.{keptStatements}
 use Rattle.definition.specs.Tree.{Open, opened, stillOpen, innermost, parents}
-use Rattle.definition.specs.Words.{statementWords}
 use Rattle.tree.specs.declared.OpenLevels.{OpenLevels}
 use Rattle.tree.specs.declared.RowsRead.{RowsRead}
 use Rattle.tree.specs.Levels.{stackOf, Nested}
@@ -43,7 +42,11 @@ abbrev pub Held : ℕ → Answer (List Statement) → Type 0
 Held n (refuse r) = Unit {0}
 Held n (give ss) = Storables ss × (n + length ss ≤ mostStatements)
 
--- the answer r, and work memory w′ after it, of a text and of work memory w
+-- the answer r, and work memory w′ after it, where these are the kept statements and w was work memory
+pub record RowsOf (kept : Answer (List Statement)) (w : List ℕ) (r : RowsRead) (w′ : List ℕ) : Type 0 where
+  pub is : outcomeOf r w′ ≡ outcome w 0 [] kept
+  pub held : Held 0 kept
+
+-- the same of the kept statements of a text
 pub record RowsAre (text w : List ℕ) (r : RowsRead) (w′ : List ℕ) : Type 0 where
-  pub is : outcomeOf r w′ ≡ outcome w 0 [] (statements text 0 (statementWords text))
-  pub held : Held 0 (statements text 0 (statementWords text))
+  pub rows : RowsOf (keptStatements text) w r w′

@@ -4,10 +4,12 @@ ghost use Prim.Native.Nat.{_+_, _*_, _-_, _≤_, _<_};
 ghost use lib.ListN.{length};
 ghost use Rattle.definition.specs.Limits.{mostBytes, leastWork, mostStatements};
 ghost use Rattle.definition.specs.Calls.{entryChecks, checkOf};
+ghost use Rattle.definition.specs.Statement.{statements};
+ghost use Rattle.definition.specs.Words.{statementWords};
 ghost use Rattle.rows.specs.Columns.{ROW, PARENT};
 ghost use Rattle.rows.specs.Table.{Placed, cell};
 ghost use Rattle.tree.specs.Levels.{NoneOpen, Nested, Closed, Opened};
-ghost use Rattle.tree.specs.Reading.{Added, RowsAre};
+ghost use Rattle.tree.specs.Reading.{Added, RowsOf, RowsAre};
 use definition::Check;
 use definition::LEAST_WORK;
 use definition::MOST_STATEMENTS;
@@ -130,12 +132,12 @@ pub enum RowsRead {
     Refused(Refusal),
 }
 
-// The kept statements of a text as rows of work memory, from row 0 on.
-pub fn read_rows(text: &[u8], work: &mut [u32]) -> RowsRead
+// The statements of a text as rows of work memory, from row 0 on.
+fn read_statements(text: &[u8], work: &mut [u32]) -> RowsRead
     requires { ⌜ (length (now text) ≤ mostBytes) × (leastWork ≤ length (now work)) ⌝ }
-    ensures { λ r. ⌜ RowsAre (now (text .entry)) (now (work .entry)) r (now (work .exit)) ⌝ }
+    ensures { λ r. ⌜ RowsOf (statements (now (text .entry)) 0 (statementWords (now (text .entry)))) (now (work .entry)) r (now (work .exit)) ⌝ }
 {
-    let mut from = text::at_start();
+    let mut from = tokens::at_start();
     let mut n = 0;
     let mut levels = none_open();
     loop {
@@ -162,5 +164,16 @@ pub fn read_rows(text: &[u8], work: &mut [u32]) -> RowsRead
                 return RowsRead::Rows(n);
             }
         }
+    }
+}
+
+// The kept statements of a text as rows of work memory, from row 0 on; 50 comes before any other refusal of theirs.
+pub fn read_rows(text: &[u8], work: &mut [u32]) -> RowsRead
+    requires { ⌜ (length (now text) ≤ mostBytes) × (leastWork ≤ length (now work)) ⌝ }
+    ensures { λ r. ⌜ RowsAre (now (text .entry)) (now (work .entry)) r (now (work .exit)) ⌝ }
+{
+    match tokens::open_check(text) {
+        Check::Passed => read_statements(text, work),
+        Check::Refused(r) => RowsRead::Refused(r),
     }
 }

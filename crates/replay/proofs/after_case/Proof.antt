@@ -6,8 +6,8 @@ use mathlib.Core.Path.{_≡_}
 use mathlib.Core.List.{List}
 use native.Mathlib.Omega.{arith}
 use lib.ListN.{length}
-use Rattle.text.specs.declared.Next.{Next}
-use Rattle.text.specs.declared.Stand.{Stand}
+use Rattle.tokens.specs.declared.Next.{Next}
+use Rattle.tokens.specs.declared.Stand.{Stand}
 use Rattle.replay.specs.Places.{Later, Bounded}
 use Rattle.replay.proofs.PlaceLaws.{word-in, stop-in}
 use Rattle.replay.proofs.after_case.Statement.{statement}
@@ -22,7 +22,7 @@ start : {list : List ℕ} {at : ℕ} → at < length list → Left list at at
 start h = record { up = omega arith; within = omega arith; begins = h }
 
 module _ {list : List ℕ} {at place : ℕ} (inv : Left list at place) (r : Next) (b : Bounded list place r) where
-  module _ {s l : ℕ} {n : Stand} (e : r ≡ Next.Word s l n) where
+  module _ {s l : ℕ} {n : Stand} (e : r ≡ Next.Word n s l) where
     less : length list - n .at < length list - place
     less = let w = word-in list place r b e in omega arith
 

@@ -15,10 +15,11 @@ use Rattle.definition.specs.Basic.{span, absent}
 use Rattle.definition.specs.Statement.{noClauses, named}
 use Rattle.definition.proofs.StatementLaws.{named-none, named-given, named-refused}
 use Rattle.definition.specs.Words.{firstWords}
-use Rattle.text.specs.declared.Next.{Next}
-use Rattle.text.specs.declared.Stand.{Stand}
-use Rattle.text.specs.Tokens.{behind, tokensAt, FirstWord, First}
-use Rattle.text.proofs.TokenLaws.{end-first, word-first, stop-first}
+use Rattle.definition.proofs.WordLaws.{end-words}
+use Rattle.tokens.specs.declared.Next.{Next}
+use Rattle.tokens.specs.declared.Stand.{Stand}
+use Rattle.tokens.specs.Tokens.{saidAt, behind, tokensAt, FirstWord, First}
+use Rattle.tokens.proofs.TokenLaws.{end-first, word-first, stop-first}
 use Rattle.clauses.proofs.FitLaws.{none-fit}
 use Rattle.statement.specs.declared.ClausesRead.{ClausesRead}
 use Rattle.statement.specs.declared.NamedRead.{NamedRead}
@@ -48,9 +49,9 @@ bare {t} {at} {level} h p q q′ e =
     rw (q, q′) (record { is = p ∙ named-none t at level; fits = record { begins = h; name = omega arith; clauses = none-fit t }; ends = e })
 
 module _ (t : List ℕ) (at level : ℕ) (from : Stand) (h : from .at ≤ length t) {r : Next} (f : First (tokensAt t from) t (from .at) r) where
-  module _ {s l : ℕ} {n : Stand} (q : r ≡ Next.Word s l n) where
+  module _ {s l : ℕ} {n : Stand} (q : r ≡ Next.Word n s l) where
     -- the name
-    first : FirstWord (tokensAt t from) t (from .at) s l n
+    first : FirstWord (tokensAt t from) t (from .at) n s l
     first = word-first _ t (from .at) f q
 
     -- the clauses begin in the text
@@ -78,8 +79,8 @@ module _ (t : List ℕ) (at level : ℕ) (from : Stand) (h : from .at ≤ length
     stopped : {n : Stand} → r ≡ Next.Stop n → NamedAre t at level from (NamedRead.Done (of level at w c) n)
     stopped q = bare b (tokens-named t at level (stop-first _ t (from .at) f q .all-are)) p p′ (ends-stop (reached-start h) f q)
 
-    ended : {n : Stand} → r ≡ Next.End → n ≡ behind (length t) → NamedAre t at level from (NamedRead.Done (of level at w c) n)
-    ended q e = bare b (tokens-named t at level (end-first _ t (from .at) f q)) p p′ (ends-text (reached-start h) f q e)
+    ended : {o n : Stand} → r ≡ Next.End o → n ≡ behind (length t) → NamedAre t at level from (NamedRead.Done (of level at w c) n)
+    ended {o} q e = bare b (tokens-named t at level (end-first _ t (from .at) f q) ∙ ap (named t at level) (end-words (saidAt o))) p p′ (ends-text (reached-start h) f q e)
 
 read-clauses-requires : tie.Need-read-clauses-requires
 read-clauses-requires c κs = search within

@@ -2,19 +2,20 @@
 -- Assumes nothing.
 use borrow.Author.Needs.{needs}
 use Prim.Native.Nat.{ℕ, _+_, _<_, _≤_}
-use mathlib.Core.Path.{_≡_}
+use mathlib.Core.Path.{_≡_, ap, _∙_}
 use mathlib.Core.List.{List, _∷_}
 use native.Mathlib.Omega.{arith}
 use lib.ListN.{length}
 use Rattle.definition.specs.declared.Token.{Token}
 use Rattle.definition.specs.declared.Token.the-variants.{Word, Stop}
 use Rattle.definition.specs.Basic.{span}
+use Rattle.definition.specs.Words.{sentences}
 use Rattle.definition.proofs.StatementLaws.{statement-empty}
-use Rattle.definition.proofs.WordLaws.{sentences-next}
-use Rattle.text.specs.declared.Next.{Next}
-use Rattle.text.specs.declared.Stand.{Stand}
-use Rattle.text.specs.Tokens.{tokensAt, FirstWord, First}
-use Rattle.text.proofs.TokenLaws.{end-first, word-first, stop-first}
+use Rattle.definition.proofs.WordLaws.{sentences-stop, end-sentences}
+use Rattle.tokens.specs.declared.Next.{Next}
+use Rattle.tokens.specs.declared.Stand.{Stand}
+use Rattle.tokens.specs.Tokens.{saidAt, tokensAt, FirstWord, First}
+use Rattle.tokens.proofs.TokenLaws.{end-first, word-first, stop-first}
 use Rattle.statement.specs.declared.StatementRead.{StatementRead}
 use Rattle.statement.specs.Reading.{Followed, FirstStatement}
 use Rattle.statement.proofs.read_statement.Statement.{statement}
@@ -31,9 +32,9 @@ earlier ts t low later h (StatementRead.Refused r) g = g
 earlier ts t low later h StatementRead.End g = g
 
 module _ (t : List ℕ) (from : Stand) {r : Next} (f : First (tokensAt t from) t (from .at) r) where
-  module _ {s l : ℕ} {n : Stand} (q : r ≡ Next.Word s l n) where
+  module _ {s l : ℕ} {n : Stand} (q : r ≡ Next.Word n s l) where
     -- a first word lies in the text
-    first : FirstWord (tokensAt t from) t (from .at) s l n
+    first : FirstWord (tokensAt t from) t (from .at) n s l
     first = word-first _ t (from .at) f q
 
     places : (s < length t) × (s + l ≤ length t) × (n .at ≤ length t)
@@ -47,32 +48,20 @@ module _ (t : List ℕ) (from : Stand) {r : Next} (f : First (tokensAt t from) t
   empty : {n : Stand} → r ≡ Next.Stop n → FirstStatement (tokensAt t from) t (from .at + 1) (StatementRead.Skipped n)
   empty {n} q =
       let s = stop-first _ t (from .at) f q in
-      rw (s .all-are) (record { is = statement-empty t; followed = record { all-are = sentences-next (tokensAt t n) Stop; up = omega arith; within = s .within } })
+      rw (s .all-are) (record { is = statement-empty t; followed = record { all-are = sentences-stop (tokensAt t n); up = omega arith; within = s .within } })
 
   -- the text has ended
-  ended : r ≡ Next.End → FirstStatement (tokensAt t from) t (from .at + 1) StatementRead.End
-  ended q = end-first _ t (from .at) f q
-
-word-at-requires : tie.Need-word-at-requires
-word-at-requires c κs = search needs
-
-enum-known-start : tie.Need-enum-known-start
-enum-known-start c = search needs
+  ended : {o : Stand} → r ≡ Next.End o → FirstStatement (tokensAt t from) t (from .at + 1) StatementRead.End
+  ended {o} q = ap sentences (end-first _ t (from .at) f q) ∙ end-sentences (saidAt o)
 
 read-levelled-requires : tie.Need-read-levelled-requires
-read-levelled-requires c κs = let a = c .before .before .before .before .before .args in places (a .text .now) (a .from) (c .before .before .before .word-at .ensures) (c .before .start .given .1)
+read-levelled-requires c κs = let a = c .before .before .before .before .before .args in places (a .text .now) (a .from) (c .before .before .before .word-at .ensures) (c .before .next .given .1)
 
 returns : tie.Need-returns
 returns c = search begun
 
-enum-known-next : tie.Need-enum-known-next
-enum-known-next c = search needs
-
 returns-2 : tie.Need-returns-2
 returns-2 c = search empty
-
-enum-told : tie.Need-enum-told
-enum-told c = search needs
 
 returns-3 : tie.Need-returns-3
 returns-3 c = search ended
@@ -81,11 +70,11 @@ pub read-statement-spec : {M : Type 1} → statement M
 read-statement-spec =
     tie.close
     (tie.spec
-    word-at-requires
-    enum-known-start
+    (λ c κs. search needs)
+    (λ c. search needs)
     read-levelled-requires
     returns
-    enum-known-next
+    (λ c. search needs)
     returns-2
-    enum-told
+    (λ c. search needs)
     returns-3)

@@ -1,0 +1,103 @@
+-- `tokens::walk_check` meets its contract. The loop's invariant: what is open first is so from where the reader stands.
+-- Assumes nothing.
+use borrow.Author.Needs.{needs}
+use Prim.Native.Nat.{ℕ, _-_, _≤_, _<_}
+use mathlib.Core.Path.{_≡_, refl, sym, _∙_, ap}
+use mathlib.Core.List.{List, []}
+use mathlib.Core.Logic.{⊎-elim}
+use mathlib.Core.Option.{none, some}
+use native.Mathlib.Omega.{arith}
+use lib.ListN.{length}
+use borrow.Author.Tests.{lt-ltb, le-ltb}
+use Rattle.definition.specs.declared.ByteKind.the-variants.{Newline}
+use Rattle.definition.specs.declared.Said.{Said}
+use Rattle.definition.specs.Basic.{Answer}
+use Rattle.definition.specs.Calls.{literalCheck}
+use Rattle.definition.specs.Words.{unlessOpen, tokensOf, firstOpen}
+use Rattle.definition.proofs.Lists.{order}
+use Rattle.definition.proofs.WordLaws.{closed-on}
+use Rattle.tokens.specs.declared.Next.{Next}
+use Rattle.tokens.specs.declared.Stand.{Stand}
+use Rattle.tokens.specs.Tokens.{saidAt, atStart, tokensAt, First, openCheck}
+use Rattle.tokens.proofs.TokenLaws.{said-literal, said-closed, word-first, word-less, stop-first, stop-less, end-first}
+use Rattle.tokens.proofs.walk_check.Statement.{statement}
+use Rattle.tokens.proofs.walk_check.Tie as tie
+
+-- what the check of the text is, where the tokens end at s
+module _ (t : List ℕ) (s : Stand) (e : firstOpen (tokensOf t) ≡ firstOpen (unlessOpen (saidAt s) Newline [])) where
+  opened : 3 < s .said → literalCheck t ≡ openCheck s
+  unfolding literalCheck firstOpen
+  opened h =
+      let o : firstOpen (tokensOf t) ≡ some (s .since) = e ∙ ap (λ (q : Said). firstOpen (unlessOpen q Newline [])) (said-literal (s .said) (s .since) h) in
+      rw (o, lt-ltb 3 (s .said) h, literalCheck)
+
+  shut : s .said ≤ 3 → literalCheck t ≡ openCheck s
+  unfolding literalCheck firstOpen
+  shut h =
+      let o : firstOpen (tokensOf t) ≡ none = e ∙ ap firstOpen (closed-on (saidAt s) Newline [] (said-closed (s .said) (s .since) h)) in
+      rw (o, le-ltb 3 (s .said) h, literalCheck)
+
+  checked : literalCheck t ≡ openCheck s
+  checked = ⊎-elim opened shut (order 3 (s .said))
+
+record Left (t : List ℕ) (s : Stand) : Type 0 where
+  within : s .at ≤ length t
+  rest : firstOpen (tokensOf t) ≡ firstOpen (tokensAt t s)
+
+start : {t : List ℕ} {s : Stand} → s ≡ atStart → Left t s
+start e = rw e (record { within = omega arith; rest = refl })
+
+module _ {t : List ℕ} {s : Stand} (inv : Left t s) {r : Next} (f : First (tokensAt t s) t (s .at) r) where
+  word : {a l : ℕ} {n : Stand} → r ≡ Next.Word n a l → Left t n
+  unfolding firstOpen
+  word e = let w = word-first (tokensAt t s) t (s .at) f e in record { within = w .within; rest = inv .rest ∙ ap firstOpen (w .all-are) }
+
+  stop : {n : Stand} → r ≡ Next.Stop n → Left t n
+  unfolding firstOpen
+  stop e = let w = stop-first (tokensAt t s) t (s .at) f e in record { within = w .within; rest = inv .rest ∙ ap firstOpen (w .all-are) }
+
+  done : {n : Stand} {a : Answer (Unit {0})} → r ≡ Next.End n → a ≡ openCheck n → a ≡ literalCheck t
+  done {n} e p = p ∙ sym (checked t n (inv .rest ∙ ap firstOpen (end-first (tokensAt t s) t (s .at) f e)))
+
+abbrev Inv-loop : tie.InvT-loop
+Inv-loop text s₀ s = Left text s
+
+abbrev μ-loop : tie.MeasureT-loop
+μ-loop text s₀ s = length text - s .at
+
+loop-holds : tie.Need-loop-holds Inv-loop μ-loop
+loop-holds c = search start
+
+loop-less : tie.Need-loop-less Inv-loop μ-loop
+loop-less c = search word-less
+
+loop-again : tie.Need-loop-again Inv-loop μ-loop
+loop-again c = search word
+
+loop-less-2 : tie.Need-loop-less-2 Inv-loop μ-loop
+loop-less-2 c = search stop-less
+
+loop-again-2 : tie.Need-loop-again-2 Inv-loop μ-loop
+loop-again-2 c = search stop
+
+returns : tie.Need-returns Inv-loop μ-loop
+returns c = search done
+
+pub walk-check-spec : {M : Type 1} → statement M
+walk-check-spec =
+    tie.close
+    (tie.spec
+    Inv-loop
+    μ-loop
+    (λ c κs. search needs)
+    loop-holds
+    (λ c κs. search needs)
+    (λ c. search needs)
+    loop-less
+    loop-again
+    (λ c. search needs)
+    loop-less-2
+    loop-again-2
+    (λ c. search needs)
+    (λ c κs. search needs)
+    returns)

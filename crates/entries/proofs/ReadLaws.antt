@@ -21,7 +21,7 @@ use Rattle.unions.proofs.ShownLaws.{entries-size}
 use Rattle.entries.specs.declared.Item.{Item}
 use Rattle.entries.specs.declared.Block.{Block}
 use Rattle.entries.specs.Entered.{Shown, flatIn, itemCells, cells, itemAt, itemsFrom, shownAll, Rows, Entered}
-use Rattle.entries.specs.Building.{listed, block, Room, Built}
+use Rattle.entries.specs.Building.{listed, block, Room, Built, Roomy}
 use Rattle.entries.proofs.BuildLaws.{built-many, built-length}
 use Rattle.layout.proofs.SizeLaws.{folded-size}
 
@@ -59,13 +59,13 @@ module _ (text w : List ℕ) (from to : ℕ) where
   few-entries : 2 * entries# (listed text w from to) ≤ 3 * to
   few-entries = omega (arith, folded-size text (listIn w from to), entries-size w (rowsForest w from to) from, size-stretch w from to)
 
-  pub room-all : (out : List ℕ) → to ≤ mostStatements → 8400 ≤ length out → Room out (block 0 0 0) 0 (entries# (listed text w from to)) to
+  pub room-all : (out : List ℕ) → to ≤ mostStatements → Roomy out to → Room out (block 0 0 0) 0 (entries# (listed text w from to)) to
   room-all out h l =
       let few = few-entries in
       record { fits = omega arith; small = omega arith; deep = omega arith; few = omega arith; narrow = omega arith; rows = h }
 
   pub entered :
-      {out : List ℕ} {r : Block} {after : List ℕ} → to ≤ mostStatements → 8400 ≤ length out → Built w out (block 0 0 0) 0 (listed text w from to) r after → Entered text w from to after (r .next)
+      {out : List ℕ} {r : Block} {after : List ℕ} → to ≤ mostStatements → Roomy out to → Built w out (block 0 0 0) 0 (listed text w from to) r after → Entered text w from to after (r .next)
   entered {out} {r} {after} h l p =
       let few = few-entries in
       let many : length (p .items) ≡ r .next = omega (arith, built-many p, p .next) in

@@ -117,3 +117,9 @@ pub record Closed (out : List ℕ) (b inner : Block) (x : Item) (width : ℕ) (r
   pub count : r .count ≡ b .count + 1
   pub most : r .widest ≡ max (b .widest) width
   pub narrow : r .widest ≤ largest
+
+-- ---------------------------------------------------------------- the whole table
+
+-- the table has room for the entries of so many rows: there are at most three for two rows, each of seven numbers
+abbrev pub Roomy : List ℕ → ℕ → Type 0
+Roomy t rows = 21 * rows ≤ 2 * length t

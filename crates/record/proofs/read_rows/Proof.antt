@@ -6,7 +6,7 @@ use native.Mathlib.Omega.{arith}
 use lib.ListN.{length}
 use Rattle.definition.specs.Calls.{recordFields}
 use Rattle.tree.specs.declared.RowsRead.{RowsRead}
-use Rattle.tree.specs.Reading.{CopybookRows}
+use Rattle.tree.specs.Reading.{RowsAre}
 use Rattle.tree.proofs.ReadingLaws.{Stored, stored, turned-down}
 use Rattle.record.proofs.EntryLaws.{Passes, passes, checks-refuse, read-refused, read-kept}
 use Rattle.record.proofs.read_rows.Statement.{statement}
@@ -26,7 +26,7 @@ rows x =
     let rr = x .before .before .before .before in
     let a = rr .before .before .before .before .before .before .before .args in
     stored (x .n .given .0 .0) (passed (rr .before .before) .room)
-    (subst (λ (y : RowsRead). CopybookRows (a .text .now) (a .work .now) y (rr .read-rows .last .1 .0)) (x .n .given .1) (rr .read-rows .ensures))
+    (subst (λ (y : RowsRead). RowsAre (a .text .now) (a .work .now) y (rr .read-rows .last .1 .0)) (x .n .given .1) (rr .read-rows .ensures))
 
 returns : tie.Need-returns
 returns c = search checks-refuse
@@ -46,7 +46,7 @@ returns-3 c =
     let a = rr .before .before .before .before .before .before .before .args in
     ap (recordFields (a .text .now)) (rr .read-rows .kept .1 .0)
     ∙ read-refused (a .text .now) (length (a .work .now)) (passed (rr .before .before))
-    (turned-down (c .before .r2 .given .0 .0) (subst (λ (y : RowsRead). CopybookRows (a .text .now) (a .work .now) y (rr .read-rows .last .1 .0)) (c .before .r2 .given .1) (rr .read-rows .ensures)))
+    (turned-down (c .before .r2 .given .0 .0) (subst (λ (y : RowsRead). RowsAre (a .text .now) (a .work .now) y (rr .read-rows .last .1 .0)) (c .before .r2 .given .1) (rr .read-rows .ensures)))
 
 pub read-rows-spec : {M : Type 1} → statement M
 read-rows-spec =

@@ -20,6 +20,11 @@ use Rattle.places.specs.Places.{rowsForest}
 use Rattle.unions.specs.Shown.{listIn}
 use Rattle.record.specs.Laying.{laidOf, Listed}
 
+-- a text that is not read is not laid
+pub not-read : (text : List ℕ) (n : ℕ) {r : Refusal} → recordFields text n ≡ refuse r → laidOf text (recordFields text n) ≡ refuse r
+unfolding _>>=_
+not-read text n e = rw e
+
 -- ---------------------------------------------------------------- bytes that tell of the entries
 
 module _ (text : List ℕ) (n room : ℕ) (show : Entries → List ℕ) where
@@ -73,24 +78,22 @@ record-deep {text} {w = w} {from} {to} h =
 
 -- ---------------------------------------------------------------- what a call leaves
 
-module _ (out work w₁ : List ℕ) {w₂ : List ℕ} (zero : w₂ ≡ cleared w₁) (kept : length w₁ ≡ length work) (a : Answer (List ℕ)) where
-  -- a refusal
-  pub refused-call : {r : Refusal} → a ≡ refuse r → left (refuse r) out w₂ ≡ afterWriting a out work
-  refused-call e = rw (e, zero, kept)
+-- bytes, 31 or a refusal, and work memory cleared
+pub cleared-call :
+    (out work w₁ : List ℕ) {w₂ : List ℕ} →
+    w₂ ≡ cleared w₁ →
+    length w₁ ≡ length work →
+    (a : Answer (List ℕ)) (x : Writing) {o : List ℕ} →
+    left (writingOf x) o [] ≡ afterWriting a out [] →
+    left (writingOf x) o w₂ ≡ afterWriting a out work
+cleared-call out work w₁ zero kept a x h = rw (zero, kept) (λ i. record { answer = h i .answer; output = h i .output; work = replicate (length work) 0 })
 
-  -- bytes, or 31
-  pub written-call :
-      (bs : List ℕ) →
-      a ≡ fitting (length out) bs →
-      (x : Writing) {o : List ℕ} →
-      left (writingOf x) o [] ≡ afterWriting (fitting (length out) bs) out [] →
-      left (writingOf x) o w₂ ≡ afterWriting a out work
-  written-call bs e x h =
-      rw
-      (e, zero, kept)
-      (λ i. record { answer = h i .answer; output = h i .output; work = replicate (length work) 0 })
-
-module _ (text work w₁ : List ℕ) {w₂ : List ℕ} (zero : w₂ ≡ cleared w₁) (kept : length w₁ ≡ length work) where
-  -- an owner, or a refusal
-  pub owner-call : (q : ℕ) (x : OwnerAnswer) → ownerAnswerOf x ≡ byteOwner text (length work) q → left (ownerAnswerOf x) [] w₂ ≡ ownerCall text q work
-  owner-call q x h = rw (h, zero, kept)
+-- an owner, or a refusal
+pub owner-call :
+    (text work w₁ : List ℕ) {w₂ : List ℕ} →
+    w₂ ≡ cleared w₁ →
+    length w₁ ≡ length work →
+    (q : ℕ) (x : OwnerAnswer) →
+    ownerAnswerOf x ≡ byteOwner text (length work) q →
+    left (ownerAnswerOf x) [] w₂ ≡ ownerCall text q work
+owner-call text work w₁ zero kept q x h = rw (h, zero, kept)

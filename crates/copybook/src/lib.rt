@@ -4,7 +4,10 @@
 ghost use Prim.Native.Nat.{ℕ};
 ghost use mathlib.Core.Path.{_≡_};
 ghost use mathlib.Core.List.{[]};
-ghost use Rattle.definition.specs.Calls.{left, layoutCall, detailsCall, maskCall, pictureAnswer, ownerCall, recordCheck, checkOf, ownerAnswerOf, pictureOf, writingOf};
+ghost use lib.ListN.{length};
+ghost use Rattle.definition.specs.Calls.{left, afterWriting, layoutListing, layoutDetails, byteOwner, layoutCall, detailsCall, maskCall, pictureAnswer, ownerCall, recordCheck, checkOf, ownerAnswerOf, pictureOf, writingOf};
+ghost use Rattle.entries.specs.Building.{Roomy};
+ghost use Rattle.record.specs.Laying.{Read};
 use definition::Check;
 use definition::OwnerAnswer;
 use definition::PicAnswer;
@@ -12,7 +15,153 @@ use definition::Refusal;
 use definition::SignClause;
 use definition::Usage;
 use definition::Writing;
+use record::ENTRIES;
+use record::FEW_ENTRIES;
+use record::FEW_ROWS;
 use record::RecordLaid;
+use tree::RowsRead;
+
+// ---------------------------------------------------------------- a record's answers, with a table of the right size
+
+// The listing of the record that was read into n rows, with a table for its entries.
+fn listing_in(
+    text: &[u8],
+    work: &mut [u32],
+    n: usize,
+    entries: &mut [u32],
+    out: &mut [u8],
+) -> Writing
+    requires { ⌜ Read (now text) (now work) n × Roomy (now entries) n ⌝ }
+    ensures { λ r. ⌜ left (writingOf r) (now (out .exit)) [] ≡ afterWriting (layoutListing (now (text .entry)) (length (now (work .entry))) (length (now (out .entry)))) (now (out .entry)) [] ⌝ }
+{
+    match record::lay_record(text, work, n, entries) {
+        RecordLaid::Record {
+            from,
+            to,
+            length,
+            count,
+            top,
+        } => {
+            return writer::write_listing(text, work, entries, from, to, length, count, top, out);
+        }
+        RecordLaid::Refused(r) => {
+            return Writing::Refused(r);
+        }
+    }
+}
+
+// The same of a text, with work memory left as it comes.
+fn listing_of(text: &[u8], work: &mut [u32], out: &mut [u8]) -> Writing
+    ensures { λ r. ⌜ left (writingOf r) (now (out .exit)) [] ≡ afterWriting (layoutListing (now (text .entry)) (length (now (work .entry))) (length (now (out .entry)))) (now (out .entry)) [] ⌝ }
+{
+    match record::read_rows(text, work) {
+        RowsRead::Rows(n) => {
+            if n <= FEW_ROWS {
+                let mut few = [0u32; FEW_ENTRIES];
+                return listing_in(text, work, n, &mut few, out);
+            }
+            let mut all = [0u32; ENTRIES];
+            return listing_in(text, work, n, &mut all, out);
+        }
+        RowsRead::Refused(r) => {
+            return Writing::Refused(r);
+        }
+    }
+}
+
+// The details of the record that was read into n rows, with a table for its entries.
+fn details_in(
+    text: &[u8],
+    work: &mut [u32],
+    n: usize,
+    entries: &mut [u32],
+    out: &mut [u8],
+) -> Writing
+    requires { ⌜ Read (now text) (now work) n × Roomy (now entries) n ⌝ }
+    ensures { λ r. ⌜ left (writingOf r) (now (out .exit)) [] ≡ afterWriting (layoutDetails (now (text .entry)) (length (now (work .entry))) (length (now (out .entry)))) (now (out .entry)) [] ⌝ }
+{
+    match record::lay_record(text, work, n, entries) {
+        RecordLaid::Record {
+            from,
+            to,
+            length,
+            count,
+            top,
+        } => {
+            return details::write_details(text, work, entries, from, to, count, out);
+        }
+        RecordLaid::Refused(r) => {
+            return Writing::Refused(r);
+        }
+    }
+}
+
+// The same of a text, with work memory left as it comes.
+fn details_of(text: &[u8], work: &mut [u32], out: &mut [u8]) -> Writing
+    ensures { λ r. ⌜ left (writingOf r) (now (out .exit)) [] ≡ afterWriting (layoutDetails (now (text .entry)) (length (now (work .entry))) (length (now (out .entry)))) (now (out .entry)) [] ⌝ }
+{
+    match record::read_rows(text, work) {
+        RowsRead::Rows(n) => {
+            if n <= FEW_ROWS {
+                let mut few = [0u32; FEW_ENTRIES];
+                return details_in(text, work, n, &mut few, out);
+            }
+            let mut all = [0u32; ENTRIES];
+            return details_in(text, work, n, &mut all, out);
+        }
+        RowsRead::Refused(r) => {
+            return Writing::Refused(r);
+        }
+    }
+}
+
+// The owner of a byte in the record that was read into n rows, with a table for its entries.
+fn owner_in(
+    text: &[u8],
+    position: usize,
+    work: &mut [u32],
+    n: usize,
+    entries: &mut [u32],
+) -> OwnerAnswer
+    requires { ⌜ Read (now text) (now work) n × Roomy (now entries) n ⌝ }
+    ensures { λ r. ⌜ ownerAnswerOf r ≡ byteOwner (now (text .entry)) (length (now (work .entry))) position ⌝ }
+{
+    match record::lay_record(text, work, n, entries) {
+        RecordLaid::Record {
+            from,
+            to,
+            length,
+            count,
+            top,
+        } => {
+            return owner::owner_of(text, work, from, to, length, position);
+        }
+        RecordLaid::Refused(r) => {
+            return OwnerAnswer::Refused(r);
+        }
+    }
+}
+
+// The same of a text, with work memory left as it comes.
+fn owner_of(text: &[u8], position: usize, work: &mut [u32]) -> OwnerAnswer
+    ensures { λ r. ⌜ ownerAnswerOf r ≡ byteOwner (now (text .entry)) (length (now (work .entry))) position ⌝ }
+{
+    match record::read_rows(text, work) {
+        RowsRead::Rows(n) => {
+            if n <= FEW_ROWS {
+                let mut few = [0u32; FEW_ENTRIES];
+                return owner_in(text, position, work, n, &mut few);
+            }
+            let mut all = [0u32; ENTRIES];
+            return owner_in(text, position, work, n, &mut all);
+        }
+        RowsRead::Refused(r) => {
+            return OwnerAnswer::Refused(r);
+        }
+    }
+}
+
+// ---------------------------------------------------------------- the entries
 
 // The layout listing of a copybook: how many bytes were written. Refusals, in this order: 1 text over 65,535 bytes; 2 a
 // byte over 127, at the first one; 3 work memory under 16,384 numbers; 50 a literal that its line does not close, at the
@@ -23,34 +172,9 @@ use record::RecordLaid;
 pub fn layout_listing(text: &[u8], work: &mut [u32], out: &mut [u8]) -> Writing
     ensures { λ r. ⌜ left (writingOf r) (now (out .exit)) (now (work .exit)) ≡ layoutCall (now (text .entry)) (now (out .entry)) (now (work .entry)) ⌝ }
 {
-    let mut entries = [0u32; 8400];
-    match record::read_record(text, work, &mut entries) {
-        RecordLaid::Record {
-            from,
-            to,
-            length,
-            count,
-            top,
-        } => {
-            let answer = writer::write_listing(
-                text,
-                work,
-                &entries,
-                from,
-                to,
-                length,
-                count,
-                top,
-                out,
-            );
-            rows::clear(work);
-            return answer;
-        }
-        RecordLaid::Refused(r) => {
-            rows::clear(work);
-            return Writing::Refused(r);
-        }
-    }
+    let answer = listing_of(text, work, out);
+    rows::clear(work);
+    answer
 }
 
 // The details of the listing's entries: 47 bytes for each, in the order of the listing, numbers little-endian. The
@@ -64,24 +188,9 @@ pub fn layout_listing(text: &[u8], work: &mut [u32], out: &mut [u8]) -> Writing
 pub fn layout_details(text: &[u8], work: &mut [u32], out: &mut [u8]) -> Writing
     ensures { λ r. ⌜ left (writingOf r) (now (out .exit)) (now (work .exit)) ≡ detailsCall (now (text .entry)) (now (out .entry)) (now (work .entry)) ⌝ }
 {
-    let mut entries = [0u32; 8400];
-    match record::read_record(text, work, &mut entries) {
-        RecordLaid::Record {
-            from,
-            to,
-            length,
-            count,
-            top,
-        } => {
-            let written = details::write_details(text, work, &entries, from, to, count, out);
-            rows::clear(work);
-            return written;
-        }
-        RecordLaid::Refused(r) => {
-            rows::clear(work);
-            return Writing::Refused(r);
-        }
-    }
+    let written = details_of(text, work, out);
+    rows::clear(work);
+    written
 }
 
 // The owner of the byte at a position of the record: an occurrence of an elementary item, with its entry's number in the listing,
@@ -92,24 +201,9 @@ pub fn layout_details(text: &[u8], work: &mut [u32], out: &mut [u8]) -> Writing
 pub fn byte_owner(text: &[u8], position: usize, work: &mut [u32]) -> OwnerAnswer
     ensures { λ r. ⌜ left (ownerAnswerOf r) [] (now (work .exit)) ≡ ownerCall (now (text .entry)) position (now (work .entry)) ⌝ }
 {
-    let mut entries = [0u32; 8400];
-    match record::read_record(text, work, &mut entries) {
-        RecordLaid::Record {
-            from,
-            to,
-            length,
-            count,
-            top,
-        } => {
-            let found = owner::owner_of(text, work, from, to, length, position);
-            rows::clear(work);
-            return found;
-        }
-        RecordLaid::Refused(r) => {
-            rows::clear(work);
-            return OwnerAnswer::Refused(r);
-        }
-    }
+    let found = owner_of(text, position, work);
+    rows::clear(work);
+    found
 }
 
 // Kind, its details and width of one picture with a usage and a sign. Refusals, in this order: 1 over 65,535 bytes; 2 a byte over 127, at the first

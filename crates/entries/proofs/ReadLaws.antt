@@ -23,7 +23,7 @@ use Rattle.entries.specs.declared.Block.{Block}
 use Rattle.table.specs.Items.{itemCells, allCells, itemAt, itemsFrom}
 use Rattle.table.specs.Entered.{Shown, flatIn, shownAll, Rows, Entered}
 use Rattle.table.specs.Entered.{listed}
-use Rattle.entries.specs.Building.{block, TableRoom, Built}
+use Rattle.entries.specs.Building.{block, TableRoom, Built, Roomy}
 use Rattle.entries.proofs.BuildLaws.{built-many, built-length}
 use Rattle.layout.proofs.SizeLaws.{folded-size}
 
@@ -61,13 +61,13 @@ module _ (text w : List ℕ) (from to : ℕ) where
   few-entries : 2 * entries# (listed text w from to) ≤ 3 * to
   few-entries = omega (arith, folded-size text (listIn w from to), entries-size w (rowsForest w from to) from, size-stretch w from to)
 
-  pub room-all : (out : List ℕ) → to ≤ mostStatements → 8400 ≤ length out → TableRoom out (block 0 0 0) 0 (entries# (listed text w from to)) to
+  pub room-all : (out : List ℕ) → to ≤ mostStatements → Roomy out to → TableRoom out (block 0 0 0) 0 (entries# (listed text w from to)) to
   room-all out h l =
       let few = few-entries in
       record { fits = omega arith; small = omega arith; deep = omega arith; few = omega arith; narrow = omega arith; rows = h }
 
   pub entered :
-      {out : List ℕ} {r : Block} {after : List ℕ} → to ≤ mostStatements → 8400 ≤ length out → Built w out (block 0 0 0) 0 (listed text w from to) r after → Entered text w from to after (r .next)
+      {out : List ℕ} {r : Block} {after : List ℕ} → to ≤ mostStatements → Roomy out to → Built w out (block 0 0 0) 0 (listed text w from to) r after → Entered text w from to after (r .next)
   entered {out} {r} {after} h l p =
       let few = few-entries in
       let many : length (p .items) ≡ r .next = omega (arith, built-many p, p .next) in

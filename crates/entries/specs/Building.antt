@@ -104,3 +104,9 @@ pub record ItemClosed (out : List ℕ) (b inner : Block) (x : Item) (width : ℕ
   pub count : r .count ≡ b .count + 1
   pub most : r .widest ≡ max (b .widest) width
   pub narrow : r .widest ≤ largest
+
+-- ---------------------------------------------------------------- the whole table
+
+-- the table has room for the entries of so many rows: there are at most three for two rows
+abbrev pub Roomy : List ℕ → ℕ → Type 0
+Roomy t rows = 3 * ITEM * rows ≤ 2 * length t

@@ -11,7 +11,7 @@ ghost use Rattle.places.specs.Places.{entryIn};
 ghost use Rattle.unions.specs.Shown.{shownAt, Known, Tree, Branch, Base, SizedRow};
 ghost use Rattle.table.specs.Items.{ITEM, ItemSmall};
 ghost use Rattle.table.specs.Entered.{listed, Entered};
-ghost use Rattle.entries.specs.Building.{itemIn, redefined, unionIn, ownMember, TableRoom, Built, ownItem, unionItem, ItemOpen, ItemClosed};
+ghost use Rattle.entries.specs.Building.{itemIn, redefined, unionIn, ownMember, TableRoom, Built, ownItem, unionItem, ItemOpen, ItemClosed, Roomy};
 ghost use Rattle.rows.specs.Columns.{ROW};
 use rows::NAME;
 use rows::NEXT;
@@ -284,7 +284,7 @@ fn build_list(
 // Makes the table of the record in the rows from `from` up to `to`. Answers how many entries it has, how many of them stand at the top, and
 // how wide the widest of those is.
 pub fn make_entries(text: &[u8], work: &[u32], from: usize, to: usize, entries: &mut [u32]) -> Block
-    requires { ⌜ Tree (now text) (now work) from to × (to ≤ mostStatements) × (8400 ≤ length (now entries)) ⌝ }
+    requires { ⌜ Tree (now text) (now work) from to × (to ≤ mostStatements) × Roomy (now entries) to ⌝ }
     ensures { λ r. ⌜ Entered (now (text .entry)) (now (work .entry)) from to (now (entries .exit)) (r .next) × (r .count ≡ members# (listed (now (text .entry)) (now (work .entry)) from to)) ⌝ }
 {
     build_list(

@@ -25,7 +25,7 @@ use Rattle.definition.specs.Calls.{keptStatements}
 use Rattle.rows.specs.Columns.{ROW, NEXT}
 use Rattle.rows.specs.Table.{cell, statementAt, statementsFrom}
 use Rattle.tree.proofs.ReadingLaws.{Stored}
-use Rattle.definition.specs.Calls.{checkOf}
+use Rattle.definition.specs.Calls.{checkOf, recordFields}
 use Rattle.definition.specs.Record.{recordLength, endsFit, unfolded}
 use Rattle.places.specs.Places.{putPlaces, entryIn, entriesIn, rowsForest}
 use Rattle.redefines.specs.Targets.{seenFrom}
@@ -43,7 +43,7 @@ use Rattle.unions.specs.Shown.{listIn}
 use Rattle.unions.specs.Marks.{UnionsLinked}
 use Rattle.unions.proofs.KeptLaws.{forest-kept, list-kept, prints-kept, Ready, marked-tree}
 use Rattle.record.specs.declared.RecordLaid.{RecordLaid}
-use Rattle.record.specs.Laying.{FieldsFrom, fieldsOf, laidOf, Listed, RecordIs, recordOf}
+use Rattle.record.specs.Laying.{FieldsFrom, fieldsOf, Read, laidOf, Listed, RecordIs}
 
 -- ---------------------------------------------------------------- no entry is too large
 
@@ -229,29 +229,32 @@ module _ (text w : List ℕ) (a b : ℕ) where
               long = long;
             }
 
--- ---------------------------------------------------------------- the record of a text
+-- ---------------------------------------------------------------- the rows of a text
 
-module _ (text : List ℕ) where
-  -- the text is refused
-  pub reading-refused : {r : Refusal} → keptStatements text ≡ refuse r → recordOf text ≡ refuse r
+-- the text is refused
+pub reading-refused : (text : List ℕ) {r : Refusal} → keptStatements text ≡ refuse r → fieldsOf text ≡ refuse r
+unfolding fieldsOf _>>=_
+reading-refused text e = ap (λ (x : Answer (List Statement)). x >>= λ ss. give (fields (forest ss))) e
+
+-- its statements stand in n rows, whose names got their fingerprints
+module _ {text w w′ : List ℕ} {n : ℕ} (s : Stored text w w′ n) {w″ : List ℕ} (p : PrintsPut text w′ n w″) where
+  pub rows-read : fieldsOf text ≡ give (fields (rowsForest w″ 0 n))
   unfolding fieldsOf _>>=_
-  reading-refused e = ap (λ (x : Answer (List Statement)). laidOf text (x >>= λ ss. give (fields (forest ss)))) e
+  rows-read =
+      ap (λ (x : Answer (List Statement)). x >>= λ ss. give (fields (forest ss))) (s .are)
+      ∙ ap (λ (ss : List Statement). give (fields (forest ss))) (sym (s .back) ∙ ap (statementsFrom w′ 0) (let e : n ≡ n - 0 = omega arith in e))
+      ∙ ap (λ (x : Forest). give (fields x)) (forest-kept (prints-kept p) 0 n)
 
-  -- its statements stand in n rows, whose fields are the rows from `from` on when their names have fingerprints
-  module _ {w w′ : List ℕ} {n : ℕ} (s : Stored text w w′ n) {w″ : List ℕ} (p : PrintsPut text w′ n w″) {from : ℕ} (f : FieldsFrom w″ n from) where
-    rows-read : give (rowsForest w″ from n) ≡ fieldsOf text
-    unfolding fieldsOf _>>=_
-    rows-read =
-        sym
-        (ap (λ (x : Answer (List Statement)). x >>= λ ss. give (fields (forest ss))) (s .are)
-        ∙ ap (λ (ss : List Statement). give (fields (forest ss))) (sym (s .back) ∙ ap (statementsFrom w′ 0) (let e : n ≡ n - 0 = omega arith in e))
-        ∙ ap (λ (x : Forest). give (fields x)) (forest-kept (prints-kept p) 0 n)
-        ∙ ap give (f .is))
+  -- and there is room to lay them
+  pub rows-room : leastWork ≤ length w → Room text w″ n
+  rows-room h = record { fits = omega (arith, s .few, s .long, h, p .long); small = omega (arith, s .few); printed = p .printed }
 
-    pub fields-laid : (w₁ t : List ℕ) (r : RecordLaid) → RecordIs text (give (rowsForest w″ from n)) r w₁ t → RecordIs text (fieldsOf text) r w₁ t
-    fields-laid w₁ t r h = subst (λ (a : Answer Forest). RecordIs text a r w₁ t) rows-read h
-
--- and there is room to lay them
-pub rows-room :
-    {text w w′ w″ : List ℕ} {n : ℕ} → Stored text w w′ n → leastWork ≤ length w → PrintsPut text w′ n w″ → Room text w″ n
-rows-room s h p = record { fits = omega (arith, s .few, s .long, h, p .long); small = omega (arith, s .few); printed = p .printed }
+-- the fields are the rows from `from` on
+pub fields-laid :
+    {text w : List ℕ} {n from : ℕ} →
+    Read text w n →
+    FieldsFrom w n from →
+    (w₁ t : List ℕ) (r : RecordLaid) →
+    RecordIs text (give (rowsForest w from n)) r w₁ t →
+    RecordIs text (recordFields text (length w)) r w₁ t
+fields-laid {text} h f w₁ t r q = subst (λ (a : Answer Forest). RecordIs text a r w₁ t) (sym (h .are ∙ ap give (f .is))) q

@@ -3,13 +3,16 @@
 use Prim.Native.Nat.{ℕ, _≤_}
 use mathlib.Core.Path.{_≡_}
 use mathlib.Core.List.{List}
+use lib.ListN.{length}
 use Rattle.definition.specs.Limits.{mostStatements}
 use Rattle.definition.specs.Basic.{Answer, refuse, give, _>>=_}
-use Rattle.definition.specs.Calls.{keptStatements}
+use Rattle.definition.specs.Calls.{keptStatements, recordFields}
 use Rattle.definition.specs.Tree.{Forest, forest, fields}
 use Rattle.definition.specs.Fold.{Entries, foldedAll}
 use Rattle.definition.specs.Record.{recordLength, unfolded}
 use Rattle.places.specs.Places.{rowsForest}
+use Rattle.tree.specs.declared.RowsRead.{RowsRead}
+use Rattle.layout.specs.Steps.{Room}
 use Rattle.record.specs.declared.RecordLaid.{RecordLaid}
 use Rattle.definition.specs.Listing.{members#}
 use Rattle.unions.specs.Shown.{listIn, Tree}
@@ -25,6 +28,17 @@ unfoldable pub fieldsOf : List ℕ → Answer Forest
 fieldsOf text = do
   ss ← keptStatements text
   give (fields (forest ss))
+
+-- the fields of a text, read into work memory w, stand in its first n rows, ready to be laid
+pub record Read (text w : List ℕ) (n : ℕ) : Type 0 where
+  pub are : recordFields text (length w) ≡ give (fields (rowsForest w 0 n))
+  pub few : n ≤ mostStatements
+  pub room : Room text w n
+
+-- what an answer says of a text, with work memory as the call leaves it
+abbrev pub CopybookRows : List ℕ → RowsRead → List ℕ → Type 0
+CopybookRows text (RowsRead.Refused r) w = recordFields text (length w) ≡ refuse r
+CopybookRows text (RowsRead.Rows n) w = Read text w n
 
 -- these fields laid, with no list folded
 abbrev pub laidOf : List ℕ → Answer Forest → Answer Entries
@@ -43,7 +57,3 @@ abbrev pub RecordIs : List ℕ → Answer Forest → RecordLaid → List ℕ →
 RecordIs text read (RecordLaid.Refused r) w t = laidOf text read ≡ refuse r
 RecordIs text read (RecordLaid.Record from to length count top) w t =
     Listed text read w from to length × Entered text w from to t count × (top ≡ members# (foldedAll text (listIn w from to)))
-
--- the record of a text, with no list folded
-abbrev pub recordOf : List ℕ → Answer Entries
-recordOf text = laidOf text (fieldsOf text)

@@ -2,18 +2,53 @@
 ghost use mathlib.Core.Path.{_≡_};
 ghost use Prim.Native.Nat.{_+_, _*_, _≤_, _<_};
 ghost use lib.ListN.{length};
-ghost use Rattle.definition.specs.Limits.{mostBytes, leastWork, mostStatements};
+ghost use Rattle.definition.specs.Limits.{mostStatements};
 ghost use Rattle.definition.specs.Basic.{give};
 ghost use Rattle.definition.specs.Calls.{recordFields};
 ghost use Rattle.places.specs.Places.{rowsForest};
 ghost use Rattle.layout.specs.Steps.{Room};
 ghost use Rattle.rows.specs.Columns.{ROW};
-ghost use Rattle.record.specs.Laying.{FieldsFrom, RecordIs, fieldsOf};
+ghost use Rattle.entries.specs.Building.{Roomy};
+ghost use Rattle.record.specs.Laying.{FieldsFrom, RecordIs, Read, CopybookRows};
 use definition::Check;
 use definition::DEEPEST;
 use definition::Refusal;
 use layout::LaidList;
 use tree::RowsRead;
+
+// ---------------------------------------------------------------- the rows
+
+// Checks what a caller lends and reads the text into rows of work memory, with the fingerprints of their names, or says
+// why not: 1, 2, 3, then 50, then the statements' 10 to 14. Every entry that speaks of a copybook's record starts so.
+pub fn read_rows(text: &[u8], work: &mut [u32]) -> RowsRead
+    ensures { λ r. ⌜ CopybookRows (now (text .entry)) r (now (work .exit)) ⌝ }
+{
+    match tree::entry_checks(text, work.len()) {
+        Check::Passed => {}
+        Check::Refused(r) => {
+            return RowsRead::Refused(r);
+        }
+    }
+    match tree::read_rows(text, work) {
+        RowsRead::Rows(n) => {
+            redefines::put_prints(text, work, n);
+            return RowsRead::Rows(n);
+        }
+        RowsRead::Refused(r) => {
+            return RowsRead::Refused(r);
+        }
+    }
+}
+
+// How many rows are few: for no more a small table of entries will do, which is sooner cleared.
+pub const FEW_ROWS: usize = 128;
+
+// How many numbers a table needs for few rows, and for as many as there may be.
+pub const FEW_ENTRIES: usize = 1344;
+
+pub const ENTRIES: usize = 8400;
+
+// ---------------------------------------------------------------- a record
 
 // The rows that hold a record, its length, and how many entries its table has, in all and at the top; or why it is refused.
 pub enum RecordLaid {
@@ -49,7 +84,7 @@ pub fn lay_fields(
     from: usize,
     to: usize,
 ) -> RecordLaid
-    requires { ⌜ (from ≤ to) × Room (now text) (now work) to × (to ≤ mostStatements) × (8400 ≤ length (now entries)) ⌝ }
+    requires { ⌜ (from ≤ to) × Room (now text) (now work) to × (to ≤ mostStatements) × Roomy (now entries) to ⌝ }
     ensures { λ r. ⌜ RecordIs (now (text .entry)) (give (rowsForest (now (work .entry)) from to)) r (now (work .exit)) (now (entries .exit)) ⌝ }
 {
     match layout::lay_list(text, work, from, to, DEEPEST) {
@@ -83,35 +118,11 @@ pub fn lay_fields(
     }
 }
 
-// Reads a text into rows of work memory and lays its record out there.
-pub fn lay_record(text: &[u8], work: &mut [u32], entries: &mut [u32]) -> RecordLaid
-    requires { ⌜ (length (now text) ≤ mostBytes) × (leastWork ≤ length (now work)) × (8400 ≤ length (now entries)) ⌝ }
-    ensures { λ r. ⌜ RecordIs (now (text .entry)) (fieldsOf (now (text .entry))) r (now (work .exit)) (now (entries .exit)) ⌝ }
-{
-    match tree::read_rows(text, work) {
-        RowsRead::Rows(n) => {
-            redefines::put_prints(text, work, n);
-            let from = first_field(work, n);
-            return lay_fields(text, work, entries, from, n);
-        }
-        RowsRead::Refused(r) => {
-            return RecordLaid::Refused(r);
-        }
-    }
-}
-
-// Checks what a caller lends, reads the text into rows of work memory and lays its record out there, or says why not: 1,
-// 2, 3, then 50, then the statements' 10 to 14, then 20 to 30. Every entry that speaks of a copybook's record starts so.
-pub fn read_record(text: &[u8], work: &mut [u32], entries: &mut [u32]) -> RecordLaid
-    requires { ⌜ 8400 ≤ length (now entries) ⌝ }
+// Lays out the record that was read into n rows, or says why not: 20 to 30. The table has room for the entries of so many rows.
+pub fn lay_record(text: &[u8], work: &mut [u32], n: usize, entries: &mut [u32]) -> RecordLaid
+    requires { ⌜ Read (now text) (now work) n × Roomy (now entries) n ⌝ }
     ensures { λ r. ⌜ RecordIs (now (text .entry)) (recordFields (now (text .entry)) (length (now (work .entry)))) r (now (work .exit)) (now (entries .exit)) ⌝ }
 {
-    match tree::entry_checks(text, work.len()) {
-        Check::Passed => {
-            return lay_record(text, work, entries);
-        }
-        Check::Refused(r) => {
-            return RecordLaid::Refused(r);
-        }
-    }
+    let from = first_field(work, n);
+    lay_fields(text, work, entries, from, n)
 }

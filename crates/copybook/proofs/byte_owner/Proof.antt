@@ -1,75 +1,15 @@
--- `copybook::byte_owner` meets its contract: the record read and laid, the owner in it, and work memory cleared on every path.
+-- `copybook::byte_owner` meets its contract: the owner, and work memory cleared.
 -- Assumes nothing.
 use borrow.Author.Needs.{needs}
-use mathlib.Core.Path.{subst, sym, _∙_}
-use lib.ListN.{length}
-use Rattle.definition.specs.Calls.{recordFields}
-use Rattle.record.specs.declared.RecordLaid.{RecordLaid}
-use Rattle.record.specs.Laying.{RecordIs}
-use Rattle.definition.specs.declared.OwnerAnswer.{OwnerAnswer}
-use Rattle.owner.proofs.OwnerLaws.{owner-refused, owner-laid, rows-listed}
 use Rattle.copybook.proofs.CallLaws.{owner-call}
 use Rattle.copybook.proofs.byte_owner.Statement.{statement}
 use Rattle.copybook.proofs.byte_owner.Tie as tie
 
--- the record, where it is known to be laid
-laid :
-    (x : tie.After-from) →
-    let a = x .before .before .before .before .before .before .before .before .before .before .args in
-    let r = x .before .before .before .before .before .read-record in
-    let g = x .from .given .0 in
-    RecordIs (a .text .now) (recordFields (a .text .now) (length (a .work .now))) (RecordLaid.Record (g .0) (g .1 .0) (g .1 .1 .0) (g .1 .1 .1 .0) (g .1 .1 .1 .1 .0)) (r .last .1 .0) (r .last .1 .1 .0)
-laid x =
-    let a = x .before .before .before .before .before .before .before .before .before .before .args in
-    let r = x .before .before .before .before .before .read-record in
-    subst (λ (y : RecordLaid). RecordIs (a .text .now) (recordFields (a .text .now) (length (a .work .now))) y (r .last .1 .0) (r .last .1 .1 .0)) (x .from .given .1) (r .ensures)
-
-owner-of-requires : tie.Need-owner-of-requires
-owner-of-requires c κs = let a = c .before .before .before .before .before .before .before .before .before .before .before .before .args in rows-listed (length (a .work .now)) (laid (c .before .before) .0)
-
 returns : tie.Need-returns
 returns c =
-    let o = c .before .before .before .before .owner-of in
-    let r = c .before .before .before .before .before .before .before .before .before .before .before .before .read-record in
-    let a = c .before .before .before .before .before .before .before .before .before .before .before .before .before .before .before .before .before .args in
-    owner-call
-    (a .text .now)
-    (a .work .now)
-    (r .last .1 .0)
-    (c .before .before .clear .ensures)
-    (r .kept .1 .0)
-    (a .position)
-    (o .result)
-    (o .ensures ∙ sym (owner-laid (length (a .work .now)) (laid (c .before .before .before .before .before .before .before) .0) (a .position)))
-
-returns-2 : tie.Need-returns-2
-returns-2 c =
-    let r = c .before .before .before .before .before .before .before .before .before .before .read-record in
-    let a = c .before .before .before .before .before .before .before .before .before .before .before .before .before .before .before .args in
-    let t = a .text .now in
-    let n = length (a .work .now) in
-    owner-call
-    t
-    (a .work .now)
-    (r .last .1 .0)
-    (c .before .before .clear2 .ensures)
-    (r .kept .1 .0)
-    (a .position)
-    (OwnerAnswer.Refused (c .before .before .before .before .before .r .given .0 .0))
-    (sym (owner-refused t n (a .position) (subst (λ (y : RecordLaid). RecordIs t (recordFields t n) y (r .last .1 .0) (r .last .1 .1 .0)) (c .before .before .before .before .before .r .given .1) (r .ensures))))
+    let a = c .before .before .before .before .before .before .before .before .before .before .args in
+    let o = c .before .before .before .before .before .before .owner-of in
+    owner-call (a .text .now) (a .work .now) (o .last .1 .1 .0) (c .before .before .clear .ensures) (o .kept .1 .1 .0) (a .position) (o .result) (o .ensures)
 
 pub byte-owner-spec : {M : Type 1} → statement M
-byte-owner-spec =
-    tie.close
-    (tie.spec
-    (λ c. search needs)
-    (λ c κs. search needs)
-    (λ c. search needs)
-    owner-of-requires
-    (λ c κs. search needs)
-    (λ c. search needs)
-    returns
-    (λ c. search needs)
-    (λ c κs. search needs)
-    (λ c. search needs)
-    returns-2)
+byte-owner-spec = tie.close (tie.spec (λ c κs. search needs) (λ c κs. search needs) (λ c. search needs) returns)

@@ -10,10 +10,8 @@ use Rattle.definition.specs.declared.Check.{Check}
 use Rattle.definition.specs.declared.Refusal.{Refusal}
 use Rattle.definition.specs.Limits.{mostBytes, leastWork}
 use Rattle.definition.specs.Basic.{refuse, give, _>>=_}
-use Rattle.definition.specs.Calls.{textChecks, entryChecks, recordFields, checkOf}
+use Rattle.definition.specs.Calls.{textChecks, entryChecks, keptStatements, recordFields, checkOf}
 use Rattle.definition.proofs.Answers.{through, not-refused}
-use Rattle.definition.specs.Statement.{statements}
-use Rattle.definition.specs.Words.{statementWords}
 use Rattle.tree.proofs.ReadingLaws.{Stored}
 use Rattle.redefines.specs.Prints.{PrintsPut}
 use Rattle.record.specs.Laying.{fieldsOf, Read}
@@ -50,7 +48,7 @@ unfolding recordFields fieldsOf _>>=_
 fields-read text n p = rw (p .is)
 
 -- the statements are refused
-pub read-refused : (text : List ℕ) (n : ℕ) → Passes text n → {r : Refusal} → statements text 0 (statementWords text) ≡ refuse r → recordFields text n ≡ refuse r
+pub read-refused : (text : List ℕ) (n : ℕ) → Passes text n → {r : Refusal} → keptStatements text ≡ refuse r → recordFields text n ≡ refuse r
 read-refused text n p e = fields-read text n p ∙ reading-refused text e
 
 -- or they stand in n rows, with the fingerprints of their names

@@ -1,12 +1,16 @@
--- One step of the search for the first byte over 127, at a place of the text and at its end.
+-- One step of the search for the first byte over 127, at a place of the text and at its end; and a call for a copybook
+-- that another call accepted.
 -- Assumes nothing.
 use Prim.Native.Nat.{ℕ, _+_, _≤_, _<_}
-use mathlib.Core.Path.{_≡_}
+use mathlib.Core.Path.{_≡_, refl, sym, _∙_, ap}
 use mathlib.Core.List.{List}
 use mathlib.Core.Option.{none, some}
 use lib.ListN.{length, getD, drop, drop-of-length-le}
 use borrow.Author.Tests.{lt-ltb, le-ltb}
-use Rattle.definition.specs.Calls.{firstWide}
+use Rattle.definition.specs.Basic.{Answer, give, _>>=_}
+use Rattle.definition.specs.Cards.{view, Form, freeText, cardText, viewIn}
+use Rattle.definition.specs.Calls.{firstWide, cardChecks, onCards, called}
+use Rattle.definition.proofs.Answers.{give-next, through}
 use Rattle.definition.proofs.Lists.{drop-next}
 
 module _ (text : List ℕ) (i : ℕ) where
@@ -22,3 +26,15 @@ module _ (text : List ℕ) (i : ℕ) where
     pub wide-next : getD text i 0 ≤ 127 → firstWide i (drop i text) ≡ firstWide (i + 1) (drop (i + 1) text)
     unfolding firstWide
     wide-next l = rw (drop-next text i h, le-ltb 127 (getD text i 0) l)
+
+-- where one call for a copybook was not refused, every call for it is the one for what the reader sees
+module _ {A B : Type 0} (call : List ℕ → Answer A) (other : List ℕ → Answer B) where
+  pub called-as :
+      (form : Form) (text : List ℕ) (work : ℕ) {a : A} →
+      called form call text work ≡ give a →
+      called form other text work ≡ other (viewIn form text)
+  unfolding onCards
+  called-as freeText text work h = refl
+  called-as cardText text work h =
+      through _ _ h λ _ c _.
+      ap (λ (x : Answer (Unit {0})). x >>= λ _. other (view text)) c ∙ give-next tt (λ _. other (view text))

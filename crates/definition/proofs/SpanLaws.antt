@@ -346,7 +346,9 @@ module _ (P : Span → Type 0) where
     statements-spans [] text n a h = subst AllSpans (given-same h) tt
     statements-spans (ws ∷ wss) text n a h =
         through _ _ h λ r e k.
-        after-statement text n wss r (statement-spans text ws (a .0) e) (λ m ts q. statements-spans wss text m (a .1) q) k
+        let ih : (m : ℕ) (ts : List Statement) → statements text m wss ≡ give ts → AllSpans ts =
+        λ m ts q. statements-spans wss text m (a .1) q in
+        after-statement text n wss r (statement-spans text ws (a .0) e) ih k
 
     rebased-spans : (start : ℕ) (e : Entry) → EntrySpans P e → EntrySpans P (rebased start e)
     rebased-spans start e x =

@@ -11,9 +11,8 @@ use mathlib.Core.Logic.{⊎-elim}
 use native.Mathlib.Omega.{arith}
 use native.Mathlib.Nat.{sub-self}
 use lib.Dec.{eqb, ltb}
-use lib.ListN.{length, getD, take, drop, length-drop, drop-of-length-le}
+use lib.ListN.{length, getD, drop, length-drop}
 use lib.Seq.{getD-drop}
-use borrow.Author.Tests.{eq-eqb, ne-eqb}
 use Rattle.definition.specs.declared.Span.{Span}
 use Rattle.definition.specs.declared.ByteKind.{ByteKind}
 use Rattle.definition.specs.declared.ByteKind.the-variants.{Newline, Blank, Cut, Star, Period, Other}
@@ -27,7 +26,7 @@ use Rattle.definition.specs.Limits.{mostBytes, leastWork}
 use Rattle.definition.specs.Basic.{if_then_else_, is, white, span, part, give, _>>=_, refused}
 use Rattle.definition.specs.Words.{cutHere, ends, byteKind, next, completed, completedEnd, seen, saidNext}
 use Rattle.definition.specs.Words.{unlessOpen, tokens, tokensOf, onFirst, sentences, statementWords}
-use Rattle.definition.specs.Cards.{columnNext, codeNext, isRead, shown, viewFrom, view, Form, freeText}
+use Rattle.definition.specs.Cards.{columnNext, codeNext, isRead, viewFrom, view, Form, freeText}
 use Rattle.definition.specs.Cards.{cardText, viewIn}
 use Rattle.definition.specs.Calls.{firstWide, textChecks, entryChecks}
 use Rattle.definition.proofs.Lists.{order, take-next}

@@ -18,7 +18,7 @@ use Rattle.definition.specs.Tree.{Forest, forest}
 use Rattle.definition.specs.Fold.{Entries}
 use Rattle.definition.specs.Record.{recordLength, layout}
 use Rattle.definition.specs.Cards.{Form, viewIn}
-use Rattle.definition.specs.Calls.{entryChecks, keptStatements, recordFields, entries, ownerIn, byteOwner, called}
+use Rattle.definition.specs.Calls.{keptStatements, recordFields, entries, ownerIn, byteOwner, called}
 use Rattle.definition.specs.Owner.{extent, pieces, ownerFrom, ownerOf, overlaid, cut, join}
 use Rattle.definition.specs.Placed.{placed}
 use Rattle.definition.specs.Search.{seek, Row, rows, walk}

@@ -25,9 +25,7 @@ use Rattle.definition.specs.Basic.{if_then_else_, absent, given, uppers,
 use Rattle.definition.specs.Basic.{refused, refuseIf}
 use Rattle.definition.specs.Tree.{Forest, leaf, item, above, notAbove, forest, fields}
 use Rattle.definition.specs.Fold.{Entries, end, entry, append, entryEnd, sameName, Place, placeOf, find}
-use Rattle.definition.specs.Fold.{hasMember}
-use Rattle.definition.specs.Fold.{rebased, redefiners, unionMembers, withRedefiners, foldedList, foldedBelow}
-use Rattle.definition.specs.Fold.{foldedAll}
+use Rattle.definition.specs.Fold.{hasMember, rebased, redefiners, withRedefiners, foldedList, foldedBelow}
 use Rattle.definition.specs.Layout.{slackFrom, entryOf, advance, Laid, lay}
 use Rattle.definition.specs.Record.{unfolded, layout}
 use Rattle.definition.specs.Demand.{EntrySpans, EachSpan}

@@ -3,7 +3,7 @@
 use borrow.Author.Needs.{needs}
 use Prim.Native.Nat.{ℕ, _≤_, _<_}
 use mathlib.Core.Path.{_≡_}
-use mathlib.Core.Bool.{Bool, true}
+use mathlib.Core.Bool.{true}
 use mathlib.Core.List.{List}
 use lib.Dec.{eqb}
 use lib.ListN.{length, getD, drop, drop-of-length-le}

@@ -2,7 +2,7 @@
 -- Assumes nothing.
 use borrow.Author.Needs.{needs}
 use Prim.Native.Nat.{ℕ, _≤_}
-use mathlib.Core.Path.{_≡_, sym, _∙_, ap}
+use mathlib.Core.Path.{_≡_}
 use mathlib.Core.List.{List}
 use native.Mathlib.Omega.{arith}
 use lib.ListN.{length}
@@ -10,8 +10,8 @@ use Rattle.definition.specs.declared.Check.{Check}
 use Rattle.definition.specs.declared.Check.the-variants.{Passed, Refused}
 use Rattle.definition.specs.declared.Refusal.{Refusal}
 use Rattle.definition.specs.Limits.{mostBytes}
-use Rattle.definition.specs.Basic.{refuse, give, _>>=_}
-use Rattle.definition.specs.Calls.{entryChecks, indicatorCheck, cardChecks, checkOf}
+use Rattle.definition.specs.Basic.{refuse, _>>=_}
+use Rattle.definition.specs.Calls.{entryChecks, cardChecks, checkOf}
 use Rattle.definition.proofs.CallsLaws.{passes}
 use Rattle.cards.specs.Viewed.{Room, Viewed, CardsRead}
 use Rattle.cards.proofs.read_cards.Statement.{statement}

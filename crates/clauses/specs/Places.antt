@@ -8,9 +8,9 @@ use Rattle.definition.specs.declared.Span.{Span}
 use Rattle.definition.proofs.SpanLaws.{Spans}
 
 -- a span lies in the text
-abbrev pub Inside : List ℕ → Span → Type 0
-Inside text w = w .start + w .len ≤ length text
+abbrev pub SpanInside : List ℕ → Span → Type 0
+SpanInside text w = w .start + w .len ≤ length text
 
 -- the spans that the clauses name lie in the text
 abbrev pub Fits : List ℕ → Clauses → Type 0
-Fits text c = Spans (Inside text) c
+Fits text c = Spans (SpanInside text) c

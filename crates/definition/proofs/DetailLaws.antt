@@ -20,7 +20,7 @@ use Rattle.definition.specs.Fold.{Entries, end, entry, append, entryEnd,
 use Rattle.definition.specs.Layout.{Laid, start, slackFrom, entryOf, shallow, advance, lay}
 use Rattle.definition.specs.Record.{unfolded}
 use Rattle.definition.specs.Search.{entries#}
-use Rattle.definition.specs.Details.{Detail, detail, detailsIn, detailBytes, detailsBytes, entriesDetails, around, firstOf, Inside, Following, height}
+use Rattle.definition.specs.Details.{Detail, detail, detailsIn, detailBytes, detailsBytes, entriesDetails, around, firstOf, FirstBytes, Following, height}
 use Rattle.definition.proofs.Answers.{through, given-same, not-refused}
 use Rattle.definition.proofs.LayoutLaws.{redefiners-none, redefiners-hit, redefiners-miss, redefiners-ends, redefiners-next, folded-none, folded-base, folded-alone, folded-under, below-none, below-entry, append-none, append-entry}
 use Rattle.definition.proofs.Cover.{item-laid}
@@ -71,8 +71,8 @@ module _ (depth : ℕ) (g : Detail) (before : List Detail) where
 inside-list :
     (es : Entries) (depth start : ℕ) (before after : List Detail) →
     firstOf (around depth before) ≡ start →
-    ((now : List Detail) → ((d : ℕ) → d ≤ depth → around d now ≡ around d before) → Inside now after) →
-    Inside before (detailsIn depth start es ++ after)
+    ((now : List Detail) → ((d : ℕ) → d ≤ depth → around d now ≡ around d before) → FirstBytes now after) →
+    FirstBytes before (detailsIn depth start es ++ after)
 unfolding detailsIn
 inside-list end depth start before after h k = k before (λ d _. refl)
 inside-list (entry e members later) depth start before after h k =
@@ -82,16 +82,16 @@ inside-list (entry e members later) depth start before after h k =
     let same : a ++ (b ++ after) ≡ (a ++ b) ++ after = sym (append-assoc a b after) in
     let past : (d : ℕ) → d ≤ depth → around d (x ∷ before) ≡ around d before = λ d l. around-miss d x before l in (
       ap (λ (n : ℕ). n + e .offset) (sym h),
-      subst (Inside (x ∷ before)) same
+      subst (FirstBytes (x ∷ before)) same
           (inside-list members (depth + 1) (start + e .offset) (x ∷ before) (b ++ after) (ap firstOf (around-hit (depth + 1) x before (omega arith))) (λ now q.
           inside-list later depth start now after
           (ap firstOf (q depth (omega arith) ∙ past depth (omega arith)) ∙ h)
           (λ last p. k last (λ d l. p d l ∙ q d (omega arith) ∙ past d l)))),
     )
 
-pub inside : (es : Entries) → Inside [] (detailsIn 0 0 es)
+pub inside : (es : Entries) → FirstBytes [] (detailsIn 0 0 es)
 unfolding around
-inside es = subst (Inside []) (append-nil (detailsIn 0 0 es)) (inside-list es 0 0 [] [] refl (λ now _. tt))
+inside es = subst (FirstBytes []) (append-nil (detailsIn 0 0 es)) (inside-list es 0 0 [] [] refl (λ now _. tt))
 
 -- ---------------------------------------------------------------- slack
 

@@ -60,10 +60,10 @@ sameColumns (c ∷ cs) [] = false
 sameColumns (c ∷ cs) (d ∷ ds) = same c d && sameColumns cs ds
 
 -- an owner in numbers
-abbrev pub ownerNumbers : Owner → List ℕ
-ownerNumbers (Owner.Piece k first place) = 1 ∷ k ∷ first ∷ place ∷ []
-ownerNumbers (Owner.Slack k) = 2 ∷ k ∷ []
-ownerNumbers Owner.Unowned = 0 ∷ []
+abbrev pub ownerShown : Owner → List ℕ
+ownerShown (Owner.Piece k first place) = 1 ∷ k ∷ first ∷ place ∷ []
+ownerShown (Owner.Slack k) = 2 ∷ k ∷ []
+ownerShown Owner.Unowned = 0 ∷ []
 
 -- the answer is such a value, or that refusal: number, position and needed length
 abbrev pub gives : {A : Type 0} → (A → Bool) → Answer A → Bool
@@ -76,31 +76,31 @@ refuses n p l (give a) = false
 
 -- ---------------------------------------------------------------- the table
 
-pub data Row : Type 0 where
+pub data Catch : Type 0 where
   -- a copybook, its record length, whether it is variable, and its columns in the order of the listing
-  accepted : String → ℕ → Bool → List (List ℕ) → Row
+  accepted : String → ℕ → Bool → List (List ℕ) → Catch
   -- a copybook, and the number and position of its refusal
-  turnedDown : String → ℕ → ℕ → Row
+  turnedDown : String → ℕ → ℕ → Catch
   -- a copybook, the length of the lent output, and the bytes of its listing
-  listed : String → ℕ → List ℕ → Row
+  listed : String → ℕ → List ℕ → Catch
   -- a copybook, the length of the lent output, and the needed length of its refusal 31
-  noRoom : String → ℕ → ℕ → Row
+  noRoom : String → ℕ → ℕ → Catch
   -- a copybook, and the bytes of its details
-  detailed : String → List ℕ → Row
+  detailed : String → List ℕ → Catch
   -- a copybook, the length of the lent output, and the needed length of the details' refusal 31
-  noDetails : String → ℕ → ℕ → Row
+  noDetails : String → ℕ → ℕ → Catch
   -- a picture with a usage and a sign, its width, and what it holds
-  pictured : String → Usage → SignClause → ℕ → FieldKind → Row
+  pictured : String → Usage → SignClause → ℕ → FieldKind → Catch
   -- a copybook, a position, and the byte's owner
-  owned : String → ℕ → Owner → Row
+  owned : String → ℕ → Owner → Catch
   -- a copybook, a position, and the number of the refusal
-  notOwned : String → ℕ → ℕ → Row
+  notOwned : String → ℕ → ℕ → Catch
   -- a row of one of these kinds whose copybook is cards
-  cards : Row → Row
+  cards : Catch → Catch
   -- cards whose last line ends with the text, with a carriage return, with byte 10 or with both, and their columns
-  ending : String → List (List ℕ) → Row
+  ending : String → List (List ℕ) → Catch
   -- of the bytes below 128, those that may follow six columns of a card
-  indicators : String → Row
+  indicators : String → Catch
 
 -- a call for a copybook, with 16,384 numbers of work memory lent
 abbrev asked : {A : Type 0} → Form → (List ℕ → Answer A) → List ℕ → Answer A
@@ -117,7 +117,7 @@ indicated ok (suc b) =
     let check = indicatorCheck (bytes "123456" ++ b ∷ []) in
     (if among ok b then gives (λ _. true) check else refuses 51 6 0 check) && indicated ok b
 
-abbrev rightIn : Form → Row → Bool
+abbrev rightIn : Form → Catch → Bool
 rightIn form (accepted text len isVariable cs) =
     gives
     (λ es. eqb (recordLength es) len && (eqb (flag (variable es)) (flag isVariable) && sameColumns (columns es) cs))
@@ -132,7 +132,7 @@ rightIn form (noDetails text room needed) =
 rightIn form (pictured text u s width kind) =
     gives (λ p. same (column 0 (p .width) (p .kind)) (column 0 width kind)) (pictureAnswer u s (bytes text))
 rightIn form (owned text p o) =
-    gives (λ a. same (ownerNumbers a) (ownerNumbers o)) (asked form (λ t. byteOwner t 16384 p) (bytes text))
+    gives (λ a. same (ownerShown a) (ownerShown o)) (asked form (λ t. byteOwner t 16384 p) (bytes text))
 rightIn form (notOwned text p n) = refuses n 0 0 (asked form (λ t. byteOwner t 16384 p) (bytes text))
 rightIn form (cards row) = rightIn cardText row
 rightIn form (ending text cs) =
@@ -142,10 +142,10 @@ rightIn form (ending text cs) =
     && hasColumns cardText (bytes text ++ bytes "\r\n") cs
 rightIn form (indicators ok) = indicated ok 128
 
-abbrev pub right : Row → Bool
+abbrev pub right : Catch → Bool
 right row = rightIn freeText row
 
-abbrev pub all : List Row → Bool
+abbrev pub all : List Catch → Bool
 all [] = true
 all (r ∷ rs) = elim (right r) [ true ↦ all rs | false ↦ false ]
 
@@ -189,7 +189,7 @@ abbrev pub facts : ℕ → ℕ → ℕ → Bool → ℕ → ℕ → ℕ → Span
 facts at level depth folded below first slack picture over depending =
     le4 at ++ (level ∷ depth ∷ flag folded ∷ le4 below) ++ le8 first ++ le4 slack ++ spanBytes picture ++ spanBytes over ++ spanBytes depending
 
-pub table : List Row
+pub table : List Catch
 table =
     -- empty text: length 0, listing 10 bytes
     accepted "" 0 false []

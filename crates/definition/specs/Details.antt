@@ -62,9 +62,9 @@ firstOf none = 0
 firstOf (some g) = g .first
 
 -- the first byte of a member is its group's plus its offset, and that of an entry at the top is its offset
-abbrev pub Inside : List Detail → List Detail → Type 0
-Inside before [] = Unit {0}
-Inside before (x ∷ xs) = (x .first ≡ firstOf (around (x .depth) before) + x .own .offset) × Inside (x ∷ before) xs
+abbrev pub FirstBytes : List Detail → List Detail → Type 0
+FirstBytes before [] = Unit {0}
+FirstBytes before (x ∷ xs) = (x .first ≡ firstOf (around (x .depth) before) + x .own .offset) × FirstBytes (x ∷ before) xs
 
 -- how many lists deep a list is, itself included: for a listing at most 130, so a depth takes one byte
 abbrev pub height : Entries → ℕ

@@ -16,7 +16,7 @@ use Rattle.definition.specs.Statement.{noClauses, clauses, named, statement}
 use Rattle.definition.specs.Words.{sentences, firstWords, afterStop}
 use Rattle.tokens.specs.declared.Stand.{Stand}
 use Rattle.tokens.specs.Tokens.{tokensAt}
-use Rattle.clauses.specs.Places.{Inside, Fits}
+use Rattle.clauses.specs.Places.{SpanInside, Fits}
 use Rattle.statement.specs.declared.Finished.{Finished}
 use Rattle.statement.specs.declared.ClausesRead.{ClausesRead}
 use Rattle.statement.specs.declared.NamedRead.{NamedRead}
@@ -27,7 +27,7 @@ use Rattle.statement.specs.declared.StatementRead.{StatementRead}
 -- a statement's first word, its name and the spans that its clauses name lie in the text
 pub record StatementFits (text : List ℕ) (s : Statement) : Type 0 where
   pub begins : s .at < length text
-  pub name : Inside text (s .name)
+  pub name : SpanInside text (s .name)
   pub clauses : Fits text (s .clauses)
 
 -- ---------------------------------------------------------------- the words of a statement

@@ -23,7 +23,7 @@ use Rattle.tokens.specs.declared.Stand.{Stand}
 use Rattle.tokens.specs.Tokens.{atStart, tokensAt}
 use Rattle.statement.specs.declared.StatementRead.{StatementRead}
 use Rattle.statement.specs.declared.StatementRead.the-variants.{Kept, Skipped, Refused, End}
-use Rattle.clauses.specs.Places.{Inside}
+use Rattle.clauses.specs.Places.{SpanInside}
 use Rattle.statement.specs.Reading.{FirstKept, FirstSkipped, FirstStatement}
 use Rattle.statement.proofs.ReadLaws.{kept-read, skipped-read, refused-read, end-read}
 use Rattle.tree.specs.declared.OpenLevels.{OpenLevels}
@@ -73,7 +73,7 @@ start {t} {w} {from} {o} s r b p =
     }
 
 -- a span in a short text is short
-short-inside : (t : List ℕ) (w : Span) → length t ≤ mostBytes → Inside t w → Short w
+short-inside : (t : List ℕ) (w : Span) → length t ≤ mostBytes → SpanInside t w → Short w
 short-inside t w h i = record { starts = omega arith; runs = omega arith }
 
 module _ {t w₀ w : List ℕ} {from : Stand} {n : ℕ} {o : OpenLevels} (inv : Left t w₀ w from n o) where

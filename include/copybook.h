@@ -241,10 +241,10 @@ uint32_t copybook_details(const uint8_t *text, size_t n, uint32_t *work, size_t 
                           uint64_t *answer, size_t k);
 
 /*
- * The same two for a copybook on cards, COBOL's reference format. Columns are bytes. Columns 1 to 6 and those after 72 are
- * ignored; column 7 is an indicator: a blank for code, * or / for a comment, D for a debugging line, which is dropped; a
- * carriage return that ends a line is no column, and a line shorter than 7 columns is blank. What is left is read as free
- * text is, and starts and positions point into `cards`. Refusal 51 comes after 3 and before 50.
+ * The same two for a copybook on cards, COBOL's reference format. Columns are bytes. Columns 1 to 6 and those after 72
+ * are ignored; column 7 is an indicator: a blank for code, * or / for a comment, D for a debugging line, which is
+ * dropped; a carriage return that ends a line is no column, and a line shorter than 7 columns is blank. What is left is
+ * read as free text is, and starts and positions point into `cards`. Refusal 51 comes after 3 and before 50.
  */
 uint32_t copybook_layout_cards(const uint8_t *cards, size_t n, uint32_t *work, size_t w, uint8_t *out, size_t m,
                                uint64_t *answer, size_t k);

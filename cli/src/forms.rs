@@ -43,8 +43,8 @@ fn other_as_cards(text: &[u8], read: Result<&Layout, &Refusal>) -> bool {
     }
 }
 
-/// Says so where free text that was refused, or has a number for a name, looks like cards and would be read otherwise as
-/// such; and where lines end in carriage returns alone.
+/// Says so where free text that was refused, or has a number for a name, looks like cards and would be read otherwise
+/// as such; and where lines end in carriage returns alone.
 pub fn hint(source: &Source, form: Form, read: Result<&Layout, &Refusal>) {
     let (name, text) = (&source.name, &source.text);
     let doubtful = read.map_or(true, has_number_for_a_name);
@@ -52,6 +52,6 @@ pub fn hint(source: &Source, form: Form, read: Result<&Layout, &Refusal>) {
         eprintln!("{name}: its lines look like cards with columns: try {CARDS}");
     }
     if !text.contains(&b'\n') && text.iter().rev().skip(1).any(|&b| b == b'\r') {
-        eprintln!("{name}: its lines end in carriage returns alone, and are read as one: give each a byte 10 at its end");
+        eprintln!("{name}: its lines end in carriage returns alone, and are read as one: end each with byte 10");
     }
 }

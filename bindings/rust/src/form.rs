@@ -45,8 +45,8 @@ impl Form {
         calls::owner(self, text, position, &mut vec![0; WORK])
     }
 
-    /// What a reader sees of the text: of cards the code in its columns, with a blank for every byte that is ignored, so
-    /// that a place in the one is a place in the other.
+    /// What a reader sees of the text: of cards the code in its columns, with a blank for every byte that is ignored,
+    /// so that a place in the one is a place in the other.
     pub fn view(self, text: &[u8]) -> Cow<'_, [u8]> {
         match self {
             Form::Free => Cow::Borrowed(text),

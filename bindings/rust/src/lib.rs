@@ -14,10 +14,10 @@
 //! # Ok::<(), copybook::Refusal>(())
 //! ```
 //!
-//! [`layout`], [`details`], [`owner`], [`picture`], [`mask`] and [`check_record_len`] are the calls. The first three take
-//! a copybook in free text; [`layout_cards`], [`details_cards`] and [`owner_cards`] take one on cards with columns, and a
-//! [`Form`] has them for either. A [`Reader`] keeps the buffers from call to call; with the functions of [`lent`] they
-//! are the caller's own. A [`Refusal`] has a number and a place; [`Refusal::told`] says it in words:
+//! [`layout`], [`details`], [`owner`], [`picture`], [`mask`] and [`check_record_len`] are the calls. The first three
+//! take a copybook in free text; [`layout_cards`], [`details_cards`] and [`owner_cards`] take one on cards with
+//! columns, and a [`Form`] has them for either. A [`Reader`] keeps the buffers from call to call; with the functions of
+//! [`lent`] they are the caller's own. A [`Refusal`] has a number and a place; [`Refusal::told`] says it in words:
 //!
 //! ```
 //! let text = b"01 R.\n    05 TAG  PIC X(5).\n    05 YEAR REDEFINES TAGS PIC 9(4).\n";

@@ -1,11 +1,11 @@
 -- Demand 3 of what the code answers: from the contracts of the layout listing and of the byte owner alone, and the
 -- definition's `demand3`; of free text and of cards.
 -- Assumes nothing.
-use Prim.Native.Nat.{ℕ, _≤_, _<_}
+use Prim.Native.Nat.{ℕ, _≤_}
 use mathlib.Core.Path.{_≡_, refl, sym, _∙_, ap, ap₂}
 use mathlib.Core.Bool.{Bool, true, false}
-use mathlib.Core.Logic.{_⊎_, inl, inr}
-use mathlib.Core.List.{List, [], _++_}
+use mathlib.Core.Logic.{inl, inr}
+use mathlib.Core.List.{List, _++_}
 use native.Mathlib.Omega.{arith}
 use lib.Dec.{ltb}
 use lib.ListN.{length, take, drop}
@@ -28,7 +28,7 @@ use Rattle.definition.proofs.Answers.{give-next, through, given-same}
 use Rattle.definition.proofs.CallsLaws.{called-as}
 use Rattle.definition.proofs.Demand3.{demand3 as defined, read-fields, refuses-40, refuses-41}
 use Rattle.layout.proofs.BareLaws.{bind-bind}
-use Rattle.copybook.specs.Answered.{Listing, Owns, Accepted, ListingWritten, TooShort, Answered}
+use Rattle.copybook.specs.Answered.{Listing, Owns, Accepted, Answered}
 
 -- ---------------------------------------------------------------- the byte owner
 
@@ -49,7 +49,8 @@ cards-checked text n m h room =
 
 -- so any call for an accepted copybook is the one for what the reader sees,
 called-enough :
-    {A B : Type 0} (call : List ℕ → Answer A) (other : List ℕ → Answer B) (form : Form) (text : List ℕ) (n m : ℕ) {a : A} →
+    {A B : Type 0} (call : List ℕ → Answer A) (other : List ℕ → Answer B) →
+    (form : Form) (text : List ℕ) (n m : ℕ) {a : A} →
     called form call text n ≡ give a →
     leastWork ≤ m →
     called form other text m ≡ other (viewIn form text)
@@ -65,7 +66,9 @@ enough :
 unfolding recordFields
 enough text n m f h room =
     through _ _ h λ _ e q.
-    ap (λ (a : Answer (Unit {0})). a >>= λ _. (keptStatements text >>= λ ss. give (fields (forest ss)))) (checked text n m e room)
+    ap
+    (λ (a : Answer (Unit {0})). a >>= λ _. (keptStatements text >>= λ ss. give (fields (forest ss))))
+    (checked text n m e room)
     ∙ give-next tt _
     ∙ q
 
@@ -105,15 +108,16 @@ module _
         let k = defined form text (length work) es read in
         let seen = viewIn form text in
         let n = length work in
-        let one : (q : ℕ) {a : Answer Owner} → ownerIn seen (k .of) q ≡ a → Owns form text q a =
-        λ q e. owns form text n es read (k .of) (k .read) q e in
         let asked : (q : ℕ) → ownerOn form text n q ≡ ownerIn seen (k .of) q =
-        λ q. called-as (λ t. entries t n) (λ t. byteOwner t n q) form text n read ∙ read-fields seen n (k .of) (k .read) .1 q in
+        λ q. called-as (λ t. entries t n) (λ t. byteOwner t n q) form text n read
+        ∙ read-fields seen n (k .of) (k .read) .1 q in
         record {
           kept = k;
-          names = λ free q l. one q (sym (asked q) ∙ k .demand free .named q l);
-          ends = λ free q l. one q (refuses-41 seen (k .of) es (k .laidOut) free q l);
-          refuses = λ over q. one q (refuses-40 seen (k .of) es (k .laidOut) over q);
+          names = λ free q l. owns form text n es read (k .of) (k .read) q (sym (asked q) ∙ k .demand free .named q l);
+          ends = λ free q l.
+              owns form text n es read (k .of) (k .read) q (refuses-41 seen (k .of) es (k .laidOut) free q l);
+          refuses = λ over q.
+              owns form text n es read (k .of) (k .read) q (refuses-40 seen (k .of) es (k .laidOut) over q);
         }
 
     -- its listing has room, or hasn't
@@ -190,5 +194,6 @@ demand3 form text out work r out′ work′ h = by-reading (called form (λ t. e
 
     by-reading : (a : Answer Entries) → called form (λ t. entries t n) text n ≡ a → Answered form text out work r out′
     by-reading (give es) e =
-        answered form text out work es e (ltb (length out) (length (listing es))) refl r (rw e at answer) (rw e at output)
+        let isShort = ltb (length out) (length (listing es)) in
+        answered form text out work es e isShort refl r (rw e at answer) (rw e at output)
     by-reading (refuse q) e = not-read form text out work q e r (rw e at answer) (rw e at output)

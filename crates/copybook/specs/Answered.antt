@@ -1,8 +1,9 @@
 -- Demand 3 of what the code answers (`demand3`, of the proofs, keeps it). Whatever a call of `layout_listing`, or of
--- `layout_cards`, answers, accepted or refused, is told here: a call that writes leaves in the output the listing of some
--- entries; one that is refused leaves the output as it was. Where the reader has no refusal, 31 aside, and the copybook
--- has no REDEFINES and no DEPENDING ON, a dropped root's own aside, those entries are the owner rule's, and every call of
--- `byte_owner`, or of `byte_owner_cards`, on the same text answers with the one piece, or slack, that has the byte.
+-- `layout_cards`, answers, accepted or refused, is told here: a call that writes leaves in the output the listing of
+-- some entries; one that is refused leaves the output as it was. Where the reader has no refusal, 31 aside, and the
+-- copybook has no REDEFINES and no DEPENDING ON, a dropped root's own aside, those entries are the owner rule's, and
+-- every call of `byte_owner`, or of `byte_owner_cards`, on the same text answers with the one piece, or slack, that has
+-- the byte.
 -- Assumes nothing.
 use Prim.Native.Nat.{ℕ, _≤_, _<_}
 use mathlib.Core.Path.{_≡_}
@@ -24,8 +25,8 @@ use Rattle.definition.specs.Listing.{listing}
 use Rattle.definition.specs.Owner.{overlaid}
 use Rattle.definition.specs.Record.{recordLength}
 
--- what the contract of `layout_listing`, or of `layout_cards`, says of a call: its answer, and the output and work memory
--- after it
+-- what the contract of `layout_listing`, or of `layout_cards`, says of a call: its answer, and the output and work
+-- memory after it
 abbrev pub Listing : Form → List ℕ → List ℕ → List ℕ → Writing → List ℕ → List ℕ → Type 0
 Listing form text out work r out′ work′ = left (writingOf r) out′ work′ ≡ layoutCallIn form text out work
 
@@ -74,4 +75,5 @@ pub record TooShort (form : Form) (text out work : List ℕ) (r : Refusal) : Typ
 abbrev pub Answered : Form → List ℕ → List ℕ → List ℕ → Writing → List ℕ → Type 0
 Answered form text out work (Writing.Written n) out′ = ListingWritten form text out work n out′
 Answered form text out work (Writing.Refused r) out′ =
-    (out′ ≡ out) × (TooShort form text out work r ⊎ (called form (λ t. entries t (length work)) text (length work) ≡ refuse r))
+    (out′ ≡ out)
+    × (TooShort form text out work r ⊎ (called form (λ t. entries t (length work)) text (length work) ≡ refuse r))

@@ -1,7 +1,7 @@
 // The public entries: what a copybook's columns are, and which of them has a byte, in free text and on cards. Each
-// answers in full or with one refusal of document 01's table; a refusal changes no byte of the output, and work memory is
-// zero after every call. `proofs/Demand3` says what the answers of the listing and of the byte owner have to do with each
-// other.
+// answers in full or with one refusal of document 01's table; a refusal changes no byte of the output, and work memory
+// is zero after every call. `proofs/Demand3` says what the answers of the listing and of the byte owner have to do with
+// each other.
 ghost use Prim.Native.Nat.{ℕ};
 ghost use mathlib.Core.Path.{_≡_};
 ghost use mathlib.Core.List.{[]};
@@ -116,9 +116,9 @@ pub fn byte_owner(text: &[u8], position: usize, work: &mut [u32]) -> OwnerAnswer
 }
 
 // The layout listing of cards, a copybook in COBOL reference format: `layout_listing` of what the reader sees of them.
-// Columns 1 to 6 and those after 72 are ignored, and so are lines with `*`, `/` or `D` in column 7; a carriage return that
-// ends a line is no column. Refusals: 1, 2 and 3, of the whole text; 51, at the first byte in column 7 that is none of
-// those and no blank; then as `layout_listing`. Positions and places are those in the card text.
+// Columns 1 to 6 and those after 72 are ignored, and so are lines with `*`, `/` or `D` in column 7; a carriage return
+// that ends a line is no column. Refusals: 1, 2 and 3, of the whole text; 51, at the first byte in column 7 that is
+// none of those and no blank; then as `layout_listing`. Positions and places are those in the card text.
 // The contract rules out a program that reads column 73, and one whose positions count columns of code alone.
 pub fn layout_cards(cards: &[u8], work: &mut [u32], out: &mut [u8]) -> Writing
     ensures { λ r. ⌜ left (writingOf r) (now (out .exit)) (now (work .exit)) ≡ layoutCardsCall (now (cards .entry)) (now (out .entry)) (now (work .entry)) ⌝ }

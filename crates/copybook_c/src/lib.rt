@@ -138,8 +138,8 @@ pub extern "C" fn copybook_owner(
     numbers::hand_on_owner(o, answer)
 }
 
-// The owner of a byte of the record that cards describe, as `copybook::byte_owner_cards` says. To `answer`, 4 numbers, as
-// `copybook_owner`.
+// The owner of a byte of the record that cards describe, as `copybook::byte_owner_cards` says. To `answer`, 4 numbers,
+// as `copybook_owner`.
 // The contract rules out the same two wrong calls as that of `copybook_owner`.
 #[no_mangle]
 pub extern "C" fn copybook_owner_cards(

@@ -21,7 +21,9 @@ same-length-3 : tie.Need-same-length-3
 same-length-3 c = search needs
 
 returns : tie.Need-returns
-returns c = handed _ _ _ _ _ _ _ (c .before .before .before .before .before .before .before .before .layout-details-cards .ensures) (c .before .before .hand-on .ensures)
+returns c =
+    let h = c .before .before .before .before .before .before .before .before .layout-details-cards .ensures in
+    handed _ _ _ _ _ _ _ h (c .before .before .hand-on .ensures)
 
 pub copybook-details-cards-spec : {M : Type 1} → statement M
 copybook-details-cards-spec =

@@ -18,7 +18,9 @@ same-length-2 : tie.Need-same-length-2
 same-length-2 c = search needs
 
 returns : tie.Need-returns
-returns c = owner-handed _ _ _ _ _ _ _ (c .before .before .before .before .before .before .byte-owner-cards .ensures) (c .before .before .hand-on-owner .ensures)
+returns c =
+    let h = c .before .before .before .before .before .before .byte-owner-cards .ensures in
+    owner-handed _ _ _ _ _ _ _ h (c .before .before .hand-on-owner .ensures)
 
 pub copybook-owner-cards-spec : {M : Type 1} → statement M
 copybook-owner-cards-spec =

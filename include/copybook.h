@@ -14,7 +14,8 @@
  *
  * A call changes no byte of `out` if it refuses, and none past the bytes that it writes. It keeps nothing between
  * calls, and needs no initialisation; calls on different buffers may run at the same time. It takes no memory but
- * stack; how much of that is not proved.
+ * stack: at the deepest nesting that is accepted, 66 levels, 64 KB were measured, and 129 KB for cards, whose text is
+ * copied there. How much is not proved; COPYBOOK_STACK bytes leave room.
  *
  * Buffers. A slice is handed over as a pointer and the number of its elements. What is proved holds if
  *   - the pointer is good for that many elements during the call, and aligned for its type (4 bytes for `work`, 8 for
@@ -43,6 +44,9 @@ extern "C" {
 
 /* How many numbers of 32 bits `work` must have. */
 #define COPYBOOK_WORK 16384
+
+/* How many bytes of stack are enough for every call. */
+#define COPYBOOK_STACK 196608
 
 /* How many numbers `answer` needs. */
 #define COPYBOOK_LAYOUT_ANSWER 2

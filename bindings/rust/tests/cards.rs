@@ -1,8 +1,6 @@
 //! Copybooks on cards: which columns are read, what the indicators say, how lines end, and what a refusal tells.
 
-use copybook::{
-    details_cards, layout, layout_cards, lent, owner_cards, Form, Owner, Reader, LONGEST_LISTING, WORK,
-};
+use copybook::{details_cards, layout, layout_cards, lent, owner_cards, Form, Owner, Reader, LONGEST_LISTING, WORK};
 use std::fs;
 
 /// A card with this indicator whose code ends in the column.
@@ -105,10 +103,10 @@ fn indicators() {
             b' ' | b'*' | b'/' | b'D' | b'\n' | b'\r' => assert_eq!(columns(&text).len(), 1, "{byte}"),
             _ => assert_eq!(refused(&text), (51, 25), "{byte}"),
         }
-        let text = format!("{text}    05 B PIC X.");
+        let text = format!("{text}           05 B PIC X.");
         match byte {
-            b' ' => assert_eq!(columns(&text).len(), 2),
-            b'*' | b'/' | b'D' | b'\n' => assert_eq!(columns(&text).len(), 1, "{byte}"),
+            b' ' | b'\n' => assert_eq!(columns(&text).len(), 2, "{byte}"),
+            b'*' | b'/' | b'D' => assert_eq!(columns(&text).len(), 1, "{byte}"),
             _ => assert_eq!(refused(&text), (51, 25), "{byte}"),
         }
     }
@@ -148,6 +146,28 @@ x:2:7: - in column 7 is none of the four indicators
 "
     );
     assert!(told(b"000100\t05 A PIC X.").starts_with("x:1:7: the byte 0x09 in column 7 is none"));
+}
+
+/// Every call, at the deepest nesting, with as much stack as the header says.
+#[test]
+fn stack() {
+    let header = include_str!("../../../include/copybook.h");
+    let stack = header.split("#define COPYBOOK_STACK ").nth(1).and_then(|rest| rest.lines().next()).unwrap();
+    let deepest = |form: Form| {
+        let before = if form == Form::Cards { "000100 " } else { "" };
+        let groups: String = (1..66).map(|level| format!("{before}{level} G.\n")).collect();
+        format!("{groups}{before}66 E PIC X.\n")
+    };
+    let calls = move || {
+        let (mut work, mut out) = (vec![0; WORK], vec![0; LONGEST_LISTING]);
+        for form in [Form::Free, Form::Cards] {
+            let text = deepest(form);
+            lent::layout_of(form, text.as_bytes(), &mut work, &mut out).unwrap();
+            lent::details_of(form, text.as_bytes(), &mut work, &mut out).unwrap();
+            lent::owner_of(form, text.as_bytes(), 0, &mut work).unwrap();
+        }
+    };
+    std::thread::Builder::new().stack_size(stack.parse().unwrap()).spawn(calls).unwrap().join().unwrap();
 }
 
 /// What the command shows of a text is what the library reads of it.

@@ -18,7 +18,7 @@ use Rattle.definition.specs.declared.Said.the-variants.{Before, Value, L
 use Rattle.definition.specs.declared.Token.{Token}
 use Rattle.definition.specs.declared.Token.the-variants.{Word, Stop, Open}
 use Rattle.definition.specs.Basic.{if_then_else_, is, white, same, span, part}
-use Rattle.definition.specs.Words.{cutHere, ends, byteKind, next, upTo, completed, completedEnd, seen, marked, isValue, heard, saidNext, unlessOpen, tokens, firstWords, afterStop, onFirst, sentences}
+use Rattle.definition.specs.Words.{cutHere, ends, byteKind, next, upTo, completed, completedEnd, seen, marked, isValue, heard, saidNext, unlessOpen, tokens, firstOpen, firstWords, afterStop, onFirst, sentences}
 use Rattle.definition.specs.Unquoted.{closed}
 use Rattle.definition.proofs.Lists.{drop-next}
 
@@ -232,16 +232,27 @@ module _ (t : List ℕ) (s p b : ℕ) (more : Said → Mode → List Token) wher
   word-begun q Period h = never h
   word-begun q Other h = in-on q Other (more (marked q p b) (Within p)) refl
 
--- inside a literal a byte that is not white goes into a word
+-- inside a literal a byte goes into a word unless it is white
 goes-quoted : (m a : ℕ) (c s d : Bool) → goesIn (seen (Literal m a) (if c then Cut else if s then Star else if d then Period else Other)) ≡ true
 goes-quoted m a true s d = refl
 goes-quoted m a false true d = refl
 goes-quoted m a false false true = refl
 goes-quoted m a false false false = refl
 
-literal-goes : (m a b : ℕ) (bs : List ℕ) → (b ≡ 10 → ⊥) → white b ≡ false → goesIn (seen (Literal m a) (byteKind b bs)) ≡ true
+white-10 : (b : ℕ) → white b ≡ false → b ≡ 10 → ⊥
+white-10 b w e = never (sym (rw e at w))
+
+pub literal-goes : (m a b : ℕ) (bs : List ℕ) → white b ≡ false → goesIn (seen (Literal m a) (byteKind b bs)) ≡ true
 unfolding byteKind
-literal-goes m a b bs n w = rw (ne-eqb b 10 n, w) (goes-quoted m a (cutHere (b ∷ bs)) (is "*" b) (is "." b && ends bs))
+literal-goes m a b bs w = rw (ne-eqb b 10 (white-10 b w), w) (goes-quoted m a (cutHere (b ∷ bs)) (is "*" b) (is "." b && ends bs))
+
+pub literal-ends : (m a b : ℕ) (bs : List ℕ) → white b ≡ true → goesIn (seen (Literal m a) (byteKind b bs)) ≡ false
+unfolding byteKind
+literal-ends m a b bs w = by-test (eqb b 10)
+  where
+    by-test : (x : Bool) → goesIn (seen (Literal m a) (if x then Newline else if white b then Blank else if cutHere (b ∷ bs) then Cut else if is "*" b then Star else if is "." b && ends bs then Period else Other)) ≡ false
+    by-test true = refl
+    by-test false = rw w
 
 module _ (t : List ℕ) (m a i : ℕ) (h : i < length t) where
   pub literal-newline :
@@ -250,25 +261,27 @@ module _ (t : List ℕ) (m a i : ℕ) (h : i < length t) where
   unfolding saidNext
   literal-newline e = tokens-next t (Literal m a) Between i h ∙ rw (kind-newline (getD t i 0) (drop (i + 1) t) e)
 
-  module _ (n : getD t i 0 ≡ 10 → ⊥) where
-    pub literal-blank : white (getD t i 0) ≡ true → tokens t (Literal m a) Between i (drop i t) ≡ tokens t (Literal m a) Between (i + 1) (drop (i + 1) t)
-    unfolding saidNext
-    literal-blank w = tokens-next t (Literal m a) Between i h ∙ rw (kind-blank (getD t i 0) (drop (i + 1) t) n w)
+  pub literal-blank :
+      (getD t i 0 ≡ 10 → ⊥) →
+      white (getD t i 0) ≡ true →
+      tokens t (Literal m a) Between i (drop i t) ≡ tokens t (Literal m a) Between (i + 1) (drop (i + 1) t)
+  unfolding saidNext
+  literal-blank n w = tokens-next t (Literal m a) Between i h ∙ rw (kind-blank (getD t i 0) (drop (i + 1) t) n w)
 
-    pub literal-word :
-        white (getD t i 0) ≡ false →
-        tokens t (Literal m a) Between i (drop i t) ≡ tokens t (marked (Literal m a) i (getD t i 0)) (Within i) (i + 1) (drop (i + 1) t)
-    literal-word w =
-        tokens-next t (Literal m a) Between i h
-        ∙ word-begun
-        t
-        0
-        i
-        (getD t i 0)
-        (λ r d. tokens t r d (i + 1) (drop (i + 1) t))
-        (Literal m a)
-        (seenAt t (Literal m a) i)
-        (literal-goes m a (getD t i 0) (drop (i + 1) t) n w)
+  pub literal-word :
+      white (getD t i 0) ≡ false →
+      tokens t (Literal m a) Between i (drop i t) ≡ tokens t (marked (Literal m a) i (getD t i 0)) (Within i) (i + 1) (drop (i + 1) t)
+  literal-word w =
+      tokens-next t (Literal m a) Between i h
+      ∙ word-begun
+      t
+      0
+      i
+      (getD t i 0)
+      (λ r d. tokens t r d (i + 1) (drop (i + 1) t))
+      (Literal m a)
+      (seenAt t (Literal m a) i)
+      (literal-goes m a (getD t i 0) (drop (i + 1) t) w)
 
 -- a byte of a word, and the end of the word
 module _ (t : List ℕ) (q : Said) (s i : ℕ) where
@@ -320,13 +333,21 @@ pub sentences-stop : (ts : List Token) → sentences (Stop ∷ ts) ≡ [] ∷ se
 unfolding sentences
 sentences-stop ts = refl
 
--- after what is left open, or not, at the end there is nothing
+-- what is left open is so after the first statement
+pub open-after : (ts : List Token) → firstOpen (afterStop ts) ≡ firstOpen ts
+unfolding firstOpen
+open-after [] = refl
+open-after (Stop ∷ ts) = refl
+open-after (Open p ∷ ts) = refl
+open-after (Word v ∷ ts) = open-after ts
+
+-- where the tokens end, with a literal that is left open or not, there is no word
 pub end-words : (q : Said) → firstWords (unlessOpen q Newline []) ≡ []
 end-words (Before n) = refl
 end-words Value = refl
 end-words (Literal mark at) = refl
 
-pub end-after : (q : Said) → afterStop (unlessOpen q Newline []) ≡ []
+pub end-after : (q : Said) → afterStop (unlessOpen q Newline []) ≡ unlessOpen q Newline []
 end-after (Before n) = refl
 end-after Value = refl
 end-after (Literal mark at) = refl

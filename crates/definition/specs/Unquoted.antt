@@ -3,9 +3,8 @@
 -- `*>`, and none is left open.
 -- Assumes nothing.
 use Prim.Native.Nat.{ℕ, _+_}
-use mathlib.Core.Bool.{Bool, true, false, _&&_, _||_}
+use mathlib.Core.Bool.{Bool, true, false, _&&_}
 use mathlib.Core.List.{List, [], _∷_, _++_}
-use lib.Dec.{eqb}
 use Rattle.definition.specs.declared.Span.{Span}
 use Rattle.definition.specs.declared.ByteKind.{ByteKind}
 use Rattle.definition.specs.declared.ByteKind.the-variants.{Newline, Blank, Cut, Star, Period, Other}
@@ -45,12 +44,3 @@ harmlessFrom text q m p (b ∷ bs) =
 -- the test: the copybooks for which the Rust has an answer
 abbrev pub plainText : List ℕ → Bool
 plainText text = harmlessFrom text (Before 0) Fresh 0 text
-
--- a text with this byte
-unfoldable pub hasByte : ℕ → List ℕ → Bool
-hasByte sought [] = false
-hasByte sought (b ∷ bs) = eqb b sought || hasByte sought bs
-
--- a text with a quote or an apostrophe; one without is plain
-abbrev pub hasMark : List ℕ → Bool
-hasMark text = hasByte 39 text || hasByte 34 text

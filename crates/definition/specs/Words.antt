@@ -159,7 +159,8 @@ sentences (Open p ∷ ts) = []
 unfoldable pub statementWords : List ℕ → List (List Span)
 statementWords text = sentences (tokensOf text)
 
--- the words of the first statement, and the tokens after it: a reader goes statement by statement (`WordLaws`, of the proofs, says how)
+-- the words of the first statement, and the tokens after it, where an unclosed literal stays: a reader goes statement by
+-- statement (`WordLaws`, of the proofs, says how)
 abbrev pub firstWords : List Token → List Span
 firstWords [] = []
 firstWords (Stop ∷ ts) = []
@@ -170,4 +171,4 @@ abbrev pub afterStop : List Token → List Token
 afterStop [] = []
 afterStop (Stop ∷ ts) = ts
 afterStop (Word w ∷ ts) = afterStop ts
-afterStop (Open p ∷ ts) = []
+afterStop (Open p ∷ ts) = Open p ∷ []

@@ -26,14 +26,7 @@ fn token(list: &[u8], at: usize) -> Next
     requires { ⌜ at ≤ length (now list) ⌝ }
     ensures { λ r. ⌜ Bounded (now (list .entry)) at r ⌝ }
 {
-    tokens::next_token(
-        list,
-        Stand {
-            at: at,
-            said: 0,
-            since: 0,
-        },
-    )
+    tokens::next_token(list, Stand { at: at, said: 0 })
 }
 
 // Whether a case begins at a place or after it.

@@ -112,8 +112,8 @@ pub fn read_clauses(text: &[u8], at: usize, from: Stand) -> ClausesRead
             Next::Stop { next } => {
                 return closed(at, e, c, next);
             }
-            Next::End { next: _ } => {
-                return closed(at, e, c, tokens::behind(text.len()));
+            Next::End { next } => {
+                return closed(at, e, c, next);
             }
         }
     }
@@ -137,8 +137,8 @@ fn skip_statement(text: &[u8], from: Stand) -> Stand
             Next::Stop { next } => {
                 return next;
             }
-            Next::End { next: _ } => {
-                return tokens::behind(text.len());
+            Next::End { next } => {
+                return next;
             }
         }
     }
@@ -188,7 +188,7 @@ fn read_named(text: &[u8], at: usize, level: u8, from: Stand) -> NamedRead
                 next,
             );
         }
-        Next::End { next: _ } => {
+        Next::End { next } => {
             return NamedRead::Done(
                 Statement {
                     level: level,
@@ -196,19 +196,19 @@ fn read_named(text: &[u8], at: usize, level: u8, from: Stand) -> NamedRead
                     name: clauses::nowhere(),
                     clauses: clauses::no_clauses(),
                 },
-                tokens::behind(text.len()),
+                next,
             );
         }
     }
 }
 
 // A kept statement and where the reader stands after it; where it stands after one that is skipped; a refusal; or the end
-// of the text.
+// of the tokens, and where the reader stands there.
 pub enum StatementRead {
     Kept(Statement, Stand),
     Skipped(Stand),
     Refused(Refusal),
-    End,
+    End(Stand),
 }
 
 // The statement whose first word is given, and goes on at `from`: its level, then the rest.
@@ -252,8 +252,8 @@ pub fn read_statement(text: &[u8], from: Stand) -> StatementRead
         Next::Stop { next } => {
             return StatementRead::Skipped(next);
         }
-        Next::End { next: _ } => {
-            return StatementRead::End;
+        Next::End { next } => {
+            return StatementRead::End(next);
         }
     }
 }

@@ -1,6 +1,6 @@
 -- What the answers of the functions that walk over tokens say, in terms of the definition's tokens from a place on.
 -- Assumes nothing.
-use Prim.Native.Nat.{ℕ, _+_, _-_, _<_, _≤_}
+use Prim.Native.Nat.{ℕ, zero, suc, _+_, _-_, _<_, _≤_}
 use mathlib.Core.Path.{_≡_}
 use mathlib.Core.Bool.{Bool, true, false}
 use mathlib.Core.List.{List, [], _∷_}
@@ -19,6 +19,29 @@ use Rattle.tokens.specs.declared.Ahead.{Ahead}
 use Rattle.tokens.specs.declared.Next.{Next}
 use Rattle.tokens.specs.declared.Stand.{Stand}
 
+-- ---------------------------------------------------------------- what a statement has said
+
+-- the numbers of VALUE and of a literal in apostrophes; any higher one is a literal in quotes
+abbrev pub VALUE : ℕ
+VALUE = 3
+
+abbrev pub IN_APOSTROPHES : ℕ
+IN_APOSTROPHES = 4
+
+-- the mark of a literal
+abbrev pub markOf : ℕ → ℕ
+markOf n = if eqb n IN_APOSTROPHES then 39 else 34
+
+-- the last place before one that has a mark: there an open literal was opened
+unfoldable pub lastMark : ℕ → List ℕ → ℕ → ℕ
+lastMark mark text zero = 0
+lastMark mark text (suc i) = if eqb (getD text i 0) mark then i else lastMark mark text i
+
+-- what a number says at a place: so many words, VALUE, or a literal that is open
+abbrev pub saidOf : List ℕ → ℕ → ℕ → Said
+saidOf text n at =
+    if ltb n VALUE then Before n else if eqb n VALUE then Value else Literal (markOf n) (lastMark (markOf n) text at)
+
 -- ---------------------------------------------------------------- where a reader stands
 
 -- between words, where a line has only blanks so far or not
@@ -30,23 +53,15 @@ between false = Between
 abbrev pub tokensFrom : List ℕ → Said → Mode → ℕ → List Token
 tokensFrom text q m at = tokens text q m at (drop at text)
 
--- the number of VALUE
-abbrev pub VALUE : ℕ
-VALUE = 3
-
--- what a number says: so many words, VALUE, or the mark of a literal that is open since a place
-abbrev pub saidOf : ℕ → ℕ → Said
-saidOf n since = if ltb n VALUE then Before n else if eqb n VALUE then Value else Literal n since
-
-abbrev pub saidAt : Stand → Said
-saidAt s = saidOf (s .said) (s .since)
+abbrev pub saidAt : List ℕ → Stand → Said
+saidAt text s = saidOf text (s .said) (s .at)
 
 -- a reader at the beginning of a text, and behind a statement
 abbrev pub atStart : Stand
-atStart = record { at = 0; said = 0; since = 0 }
+atStart = record { at = 0; said = 0 }
 
 abbrev pub behind : ℕ → Stand
-behind at = record { at = at; said = 0; since = 0 }
+behind at = record { at = at; said = 0 }
 
 -- the mode in which a reader stands: inside a literal, and behind any token, its line has begun
 abbrev pub modeAt : Stand → Mode
@@ -54,15 +69,18 @@ modeAt s = if ltb VALUE (s .said) then Between else between (eqb (s .at) 0)
 
 -- the tokens from where a reader stands
 abbrev pub tokensAt : List ℕ → Stand → List Token
-tokensAt text s = tokensFrom text (saidAt s) (modeAt s) (s .at)
+tokensAt text s = tokensFrom text (saidAt text s) (modeAt s) (s .at)
 
 -- ---------------------------------------------------------------- words
 
--- a byte b of a word after VALUE brings the reader from s to r
-pub record Marked (s : Stand) (b : ℕ) (r : Stand) : Type 0 where
-  pub moves : r .at ≡ s .at + 1
-  pub is : saidAt r ≡ marked (saidAt s) (s .at) b
-  pub after : VALUE ≤ r .said
+-- a byte b of a word after VALUE brings what is said from n to r
+pub record Marked (n b r : ℕ) : Type 0 where
+  pub is : (text : List ℕ) (i : ℕ) → getD text i 0 ≡ b → saidOf text r (i + 1) ≡ marked (saidOf text n i) i b
+  pub after : VALUE ≤ r
+
+-- what is said after a word w that comes after n words: the word may be VALUE
+pub record Counted (n : ℕ) (w : List ℕ) (r : ℕ) : Type 0 where
+  pub is : (text : List ℕ) (at : ℕ) → saidOf text r at ≡ heard (Before n) w
 
 -- what is dropped from a place on ends at r, where no literal is open
 pub record NextLine (text : List ℕ) (at r : ℕ) : Type 0 where
@@ -79,14 +97,76 @@ pub record PlainEnd (text : List ℕ) (at r : ℕ) : Type 0 where
       tokensFrom text (Before n) (Within s) at
       ≡ upTo s r ∷ tokensFrom text (heard (Before n) (part text (span s (r - s)))) Between r
 
--- a word that goes on at s after VALUE ends at r
-pub record MarkedEnd (text : List ℕ) (s r : Stand) : Type 0 where
-  pub up : s .at ≤ r .at
+-- a word that goes on at a place, with n said, ends at r, wherever it began
+pub record WordEnd (text : List ℕ) (at n : ℕ) (r : Stand) : Type 0 where
+  pub up : at ≤ r .at
   pub within : r .at ≤ length text
-  pub after : VALUE ≤ r .said
   pub rest :
       (a : ℕ) →
-      tokensFrom text (saidAt s) (Within a) (s .at) ≡ upTo a (r .at) ∷ tokensFrom text (saidAt r) Between (r .at)
+      tokensFrom text (saidOf text n at) (Within a) at ≡ upTo a (r .at) ∷ tokensFrom text (saidAt text r) Between (r .at)
+
+-- the word that begins at i, with n said, ends at r
+pub record WordFrom (text : List ℕ) (i n : ℕ) (r : Stand) : Type 0 where
+  pub up : i < r .at
+  pub within : r .at ≤ length text
+  pub rest :
+      tokensFrom text (marked (saidOf text n i) i (getD text i 0)) (Within i) (i + 1)
+      ≡ upTo i (r .at) ∷ tokensFrom text (saidAt text r) Between (r .at)
+
+-- ---------------------------------------------------------------- what stands ahead
+
+-- where no literal is open: a word that begins at i,
+pub record AheadWord (text : List ℕ) (at : ℕ) (fresh : Bool) (i : ℕ) : Type 0 where
+  pub up : at ≤ i
+  pub within : i < length text
+  pub rest :
+      (q : Said) →
+      closed q ≡ true →
+      tokensFrom text q (between fresh) at ≡ tokensFrom text (marked q i (getD text i 0)) (Within i) (i + 1)
+
+-- the end of a statement before `next`,
+pub record AheadStop (text : List ℕ) (at : ℕ) (fresh : Bool) (next : ℕ) : Type 0 where
+  pub up : at < next
+  pub within : next ≤ length text
+  pub rest :
+      (q : Said) →
+      closed q ≡ true →
+      tokensFrom text q (between fresh) at ≡ Token.Stop ∷ tokensFrom text (Before 0) Between next
+
+-- or the end of the text
+pub record AheadEnd (text : List ℕ) (at : ℕ) (fresh : Bool) (i : ℕ) : Type 0 where
+  pub last : i ≡ length text
+  pub rest : (q : Said) → closed q ≡ true → tokensFrom text q (between fresh) at ≡ []
+
+abbrev pub AheadIs : List ℕ → ℕ → Bool → Ahead → Type 0
+AheadIs text at fresh (Ahead.Word i) = AheadWord text at fresh i
+AheadIs text at fresh (Ahead.Stop next) = AheadStop text at fresh next
+AheadIs text at fresh (Ahead.End i) = AheadEnd text at fresh i
+
+-- inside a literal the marks before i are those before a place, and the tokens are those from i on
+pub record Skips (text : List ℕ) (at i : ℕ) : Type 0 where
+  pub up : at ≤ i
+  pub within : i ≤ length text
+  pub marks : (n : ℕ) → lastMark (markOf n) text at ≡ lastMark (markOf n) text i
+  pub rest : (m a : ℕ) → tokensFrom text (Literal m a) Between at ≡ tokensFrom text (Literal m a) Between i
+
+-- there a word begins at i,
+pub record InsideWord (text : List ℕ) (at i : ℕ) : Type 0 where
+  pub skips : Skips text at i
+  pub within : i < length text
+  pub begins :
+      (m a : ℕ) →
+      tokensFrom text (Literal m a) Between i ≡ tokensFrom text (marked (Literal m a) i (getD text i 0)) (Within i) (i + 1)
+
+-- or the line ends, and the literal is left open
+pub record InsideEnd (text : List ℕ) (at i : ℕ) : Type 0 where
+  pub skips : Skips text at i
+  pub opens : (m a : ℕ) → tokensFrom text (Literal m a) Between i ≡ Token.Open a ∷ []
+
+abbrev pub InsideIs : List ℕ → ℕ → Ahead → Type 0
+InsideIs text at (Ahead.Word i) = InsideWord text at i
+InsideIs text at (Ahead.Stop next) = ⊥
+InsideIs text at (Ahead.End i) = InsideEnd text at i
 
 -- ---------------------------------------------------------------- tokens
 
@@ -105,37 +185,32 @@ pub record FirstStop (all : List Token) (text : List ℕ) (at : ℕ) (next : Sta
   pub up : at < next .at
   pub within : next .at ≤ length text
 
--- what an answer says of all tokens from a place on; at the end there is none, or the mark of a literal that is left open
+-- there is none, or only the mark of a literal that is left open at `next`
+pub record FirstEnd (all : List Token) (text : List ℕ) (at : ℕ) (next : Stand) : Type 0 where
+  pub all-are : all ≡ tokensAt text next
+  pub opens : all ≡ unlessOpen (saidAt text next) Newline []
+  pub up : at ≤ next .at
+  pub within : next .at ≤ length text
+
+-- a word is ahead of a reader, and begins at i
+pub record LooksWord (text : List ℕ) (s : Stand) (i : ℕ) : Type 0 where
+  pub up : s .at ≤ i
+  pub within : i < length text
+  pub rest :
+      tokensAt text s ≡ tokensFrom text (marked (saidOf text (s .said) i) i (getD text i 0)) (Within i) (i + 1)
+
+-- what is ahead of a reader
+abbrev pub Looks : List ℕ → Stand → Ahead → Type 0
+Looks text s (Ahead.Word i) = LooksWord text s i
+Looks text s (Ahead.Stop next) = FirstStop (tokensAt text s) text (s .at) (behind next)
+Looks text s (Ahead.End i) = FirstEnd (tokensAt text s) text (s .at) (record { at = i; said = s .said })
+
+-- what an answer says of all tokens from a place on
 abbrev pub First : List Token → List ℕ → ℕ → Next → Type 0
 First all text at (Next.Word next start len) = FirstWord all text at next start len
 First all text at (Next.Stop next) = FirstStop all text at next
-First all text at (Next.End next) = all ≡ unlessOpen (saidAt next) Newline []
-
--- what stands ahead of a place, where no literal is open: a word that begins at i,
-pub record AheadWord (text : List ℕ) (at : ℕ) (fresh : Bool) (i : ℕ) : Type 0 where
-  pub up : at ≤ i
-  pub within : i < length text
-  pub rest :
-      (q : Said) →
-      closed q ≡ true →
-      tokensFrom text q (between fresh) at ≡ tokensFrom text (marked q i (getD text i 0)) (Within i) (i + 1)
-
--- the end of a statement before `next`,
-pub record AheadStop (text : List ℕ) (at : ℕ) (fresh : Bool) (next : ℕ) : Type 0 where
-  pub up : at < next
-  pub within : next ≤ length text
-  pub rest :
-      (q : Said) → closed q ≡ true → tokensFrom text q (between fresh) at ≡ Token.Stop ∷ tokensFrom text (Before 0) Between next
-
--- or nothing
-pub record AheadEnd (text : List ℕ) (at : ℕ) (fresh : Bool) : Type 0 where
-  pub rest : (q : Said) → closed q ≡ true → tokensFrom text q (between fresh) at ≡ []
-
-abbrev pub AheadIs : List ℕ → ℕ → Bool → Ahead → Type 0
-AheadIs text at fresh (Ahead.Word i) = AheadWord text at fresh i
-AheadIs text at fresh (Ahead.Stop next) = AheadStop text at fresh next
-AheadIs text at fresh Ahead.End = AheadEnd text at fresh
+First all text at (Next.End next) = FirstEnd all text at next
 
 -- 50 at the opening mark of a literal that is open where the tokens end
-abbrev pub openCheck : Stand → Answer (Unit {0})
-openCheck s = if ltb VALUE (s .said) then refused 50 (s .since) else give tt
+abbrev pub openCheck : List ℕ → Stand → Answer (Unit {0})
+openCheck text s = if ltb VALUE (s .said) then refused 50 (lastMark (markOf (s .said)) text (s .at)) else give tt

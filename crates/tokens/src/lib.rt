@@ -1,66 +1,54 @@
 // The tokens of a copybook text: its words, and the periods that end its statements. `next_token` finds the first from
-// where a reader stands, `tokenize` and `split_statements` of the Rust in one walk; `open_check` walks the same way and
-// looks for a literal that its line does not close.
+// where a reader stands, `tokenize` and `split_statements` of the Rust in one walk, and knows where a literal is; a
+// literal that its line does not close ends the tokens, so that where a reader stands then says whether the text is
+// refused (50).
 ghost use mathlib.Core.Path.{_≡_};
-ghost use mathlib.Core.Bool.{_||_};
-ghost use lib.Dec.{eqb};
 ghost use Prim.Native.Nat.{_+_, _≤_, _<_};
 ghost use lib.ListN.{length, drop, getD};
-ghost use Rattle.definition.specs.declared.Mode.the-variants.{Between, Within};
-ghost use Rattle.definition.specs.declared.Said.the-variants.{Before, Literal};
 ghost use Rattle.definition.specs.Calls.{literalCheck, checkOf};
-ghost use Rattle.definition.specs.Unquoted.{hasByte, hasMark};
-ghost use Rattle.definition.specs.Words.{cutHere, ends, byteKind, seen as seenAs, marked as markedAs, heard, isValue};
-ghost use Rattle.definition.proofs.WordLaws.{goesIn};
-ghost use Rattle.tokens.specs.Tokens.{VALUE, saidOf, saidAt, atStart, behind as behindOf, tokensFrom, tokensAt};
-ghost use Rattle.tokens.specs.Tokens.{Marked, NextLine, PlainEnd, MarkedEnd, First, AheadIs, openCheck};
+ghost use Rattle.definition.specs.Words.{cutHere, ends, byteKind, isValue};
+ghost use Rattle.definition.proofs.WordLaws.{goesIn, seenAt};
+ghost use Rattle.tokens.specs.Tokens.{VALUE, markOf, lastMark, saidOf, atStart, behind as behindOf, tokensAt};
+ghost use Rattle.tokens.specs.Tokens.{NextLine, Counted, PlainEnd, Marked, WordEnd, WordFrom, AheadIs, InsideIs};
+ghost use Rattle.tokens.specs.Tokens.{Looks, First, openCheck};
 use definition::ByteKind;
 use definition::Check;
 use definition::Refusal;
 
 // ---------------------------------------------------------------- where a reader stands
 
-// What `said` has after VALUE.
+// What `said` has after VALUE, and in a literal.
 const VALUE: usize = 3;
 
-// The marks of literals, and what `said` has inside one: its mark.
+const IN_APOSTROPHES: usize = 4;
+
+const IN_QUOTES: usize = 5;
+
+// The marks of literals.
 const APOSTROPHE: u8 = 39;
 
 const QUOTE: u8 = 34;
 
-const IN_APOSTROPHES: usize = 39;
-
-const IN_QUOTES: usize = 34;
-
-// Where a reader stands: the place that it has reached, and what its statement has said, as far as its literals go. That is
-// 0, 1 or 2 words, 2 standing for more, and no VALUE from the third on; VALUE; or the mark of the literal that is open since
-// a place. Place 0 begins a line, and between words any other place stands behind a token.
+// Where a reader stands: the place that it has reached, and what its statement has said, as far as its literals go. That
+// is 0, 1 or 2 words, 2 standing for more, and no VALUE from the third on; VALUE; or VALUE and a literal that is open,
+// with this mark. Place 0 begins a line, and between words any other place stands behind a token.
 pub struct Stand {
     pub at: usize,
     pub said: usize,
-    pub since: usize,
 }
 
 // The beginning of a text.
 pub fn at_start() -> Stand
     ensures { λ r. ⌜ r ≡ atStart ⌝ }
 {
-    Stand {
-        at: 0,
-        said: 0,
-        since: 0,
-    }
+    Stand { at: 0, said: 0 }
 }
 
 // A place behind a statement.
-pub fn behind(at: usize) -> Stand
+fn behind(at: usize) -> Stand
     ensures { λ r. ⌜ r ≡ behindOf at ⌝ }
 {
-    Stand {
-        at: at,
-        said: 0,
-        since: 0,
-    }
+    Stand { at: at, said: 0 }
 }
 
 // ---------------------------------------------------------------- bytes
@@ -150,81 +138,7 @@ fn next_line(text: &[u8], at: usize) -> usize
     i
 }
 
-// ---------------------------------------------------------------- literals
-
-// A byte as a number.
-fn wide(b: u8) -> usize
-    ensures { λ r. ⌜ r ≡ b ⌝ }
-{
-    b as usize
-}
-
-// What a byte inside a literal is: neither a period nor `*>` counts there.
-fn quoted(k: ByteKind) -> ByteKind
-    ensures { λ r. ⌜ r ≡ seenAs (Literal 0 0) k ⌝ }
-{
-    match k {
-        ByteKind::Newline => ByteKind::Newline,
-        ByteKind::Blank => ByteKind::Blank,
-        ByteKind::Cut => ByteKind::Other,
-        ByteKind::Star => ByteKind::Star,
-        ByteKind::Period => ByteKind::Other,
-        ByteKind::Other => ByteKind::Other,
-    }
-}
-
-// What a byte is to the reader, after VALUE.
-fn seen(said: usize, k: ByteKind) -> ByteKind
-    requires { ⌜ VALUE ≤ said ⌝ }
-    ensures { λ r. ⌜ r ≡ seenAs (saidOf said 0) k ⌝ }
-{
-    if said == VALUE {
-        return k;
-    }
-    quoted(k)
-}
-
-// Where a reader in a word stands after a byte, after VALUE: a mark opens a literal, and the same mark closes it.
-fn marked(s: Stand, b: u8) -> Stand
-    requires { ⌜ (VALUE ≤ s .said) × (s .at < 18446744073709551615) ⌝ }
-    ensures { λ r. ⌜ Marked s b r ⌝ }
-{
-    let at = s.at;
-    let said = s.said;
-    if said == VALUE {
-        if b == APOSTROPHE {
-            return Stand {
-                at: at + 1,
-                said: IN_APOSTROPHES,
-                since: at,
-            };
-        }
-        if b == QUOTE {
-            return Stand {
-                at: at + 1,
-                said: IN_QUOTES,
-                since: at,
-            };
-        }
-        return Stand {
-            at: at + 1,
-            said: VALUE,
-            since: 0,
-        };
-    }
-    if wide(b) == said {
-        return Stand {
-            at: at + 1,
-            said: VALUE,
-            since: 0,
-        };
-    }
-    Stand {
-        at: at + 1,
-        said: said,
-        since: s.since,
-    }
-}
+// ---------------------------------------------------------------- words
 
 // Whether a word is VALUE or VALUES.
 fn is_value(word: &[u8]) -> bool
@@ -242,7 +156,7 @@ fn is_value(word: &[u8]) -> bool
 // What is said after a word that comes after n words and before VALUE: the word may be VALUE if it is third or later.
 fn counted(n: usize, word: &[u8]) -> usize
     requires { ⌜ n < VALUE ⌝ }
-    ensures { λ r. ⌜ saidOf r 0 ≡ heard (Before n) (now (word .entry)) ⌝ }
+    ensures { λ r. ⌜ Counted n (now (word .entry)) r ⌝ }
 {
     if n < 2 {
         return n + 1;
@@ -252,8 +166,6 @@ fn counted(n: usize, word: &[u8]) -> usize
     }
     n
 }
-
-// ---------------------------------------------------------------- words
 
 // The end of the word that goes on at a place, before VALUE: a mark is a byte like any other.
 fn word_end(text: &[u8], at: usize) -> usize
@@ -271,139 +183,91 @@ fn word_end(text: &[u8], at: usize) -> usize
     i
 }
 
-// Where a reader in a word after VALUE stands when the word ends.
-fn marked_end(text: &[u8], s: Stand) -> Stand
-    requires { ⌜ (s .at ≤ length (now text)) × (VALUE ≤ s .said) ⌝ }
-    ensures { λ r. ⌜ MarkedEnd (now (text .entry)) s r ⌝ }
+// ---------------------------------------------------------------- literals
+
+// The mark of a literal.
+fn mark_of(said: usize) -> u8
+    ensures { λ r. ⌜ r ≡ markOf said ⌝ }
 {
-    let mut s = s;
-    while s.at < text.len() {
-        let i = s.at;
-        if in_word(seen(s.said, byte_kind(text, i))) {
-            s = marked(s, text[i]);
+    if said == IN_APOSTROPHES {
+        return APOSTROPHE;
+    }
+    QUOTE
+}
+
+// What is said after a byte of a word, after VALUE: a mark opens a literal, and the same mark closes it.
+fn marked(said: usize, b: u8) -> usize
+    requires { ⌜ VALUE ≤ said ⌝ }
+    ensures { λ r. ⌜ Marked said b r ⌝ }
+{
+    if said == VALUE {
+        if b == APOSTROPHE {
+            return IN_APOSTROPHES;
+        }
+        if b == QUOTE {
+            return IN_QUOTES;
+        }
+        return VALUE;
+    }
+    if b == mark_of(said) {
+        return VALUE;
+    }
+    said
+}
+
+// Whether a word goes on at a place, after VALUE: inside a literal neither a period nor `*>` ends it.
+fn goes_on(text: &[u8], i: usize, said: usize) -> bool
+    requires { ⌜ (i < length (now text)) × (VALUE ≤ said) ⌝ }
+    ensures { λ r. ⌜ r ≡ goesIn (seenAt (now (text .entry)) (saidOf (now (text .entry)) said i) i) ⌝ }
+{
+    if said == VALUE {
+        return in_word(byte_kind(text, i));
+    }
+    if text::is_white(text[i]) {
+        return false;
+    }
+    true
+}
+
+// Where a reader in a word stands when the word ends, after VALUE.
+fn marked_end(text: &[u8], at: usize, said: usize) -> Stand
+    requires { ⌜ (at ≤ length (now text)) × (VALUE ≤ said) ⌝ }
+    ensures { λ r. ⌜ WordEnd (now (text .entry)) at said r ⌝ }
+{
+    let mut i = at;
+    let mut q = said;
+    while i < text.len() {
+        if goes_on(text, i, q) {
+            q = marked(q, text[i]);
+            i += 1;
         } else {
-            return s;
+            return Stand { at: i, said: q };
         }
     }
-    s
+    Stand { at: i, said: q }
 }
 
-// A word and where the reader stands behind it; the end of a statement and where it stands behind that; or no more tokens,
-// and where it stands then: the text has ended, or the line of a literal has. What two of them have stands at the same place
-// in both, so that they are made and copied whole.
-pub enum Next {
-    Word {
-        next: Stand,
-        start: usize,
-        len: usize,
-    },
-    Stop {
-        next: Stand,
-    },
-    End {
-        next: Stand,
-    },
-}
-
-// The word that begins at a place, after n words and before VALUE.
-fn plain_word(text: &[u8], i: usize, n: usize) -> Next
-    requires { ⌜ (i < length (now text)) × (n < VALUE) ⌝ }
-    ensures { λ r. ⌜ First (tokensFrom (now (text .entry)) (Before n) (Within i) (i + 1)) (now (text .entry)) i r ⌝ }
-{
-    let e = word_end(text, i + 1);
-    let said = counted(n, &text[i..e]);
-    Next::Word {
-        next: Stand {
-            at: e,
-            said: said,
-            since: 0,
-        },
-        start: i,
-        len: e - i,
-    }
-}
-
-// The word that begins where the reader stands, after VALUE.
-fn marked_word(text: &[u8], s: Stand) -> Next
-    requires { ⌜ (s .at < length (now text)) × (VALUE ≤ s .said) ⌝ }
-    ensures { λ r. ⌜ First (tokensFrom (now (text .entry)) (markedAs (saidAt s) (s .at) (getD (now (text .entry)) (s .at) 0)) (Within (s .at)) (s .at + 1)) (now (text .entry)) (s .at) r ⌝ }
-{
-    let i = s.at;
-    let next = marked_end(text, marked(s, text[i]));
-    Next::Word {
-        next: next,
-        start: i,
-        len: next.at - i,
-    }
-}
-
-// The word that begins at a place: before VALUE its marks need not be looked for.
-fn word_from(text: &[u8], i: usize, said: usize, since: usize) -> Next
+// Where a reader stands behind the word that begins at a place: before VALUE its marks need not be looked for.
+fn behind_word(text: &[u8], i: usize, said: usize) -> Stand
     requires { ⌜ i < length (now text) ⌝ }
-    ensures { λ r. ⌜ First (tokensFrom (now (text .entry)) (markedAs (saidOf said since) i (getD (now (text .entry)) i 0)) (Within i) (i + 1)) (now (text .entry)) i r ⌝ }
+    ensures { λ r. ⌜ WordFrom (now (text .entry)) i said r ⌝ }
 {
     if said < VALUE {
-        return plain_word(text, i, said);
+        let e = word_end(text, i + 1);
+        let said = counted(said, &text[i..e]);
+        return Stand { at: e, said: said };
     }
-    marked_word(
-        text,
-        Stand {
-            at: i,
-            said: said,
-            since: since,
-        },
-    )
+    marked_end(text, i + 1, marked(said, text[i]))
 }
 
 // ---------------------------------------------------------------- tokens
 
-// The first token from where a reader stands inside a literal.
-fn literal_token(text: &[u8], s: Stand) -> Next
-    requires { ⌜ (s .at ≤ length (now text)) × (VALUE < s .said) ⌝ }
-    ensures { λ r. ⌜ First (tokensFrom (now (text .entry)) (saidAt s) Between (s .at)) (now (text .entry)) (s .at) r ⌝ }
-{
-    let said = s.said;
-    let since = s.since;
-    let mut i = s.at;
-    while i < text.len() {
-        let b = text[i];
-        if b == 10 {
-            return Next::End {
-                next: Stand {
-                    at: i,
-                    said: said,
-                    since: since,
-                },
-            };
-        }
-        if text::is_white(b) {
-            i += 1;
-        } else {
-            return marked_word(
-                text,
-                Stand {
-                    at: i,
-                    said: said,
-                    since: since,
-                },
-            );
-        }
-    }
-    Next::End {
-        next: Stand {
-            at: i,
-            said: said,
-            since: since,
-        },
-    }
-}
-
 // What stands after blanks, comments and line ends: a word that begins at a place, the end of a statement and the place
-// behind it, or the end of the text.
+// behind it, or the end of all tokens.
 enum Ahead {
     Word(usize),
     Stop(usize),
-    End,
+    End(usize),
 }
 
 // What stands at a place or after it, where no literal is open; `fresh` says that the line has only blanks before it.
@@ -441,19 +305,55 @@ fn look_ahead(text: &[u8], at: usize, fresh: bool) -> Ahead
             }
         }
     }
-    Ahead::End
+    Ahead::End(i)
 }
 
-// The first token from where a reader stands, where no literal is open.
-fn closed_token(text: &[u8], s: Stand) -> Next
-    requires { ⌜ (s .at ≤ length (now text)) × (s .said ≤ VALUE) ⌝ }
-    ensures { λ r. ⌜ First (tokensAt (now (text .entry)) s) (now (text .entry)) (s .at) r ⌝ }
+// What stands at a place or after it, inside a literal.
+fn look_inside(text: &[u8], at: usize) -> Ahead
+    requires { ⌜ at ≤ length (now text) ⌝ }
+    ensures { λ r. ⌜ InsideIs (now (text .entry)) at r ⌝ }
 {
-    match look_ahead(text, s.at, s.at == 0) {
-        Ahead::Word(i) => word_from(text, i, s.said, s.since),
-        Ahead::Stop(next) => Next::Stop { next: behind(next) },
-        Ahead::End => Next::End { next: s },
+    let mut i = at;
+    while i < text.len() {
+        let b = text[i];
+        if b == 10 {
+            return Ahead::End(i);
+        }
+        if text::is_white(b) {
+            i += 1;
+        } else {
+            return Ahead::Word(i);
+        }
     }
+    Ahead::End(i)
+}
+
+// A word and where the reader stands behind it; the end of a statement and where it stands behind that; or no more
+// tokens, and where it stands then: the text has ended, or the line of a literal has. What two of them have stands at
+// the same place in both, so that they are made and copied whole.
+pub enum Next {
+    Word {
+        next: Stand,
+        start: usize,
+        len: usize,
+    },
+    Stop {
+        next: Stand,
+    },
+    End {
+        next: Stand,
+    },
+}
+
+// What stands ahead of a reader.
+fn look(text: &[u8], s: Stand) -> Ahead
+    requires { ⌜ s .at ≤ length (now text) ⌝ }
+    ensures { λ r. ⌜ Looks (now (text .entry)) s r ⌝ }
+{
+    if VALUE < s.said {
+        return look_inside(text, s.at);
+    }
+    look_ahead(text, s.at, s.at == 0)
 }
 
 // The first token from where a reader stands.
@@ -461,55 +361,55 @@ pub fn next_token(text: &[u8], s: Stand) -> Next
     requires { ⌜ s .at ≤ length (now text) ⌝ }
     ensures { λ r. ⌜ First (tokensAt (now (text .entry)) s) (now (text .entry)) (s .at) r ⌝ }
 {
-    if VALUE < s.said {
-        return literal_token(text, s);
+    match look(text, s) {
+        Ahead::Word(i) => {
+            let next = behind_word(text, i, s.said);
+            return Next::Word {
+                next: next,
+                start: i,
+                len: next.at - i,
+            };
+        }
+        Ahead::Stop(at) => {
+            return Next::Stop { next: behind(at) };
+        }
+        Ahead::End(at) => {
+            return Next::End {
+                next: Stand {
+                    at: at,
+                    said: s.said,
+                },
+            };
+        }
     }
-    closed_token(text, s)
 }
 
 // ---------------------------------------------------------------- refusal 50
 
-// Whether the byte was found already, or is this one.
-fn byte_or(found: bool, sought: u8, b: u8) -> bool
-    ensures { λ r. ⌜ r ≡ (found || eqb b sought) ⌝ }
+// The last place before one that has a mark; 0 where there is none.
+fn last_mark(text: &[u8], at: usize, mark: u8) -> usize
+    requires { ⌜ at ≤ length (now text) ⌝ }
+    ensures { λ r. ⌜ r ≡ lastMark mark (now (text .entry)) at ⌝ }
 {
-    if found {
-        return true;
+    let mut i = at;
+    while 0 < i {
+        i -= 1;
+        if text[i] == mark {
+            return i;
+        }
     }
-    b == sought
-}
-
-// Whether a text has a byte. Every byte is looked at, so that many can be at once.
-fn has_byte(text: &[u8], sought: u8) -> bool
-    ensures { λ r. ⌜ r ≡ hasByte sought (now (text .entry)) ⌝ }
-{
-    let mut found = false;
-    let mut i = 0;
-    while i < text.len() {
-        found = byte_or(found, sought, text[i]);
-        i += 1;
-    }
-    found
-}
-
-// Whether a text has a quote or an apostrophe.
-fn has_mark(text: &[u8]) -> bool
-    ensures { λ r. ⌜ r ≡ hasMark (now (text .entry)) ⌝ }
-{
-    if has_byte(text, APOSTROPHE) {
-        return true;
-    }
-    has_byte(text, QUOTE)
+    0
 }
 
 // 50 at the opening mark, if a literal is open where the tokens end.
-fn left_open(s: Stand) -> Check
-    ensures { λ r. ⌜ checkOf r ≡ openCheck s ⌝ }
+pub fn left_open(text: &[u8], s: Stand) -> Check
+    requires { ⌜ s .at ≤ length (now text) ⌝ }
+    ensures { λ r. ⌜ checkOf r ≡ openCheck (now (text .entry)) s ⌝ }
 {
     if VALUE < s.said {
         return Check::Refused(Refusal {
             number: 50,
-            position: s.since,
+            position: last_mark(text, s.at, mark_of(s.said)),
             needed: 0,
         });
     }
@@ -517,7 +417,7 @@ fn left_open(s: Stand) -> Check
 }
 
 // The same of the whole text: the tokens end at the first literal that its line does not close.
-fn walk_check(text: &[u8]) -> Check
+pub fn open_check(text: &[u8]) -> Check
     ensures { λ r. ⌜ checkOf r ≡ literalCheck (now (text .entry)) ⌝ }
 {
     let mut s = at_start();
@@ -534,18 +434,8 @@ fn walk_check(text: &[u8]) -> Check
                 s = next;
             }
             Next::End { next } => {
-                return left_open(next);
+                return left_open(text, next);
             }
         }
     }
-}
-
-// Refusal 50. A text without a quote or an apostrophe has no literal.
-pub fn open_check(text: &[u8]) -> Check
-    ensures { λ r. ⌜ checkOf r ≡ literalCheck (now (text .entry)) ⌝ }
-{
-    if has_mark(text) {
-        return walk_check(text);
-    }
-    Check::Passed
 }

@@ -3,12 +3,10 @@ ghost use mathlib.Core.Path.{_≡_};
 ghost use Prim.Native.Nat.{_+_, _*_, _-_, _≤_, _<_};
 ghost use lib.ListN.{length};
 ghost use Rattle.definition.specs.Limits.{mostBytes, leastWork, mostStatements};
-ghost use Rattle.definition.specs.Statement.{statements};
-ghost use Rattle.definition.specs.Words.{statementWords};
 ghost use Rattle.rows.specs.Columns.{ROW, PARENT};
 ghost use Rattle.rows.specs.Table.{Placed, cell};
 ghost use Rattle.tree.specs.Levels.{NoneOpen, Nested, Closed, Opened};
-ghost use Rattle.tree.specs.Reading.{Added, RowsOf, RowsAre};
+ghost use Rattle.tree.specs.Reading.{Added, StatementsAre, RowsAre};
 use definition::Check;
 use definition::MOST_STATEMENTS;
 use definition::Refusal;
@@ -16,6 +14,7 @@ use definition::Statement;
 use rows::PARENT;
 use rows::ROW;
 use statement::StatementRead;
+use tokens::Stand;
 
 // A number of 32 bits as a place.
 fn wide(n: u32) -> usize
@@ -110,10 +109,16 @@ pub enum RowsRead {
     Refused(Refusal),
 }
 
-// The statements of a text as rows of work memory, from row 0 on.
-fn read_statements(text: &[u8], work: &mut [u32]) -> RowsRead
+// The number of rows, and where the reader stands at the end of the tokens; or the refusal of a statement.
+enum StatementsRead {
+    Rows(usize, Stand),
+    Refused(Refusal),
+}
+
+// The statements of a text as rows of work memory, from row 0 on, whether a literal is left open or not.
+fn read_statements(text: &[u8], work: &mut [u32]) -> StatementsRead
     requires { ⌜ (length (now text) ≤ mostBytes) × (leastWork ≤ length (now work)) ⌝ }
-    ensures { λ r. ⌜ RowsOf (statements (now (text .entry)) 0 (statementWords (now (text .entry)))) (now (work .entry)) r (now (work .exit)) ⌝ }
+    ensures { λ r. ⌜ StatementsAre (now (text .entry)) (now (work .entry)) r (now (work .exit)) ⌝ }
 {
     let mut from = tokens::at_start();
     let mut n = 0;
@@ -122,7 +127,7 @@ fn read_statements(text: &[u8], work: &mut [u32]) -> RowsRead
         match statement::read_statement(text, from) {
             StatementRead::Kept(s, next) => {
                 if MOST_STATEMENTS <= n {
-                    return RowsRead::Refused(Refusal {
+                    return StatementsRead::Refused(Refusal {
                         number: 14,
                         position: s.at,
                         needed: 0,
@@ -136,22 +141,30 @@ fn read_statements(text: &[u8], work: &mut [u32]) -> RowsRead
                 from = next;
             }
             StatementRead::Refused(r) => {
-                return RowsRead::Refused(r);
+                return StatementsRead::Refused(r);
             }
-            StatementRead::End => {
-                return RowsRead::Rows(n);
+            StatementRead::End(next) => {
+                return StatementsRead::Rows(n, next);
             }
         }
     }
 }
 
-// The kept statements of a text as rows of work memory, from row 0 on; 50 comes before any other refusal of theirs.
+// The kept statements of a text as rows of work memory, from row 0 on. 50 comes before any other refusal of theirs: where
+// the tokens were read to their end, where the reader stands says whether a literal is open, and else the rest of the text
+// is looked through.
 pub fn read_rows(text: &[u8], work: &mut [u32]) -> RowsRead
     requires { ⌜ (length (now text) ≤ mostBytes) × (leastWork ≤ length (now work)) ⌝ }
     ensures { λ r. ⌜ RowsAre (now (text .entry)) (now (work .entry)) r (now (work .exit)) ⌝ }
 {
-    match tokens::open_check(text) {
-        Check::Passed => read_statements(text, work),
-        Check::Refused(r) => RowsRead::Refused(r),
+    match read_statements(text, work) {
+        StatementsRead::Rows(n, end) => match tokens::left_open(text, end) {
+            Check::Passed => RowsRead::Rows(n),
+            Check::Refused(open) => RowsRead::Refused(open),
+        },
+        StatementsRead::Refused(r) => match tokens::open_check(text) {
+            Check::Passed => RowsRead::Refused(r),
+            Check::Refused(open) => RowsRead::Refused(open),
+        },
     }
 }

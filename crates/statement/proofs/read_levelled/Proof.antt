@@ -12,9 +12,9 @@ use Rattle.definition.specs.declared.Statement.{Statement}
 use Rattle.definition.specs.declared.Token.{Token}
 use Rattle.definition.specs.declared.Token.the-variants.{Word}
 use Rattle.definition.specs.Basic.{span, part, number}
-use Rattle.definition.specs.Words.{sentences, firstWords}
+use Rattle.definition.specs.Words.{firstOpen, sentences, firstWords}
 use Rattle.definition.proofs.StatementLaws.{statement-bad, statement-skipped, statement-kept, statement-refused}
-use Rattle.definition.proofs.WordLaws.{sentences-word}
+use Rattle.definition.proofs.WordLaws.{sentences-word, open-after}
 use Rattle.text.specs.declared.Level.{Level}
 use Rattle.tokens.specs.declared.Stand.{Stand}
 use Rattle.tokens.specs.Tokens.{tokensAt}
@@ -31,9 +31,11 @@ all t s l from = Word (span s l) ∷ tokensAt t from
 
 -- the statements after it are those after its end
 followed : (t : List ℕ) (s l : ℕ) {from n : Stand} → Ends t from n → Followed (all t s l from) t (from .at) n
+unfolding firstOpen
 followed t s l {from} e =
     record {
       all-are = sentences-word (tokensAt t from) (span s l) ∙ ap (λ (ts : List Token). firstWords (all t s l from) ∷ sentences ts) (e .rest);
+      opens = sym (open-after (tokensAt t from)) ∙ ap firstOpen (e .rest);
       up = e .up;
       within = e .within;
     }

@@ -18,7 +18,7 @@ use Rattle.definition.specs.Words.{firstWords}
 use Rattle.definition.proofs.WordLaws.{end-words}
 use Rattle.tokens.specs.declared.Next.{Next}
 use Rattle.tokens.specs.declared.Stand.{Stand}
-use Rattle.tokens.specs.Tokens.{saidAt, behind, tokensAt, FirstWord, First}
+use Rattle.tokens.specs.Tokens.{saidAt, tokensAt, FirstWord, First}
 use Rattle.tokens.proofs.TokenLaws.{end-first, word-first, stop-first}
 use Rattle.definition.proofs.SpanLaws.{none-spans}
 use Rattle.clauses.specs.Places.{SpanInside}
@@ -80,8 +80,9 @@ module _ (t : List ℕ) (at level : ℕ) (from : Stand) (h : from .at ≤ length
     stopped : {n : Stand} → r ≡ Next.Stop n → NamedAre t at level from (NamedRead.Done (of level at w c) n)
     stopped q = bare b (tokens-named t at level (stop-first _ t (from .at) f q .all-are)) p p′ (ends-stop (reached-start h) f q)
 
-    ended : {o n : Stand} → r ≡ Next.End o → n ≡ behind (length t) → NamedAre t at level from (NamedRead.Done (of level at w c) n)
-    ended {o} q e = bare b (tokens-named t at level (end-first _ t (from .at) f q) ∙ ap (named t at level) (end-words (saidAt o))) p p′ (ends-text (reached-start h) f q e)
+    ended : {n : Stand} → r ≡ Next.End n → NamedAre t at level from (NamedRead.Done (of level at w c) n)
+    ended {n} q =
+        bare b (tokens-named t at level (end-first _ t (from .at) f q .opens) ∙ ap (named t at level) (end-words (saidAt t n))) p p′ (ends-text (reached-start h) f q)
 
 read-clauses-requires : tie.Need-read-clauses-requires
 read-clauses-requires c κs = search within
@@ -114,7 +115,6 @@ read-named-spec =
     (λ c κs. search needs)
     returns-3
     (λ c. search needs)
-    (λ c κs. search needs)
     (λ c κs. search needs)
     (λ c κs. search needs)
     returns-4)

@@ -2,19 +2,19 @@
 -- Assumes nothing.
 use borrow.Author.Needs.{needs}
 use Prim.Native.Nat.{ℕ, _+_, _<_, _≤_}
-use mathlib.Core.Path.{_≡_, ap, _∙_}
+use mathlib.Core.Path.{_≡_, refl}
 use mathlib.Core.List.{List, _∷_}
 use native.Mathlib.Omega.{arith}
 use lib.ListN.{length}
 use Rattle.definition.specs.declared.Token.{Token}
 use Rattle.definition.specs.declared.Token.the-variants.{Word, Stop}
 use Rattle.definition.specs.Basic.{span}
-use Rattle.definition.specs.Words.{sentences}
+use Rattle.definition.specs.Words.{firstOpen}
 use Rattle.definition.proofs.StatementLaws.{statement-empty}
-use Rattle.definition.proofs.WordLaws.{sentences-stop, end-sentences}
+use Rattle.definition.proofs.WordLaws.{sentences-stop}
 use Rattle.tokens.specs.declared.Next.{Next}
 use Rattle.tokens.specs.declared.Stand.{Stand}
-use Rattle.tokens.specs.Tokens.{saidAt, tokensAt, FirstWord, First}
+use Rattle.tokens.specs.Tokens.{tokensAt, FirstWord, First}
 use Rattle.tokens.proofs.TokenLaws.{end-first, word-first, stop-first}
 use Rattle.statement.specs.declared.StatementRead.{StatementRead}
 use Rattle.statement.specs.Reading.{Followed, FirstStatement}
@@ -23,13 +23,13 @@ use Rattle.statement.proofs.read_statement.Tie as tie
 
 -- what holds from a later place on holds from an earlier one on
 earlier-followed : {ts : List Token} {t : List ℕ} {low later : ℕ} {n : Stand} → low ≤ later → Followed ts t later n → Followed ts t low n
-earlier-followed h f = record { all-are = f .all-are; up = omega arith; within = f .within }
+earlier-followed h f = record { all-are = f .all-are; opens = f .opens; up = omega arith; within = f .within }
 
 earlier : (ts : List Token) (t : List ℕ) (low later : ℕ) → low ≤ later → (y : StatementRead) → FirstStatement ts t later y → FirstStatement ts t low y
 earlier ts t low later h (StatementRead.Kept s n) g = record { is = g .is; fits = g .fits; followed = earlier-followed h (g .followed) }
 earlier ts t low later h (StatementRead.Skipped n) g = record { is = g .is; followed = earlier-followed h (g .followed) }
 earlier ts t low later h (StatementRead.Refused r) g = g
-earlier ts t low later h StatementRead.End g = g
+earlier ts t low later h (StatementRead.End n) g = g
 
 module _ (t : List ℕ) (from : Stand) {r : Next} (f : First (tokensAt t from) t (from .at) r) where
   module _ {s l : ℕ} {n : Stand} (q : r ≡ Next.Word n s l) where
@@ -46,13 +46,14 @@ module _ (t : List ℕ) (from : Stand) {r : Next} (f : First (tokensAt t from) t
 
   -- a period alone is an empty statement
   empty : {n : Stand} → r ≡ Next.Stop n → FirstStatement (tokensAt t from) t (from .at + 1) (StatementRead.Skipped n)
+  unfolding firstOpen
   empty {n} q =
       let s = stop-first _ t (from .at) f q in
-      rw (s .all-are) (record { is = statement-empty t; followed = record { all-are = sentences-stop (tokensAt t n); up = omega arith; within = s .within } })
+      rw (s .all-are) (record { is = statement-empty t; followed = record { all-are = sentences-stop (tokensAt t n); opens = refl; up = omega arith; within = s .within } })
 
-  -- the text has ended
-  ended : {o : Stand} → r ≡ Next.End o → FirstStatement (tokensAt t from) t (from .at + 1) StatementRead.End
-  ended {o} q = ap sentences (end-first _ t (from .at) f q) ∙ end-sentences (saidAt o)
+  -- the tokens have ended
+  ended : {n : Stand} → r ≡ Next.End n → FirstStatement (tokensAt t from) t (from .at + 1) (StatementRead.End n)
+  ended q = let s = end-first _ t (from .at) f q in record { ends = s .opens; within = s .within }
 
 read-levelled-requires : tie.Need-read-levelled-requires
 read-levelled-requires c κs = let a = c .before .before .before .before .before .args in places (a .text .now) (a .from) (c .before .before .before .word-at .ensures) (c .before .next .given .1)

@@ -43,5 +43,4 @@ skip-statement-spec =
     (λ c. search needs)
     returns
     (λ c. search needs)
-    (λ c κs. search needs)
     returns-2)

@@ -72,8 +72,8 @@ start : {t : List ℕ} {at : ℕ} {fresh : Bool} → at ≤ length t → Left t 
 start h = record { up = omega arith; within = h; rest = λ q c. refl }
 
 module _ {t : List ℕ} {at : ℕ} {fresh : Bool} {i : ℕ} {f : Bool} (inv : Left t at fresh i f) where
-  done : length t ≤ i → AheadEnd t at fresh
-  done h = record { rest = λ q c. inv .rest q c ∙ tokens-end t q (between f) i h ∙ rw (end-next f i) (closed-on q Newline [] c) }
+  done : length t ≤ i → AheadEnd t at fresh i
+  done h = record { last = omega (arith, inv .within); rest = λ q c. inv .rest q c ∙ tokens-end t q (between f) i h ∙ rw (end-next f i) (closed-on q Newline [] c) }
 
   module _ (h : i < length t) {k : ByteKind} (e : k ≡ kindAt t i) where
     -- the tokens from `at` on are those that a byte of this kind at i gives, and those after it

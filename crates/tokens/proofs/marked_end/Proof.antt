@@ -1,80 +1,65 @@
--- `tokens::marked_end` meets its contract. The loop's invariant: the word goes on where the reader stands.
+-- `tokens::marked_end` meets its contract. The loop's invariant: the word goes on at i, with q said.
 -- Assumes nothing.
 use borrow.Author.Needs.{needs}
 use Prim.Native.Nat.{ℕ, _+_, _-_, _<_, _≤_}
-use mathlib.Core.Path.{_≡_, refl, _∙_}
+use mathlib.Core.Path.{_≡_, refl, sym, _∙_}
 use mathlib.Core.Bool.{Bool, true, false}
 use mathlib.Core.List.{List}
 use native.Mathlib.Omega.{arith}
 use lib.ListN.{length, getD}
-use Rattle.definition.specs.declared.ByteKind.{ByteKind}
 use Rattle.definition.specs.declared.Mode.the-variants.{Within}
 use Rattle.definition.specs.Basic.{span, part}
-use Rattle.definition.specs.Words.{seen}
-use Rattle.definition.proofs.WordLaws.{kindAt, seenAt, goesIn, word-next, word-stop, word-last}
-use Rattle.tokens.specs.declared.Stand.{Stand}
-use Rattle.tokens.specs.Tokens.{saidOf, saidAt, tokensFrom, Marked, MarkedEnd}
-use Rattle.tokens.proofs.TokenLaws.{said-heard, seen-since}
+use Rattle.definition.proofs.WordLaws.{seenAt, goesIn, word-next, word-stop, word-last}
+use Rattle.tokens.specs.Tokens.{saidOf, tokensFrom, Marked, WordEnd}
+use Rattle.tokens.proofs.TokenLaws.{said-heard}
 use Rattle.tokens.proofs.marked_end.Statement.{statement}
 use Rattle.tokens.proofs.marked_end.Tie as tie
 
--- the word goes on at s
-record Left (t : List ℕ) (s₀ s : Stand) : Type 0 where
-  up : s₀ .at ≤ s .at
-  within : s .at ≤ length t
-  after : 3 ≤ s .said
-  rest : (a : ℕ) → tokensFrom t (saidAt s₀) (Within a) (s₀ .at) ≡ tokensFrom t (saidAt s) (Within a) (s .at)
+-- the word goes on at i
+record Left (t : List ℕ) (at n i q : ℕ) : Type 0 where
+  up : at ≤ i
+  within : i ≤ length t
+  after : 3 ≤ q
+  rest : (a : ℕ) → tokensFrom t (saidOf t n at) (Within a) at ≡ tokensFrom t (saidOf t q i) (Within a) i
 
-start : {t : List ℕ} {s : Stand} → (s .at ≤ length t) × (3 ≤ s .said) → Left t s s
+start : {t : List ℕ} {at n : ℕ} → (at ≤ length t) × (3 ≤ n) → Left t at n at n
 start h = record { up = omega arith; within = h .0; after = h .1; rest = λ a. refl }
 
-module _ {t : List ℕ} {s₀ s : Stand} (inv : Left t s₀ s) where
-  done : length t ≤ s .at → MarkedEnd t s₀ s
+module _ {t : List ℕ} {at n i q : ℕ} (inv : Left t at n i q) where
+  done : length t ≤ i → WordEnd t at n (record { at = i; said = q })
   done h =
       record {
         up = inv .up;
         within = inv .within;
-        after = inv .after;
-        rest = λ a. inv .rest a ∙ word-last t (saidAt s) a (s .at) h ∙ rw (said-heard (s .said) (s .since) (inv .after) (part t (span a (s .at - a))));
+        rest = λ a. inv .rest a ∙ word-last t (saidOf t q i) a i h ∙ rw (said-heard t q i (inv .after) (part t (span a (i - a))));
       }
 
-  module _ (h : s .at < length t) {k k′ : ByteKind} {r : Bool} (e : k ≡ kindAt t (s .at)) (e′ : k′ ≡ seen (saidOf (s .said) 0) k) (p : r ≡ goesIn k′) where
-    here : goesIn (seenAt t (saidAt s) (s .at)) ≡ r
-    here = rw (p, e′, e, seen-since (s .said) (s .since) 0 (kindAt t (s .at)))
-
-    next : {s′ : Stand} → r ≡ true → Marked s (getD t (s .at) 0) s′ → Left t s₀ s′
+  module _ (h : i < length t) {r : Bool} (e : r ≡ goesIn (seenAt t (saidOf t q i) i)) where
+    next : {q′ : ℕ} → r ≡ true → Marked q (getD t i 0) q′ → Left t at n (i + 1) q′
     next y g =
-        let m = g .moves in
         record {
-          up = omega (arith, inv .up);
+          up = omega arith;
           within = omega arith;
           after = g .after;
-          rest = λ a. inv .rest a ∙ word-next t (saidAt s) a (s .at) h (here ∙ y) ∙ rw (g .is, g .moves);
+          rest = λ a. inv .rest a ∙ word-next t (saidOf t q i) a i h (sym e ∙ y) ∙ rw (g .is t i refl);
         }
 
-    less : {s′ : Stand} → Marked s (getD t (s .at) 0) s′ → length t - s′ .at < length t - s .at
-    less g = let m = g .moves in omega arith
-
-    found : r ≡ false → MarkedEnd t s₀ s
+    found : r ≡ false → WordEnd t at n (record { at = i; said = q })
     found y =
         record {
           up = inv .up;
           within = inv .within;
-          after = inv .after;
-          rest = λ a. inv .rest a ∙ word-stop t (saidAt s) a (s .at) h (here ∙ y) ∙ rw (said-heard (s .said) (s .since) (inv .after) (part t (span a (s .at - a))));
+          rest = λ a. inv .rest a ∙ word-stop t (saidOf t q i) a i h (sym e ∙ y) ∙ rw (said-heard t q i (inv .after) (part t (span a (i - a))));
         }
 
 abbrev Inv-loop : tie.InvT-loop
-Inv-loop text s₀ s = Left text s₀ s
+Inv-loop text at said i₀ q₀ i q = Left text at said i q
 
 abbrev μ-loop : tie.MeasureT-loop
-μ-loop text s₀ s = length text - s .at
+μ-loop text at said i₀ q₀ i q = length text - i
 
 loop-holds : tie.Need-loop-holds Inv-loop μ-loop
 loop-holds c = search start
-
-loop-less : tie.Need-loop-less Inv-loop μ-loop
-loop-less c = search less
 
 loop-again : tie.Need-loop-again Inv-loop μ-loop
 loop-again c = search next
@@ -93,11 +78,10 @@ marked-end-spec =
     μ-loop
     loop-holds
     (λ c κs. search needs)
-    (λ c κs. search needs)
-    (λ c κs. search needs)
     (λ c. search needs)
     (λ c κs. search needs)
-    loop-less
+    (λ c. search needs)
+    (λ c. search needs)
     loop-again
     returns
     returns-2)

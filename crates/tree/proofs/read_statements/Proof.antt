@@ -16,22 +16,24 @@ use Rattle.definition.specs.Limits.{mostBytes, leastWork, mostStatements}
 use Rattle.definition.specs.Basic.{Answer, refuse, give, _>>=_}
 use Rattle.definition.specs.Statement.{statements}
 use Rattle.definition.specs.Tree.{Open}
-use Rattle.definition.specs.Words.{sentences, statementWords}
+use Rattle.definition.specs.Words.{tokensOf, firstOpen, sentences, statementWords}
 use Rattle.definition.proofs.ParentLaws.{Fit}
+use Rattle.definition.proofs.WordLaws.{end-sentences}
 use Rattle.definition.proofs.StatementLaws.{statements-none, statements-refused, statements-skipped, statements-full, statements-kept}
 use Rattle.tokens.specs.declared.Stand.{Stand}
-use Rattle.tokens.specs.Tokens.{atStart, tokensAt}
+use Rattle.tokens.specs.Tokens.{atStart, saidAt, tokensAt}
+use Rattle.tokens.proofs.TokenLaws.{ends-open}
 use Rattle.statement.specs.declared.StatementRead.{StatementRead}
 use Rattle.statement.specs.declared.StatementRead.the-variants.{Kept, Skipped, Refused, End}
 use Rattle.clauses.specs.Places.{SpanInside}
 use Rattle.statement.specs.Reading.{FirstKept, FirstSkipped, FirstStatement}
 use Rattle.statement.proofs.ReadLaws.{kept-read, skipped-read, refused-read, end-read}
 use Rattle.tree.specs.declared.OpenLevels.{OpenLevels}
-use Rattle.tree.specs.declared.RowsRead.{RowsRead}
+use Rattle.tree.specs.declared.StatementsRead.{StatementsRead}
 use Rattle.tree.specs.Levels.{topDown, stackOf, NoneOpen, Nested}
 use Rattle.rows.specs.Columns.{ROW}
 use Rattle.rows.specs.Table.{Short, Placed, putRows}
-use Rattle.tree.specs.Reading.{Added, outcome, Held, RowsOf}
+use Rattle.tree.specs.Reading.{Added, outcome, Held, StatementsAre}
 use Rattle.rows.proofs.TableLaws.{length-putRow}
 use Rattle.tree.proofs.LevelLaws.{down-none}
 use Rattle.tree.proofs.ReadingLaws.{outcome-kept, held-kept}
@@ -53,6 +55,7 @@ record Left (t w₀ w : List ℕ) (from : Stand) (n : ℕ) (o : OpenLevels) : Ty
   long : length w ≡ length w₀
   few : n ≤ mostStatements
   nested : Nested w n o
+  opens : firstOpen (tokensOf t) ≡ firstOpen (tokensAt t from)
   same : outcome w₀ 0 [] (whole t) ≡ outcome w n (stackOf w o) (rest t from n)
   held : Held n (rest t from n) → Held 0 (whole t)
 
@@ -68,6 +71,7 @@ start {t} {w} {from} {o} s r b p =
       long = refl;
       few = omega arith;
       nested = record { few = omega (arith, p .count); fit = subst (Fit 0) (sym none) tt; there = omega arith };
+      opens = rw b;
       same = rw b (ap (λ (os : List Open). outcome w 0 os (whole t)) (sym none));
       held = rw b (λ h. h);
     }
@@ -78,26 +82,31 @@ short-inside t w h i = record { starts = omega arith; runs = omega arith }
 
 module _ {t w₀ w : List ℕ} {from : Stand} {n : ℕ} {o : OpenLevels} (inv : Left t w₀ w from n o) where
   -- a refusal of what is left is one of the whole
-  refused-so : (q : Refusal) → rest t from n ≡ refuse q → RowsOf (whole t) w₀ (RowsRead.Refused q) w
+  refused-so : (q : Refusal) → rest t from n ≡ refuse q → StatementsAre t w₀ (StatementsRead.Refused q) w
   refused-so q p =
       record {
-        is = sym (inv .same ∙ ap (outcome w n (stackOf w o)) p);
-        held = inv .held (rw p tt);
+        rows = record { is = sym (inv .same ∙ ap (outcome w n (stackOf w o)) p); held = inv .held (rw p tt) };
+        end = tt;
       }
 
   module _ {r : StatementRead} (f : FirstStatement (tokensAt t from) t (from .at + 1) r) where
     -- no statement is left
-    done : r ≡ End → RowsOf (whole t) w₀ (RowsRead.Rows n) w
+    done : {next : Stand} → r ≡ End next → StatementsAre t w₀ (StatementsRead.Rows n next) w
     unfolding putRows
-    done e =
-        let p : rest t from n ≡ give [] = rw (end-read _ t (from .at + 1) f e) (statements-none t n) in
+    done {next} e =
+        let g = end-read _ t (from .at + 1) f e in
+        let p : rest t from n ≡ give [] = rw (g .ends, end-sentences (saidAt t next)) (statements-none t n) in
         record {
-          is = sym (inv .same ∙ ap (outcome w n (stackOf w o)) p ∙ rw add-zero);
-          held = inv .held (rw p (tt, omega (arith, inv .few)));
+          rows =
+              record {
+                is = sym (inv .same ∙ ap (outcome w n (stackOf w o)) p ∙ rw add-zero);
+                held = inv .held (rw p (tt, omega (arith, inv .few)));
+              };
+          end = (g .within, ends-open t next (inv .opens ∙ ap firstOpen (g .ends)));
         }
 
     -- the next statement is refused
-    bad : {q : Refusal} → r ≡ Refused q → RowsOf (whole t) w₀ (RowsRead.Refused q) w
+    bad : {q : Refusal} → r ≡ Refused q → StatementsAre t w₀ (StatementsRead.Refused q) w
     bad {q} e =
         let first = refused-read _ t (from .at + 1) f e in
         refused-so q (rw (first .all-are) (statements-refused t n _ _ (first .is)))
@@ -117,6 +126,7 @@ module _ {t w₀ w : List ℕ} {from : Stand} {n : ℕ} {o : OpenLevels} (inv : 
             long = inv .long;
             few = inv .few;
             nested = inv .nested;
+            opens = inv .opens ∙ skipped .followed .opens;
             same = inv .same ∙ ap (outcome w n (stackOf w o)) p;
             held = λ h. inv .held (rw p h);
           }
@@ -150,7 +160,7 @@ module _ {t w₀ w : List ℕ} {from : Stand} {n : ℕ} {o : OpenLevels} (inv : 
       addable l = (omega (arith, inv .room), l, inv .nested, placed)
 
       -- 800 were kept before it
-      full : mostStatements ≤ n → RowsOf (whole t) w₀ (RowsRead.Refused (record { number = 14; position = s .at; needed = 0 })) w
+      full : mostStatements ≤ n → StatementsAre t w₀ (StatementsRead.Refused (record { number = 14; position = s .at; needed = 0 })) w
       full l = refused-so (record { number = 14; position = s .at; needed = 0 }) (rw (kept .followed .all-are) (statements-full t n _ _ (kept .is) l))
 
       -- it is the next row
@@ -167,6 +177,7 @@ module _ {t w₀ w : List ℕ} {from : Stand} {n : ℕ} {o : OpenLevels} (inv : 
             long = sized ∙ inv .long;
             few = omega arith;
             nested = subst (λ (m : ℕ). Nested w′ m o′) (sym (add-one n)) (d .nested);
+            opens = inv .opens ∙ kept .followed .opens;
             same = inv .same ∙ ap (outcome w n (stackOf w o)) p ∙ outcome-kept n s w (stackOf w o) later ∙ (λ i. outcome (sym (d .row) i) (n + 1) (sym (d .levels) i) later);
             held = λ h. inv .held (rw p (held-kept n s (d .storable) later h));
           }
@@ -210,10 +221,10 @@ returns-2 : tie.Need-returns-2 Inv-loop μ-loop
 returns-2 c = search (bad (c .before .before .before .before .loop .inv))
 
 same-length-3 : tie.Need-same-length-3 Inv-loop μ-loop
-same-length-3 c = c .before .before .before .loop .inv .long
+same-length-3 c = c .before .before .before .before .loop .inv .long
 
 returns-3 : tie.Need-returns-3 Inv-loop μ-loop
-returns-3 c = search (done (c .before .before .before .loop .inv))
+returns-3 c = search (done (c .before .before .before .before .loop .inv))
 
 pub read-statements-spec : {M : Type 1} → statement M
 read-statements-spec =

@@ -133,8 +133,8 @@ cardChecks text work = do
   _ ← entryChecks text work
   indicatorCheck text
 
--- a call for cards: their checks, then the call for free text, on the view; 1, 2 and 3 do not come again (`CardLaws`, of
--- the proofs, says so)
+-- a call for cards: their checks, then the call for free text, on the view; 1, 2 and 3 do not come again (`CardLaws`,
+-- of the proofs, says so)
 unfoldable pub onCards : {A : Type 0} → (List ℕ → Answer A) → List ℕ → ℕ → Answer A
 onCards call text work = do
   _ ← cardChecks text work

@@ -32,9 +32,9 @@ earlier ts t low later h (StatementRead.Refused r) g = g
 earlier ts t low later h (StatementRead.End n) g = g
 
 module _ (t : List ℕ) (from : Stand) {r : Next} (f : First (tokensAt t from) t (from .at) r) where
-  module _ {s l : ℕ} {n : Stand} (q : r ≡ Next.Word n s l) where
+  module _ {s l : ℕ} {n : Stand} (q : r ≡ Next.Word s l n) where
     -- a first word lies in the text
-    first : FirstWord (tokensAt t from) t (from .at) n s l
+    first : FirstWord (tokensAt t from) t (from .at) s l n
     first = word-first _ t (from .at) f q
 
     places : (s < length t) × (s + l ≤ length t) × (n .at ≤ length t)
@@ -56,7 +56,7 @@ module _ (t : List ℕ) (from : Stand) {r : Next} (f : First (tokensAt t from) t
   ended q = let s = end-first _ t (from .at) f q in record { ends = s .opens; within = s .within }
 
 read-levelled-requires : tie.Need-read-levelled-requires
-read-levelled-requires c κs = let a = c .before .before .before .before .before .args in places (a .text .now) (a .from) (c .before .before .before .word-at .ensures) (c .before .next .given .1)
+read-levelled-requires c κs = let a = c .before .before .before .before .before .args in places (a .text .now) (a .from) (c .before .before .before .word-at .ensures) (c .before .start .given .1)
 
 returns : tie.Need-returns
 returns c = search begun

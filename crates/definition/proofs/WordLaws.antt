@@ -232,7 +232,7 @@ module _ (t : List ℕ) (s p b : ℕ) (more : Said → Mode → List Token) wher
   word-begun q Period h = never h
   word-begun q Other h = in-on q Other (more (marked q p b) (Within p)) refl
 
--- inside a literal a byte goes into a word unless it is white
+-- inside a literal a byte that is not white goes into a word
 goes-quoted : (m a : ℕ) (c s d : Bool) → goesIn (seen (Literal m a) (if c then Cut else if s then Star else if d then Period else Other)) ≡ true
 goes-quoted m a true s d = refl
 goes-quoted m a false true d = refl
@@ -242,17 +242,9 @@ goes-quoted m a false false false = refl
 white-10 : (b : ℕ) → white b ≡ false → b ≡ 10 → ⊥
 white-10 b w e = never (sym (rw e at w))
 
-pub literal-goes : (m a b : ℕ) (bs : List ℕ) → white b ≡ false → goesIn (seen (Literal m a) (byteKind b bs)) ≡ true
+literal-goes : (m a b : ℕ) (bs : List ℕ) → white b ≡ false → goesIn (seen (Literal m a) (byteKind b bs)) ≡ true
 unfolding byteKind
 literal-goes m a b bs w = rw (ne-eqb b 10 (white-10 b w), w) (goes-quoted m a (cutHere (b ∷ bs)) (is "*" b) (is "." b && ends bs))
-
-pub literal-ends : (m a b : ℕ) (bs : List ℕ) → white b ≡ true → goesIn (seen (Literal m a) (byteKind b bs)) ≡ false
-unfolding byteKind
-literal-ends m a b bs w = by-test (eqb b 10)
-  where
-    by-test : (x : Bool) → goesIn (seen (Literal m a) (if x then Newline else if white b then Blank else if cutHere (b ∷ bs) then Cut else if is "*" b then Star else if is "." b && ends bs then Period else Other)) ≡ false
-    by-test true = refl
-    by-test false = rw w
 
 module _ (t : List ℕ) (m a i : ℕ) (h : i < length t) where
   pub literal-newline :

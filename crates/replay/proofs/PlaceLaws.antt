@@ -17,7 +17,7 @@ use Rattle.replay.specs.Places.{Later, WordIn, Bounded, Inside, Holds}
 
 -- a token of the text lies within the list
 pub bounded : (all : List Token) (list : List ℕ) (at : ℕ) (r : Next) → First all list at r → Bounded list at r
-bounded all list at (Next.Word next start len) f = record { fits = f .fits; after = record { up = f .up; within = f .within } }
+bounded all list at (Next.Word start len next) f = record { fits = f .fits; after = record { up = f .up; within = f .within } }
 bounded all list at (Next.Stop next) f = record { up = f .up; within = f .within }
 bounded all list at (Next.End next) f = tt
 
@@ -27,7 +27,7 @@ inside-at list p at i e = rw e at i
 
 module _ (list : List ℕ) (at : ℕ) (r : Next) (b : Bounded list at r) where
   -- the token is a word
-  module _ {start len : ℕ} {next : Stand} (e : r ≡ Next.Word next start len) where
+  module _ {start len : ℕ} {next : Stand} (e : r ≡ Next.Word start len next) where
     pub word-in : WordIn list at start len (next .at)
     word-in = rw e at b
 

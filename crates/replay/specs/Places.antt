@@ -22,7 +22,7 @@ pub record WordIn (list : List ℕ) (at start len next : ℕ) : Type 0 where
 
 -- what a token says of the places
 abbrev pub Bounded : List ℕ → ℕ → Next → Type 0
-Bounded list at (Next.Word next start len) = WordIn list at start len (next .at)
+Bounded list at (Next.Word start len next) = WordIn list at start len (next .at)
 Bounded list at (Next.Stop next) = Later list at (next .at)
 Bounded list at (Next.End next) = Unit {0}
 

@@ -25,7 +25,7 @@ reached-start h = record { up = omega arith; within = h; rest = refl }
 
 module _ {t : List ℕ} {from place : Stand} (inv : Reached t from place) {r : Next} (f : First (tokensAt t place) t (place .at) r) where
   -- past a word it goes on
-  pub reached-word : {s l : ℕ} {n : Stand} → r ≡ Next.Word n s l → Reached t from n
+  pub reached-word : {s l : ℕ} {n : Stand} → r ≡ Next.Word s l n → Reached t from n
   reached-word e = let w = word-first _ t (place .at) f e in record { up = omega arith; within = w .within; rest = inv .rest ∙ ap afterStop (w .all-are) }
 
   -- it ends at its period, or with the text

@@ -97,8 +97,8 @@ module _ (all : List Token) (t : List ℕ) (at : ℕ) {r : Next} (f : First all 
   end-first e = rw e at f
 
   -- the first is a word
-  module _ {start len : ℕ} {next : Stand} (e : r ≡ Next.Word next start len) where
-    pub word-first : FirstWord all t at next start len
+  module _ {start len : ℕ} {next : Stand} (e : r ≡ Next.Word start len next) where
+    pub word-first : FirstWord all t at start len next
     word-first = rw e at f
 
     pub word-less : length t - next .at < length t - at

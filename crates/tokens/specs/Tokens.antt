@@ -171,7 +171,7 @@ InsideIs text at (Ahead.End i) = InsideEnd text at i
 -- ---------------------------------------------------------------- tokens
 
 -- the first of the tokens from a place on is a word, and the others are those from `next` on
-pub record FirstWord (all : List Token) (text : List ℕ) (at : ℕ) (next : Stand) (start len : ℕ) : Type 0 where
+pub record FirstWord (all : List Token) (text : List ℕ) (at start len : ℕ) (next : Stand) : Type 0 where
   pub all-are : all ≡ Token.Word (span start len) ∷ tokensAt text next
   pub up : at < next .at
   pub within : next .at ≤ length text
@@ -207,7 +207,7 @@ Looks text s (Ahead.End i) = FirstEnd (tokensAt text s) text (s .at) (record { a
 
 -- what an answer says of all tokens from a place on
 abbrev pub First : List Token → List ℕ → ℕ → Next → Type 0
-First all text at (Next.Word next start len) = FirstWord all text at next start len
+First all text at (Next.Word start len next) = FirstWord all text at start len next
 First all text at (Next.Stop next) = FirstStop all text at next
 First all text at (Next.End next) = FirstEnd all text at next
 

@@ -6,7 +6,8 @@ ghost use mathlib.Core.Path.{_≡_};
 ghost use Prim.Native.Nat.{_+_, _≤_, _<_};
 ghost use lib.ListN.{length, drop, getD};
 ghost use Rattle.definition.specs.Calls.{literalCheck, checkOf};
-ghost use Rattle.definition.specs.Words.{cutHere, ends, byteKind, isValue};
+ghost use Rattle.definition.specs.declared.Said.the-variants.{Literal};
+ghost use Rattle.definition.specs.Words.{cutHere, ends, byteKind, isValue, seen};
 ghost use Rattle.definition.proofs.WordLaws.{goesIn, seenAt};
 ghost use Rattle.tokens.specs.Tokens.{VALUE, markOf, lastMark, saidOf, atStart, behind as behindOf, tokensAt};
 ghost use Rattle.tokens.specs.Tokens.{NextLine, Counted, PlainEnd, Marked, WordEnd, WordFrom, AheadIs, InsideIs};
@@ -215,7 +216,21 @@ fn marked(said: usize, b: u8) -> usize
     said
 }
 
-// Whether a word goes on at a place, after VALUE: inside a literal neither a period nor `*>` ends it.
+// What a byte inside a literal is: neither a period nor `*>` counts there.
+fn quoted(k: ByteKind) -> ByteKind
+    ensures { λ r. ⌜ r ≡ seen (Literal 0 0) k ⌝ }
+{
+    match k {
+        ByteKind::Newline => ByteKind::Newline,
+        ByteKind::Blank => ByteKind::Blank,
+        ByteKind::Cut => ByteKind::Other,
+        ByteKind::Star => ByteKind::Star,
+        ByteKind::Period => ByteKind::Other,
+        ByteKind::Other => ByteKind::Other,
+    }
+}
+
+// Whether a word goes on at a place, after VALUE.
 fn goes_on(text: &[u8], i: usize, said: usize) -> bool
     requires { ⌜ (i < length (now text)) × (VALUE ≤ said) ⌝ }
     ensures { λ r. ⌜ r ≡ goesIn (seenAt (now (text .entry)) (saidOf (now (text .entry)) said i) i) ⌝ }
@@ -223,10 +238,7 @@ fn goes_on(text: &[u8], i: usize, said: usize) -> bool
     if said == VALUE {
         return in_word(byte_kind(text, i));
     }
-    if text::is_white(text[i]) {
-        return false;
-    }
-    true
+    in_word(quoted(byte_kind(text, i)))
 }
 
 // Where a reader in a word stands when the word ends, after VALUE.
@@ -329,13 +341,12 @@ fn look_inside(text: &[u8], at: usize) -> Ahead
 }
 
 // A word and where the reader stands behind it; the end of a statement and where it stands behind that; or no more
-// tokens, and where it stands then: the text has ended, or the line of a literal has. What two of them have stands at
-// the same place in both, so that they are made and copied whole.
+// tokens, and where it stands then: the text has ended, or the line of a literal has.
 pub enum Next {
     Word {
-        next: Stand,
         start: usize,
         len: usize,
+        next: Stand,
     },
     Stop {
         next: Stand,
@@ -365,9 +376,9 @@ pub fn next_token(text: &[u8], s: Stand) -> Next
         Ahead::Word(i) => {
             let next = behind_word(text, i, s.said);
             return Next::Word {
-                next: next,
                 start: i,
                 len: next.at - i,
+                next: next,
             };
         }
         Ahead::Stop(at) => {
@@ -424,9 +435,9 @@ pub fn open_check(text: &[u8]) -> Check
     loop {
         match next_token(text, s) {
             Next::Word {
-                next,
                 start: _,
                 len: _,
+                next,
             } => {
                 s = next;
             }

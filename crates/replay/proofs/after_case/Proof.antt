@@ -22,7 +22,7 @@ start : {list : List ℕ} {at : ℕ} → at < length list → Left list at at
 start h = record { up = omega arith; within = omega arith; begins = h }
 
 module _ {list : List ℕ} {at place : ℕ} (inv : Left list at place) (r : Next) (b : Bounded list place r) where
-  module _ {s l : ℕ} {n : Stand} (e : r ≡ Next.Word n s l) where
+  module _ {s l : ℕ} {n : Stand} (e : r ≡ Next.Word s l n) where
     less : length list - n .at < length list - place
     less = let w = word-in list place r b e in omega arith
 

@@ -62,9 +62,9 @@ rest :
 rest {t} {at} {from} {place} {e} {c} inv p = inv .same ∙ ap (λ (ts : List Token). clauses t at e c (firstWords ts)) p
 
 module _ {t : List ℕ} {at : ℕ} {from place : Stand} {e : Expect} {c : Clauses} (inv : Left t at from place e c) {r : Next} (f : First (tokensAt t place) t (place .at) r) where
-  module _ {s l : ℕ} {n : Stand} (q : r ≡ Next.Word n s l) where
+  module _ {s l : ℕ} {n : Stand} (q : r ≡ Next.Word s l n) where
     -- a word lies in the text, and its end is a place
-    first : FirstWord (tokensAt t place) t (place .at) n s l
+    first : FirstWord (tokensAt t place) t (place .at) s l n
     first = word-first _ t (place .at) f q
 
     inside : s + l ≤ length t

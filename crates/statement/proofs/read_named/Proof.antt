@@ -49,9 +49,9 @@ bare {t} {at} {level} h p q q′ e =
     rw (q, q′) (record { is = p ∙ named-none t at level; fits = record { begins = h; name = omega arith; clauses = none-fit t }; ends = e })
 
 module _ (t : List ℕ) (at level : ℕ) (from : Stand) (h : from .at ≤ length t) {r : Next} (f : First (tokensAt t from) t (from .at) r) where
-  module _ {s l : ℕ} {n : Stand} (q : r ≡ Next.Word n s l) where
+  module _ {s l : ℕ} {n : Stand} (q : r ≡ Next.Word s l n) where
     -- the name
-    first : FirstWord (tokensAt t from) t (from .at) n s l
+    first : FirstWord (tokensAt t from) t (from .at) s l n
     first = word-first _ t (from .at) f q
 
     -- the clauses begin in the text

@@ -32,9 +32,9 @@ earlier ts t low later h (StatementRead.Refused r) g = g
 earlier ts t low later h (StatementRead.End n) g = g
 
 module _ (t : List ℕ) (from : Stand) {r : Next} (f : First (tokensAt t from) t (from .at) r) where
-  module _ {s l : ℕ} {n : Stand} (q : r ≡ Next.Word n s l) where
+  module _ {s l : ℕ} {n : Stand} (q : r ≡ Next.Word s l n) where
     -- a first word lies in the text
-    first : FirstWord (tokensAt t from) t (from .at) n s l
+    first : FirstWord (tokensAt t from) t (from .at) s l n
     first = word-first _ t (from .at) f q
 
     places : (s < length t) × (s + l ≤ length t) × (n .at ≤ length t)

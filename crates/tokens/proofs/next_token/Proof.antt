@@ -24,7 +24,7 @@ module _ (t : List ℕ) (s : Stand) {a : Ahead} (g : Looks t s a) where
     within = begun .within
 
     -- and ends at r
-    word : {r : Stand} → WordFrom t i (s .said) r → First (tokensAt t s) t (s .at) (Next.Word r i (r .at - i))
+    word : {r : Stand} → WordFrom t i (s .said) r → First (tokensAt t s) t (s .at) (Next.Word i (r .at - i) r)
     word {r} w =
         let b = begun in
         let u = b .up in

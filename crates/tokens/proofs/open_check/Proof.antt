@@ -24,7 +24,7 @@ start : {t : List ℕ} {s : Stand} → s ≡ atStart → Left t s
 start e = rw e (record { within = omega arith; rest = refl })
 
 module _ {t : List ℕ} {s : Stand} (inv : Left t s) {r : Next} (f : First (tokensAt t s) t (s .at) r) where
-  word : {a l : ℕ} {n : Stand} → r ≡ Next.Word n a l → Left t n
+  word : {a l : ℕ} {n : Stand} → r ≡ Next.Word a l n → Left t n
   unfolding firstOpen
   word e = let w = word-first (tokensAt t s) t (s .at) f e in record { within = w .within; rest = inv .rest ∙ ap firstOpen (w .all-are) }
 

@@ -1,4 +1,4 @@
        01  PEN.
            05  PEN-ID        PIC X(4).
-           05  REMARK        PIC X(20) VALUE 'cleaned. ok'.
+           cleaned in spring
            05  STOCKED       PIC 9(8).

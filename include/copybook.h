@@ -95,6 +95,9 @@ enum copybook_number {
     /* the record check */
     COPYBOOK_RECORD_TOO_SHORT = 42,
 
+    /* the text, after 3 and before 10; the position is that of the opening mark */
+    COPYBOOK_LITERAL_OPEN = 50,
+
     COPYBOOK_NO_SUCH_NUMBER = 255 /* a usage or a sign that is none; nothing is touched */
 };
 
@@ -145,7 +148,9 @@ enum copybook_number {
     R(COPYBOOK_PAST_RECORD, "the position is not below the record length", \
       "the layout's first line has the record length") \
     R(COPYBOOK_RECORD_TOO_SHORT, "a record is shorter than its layout, and not variable", \
-      "the record is cut off, or it is of another layout")
+      "the record is cut off, or it is of another layout") \
+    R(COPYBOOK_LITERAL_OPEN, "a literal after VALUE is not closed on its line", \
+      "close it on its line by the mark that opens it; within it that mark is written twice")
 
 /* Kinds: the first byte of each entry of a listing, and answer[0] of a picture. */
 enum copybook_kind {
@@ -187,7 +192,7 @@ enum copybook_storage { COPYBOOK_STORAGE_DISPLAY = 0, COPYBOOK_STORAGE_COMP_3 = 
  * The layout listing of the copybook in `text`, written to `out`.
  *
  * `work` must have COPYBOOK_WORK numbers; whatever it holds, all of it is zero after every call, also after a refusal.
- * answer[0] is the number of bytes written, answer[1] is 0. Refusals: 1 to 3, 10 to 14, 20 to 31.
+ * answer[0] is the number of bytes written, answer[1] is 0. Refusals: 1 to 3, 50, 10 to 14, 20 to 31.
  *
  * The listing: one byte of kind, then a body whose length the kind fixes. Numbers are little-endian, 4 bytes unless
  * said. copybook_next reads it.
@@ -255,7 +260,7 @@ enum copybook_owned { COPYBOOK_PIECE = 0, COPYBOOK_SLACK = 1 };
  *     byte inside it; or
  *     COPYBOOK_SLACK, the number of the entry that the slack precedes, 0, 0
  * Entries are numbered from 0 in the order of the listing, COPYBOOK_RECORD not counted. `work` as for copybook_layout.
- * Refusals: 1 to 3, 10 to 14, 20 to 30, 40, 41.
+ * Refusals: 1 to 3, 50, 10 to 14, 20 to 30, 40, 41.
  */
 uint32_t copybook_owner(const uint8_t *text, size_t n, uint64_t position, uint32_t *work, size_t w, uint64_t *answer,
                         size_t k);

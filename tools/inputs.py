@@ -10,6 +10,8 @@ Where each thing that a comparison must cover is made:
   periods and `*>` in every place, comment lines, CR LF, VT, FF, TAB            at_every_place, Maker.marked, Maker.spread
   bare clauses at a statement's end                                             bare_clauses
   repeated clauses, SEPARATE in odd places and after VALUE                      REPEATED, Maker.soup
+  literals after VALUE: periods, `*>`, white space and other marks in them, doubled and open ones; marks before VALUE; VALUE as
+    a name, a target, a picture                                                 QUOTED, Maker.quoted
   level 88, levels 0 255 256 +05 0005                                           LEVELS, levels
   counts 0, +3, around 2^31 and 2^64; sums around 2^31                          COUNTS, counts, LARGE
   dropped roots with clauses                                                    ROOTS, Maker.nested
@@ -222,6 +224,71 @@ LARGE = """
 05 A OCCURS 2147483645 PIC X. 05 B PIC X. 05 C REDEFINES B OCCURS 2 DEPENDING ON N PIC X(2).
 05 A OCCURS 2147483646 PIC X. 05 B PIC X. 05 C REDEFINES B OCCURS 9 DEPENDING ON N PIC X(2).
 """.strip().split("\n")
+# ~ stands for a line's end
+QUOTED = """
+05 A PIC X VALUE 'St. 4'. 05 B PIC X.
+05 A PIC X. 88 X VALUE 'a' 'b. c'. 05 B PIC X.
+05 A PIC X VALUE "it's. ". 05 B PIC X.
+05 A PIC X VALUE X'00. 1'. 05 B PIC X.
+05 A PIC X VALUE 'it''s. so'. 05 B PIC X.
+05 A PIC X VALUE '*> no note'. 05 B PIC X.
+05 A PIC X VALUE 'a.*> b'. 05 B PIC X.
+05 A PIC X VALUE A'. 'B. 05 B PIC X.
+05 A PIC X values~'a. b'. 05 B PIC X.
+05 A PIC X VALUES ARE 'a. ' THRU 'b. '. 05 B PIC X.
+05 A PIC X VALUE ''. 05 B PIC X.
+05 A PIC X VALUE '' '. '. 05 B PIC X.
+05 A PIC X VALUE '''. '. 05 B PIC X.
+05 A PIC X VALUE '. '''. 05 B PIC X.
+05 A PIC X VALUE '. ''. 05 B PIC X.
+05 A PIC X VALUE '.'. 05 B PIC X.
+05 A PIC X VALUE 'a'.*> 'b. c~05 B PIC X.
+05 A PIC X VALUE 'a' *> it's~. 05 B PIC X.
+05 A PIC X VALUE 'a *'> b'. 05 B PIC X.
+05 A PIC X VALUE 'a'*>. 05 B PIC X.
+05 A PIC X VALUE 3.5 '3.5'. 05 B PIC X.
+05 A PIC S9 SIGN LEADING VALUE 'a SEPARATE'.
+05 A PIC S9 SIGN LEADING VALUE 'a SEPARATE b. '.
+05 A PIC S9 SIGN LEADING VALUE 'a. ' SEPARATE. 05 B PIC X.
+05 VALUE 'St. 4'. 05 B PIC X.
+05 VALUE PIC X '. 05 B PIC X.
+05 VALUE VALUE 'a. b' PIC X. 05 B PIC X.
+05 VALUE PIC X. 05 B REDEFINES VALUE PIC X 'St. 4'. 05 C PIC X.
+05 VALUE PIC X. 05 B REDEFINES VALUE PIC X 'St. 4' OCCURS 2. 05 C PIC X.
+05 A PIC X. 05 B OCCURS 2 DEPENDING ON VALUE PIC X 'a. b' SYNC. 05 C PIC X.
+05 A PIC VALUE 'a. b' PIC X. 05 B PIC X.
+05 A PIC VALUE PIC 'a. PIC X'. 05 B PIC X.
+05 A PIC VALUES 'a. b' OCCURS 'c. d'.
+05 A' PIC X VALUE 'a. b'. 05 B PIC X.
+05 A PIC X' VALUE 'a. b'. 05 B PIC X.
+05 A PIC X 'VALUE 'a. b'. 05 B PIC X.
+05 A PIC X VALUE'St. 4'. 05 B PIC X.
+05 A PIC X VALUE, 'a. b'. 05 B PIC X.
+05 A PIC X VALUED 'a. b'. 05 B PIC X.
+VALUE VALUE 'a. b'. 05 B PIC X.
+VALUE A VALUE 'a. b'. 05 B PIC X.
+. . 05 A PIC X VALUE 'a. b'. 05 B PIC X.
+05 A PIC X VALUE *> 'open~5. 05 B PIC X.
+05 A PIC X VALUE 5~* 'open~. 05 B PIC X.
+05 A PIC X VALUE~  *> 'open~  'a. b'. 05 B PIC X.
+05 A PIC X VALUE 'a'~'b. c'~. 05 B PIC X.
+05 A PIC X VALUE 'a. b~05 B PIC X.
+05 A PIC X VALUE 'open
+05 A PIC X VALUE 'open *> x
+05 A PIC X VALUE 'open *> x'x'
+05 A PIC X VALUE 'open\r~'. 05 B PIC X.
+05 A PIC X VALUE 'a' 'open.~'. 05 B PIC X.
+05 A PIC X VALUE "a'. 05 B PIC X.
+05 A PIC X VALUE 'a". 05 B PIC X.
+05 A VALUE 'a 'b'
+05 A PIC X VALUE 5 IT'S.
+05 A PIC X VALUE 'a'~"b'
+X. 05 A PIC X VALUE 5. 88 Y VALUE '
+05 A PIC Q VALUE '. 05 B.
+05 A OCCURS VALUE '
+05 A B VALUE '\x80
+""".strip().split("\n")
+QUOTED = [text.replace("~", "\n") for text in QUOTED]
 GOOD = [
     "01 FISH. 05 TAG PIC X(5). 05 SIRE PIC 9(4) COMP SYNC. 05 WT OCCURS 3 PIC 9(3)V9.",
     "05 A PIC ZZ9.99. 05 B PIC S9(4) SIGN TRAILING SEPARATE. 05 C PIC S9(5)V99 COMP-3.",
@@ -543,6 +610,31 @@ class Maker:
             if not re.search(r"\(\s*\+?0*[1-9]\d{6,}", text):
                 return "damaged", text
 
+    def literal(self):
+        """A literal, now and then without its end."""
+        mark = self.one("'\"")
+        inside = "".join(self.one(["a", "St", "4", ".", ". ", ".\t", " ", "  ", "*", "*>", " *> ", ".*>", ">", "'", '"', mark * 2, "SEPARATE", " SEPARATE ", "VALUE ", ". 05 B PIC X", "3.5"])
+                         for _ in range(self.r.randint(0, 5)))
+        inside = inside.replace(mark, mark * 2) if self.chance(0.8) else inside
+        return self.one(["", "", "", "X", "5", "("]) + mark + inside + (mark if self.chance(0.95) else self.one(["", "\n", "\r\n"])) + self.one(["", "", "", "B", ","])
+
+    def quoted(self):
+        """Quotes and apostrophes, most of them in literals after VALUE."""
+        text = ""
+        for words in self.statements(5):
+            if self.chance(0.1):
+                words = [self.one(["VALUE", "value", "VALUES"]) if k and self.chance(0.2) else w for k, w in enumerate(words)]
+            if self.chance(0.15):
+                words = [w + self.one("'\"") if self.chance(0.2) else w for w in words]
+            if self.chance(0.6):
+                said = [self.cased(self.one(["VALUE", "VALUE", "VALUES", "VALUE IS"]))] + [self.one([self.literal, self.literal, lambda: self.one(["5", "ZERO", "3.5", "THRU", "IT'S"])])()
+                                                                                        for _ in range(self.r.randint(1, 3))]
+                words = words + said if self.chance(0.8) else words[:2] + said + words[2:]
+            for w in words:
+                text += w + (" " if self.chance(0.9) else self.one(["\n", "  ", "\t", "\r\n", " *> X. 'Y\n", "\n* 'Z.\n", ""]))
+            text = text.rstrip(" ") + self.one([". ", ". ", ".\n", ".\n", ". 88 C VALUE 'a' 'b. c'.\n", ".*> it's\n", " .\n", ".", ""])
+        return "quoted", text
+
     def copybook(self):
         makers = [self.nested] * 5 + [self.folded] * 5 + [self.soup] * 4 + [self.spread] * 3 + [self.marked] * 3 + [self.damaged] * 4 + [self.fillers] + [self.long]
         return self.one(makers)()
@@ -558,7 +650,7 @@ def generate(count, seed):
         m.r.shuffle(out)
         return out
 
-    copybooks = shuffled([("fold", FOLDS), ("repeated", REPEATED), ("root", ROOTS), ("order", ORDER), ("large", LARGE), ("good", GOOD), ("chains", chains())])
+    copybooks = shuffled([("fold", FOLDS), ("repeated", REPEATED), ("root", ROOTS), ("order", ORDER), ("large", LARGE), ("good", GOOD), ("quoted", QUOTED), ("chains", chains())])
     copybooks += shuffled([(f.__name__, f()) for f in (edges, at_every_place, bare_clauses, levels, counts)])
     pictures = [(*p, m.usage(), m.sign()) for p in shuffled([("written", PICTURES), ("spaced", SPACED), ("alone", alone())])]
     pictures += [("every", text, usage, sign) for text in EVERY for usage in range(3) for sign in range(5)]
@@ -575,7 +667,7 @@ def generate(count, seed):
         put(*row)
     written = len(inputs)
     while len(inputs) < count:
-        put(*(m.picture() if (len(inputs) - written) % 3 == 0 else m.copybook()))
+        put(*(m.picture() if (len(inputs) - written) % 3 == 0 else m.quoted() if m.chance(0.1) else m.copybook()))
     return list(inputs.values())
 
 

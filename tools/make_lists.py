@@ -10,11 +10,11 @@ with a fixed seed, so that the same lists are made each time:
 - crates/test_picture/data/document.txt: pictures with the answers of document 01 that the Rust cannot give, written here by hand.
 - crates/test_reader/data/texts.txt: copybook texts with the answers of tools/reader_list.py, a reading by document 01. Where the Rust has
   an answer, the two are compared: its refusals 10 to 13, and where it accepts a copybook without REDEFINES, the names, the nesting, the
-  counts and the DEPENDING ON names.
+  counts and the DEPENDING ON names. It has none where a literal holds a period that would end a statement, or `*>`, or is left open.
 - crates/test_layout/data/layouts1.txt to layouts4.txt: copybook texts with the answers of tools/layout_list.py, a layout by document 01. Each answer is compared
   with the Rust's: the listing, read back into the oracle's numbers, or the number of the refusal. Where the answer is a refusal that document
   01 adds, the Rust's is held against the reason as far as it shows.
-- crates/test_layout/data/document.txt: the copybooks that document 01 speaks of, and its traps, with answers written here by hand.
+- crates/test_layout/data/document.txt: the copybooks that documents 01 and 02 speak of, and their traps, with answers written here by hand.
 - crates/test_owner/data/records.txt and asked.txt: copybooks with the owners of their bytes by tools/owner_list.py, which lays each record by
   document 01's owner rule; its length is compared with that of tools/layout_list.py. The Rust has no owners. `tools/make_lists.py` with no
   argument writes these two lists alone.
@@ -220,7 +220,9 @@ def document():
 
 # ---------------------------------------------------------------- copybook texts
 
-TEXTS = 900
+TEXTS, QUOTED_TEXTS = 900, 100
+# Literals at the limits: 50 before 14 and 10, and after 2; level 88 after 800 statements.
+LITERALS = ["1.\n" * 801 + "88 A VALUE '", "1.\n" * 800 + "88 A VALUE '1. '.\n88 B VALUE \"'. \"\n", "256. 88 A VALUE 'a. b' 'c", "05 A VALUE 'a. b'\x80"]
 NESTED = "".join(f"{k} G{k}. " for k in range(256))
 LIMITS = ["1.\n" * 800, "1.\n" * 801, "1.\n" * 800 + "1 A OCCURS.\n", "1.\n" * 800 + "256.\n", "88.\n" * 50 + "1.\n" * 800 + "88 A.\n* 1.\n..", NESTED, NESTED + "255 A. 254 B. 0 C."]
 NAMES = ["05 A", "05", "05.", "05 . A", "05 A.B PIC X.", "05 PIC X.", "05 OCCURS 3.", "05 *A PIC X.", "05\n*A\nB PIC X.", "05 A*> B\nC PIC X.", "05 .A. B.", "05 A..", "05 A.. 05 B.", "05 A .05 B."]
@@ -236,6 +238,14 @@ def text_inputs():
     yield from itertools.chain(*written)
     while True:
         yield m.copybook()[1]
+
+
+def quoted_inputs():
+    """Quotes and apostrophes: the limits, what is written by hand, then random copybooks."""
+    m = generator.Maker(SEED)
+    yield from itertools.chain(LITERALS, generator.QUOTED)
+    while True:
+        yield m.quoted()[1]
 
 
 def rust_entries(answer):
@@ -276,7 +286,7 @@ def read_entries(text):
 def compared(text, reading, answer):
     """Whether the Rust's answer says something of the reading; ends the program where it says something else."""
     number = reading[1] if reading[0] == 0 else 0
-    if number in (1, 2, 14) or answer[0] not in (0, 1):
+    if number in (1, 2, 14) or answer[0] not in (0, 1) or not reader_list.plain(text):
         return False
     refusal = answer[1] if answer[0] == 0 else 0
     if number or 10 <= refusal <= 13:
@@ -302,7 +312,7 @@ def distinct(texts, count):
 
 
 def texts(oracle):
-    inputs = distinct(text_inputs(), TEXTS)
+    inputs = distinct(text_inputs(), TEXTS) + distinct(quoted_inputs(), QUOTED_TEXTS)
     cases, asked = [], collections.Counter()
     for i, answer in zip(inputs, oracle.ask(inputs)):
         reading = reader_list.reading(i.text)
@@ -338,7 +348,9 @@ def layout_inputs():
 def check_layout(i, made, answer):
     """How the Rust's answer stands to the one made here; ends the program where it says something else."""
     number = made[1] if made[0] == 0 else 0
-    if number in compare.ADDED:
+    if not compare.plain(i):
+        how, same = "literals, without an answer of the Rust", True
+    elif number in compare.ADDED:
         how, same = f"added refusal {number}", compare.due(i, answer, number)
     elif number:
         how, same = f"refused {number}", answer == [0, number]
@@ -411,6 +423,15 @@ def one(text, *entry):
     return text, listed(text, entry[1], 0, 1, item("A", *entry))
 
 
+# What follows the first of two items.
+QUOTED = [" VALUE 'St. 4'.", ". 88 X VALUE 'a' 'b. c'.", " VALUE \"it's. \".", " VALUE X'00. 1'.", " VALUE 'it''s. so'.", " VALUE '*> no note'."]
+
+
+def two(text):
+    """A text with the items A and B of one byte each."""
+    return text, listed(text, 2, 0, 2, item("A", 0, 1, TEXT), item("B", 1, 1, TEXT))
+
+
 def layout_document():
     fish = "01 FISH. 05 TAG PIC X(5). 05 SIRE PIC 9(4) COMP SYNC. 05 WT OCCURS 3 PIC 9(3)V9."
     wide = "05 A PIC X(2). 05 B REDEFINES A PIC X(5). 05 C PIC X."
@@ -419,6 +440,7 @@ def layout_document():
     group = "05 A PIC X. 05 G. 10 B PIC X. 10 C PIC 9(4) COMP SYNC."
     sync = "05 A PIC X. 05 G SYNC. 10 B PIC 9(4) COMP."
     dots = "05 A PIC 9.9. 05 B.C PIC X."
+    named = "05 VALUE PIC X. 05 B REDEFINES VALUE PIC X 'St. 4'. 05 C PIC X."
     root = "01 R OCCURS 9. 05 A PIC X."
     cases = [
         (fish, listed(fish, 20, 0, 3, item("TAG", 0, 5, TEXT), item("SIRE", 6, 2, BINARY, 0), item("WT", 8, 4, DECIMAL, 4, 1, STORED_DISPLAY, 0, occurs=3))),
@@ -452,6 +474,12 @@ def layout_document():
         ("256 A PIC X.", refused(10, 0)),
         (before, refused(30, before.index("05 C"))),
         (table, listed(table, 3, 1, 3, item("N", 0, 2, INT, 0, 0), item("T", 2, 3, TEXT, occurs=5, depending="N#2"), item("Z", 2, 1, TEXT))),
+        # document 02, A.1: values in quotes
+        *(two(f"05 A PIC X{said} 05 B PIC X.") for said in QUOTED),
+        *((text, refused(50, text.index(" '") + 1)) for text in ("05 A PIC X VALUE 'open", "05 A PIC X VALUE 'open *> x", "XX. 05 A PIC X VALUE 'open.\n'. 05 B.")),
+        ("05 VALUE 'St. 4'.", refused(10, 14)),
+        ("05 A PIC X VALUE'St. 4'.", refused(10, 21)),
+        (named, listed(named, 2, 0, 2, item("VALUE", 0, 1, GROUP, 2), item("VALUE", 0, 1, TEXT), item("B", 0, 1, TEXT), item("C", 1, 1, TEXT))),
     ]
     if cases[0][1][1] != 129:
         sys.exit("the worked example has 129 bytes")
@@ -484,7 +512,7 @@ def main():
     for n, cases in enumerate(parts(layouts(oracle), LAYOUT_LISTS), 1):
         write("test_layout", f"layouts{n}.txt", "Made by tools/make_lists.py: copybook texts with the answers of tools/layout_list.py.\n"
               "Where the Rust has an answer, the two were compared.", cases)
-    write("test_layout", "document.txt", "Made by tools/make_lists.py: the copybooks of document 01 with its answers, written by hand.", layout_document())
+    write("test_layout", "document.txt", "Made by tools/make_lists.py: the copybooks of documents 01 and 02 with their answers, written by hand.", layout_document())
 
 
 if __name__ == "__main__":

@@ -319,7 +319,7 @@ def records():
 
 def asked():
     """Cases: the text, a position and the answer."""
-    written = [HUGE, generator.LARGE, generator.ROOTS, generator.ORDER, generator.FOLDS, generator.GOOD, generator.REPEATED]
+    written = [HUGE, generator.LARGE, generator.ROOTS, generator.ORDER, generator.FOLDS, generator.GOOD, generator.REPEATED, generator.QUOTED[::4]]
     written.append(text for text in generator.edges() if len(text) < 100)
     cases, kinds = [], collections.Counter()
     for text in dict.fromkeys(itertools.chain(*written)):

@@ -4,6 +4,9 @@ It shares nothing with the crates: `reading(text)` is the answer that the reader
 refusal. `1 COUNT` is followed by the statements, 16 numbers for each: level, position, parent (its row and 1, or 0), name; picture, usage, sign, sync, occurs
 mark and count, DEPENDING ON name, REDEFINES name. A name or a picture is its start and its length, both 0 if absent. Usage: 0 none said,
 1 COMP-3, 2 COMP. Sign: 0 none said, else 1, plus 1 for LEADING, plus 2 for SEPARATE.
+
+`plain(text)` says whether the Rust has an answer, as far as its literals go: no literal after VALUE holds `*>` or a period that would end a
+statement, and none is left open.
 """
 
 import collections
@@ -16,6 +19,7 @@ COMP3 = ("COMP-3", "COMPUTATIONAL-3", "PACKED-DECIMAL")
 COMP = ("COMP", "COMPUTATIONAL", "COMP-4", "COMPUTATIONAL-4", "COMP-5", "COMPUTATIONAL-5", "BINARY")
 
 Word = collections.namedtuple("Word", "at text")
+Literal = collections.namedtuple("Literal", "text")
 Statement = collections.namedtuple("Statement", "level at depth parent name picture usage sign sync occurs depending redefines")
 
 
@@ -26,37 +30,81 @@ class Refused(Exception):
 # ---------------------------------------------------------------- Text
 
 
-def read_bytes(text):
-    """The bytes that are read, each with its position."""
-    kept, start = [], 0
+def lines(text):
+    """The lines that are read, each with its position."""
+    start = 0
     for line in text.split(b"\n"):  # Lines end at byte 10.
-        if not line.lstrip(WHITE).startswith(b"*"):  # A line whose first non-blank is `*` is dropped;
-            code = line.partition(b"*>")[0]  # from `*>` on, a line is cut;
-            kept += [(code[k:k + 1], start + k) for k in range(len(code))]
-            kept.append((b" ", None))  # each line ends in a blank.
+        if not line.lstrip(WHITE).startswith(b"*"):  # A line whose first non-blank is `*` is dropped.
+            yield start, line
         start += len(line) + 1
-    return kept
+
+
+def ends_statement(line, i):
+    """Whether a period before this place of a line ends a statement: only before white space or the end."""
+    return i == len(line) or line[i] in WHITE or line.startswith(b"*>", i)
+
+
+def after_value(words):
+    """A word VALUE or VALUES that is third or later in its statement was said."""
+    return any(word.text.upper() in (b"VALUE", b"VALUES") for word in words[2:])
+
+
+def parts(text):
+    """The words, each `None` for a period that ends a statement, and as `Literal` the bytes between the marks of each literal."""
+    words = []
+    for start, line in lines(text):
+        i, word = 0, b""
+        while i <= len(line):
+            if i < len(line) and line[i] in b"'\"" and after_value(words):
+                # Each quote or apostrophe up to the statement's end opens a literal that closes at the same mark.
+                close = line.find(line[i:i + 1], i + 1)
+                if close < 0:  # A literal must close on its own line: the first unclosed one is 50 at its opening mark.
+                    raise Refused(50, start + i)
+                yield Literal(line[i + 1:close])
+                # Neither a period nor `*>` counts inside it; white space still parts words.
+                for i in range(i, close + 1):
+                    word, done = (b"", word) if line[i] in WHITE else (word + line[i:i + 1], b"")
+                    if done:
+                        words.append(Word(start + i - len(done), done))
+                        yield words[-1]
+                i += 1
+                continue
+            cut = i == len(line) or line.startswith(b"*>", i)  # From `*>` on, a line is cut; each line ends in a blank.
+            stop = not cut and line[i] == ord(".") and ends_statement(line, i + 1)
+            if not cut and not stop and line[i] not in WHITE:
+                word += line[i:i + 1]
+            elif word:
+                words.append(Word(start + i - len(word), word))
+                yield words[-1]
+                word = b""
+            if stop:
+                words = []
+                yield None
+            if cut:
+                break
+            i += 1
 
 
 def statements(text):
     """The words of each statement."""
-    kept = read_bytes(text)
-    words, word = [], None
-    for k, (byte, at) in enumerate(kept):
-        # A period ends a statement only before white space or the end.
-        ends = byte == b"." and (k + 1 == len(kept) or kept[k + 1][0] in WHITE)
-        if ends or byte in WHITE:
-            if word:
-                words.append(word)
-            word = None
-        else:
-            word = Word(word.at, word.text + byte) if word else Word(at, byte)
-        if ends:
+    words = []
+    for part in parts(text):
+        if isinstance(part, Word):
+            words.append(part)
+        elif part is None:
             if words:  # Empty statements are skipped;
                 yield words
             words = []
     if words:  # a last one may lack its period.
         yield words
+
+
+def plain(text):
+    """Whether no literal holds `*>` or a period that would end a statement, and none is left open."""
+    try:
+        return not any(isinstance(part, Literal) and re.search(rb"\*>|\.[\t-\r ]", part.text) for part in parts(text))
+    except Refused:
+        return False
 
 
 # ---------------------------------------------------------------- Statement
@@ -142,7 +190,7 @@ def kept_statements(text):
         if byte > 127:
             raise Refused(2, at)
     kept, open_levels = [], []
-    for words in statements(text):
+    for words in list(statements(text)):  # 50 is looked for in the whole text, before the first 10.
         level = number(words[0], 256)  # First word: level, 0 to 255.
         if level is None:
             raise Refused(10, words[0].at)

@@ -1,7 +1,7 @@
 //! What the command does with words, files and pipes: exit status, and what is said.
 
 use std::fs::{self, Permissions};
-use std::io::{Read, Write};
+use std::io::{ErrorKind, Read, Write};
 use std::os::unix::fs::PermissionsExt;
 use std::os::unix::process::CommandExt;
 use std::path::PathBuf;
@@ -120,7 +120,13 @@ fn a_file_without_permission() {
     if fs::read(&file).is_ok() {
         command.uid(NOBODY);
     }
-    let output = command.output().expect("the command starts");
+    // the copy is busy as long as a command that another test starts still has it open for writing
+    let output = loop {
+        match command.output() {
+            Err(e) if e.kind() == ErrorKind::ExecutableFileBusy => std::thread::yield_now(),
+            started => break started.expect("the command starts"),
+        }
+    };
     assert_eq!((output.status.code(), output.stdout.as_slice()), (Some(2), b"".as_slice()));
     let err = String::from_utf8(output.stderr).unwrap();
     assert!(err.ends_with("secret.cpy: there is no permission to read it\n"), "{err}");

@@ -48,8 +48,20 @@ ASKED = [
      "refused 21 6",
      "R 0 2; B 1 1"),
     ("01 R. 05 A PIC X(4) VALUE 'a. b'.",
-     "refused 10 30",
+     "record 4 fixed 1 / 0 A 0 4 text - - -",
      "R 0 4; A 0 4"),
+    ("01 R. 05 A PIC X(4) VALUE'a. b'.",
+     "refused 10 29",
+     "R 0 4; A 0 4"),
+    ("01 R. 05 A PIC X(4) VALUE 'a.",
+     "refused 50 26",
+     "?"),
+    ("01 R. 05 A PIC X(9) VALUE 'it''s. so'. 05 B PIC X.",
+     "record 10 fixed 2 / 0 A 0 9 text - - - / 0 B 9 1 text - - -",
+     "R 0 10; A 0 9; B 9 1"),
+    ("01 R. 05 A PIC S9 SIGN LEADING VALUE ' SEPARATE '.",
+     "record 2 fixed 1 / 0 A 0 2 int - - -",
+     "?"),
     ("01 R. 05 A PIC X. 66 B RENAMES A.",
      "refused 21 18",
      "R 0 1; A 0 1; B 0 1"),
@@ -168,7 +180,7 @@ ASKED = [
      "record 1 fixed 1 / 0 A 0 1 text - - -",
      "error: syntax error, unexpected Identifier"),
     ("01 R. 05 A PIC X(4) VALUE 'a*>b'. 05 B PIC X.",
-     "record 4 fixed 1 / 0 A 0 4 text - - -",
+     "record 5 fixed 2 / 0 A 0 4 text - - - / 0 B 4 1 text - - -",
      "R 0 5; A 0 4; B 4 1"),
     ("01 R. 05 A PIC X(4); OCCURS 2. 05 B PIC X.",
      "refused 25 6",
@@ -190,7 +202,7 @@ class Asked(Copybook):
 def tree(text):
     """The items of the text, by levels. What RENAMES stands below the record."""
     roots, open_items = [], []
-    for statement in re.findall(r"(?:'[^']*'|[^'])+?\.(?=\s|$)", text):
+    for statement in re.findall(r"""(?:'[^']*'|"[^"]*"|[^'"])+?\.(?=\s|$)""", text):
         level, *words = statement.strip()[:-1].split()
         name = "FILLER" if words[0] in ("PIC", "FILLER") else words[0]
         item = Item(name, level=int(level))

@@ -7,6 +7,7 @@ Every name is used once in all copybooks of a run, since many of them are compil
 
 import dataclasses
 import random
+import re
 
 
 @dataclasses.dataclass
@@ -52,8 +53,13 @@ def walk(items, above=()):
         yield from walk(item.children, above + (item,))
 
 
+def words_of(clauses):
+    """The words of a statement; a literal is one, with the blanks in it."""
+    return re.findall(r"""(?:[^\s'"]|'[^']*'|"[^"]*")+""", clauses)
+
+
 def write(rng, item, depth, out):
-    words = [f"{item.level:02d}" if rng.random() < 0.8 else str(item.level), item.name] + item.clauses.split()
+    words = [f"{item.level:02d}" if rng.random() < 0.8 else str(item.level), item.name] + words_of(item.clauses)
     indent = "   " * depth
     line = indent + words[0]
     for word in words[1:]:
@@ -247,6 +253,22 @@ class Maker:
         item.clauses = " ".join(clauses)
         return item
 
+    def literal(self):
+        """A literal of at most 30 bytes, with what would end a statement or a line outside it."""
+        mark = self.rng.choice("''\"")
+        inside = "".join(self.rng.choice(("St", "a", "4", " ", ". ", ".", "*>", " *> ", "*", "'", '"', "PIC X", "3.5", ". 05 B PIC X", "SEPARATE")) for _ in range(self.rng.randint(1, 6)))
+        return mark + inside[:14].replace(mark, mark * 2) + mark
+
+    def valued(self):
+        """A text item with a literal as its value, and conditions with literals below it."""
+        word = self.case(self.rng.choice(("VALUE ", "VALUE IS "))) + self.rng.choice(("", "", "", "ALL ")) + self.literal()
+        item = Item("FILLER" if self.chance(0.08) else self.name(), f"{self.pic('X(30)')} {word}", "text")
+        if item.name != "FILLER":
+            for _ in range(self.rng.choice((0, 0, 1, 2))):
+                values = " ".join(self.literal() for _ in range(self.rng.randint(1, 3)))
+                item.conditions.append(f"88 {self.name()} {self.case(self.rng.choice(('VALUE', 'VALUES', 'VALUES ARE')))} {values}.")
+        return item
+
     def condition(self, item):
         """A condition's name below an elementary item."""
         values = ("VALUE 'A'", "VALUES 'A' 'B'", "VALUE 'A' THRU 'F'", "VALUE SPACES") if item.kind == "text" else \
@@ -363,6 +385,14 @@ def conditions(m):
     return with_conditions(m, m.nested(("text", "display", "comp", "comp3"), 2, 0, 2, 5), 3)
 
 
+def literals(m):
+    """Values in quotes, with periods and `*>` in them."""
+    items = []
+    for _ in range(m.rng.randint(2, 8)):
+        items += [m.valued()] if m.chance(0.6) else m.nested(("text", "display", "comp"), 1, 0, 1, 2)
+    return items
+
+
 def sync(m):
     """SYNC items in the record's own list, with groups and tables that hold none between them."""
     items = []
@@ -424,7 +454,7 @@ def native(m):
 
 # A class of copybooks, how it is made, and its share. Those of AGREEING meet no departure.
 AGREEING = {"usages": (usages, 3), "signs": (signs, 2), "edited": (edited, 3), "groups": (groups, 2), "tables": (tables, 3), "redefines": (redefines, 3),
-            "conditions": (conditions, 1), "sync": (sync, 3), "sync-aligned": (sync_aligned, 2), "mixed": (mixed, 3), "single": (None, 1)}
+            "conditions": (conditions, 1), "literals": (literals, 2), "sync": (sync, 3), "sync-aligned": (sync_aligned, 2), "mixed": (mixed, 3), "single": (None, 1)}
 DEPARTURES = {"depending": (depending, 2), "comp-5": (native, 1), "sync-in-groups": (sync_groups, 2), "sync-in-tables": (sync_tables, 2)}
 
 

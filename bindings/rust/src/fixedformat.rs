@@ -232,7 +232,7 @@ impl Error {
 /// What the original says where it refuses too.
 fn original(refusal: Refusal, text: &str) -> Option<String> {
     let statement = refusal.statement(text.as_bytes());
-    let word = refusal.word(&statement).map_or("", |word| word.word);
+    let word = refusal.word(text.as_bytes(), &statement).map_or("", |word| word.word);
     let item = statement.item();
     let picture = statement.picture.map_or(String::new(), |picture| picture.to_ascii_uppercase());
     let repeat = word.strip_prefix('(').and_then(|rest| rest.strip_suffix(')')).unwrap_or("").to_ascii_uppercase();

@@ -4,7 +4,7 @@
 use crate::{calls, Details, Layout, Owner, Refusal, Usage};
 use std::borrow::Cow;
 
-/// As [`crate::layout()`], with the listing in `out`. Refusals: 1 to 3, 10 to 14, 20 to 31; `work` needs
+/// As [`crate::layout()`], with the listing in `out`. Refusals: 1 to 3, 50, 10 to 14, 20 to 31; `work` needs
 /// [`crate::WORK`] numbers, and an `out` of [`crate::LONGEST_LISTING`] bytes is never too short.
 pub fn layout<'t, 'o>(text: &'t [u8], work: &mut [u32], out: &'o mut [u8]) -> Result<Layout<'t, 'o>, Refusal> {
     let written = calls::layout(text, work, out)?;
@@ -18,7 +18,7 @@ pub fn details<'t, 'o>(text: &'t [u8], work: &mut [u32], out: &'o mut [u8]) -> R
     Ok(Details::new(text, Cow::Borrowed(&out[..written])))
 }
 
-/// As [`crate::owner()`]. Refusals: 1 to 3, 10 to 14, 20 to 30, 40, 41.
+/// As [`crate::owner()`]. Refusals: 1 to 3, 50, 10 to 14, 20 to 30, 40, 41.
 pub fn owner(text: &[u8], position: usize, work: &mut [u32]) -> Result<Owner, Refusal> {
     calls::owner(text, position, work)
 }

@@ -80,7 +80,7 @@ pub enum Owner {
     Slack { entry: usize },
 }
 
-/// The layout of the copybook in `text`. Refusals: 1, 2, 10 to 30.
+/// The layout of the copybook in `text`. Refusals: 1, 2, 50, 10 to 30.
 pub fn layout(text: &[u8]) -> Result<Layout<'_, 'static>, Refusal> {
     let (mut work, mut out) = (vec![0; WORK], vec![0; LONGEST_LISTING]);
     let written = calls::layout(text, &mut work, &mut out)?;
@@ -89,7 +89,7 @@ pub fn layout(text: &[u8]) -> Result<Layout<'_, 'static>, Refusal> {
 }
 
 /// What the layout does not say of its entries: their places in the record, slack, levels, pictures, REDEFINES. The
-/// details of an entry have its number in the layout. Refusals: 1, 2, 10 to 30.
+/// details of an entry have its number in the layout. Refusals: 1, 2, 50, 10 to 30.
 pub fn details(text: &[u8]) -> Result<Details<'_, 'static>, Refusal> {
     let (mut work, mut out) = (vec![0; WORK], vec![0; LONGEST_DETAILS]);
     let written = calls::details(text, &mut work, &mut out)?;
@@ -102,7 +102,7 @@ pub fn layout_and_details(text: &[u8]) -> Result<(Layout<'_, 'static>, Details<'
     Ok((layout(text)?, details(text)?))
 }
 
-/// Whose the byte at `position` of the record is. Refusals: 1, 2, 10 to 30, 40, 41.
+/// Whose the byte at `position` of the record is. Refusals: 1, 2, 50, 10 to 30, 40, 41.
 pub fn owner(text: &[u8], position: usize) -> Result<Owner, Refusal> {
     calls::owner(text, position, &mut vec![0; WORK])
 }

@@ -27,6 +27,8 @@ pub(crate) enum About {
     Nothing,
     /// One byte.
     Byte,
+    /// The opening mark of a literal, and the literal as far as its line goes.
+    Literal,
     /// A statement, and of it nothing more than its name.
     Item,
     /// A statement, and its first word.
@@ -136,6 +138,9 @@ pub const REFUSALS: &[Row] = {
         row(42, "record-too-short", Nothing,
             "a record is shorter than its layout, and not variable", "",
             "the record is cut off, or it is of another layout"),
+        row(50, "literal-open", Literal,
+            "a literal after VALUE is not closed on its line", "the literal {word} is not closed on its line",
+            "close it on its line by the mark that opens it; within it that mark is written twice"),
     ]
 };
 

@@ -21,6 +21,14 @@ pub(crate) fn trimmed(text: &[u8]) -> Word<'_> {
     word(text, start..end)
 }
 
+/// What stands from this place to the end of its line, without the white space there.
+pub(crate) fn line_from(text: &[u8], start: usize) -> Word<'_> {
+    let start = start.min(text.len());
+    let line = text[start..].split(|&b| b == b'\n').next().unwrap_or(b"");
+    let end = line.iter().rposition(|&b| !white(b)).map_or(0, |last| last + 1);
+    word(text, start..start + end)
+}
+
 /// Where the next line that is no comment starts, from the end of a line on.
 fn next_line(text: &[u8], end: usize) -> usize {
     let mut start = end + 1;
@@ -33,19 +41,38 @@ fn next_line(text: &[u8], end: usize) -> usize {
     start.min(text.len())
 }
 
-/// The words of the statement that starts at this place, up to its period.
+/// The mark of the open literal after a byte of a word that comes after VALUE: a quote or an apostrophe opens one, and the
+/// same mark closes it.
+fn literal_after(open: Option<u8>, b: u8) -> Option<u8> {
+    match open {
+        Some(mark) => (b != mark).then_some(mark),
+        None => b"'\"".contains(&b).then_some(b),
+    }
+}
+
+/// Whether the last of a statement's words is VALUE, and third or later.
+fn says_value(words: &[Word]) -> bool {
+    words.len() > 2 && words.last().is_some_and(|w| ["VALUE", "VALUES"].iter().any(|key| w.eq_ignore_ascii_case(key)))
+}
+
+/// The words of the statement that starts at this place, up to its period. Neither a period nor `*>` counts inside a
+/// literal after VALUE.
 fn words(text: &[u8], start: usize) -> Vec<Word<'_>> {
     let ends_line = |i: usize| i >= text.len() || text[i] == b'\n' || text[i..].starts_with(b"*>");
     let mut words = Vec::new();
+    let (mut value, mut literal) = (false, None);
     let (mut from, mut i) = (start, start);
     loop {
         let stop = i < text.len() && text[i] == b'.' && (ends_line(i + 1) || white(text[i + 1]));
-        if !stop && !ends_line(i) && !white(text[i]) {
+        let in_word = i < text.len() && !white(text[i]) && (literal.is_some() || !stop && !ends_line(i));
+        if in_word {
+            literal = if value { literal_after(literal, text[i]) } else { None };
             i += 1;
             continue;
         }
         if from < i {
             words.push(word(text, from..i));
+            value = value || says_value(&words);
         }
         if stop || i >= text.len() {
             return words;

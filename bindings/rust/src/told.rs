@@ -35,7 +35,7 @@ impl Refusal {
     /// The refusal in the words of the text that was refused: the copybook, or the picture that was asked for alone.
     pub fn told<'t>(&self, text: &'t [u8]) -> Told<'t> {
         let statement = self.statement(text);
-        let word = self.word(&statement);
+        let word = self.word(text, &statement);
         let named = match self.row().about {
             About::Byte => format!("{:#04x}", text.get(self.position).unwrap_or(&0)),
             _ => word.map_or("nothing".into(), |word| shown(word.as_bytes())),
@@ -56,9 +56,10 @@ impl Refusal {
     }
 
     /// The word that the refusal is about.
-    pub(crate) fn word<'t>(&self, statement: &Statement<'t>) -> Option<Word<'t>> {
+    pub(crate) fn word<'t>(&self, text: &'t [u8], statement: &Statement<'t>) -> Option<Word<'t>> {
         match self.row().about {
             About::Nothing | About::Byte | About::Item => None,
+            About::Literal => Some(statement::line_from(text, self.position)),
             About::Level => statement.level,
             About::Count => statement.no_count,
             About::Redefines => statement.redefines,

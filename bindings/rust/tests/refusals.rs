@@ -104,6 +104,19 @@ fn sentences() {
     says(far, "the picture 9(256) of A has more than 255 digits, or an edited mask of more than 255 bytes", "9(256)");
 }
 
+/// An open literal is told as far as its line goes, and what stands behind a literal is found.
+#[test]
+fn literals() {
+    let says = |text, said: &str, word| assert_eq!(sentence(text), (said.to_owned(), word));
+    says("05 A PIC X VALUE 'open. x \r\n05 B.", "the literal 'open. x is not closed on its line", "'open. x");
+    says("XX. 05 A B VALUE \"it's", "the literal \"it's is not closed on its line", "\"it's");
+    assert_eq!(parts(refused(b"05 A PIC X\n VALUE IT'S.")), (50, "literal-open", 20, 2, 10));
+    says("05 A PIC VALUE 'a. b*> c' OCCURS N.", "OCCURS of A is followed by N, not by a count", "N");
+    says("05 VALUE 'a. b' OCCURS N.", "b' is no level from 0 to 255", "b'");
+    let long = format!("05 A B VALUE '{}", "x".repeat(300));
+    assert_eq!(sentence(&long).0, format!("the literal '{}... is not closed on its line", "x".repeat(99)));
+}
+
 /// A byte over 127 by its number; what has no place by what was found; a picture asked for alone without an item.
 #[test]
 fn sentences_without_words() {
@@ -205,6 +218,7 @@ fn every_number() {
         owner(b"05 A PIC X. 05 B REDEFINES A PIC X.", 0).unwrap_err(),
         owner(b"05 A PIC X.", 1).unwrap_err(),
         copybook::check_record_len(2, false, 1).unwrap_err(),
+        refused(b"05 A PIC X VALUE 'open"),
     ];
     let expected: Vec<_> = REFUSALS.iter().map(|row| (row.number, row.name)).collect();
     assert_eq!(seen.map(|r| (r.number, r.name)).to_vec(), expected);

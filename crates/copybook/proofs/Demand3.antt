@@ -16,12 +16,10 @@ use Rattle.definition.specs.declared.Refusal.{Refusal}
 use Rattle.definition.specs.declared.Writing.{Writing}
 use Rattle.definition.specs.Limits.{leastWork}
 use Rattle.definition.specs.Basic.{Answer, refuse, give, _>>=_, refuseIf}
-use Rattle.definition.specs.Calls.{After, entryChecks, recordFields, entries, fitting, layoutListing, ownerIn, written, writingOf, outputAfter}
+use Rattle.definition.specs.Calls.{After, entryChecks, keptStatements, recordFields, entries, fitting, layoutListing, ownerIn, written, writingOf, outputAfter}
 use Rattle.definition.specs.Fold.{Entries}
 use Rattle.definition.specs.Listing.{listing}
-use Rattle.definition.specs.Statement.{statements}
 use Rattle.definition.specs.Tree.{Forest, forest, fields}
-use Rattle.definition.specs.Words.{statementWords}
 use Rattle.definition.proofs.Answers.{give-next, through, given-same}
 use Rattle.definition.proofs.Demand3.{demand3 as defined, read-fields, refuses-40, refuses-41}
 use Rattle.copybook.specs.Answered.{Listing, Owns, Accepted, ListingWritten, TooShort, Answered}
@@ -36,7 +34,7 @@ checked text n m h room = through _ _ h λ _ t _. ap (λ (a : Answer (Unit {0}))
 -- and so the same fields are read
 enough : (text : List ℕ) (n m : ℕ) (f : Forest) → recordFields text n ≡ give f → leastWork ≤ m → recordFields text m ≡ give f
 unfolding recordFields
-enough text n m f h room = through _ _ h λ _ e q. ap (λ (a : Answer (Unit {0})). a >>= λ _. (statements text 0 (statementWords text) >>= λ ss. give (fields (forest ss)))) (checked text n m e room) ∙ give-next tt _ ∙ q
+enough text n m f h room = through _ _ h λ _ e q. ap (λ (a : Answer (Unit {0})). a >>= λ _. (keptStatements text >>= λ ss. give (fields (forest ss)))) (checked text n m e room) ∙ give-next tt _ ∙ q
 
 -- so every call answers with the owner in those fields
 module _ (text : List ℕ) (n : ℕ) (f : Forest) (read : recordFields text n ≡ give f) where

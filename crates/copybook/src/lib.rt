@@ -14,10 +14,11 @@ use definition::Usage;
 use definition::Writing;
 use record::RecordLaid;
 
-// The layout listing of a copybook: how many bytes were written. Refusals, in this order: 1 text over 65,535 bytes; 2 a byte over
-// 127, at the first one; 3 work memory under 16,384 numbers; each statement's 10 to 14; each sibling list's, item's and fold's 20
-// to 30; 29 for a top-level end; 31, with the length of the listing, if the output is shorter. A refusal changes no byte of the
-// output, bytes past the listing keep their values, and work memory is zero after every call.
+// The layout listing of a copybook: how many bytes were written. Refusals, in this order: 1 text over 65,535 bytes; 2 a
+// byte over 127, at the first one; 3 work memory under 16,384 numbers; 50 a literal that its line does not close, at the
+// opening mark of the first one; each statement's 10 to 14; each sibling list's, item's and fold's 20 to 30; 29 for a
+// top-level end; 31, with the length of the listing, if the output is shorter. A refusal changes no byte of the output,
+// bytes past the listing keep their values, and work memory is zero after every call.
 // The contract rules out a program that starts every item at its list's beginning, and one that refuses every copybook.
 pub fn layout_listing(text: &[u8], work: &mut [u32], out: &mut [u8]) -> Writing
     ensures { λ r. ⌜ left (writingOf r) (now (out .exit)) (now (work .exit)) ≡ layoutCall (now (text .entry)) (now (out .entry)) (now (work .entry)) ⌝ }

@@ -2,6 +2,7 @@ pub mod Lists
 pub mod Answers
 pub mod NumberLaws
 pub mod WordLaws
+pub mod QuoteLaws
 pub mod PictureLaws
 pub mod StatementLaws
 pub mod TreeLaws

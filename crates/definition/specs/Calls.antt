@@ -8,6 +8,7 @@ use mathlib.Core.List.{List, [], _∷_, _++_}
 use mathlib.Core.Option.{Option, none, some}
 use lib.Dec.{ltb}
 use lib.ListN.{length, drop, replicate}
+use Rattle.definition.specs.declared.Statement.{Statement}
 use Rattle.definition.specs.declared.Usage.{Usage}
 use Rattle.definition.specs.declared.SignClause.{SignClause}
 use Rattle.definition.specs.declared.Pictured.{Pictured}
@@ -18,7 +19,7 @@ use Rattle.definition.specs.declared.OwnerAnswer.{OwnerAnswer}
 use Rattle.definition.specs.declared.Check.{Check}
 use Rattle.definition.specs.Limits.{mostBytes, leastWork}
 use Rattle.definition.specs.Basic.{if_then_else_, Answer, refuse, give, _>>=_, refused, refuseIf}
-use Rattle.definition.specs.Words.{statementWords}
+use Rattle.definition.specs.Words.{tokensOf, firstOpen, statementWords}
 use Rattle.definition.specs.Statement.{statements}
 use Rattle.definition.specs.Tree.{Forest, forest, fields}
 use Rattle.definition.specs.Picture.{picture, symbols, isMasked, mask}
@@ -47,11 +48,21 @@ entryChecks text work = do
   _ ← textChecks text
   refuseIf (ltb work leastWork) 3 0
 
--- the kept statements of a copybook, with `work` numbers of work memory lent, as the fields of the record
+-- 50: the first unclosed literal, at its opening mark
+unfoldable pub literalCheck : List ℕ → Answer (Unit {0})
+literalCheck text = elim (firstOpen (tokensOf text)) [ none ↦ give tt | some p ↦ refused 50 p ]
+
+-- the kept statements of a copybook; 50 is looked for in the whole text, before the first 10
+unfoldable pub keptStatements : List ℕ → Answer (List Statement)
+keptStatements text = do
+  _ ← literalCheck text
+  statements text 0 (statementWords text)
+
+-- its statements, with `work` numbers of work memory lent, as the fields of the record
 unfoldable pub recordFields : List ℕ → ℕ → Answer Forest
 recordFields text work = do
   _ ← entryChecks text work
-  ss ← statements text 0 (statementWords text)
+  ss ← keptStatements text
   give (fields (forest ss))
 
 -- its folded top list: the refusals so far are the reader's, and a copybook without one is accepted

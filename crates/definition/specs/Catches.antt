@@ -1,4 +1,5 @@
--- The catches that document 01 marks (m), and its worked example, as one table with one theorem: antt computes the definition at each row.
+-- The catches that document 01 marks (m), its worked example, and the examples and limits of document 02's requests, as
+-- one table with one theorem: antt computes the definition at each row.
 -- Assumes nothing.
 use Prim.Native.Nat.{ℕ, zero, suc, _+_, _*_, _-_}
 use mathlib.Core.Path.{_≡_, refl}
@@ -223,6 +224,37 @@ table =
     ++ facts 81 10 1 false 2 4000000000 0 absent absent (span 113 1)
     ++ facts 116 15 2 false 0 4000000000 0 (span 125 4) absent absent
     ++ facts 149 15 2 false 0 6000000000 0 (span 158 1) absent absent)
+    -- values in quotes: neither a period nor `*>` counts inside a literal
+    ∷ accepted "05 A PIC X VALUE 'St. 4'. 05 B PIC X." 2 false (column 0 1 Text ∷ column 1 1 Text ∷ [])
+    ∷ accepted "05 A PIC X. 88 X VALUE 'a' 'b. c'. 05 B PIC X." 2 false (column 0 1 Text ∷ column 1 1 Text ∷ [])
+    ∷ accepted "05 A PIC X VALUE \"it's. \". 05 B PIC X." 2 false (column 0 1 Text ∷ column 1 1 Text ∷ [])
+    ∷ accepted "05 A PIC X VALUE X'00. 1'. 05 B PIC X." 2 false (column 0 1 Text ∷ column 1 1 Text ∷ [])
+    ∷ accepted "05 A PIC X VALUE 'it''s. so'. 05 B PIC X." 2 false (column 0 1 Text ∷ column 1 1 Text ∷ [])
+    ∷ accepted "05 A PIC X VALUE '*> no note'. 05 B PIC X." 2 false (column 0 1 Text ∷ column 1 1 Text ∷ [])
+    ∷ accepted "05 A PIC X VALUE 'a.*> b'. 05 B PIC X." 2 false (column 0 1 Text ∷ column 1 1 Text ∷ [])
+    ∷ accepted "05 A PIC X VALUE A'. 'B. 05 B PIC X." 2 false (column 0 1 Text ∷ column 1 1 Text ∷ [])
+    ∷ accepted "05 A PIC X values\n'a. b'. 05 B PIC X." 2 false (column 0 1 Text ∷ column 1 1 Text ∷ [])
+    -- white space in a literal separates words
+    ∷ accepted "05 A PIC S9 SIGN LEADING VALUE 'a SEPARATE'." 1 false (column 0 1 (Decimal 1 0 NumRepr.Zoned SignKind.Embedded) ∷ [])
+    ∷ accepted "05 A PIC S9 SIGN LEADING VALUE 'a SEPARATE b'." 2 false (column 0 2 (Int true SignKind.LeadingSeparate) ∷ [])
+    -- a name that is VALUE, a target that is, a quote before VALUE, a word that only begins with it, what is cut or dropped
+    ∷ turnedDown "05 VALUE 'St. 4'." 10 14
+    ∷ accepted "05 VALUE PIC X '. 05 B PIC X." 2 false (column 0 1 Text ∷ column 1 1 Text ∷ [])
+    ∷ accepted "05 VALUE PIC X. 05 B REDEFINES VALUE PIC X 'St. 4'. 05 C PIC X." 2 false (column 0 1 Group ∷ column 0 1 Text ∷ column 0 1 Text ∷ column 1 1 Text ∷ [])
+    ∷ accepted "05 A' PIC X VALUE 'a. b'. 05 B PIC X." 2 false (column 0 1 Text ∷ column 1 1 Text ∷ [])
+    ∷ turnedDown "05 A PIC X VALUE'St. 4'." 10 21
+    ∷ accepted "05 A PIC X VALUE *> 'open\n5. 05 B PIC X." 2 false (column 0 1 Text ∷ column 1 1 Text ∷ [])
+    ∷ accepted "05 A PIC X VALUE 5\n* 'open\n. 05 B PIC X." 2 false (column 0 1 Text ∷ column 1 1 Text ∷ [])
+    -- 50: a literal that its line does not close, before any 10; 2 comes before it
+    ∷ turnedDown "05 A PIC X VALUE 'open" 50 17
+    ∷ turnedDown "05 A PIC X VALUE 'open *> x" 50 17
+    ∷ turnedDown "05 A PIC X VALUE 'open *> x'x'" 50 29
+    ∷ turnedDown "05 A PIC X VALUE 'a' 'open.\n'. 05 B PIC X." 50 21
+    ∷ turnedDown "05 A PIC X VALUE \"a'. 05 B PIC X." 50 17
+    ∷ turnedDown "05 A VALUE 'a 'b'" 50 16
+    ∷ turnedDown "05 A PIC X VALUE 5 IT'S." 50 21
+    ∷ turnedDown "X. 05 A PIC X VALUE 5. 88 Y VALUE '" 50 34
+    ∷ turnedDown "05 A B VALUE '\u{80}" 2 14
     ∷ []
 
 -- every row of the table is right

@@ -1,7 +1,7 @@
 -- One name for all that is sealed: a theorem that computes the definition at an example says `unfolding computing`.
 -- Assumes nothing.
 use Rattle.definition.specs.Basic.{same, digits, number, _>>=_}
-use Rattle.definition.specs.Words.{byteKind, tokens, sentences, statementWords}
+use Rattle.definition.specs.Words.{byteKind, saidNext, tokens, firstOpen, sentences, statementWords}
 use Rattle.definition.specs.Statement.{pick, keywordOf, clauseStep, step, clauses, named, statement, statements}
 use Rattle.definition.specs.Tree.{above, notAbove, forest, higher, stillOpen, parents, parentsIn, fields}
 use Rattle.definition.specs.Picture.{trimStart, trim, beforeClose, repeat, expand, legal, tally, beforePoint, afterPoint, mask, kinded, symbols, picture}
@@ -10,15 +10,15 @@ use Rattle.definition.specs.Layout.{lay}
 use Rattle.definition.specs.Record.{recordLength, variable, endsFit, unfolded, layout}
 use Rattle.definition.specs.Listing.{entryBytes, entriesBytes, listing}
 use Rattle.definition.specs.Owner.{laid, ownerFrom, overlaid}
-use Rattle.definition.specs.Calls.{firstWide, textChecks, entryChecks, recordFields, entries, layoutListing, layoutDetails, pictureAnswer, pictureMask, ownerIn, byteOwner}
+use Rattle.definition.specs.Calls.{firstWide, textChecks, entryChecks, literalCheck, keptStatements, recordFields, entries, layoutListing, layoutDetails, pictureAnswer, pictureMask, ownerIn, byteOwner}
 use Rattle.definition.specs.Details.{detailsIn, detailBytes, detailsBytes}
 
 unfoldable pub computing : Unit {0}
 unfolding
-    same digits number _>>=_ byteKind tokens sentences statementWords pick keywordOf clauseStep step clauses named statement statements
+    same digits number _>>=_ byteKind saidNext tokens firstOpen sentences statementWords pick keywordOf clauseStep step clauses named statement statements
     above notAbove forest higher stillOpen parents parentsIn fields trimStart trim beforeClose repeat expand legal tally beforePoint afterPoint mask kinded symbols picture
     append find hasMember redefiners widest foldCheck foldedList foldedBelow lay recordLength variable endsFit unfolded layout entryBytes entriesBytes listing
     laid ownerFrom overlaid
     detailsIn detailBytes detailsBytes
-    firstWide textChecks entryChecks recordFields entries layoutListing layoutDetails pictureAnswer pictureMask ownerIn byteOwner
+    firstWide textChecks entryChecks literalCheck keptStatements recordFields entries layoutListing layoutDetails pictureAnswer pictureMask ownerIn byteOwner
 computing = tt

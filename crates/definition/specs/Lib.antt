@@ -1,6 +1,7 @@
 pub mod Basic
 pub mod Limits
 pub mod Words
+pub mod Unquoted
 pub mod Statement
 pub mod Tree
 pub mod Picture

@@ -41,10 +41,20 @@ pub enum Mode {
     Within(usize),
 }
 
-// A word, or the period that ends a statement.
+// What a statement has said so far, as far as its literals go: this many words, 2 standing for more, and no VALUE from
+// the third on; VALUE, so that a quote or an apostrophe opens a literal; or a literal is open, with this mark at this
+// position.
+pub enum Said {
+    Before(u8),
+    Value,
+    Literal { mark: u8, at: usize },
+}
+
+// A word, the period that ends a statement, or the opening mark of a literal that its line does not close.
 pub enum Token {
     Word(Span),
     Stop,
+    Open(usize),
 }
 
 pub enum Usage {

@@ -21,8 +21,7 @@ use Rattle.definition.specs.Layout.{entryOf, tooLarge, advance, Laid, lay}
 use Rattle.definition.specs.Owner.{size}
 use Rattle.definition.proofs.Answers.{or-false, through, given-same}
 use Rattle.definition.proofs.Lists.{order}
-use Rattle.definition.specs.Statement.{statements}
-use Rattle.definition.specs.Words.{statementWords}
+use Rattle.definition.specs.Calls.{keptStatements}
 use Rattle.rows.specs.Columns.{ROW, NEXT}
 use Rattle.rows.specs.Table.{cell, statementAt, statementsFrom}
 use Rattle.tree.proofs.ReadingLaws.{Stored}
@@ -234,7 +233,7 @@ module _ (text w : List ℕ) (a b : ℕ) where
 
 module _ (text : List ℕ) where
   -- the text is refused
-  pub reading-refused : {r : Refusal} → statements text 0 (statementWords text) ≡ refuse r → recordOf text ≡ refuse r
+  pub reading-refused : {r : Refusal} → keptStatements text ≡ refuse r → recordOf text ≡ refuse r
   unfolding fieldsOf _>>=_
   reading-refused e = ap (λ (x : Answer (List Statement)). laidOf text (x >>= λ ss. give (fields (forest ss)))) e
 

@@ -5,9 +5,8 @@ use mathlib.Core.Path.{_≡_}
 use mathlib.Core.List.{List}
 use Rattle.definition.specs.Limits.{mostStatements}
 use Rattle.definition.specs.Basic.{Answer, refuse, give, _>>=_}
-use Rattle.definition.specs.Statement.{statements}
+use Rattle.definition.specs.Calls.{keptStatements}
 use Rattle.definition.specs.Tree.{Forest, forest, fields}
-use Rattle.definition.specs.Words.{statementWords}
 use Rattle.definition.specs.Fold.{Entries, foldedAll}
 use Rattle.definition.specs.Record.{recordLength, unfolded}
 use Rattle.places.specs.Places.{rowsForest}
@@ -24,7 +23,7 @@ pub record FieldsFrom (w : List ℕ) (n r : ℕ) : Type 0 where
 -- the fields of the record that a text's statements make
 unfoldable pub fieldsOf : List ℕ → Answer Forest
 fieldsOf text = do
-  ss ← statements text 0 (statementWords text)
+  ss ← keptStatements text
   give (fields (forest ss))
 
 -- these fields laid, with no list folded

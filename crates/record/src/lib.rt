@@ -100,8 +100,8 @@ pub fn lay_record(text: &[u8], work: &mut [u32], entries: &mut [u32]) -> RecordL
     }
 }
 
-// Checks what a caller lends, reads the text into rows of work memory and lays its record out there, or says why not: 1, 2, 3, then
-// the statements' 10 to 14, then 20 to 30. Every entry that speaks of a copybook's record starts so.
+// Checks what a caller lends, reads the text into rows of work memory and lays its record out there, or says why not: 1,
+// 2, 3, then 50, then the statements' 10 to 14, then 20 to 30. Every entry that speaks of a copybook's record starts so.
 pub fn read_record(text: &[u8], work: &mut [u32], entries: &mut [u32]) -> RecordLaid
     requires { ⌜ 8400 ≤ length (now entries) ⌝ }
     ensures { λ r. ⌜ RecordIs (now (text .entry)) (recordFields (now (text .entry)) (length (now (work .entry)))) r (now (work .exit)) (now (entries .exit)) ⌝ }

@@ -8,9 +8,9 @@ use lib.ListN.{length}
 use mir.Val.{Fits}
 use mir.Syntax.{w64}
 use Rattle.definition.specs.declared.Token.{Token}
-use Rattle.text.specs.declared.Next.{Next}
-use Rattle.text.specs.declared.Stand.{Stand}
-use Rattle.text.specs.Tokens.{First}
+use Rattle.tokens.specs.declared.Next.{Next}
+use Rattle.tokens.specs.declared.Stand.{Stand}
+use Rattle.tokens.specs.Tokens.{First}
 use Rattle.replay.specs.declared.Reached.{Reached}
 use Rattle.replay.specs.declared.Word.{Word}
 use Rattle.replay.specs.Places.{Later, WordIn, Bounded, Inside, Holds}
@@ -19,7 +19,7 @@ use Rattle.replay.specs.Places.{Later, WordIn, Bounded, Inside, Holds}
 pub bounded : (all : List Token) (list : List ℕ) (at : ℕ) (r : Next) → First all list at r → Bounded list at r
 bounded all list at (Next.Word start len next) f = record { fits = f .fits; after = record { up = f .up; within = f .within } }
 bounded all list at (Next.Stop next) f = record { up = f .up; within = f .within }
-bounded all list at Next.End f = tt
+bounded all list at (Next.End next) f = tt
 
 -- the place that was reached
 pub inside-at : (list : List ℕ) (p : Reached) (at : ℕ) → Inside list p → p ≡ Reached.At at → at ≤ length list

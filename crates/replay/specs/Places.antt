@@ -3,7 +3,7 @@
 use Prim.Native.Nat.{ℕ, _+_, _≤_, _<_}
 use mathlib.Core.List.{List}
 use lib.ListN.{length}
-use Rattle.text.specs.declared.Next.{Next}
+use Rattle.tokens.specs.declared.Next.{Next}
 use Rattle.replay.specs.declared.Reached.{Reached}
 use Rattle.replay.specs.declared.Word.{Word}
 use Rattle.replay.specs.declared.Input.{Input}
@@ -24,7 +24,7 @@ pub record WordIn (list : List ℕ) (at start len next : ℕ) : Type 0 where
 abbrev pub Bounded : List ℕ → ℕ → Next → Type 0
 Bounded list at (Next.Word start len next) = WordIn list at start len (next .at)
 Bounded list at (Next.Stop next) = Later list at (next .at)
-Bounded list at Next.End = Unit {0}
+Bounded list at (Next.End next) = Unit {0}
 
 -- the place that was reached lies within the list
 abbrev pub Inside : List ℕ → Reached → Type 0

@@ -9,9 +9,9 @@ ghost use Rattle.io.specs.Counts.{Counts};
 ghost use Rattle.replay.specs.Places.{Later, Bounded, Inside, Holds, Decodes, Filled, Fair};
 use definition::Refusal;
 use libc::STDOUT_FILENO;
-use text::Next;
 use text::Number;
-use text::Stand;
+use tokens::Next;
+use tokens::Stand;
 
 // ---------------------------------------------------------------- places in a list
 
@@ -26,13 +26,7 @@ fn token(list: &[u8], at: usize) -> Next
     requires { ⌜ at ≤ length (now list) ⌝ }
     ensures { λ r. ⌜ Bounded (now (list .entry)) at r ⌝ }
 {
-    text::next_token(
-        list,
-        Stand {
-            at: at,
-            fresh: at == 0,
-        },
-    )
+    tokens::next_token(list, Stand { at: at, said: 0 })
 }
 
 // Whether a case begins at a place or after it.
@@ -46,7 +40,7 @@ pub fn is_case(list: &[u8], at: usize) -> bool
             next: _,
         } => true,
         Next::Stop { next: _ } => false,
-        Next::End => false,
+        Next::End { next: _ } => false,
     }
 }
 
@@ -68,7 +62,7 @@ pub fn after_case(list: &[u8], at: usize) -> usize
             Next::Stop { next } => {
                 return next.at;
             }
-            Next::End => {
+            Next::End { next: _ } => {
                 return list.len();
             }
         }
@@ -87,7 +81,7 @@ pub fn is_whole(list: &[u8], p: Reached) -> bool
                 next: _,
             } => false,
             Next::Stop { next: _ } => true,
-            Next::End => false,
+            Next::End { next: _ } => false,
         },
         Reached::Differs => false,
     }
@@ -126,7 +120,7 @@ fn next_word(list: &[u8], p: Reached) -> Word
                 place: Reached::At(next.at),
             },
             Next::Stop { next: _ } => no_word(),
-            Next::End => no_word(),
+            Next::End { next: _ } => no_word(),
         },
         Reached::Differs => no_word(),
     }

@@ -5,13 +5,12 @@ use mathlib.Core.Path.{_≡_, refl, sym, ap, _∙_}
 use mathlib.Core.List.{List}
 use native.Mathlib.Omega.{arith}
 use lib.ListN.{length}
-use Rattle.definition.specs.declared.Mode.the-variants.{Between}
-use Rattle.text.specs.declared.Stand.{Stand}
-use Rattle.definition.proofs.WordLaws.{tokens-end}
+use Rattle.tokens.specs.declared.Stand.{Stand}
+use Rattle.definition.proofs.WordLaws.{end-after}
 use Rattle.definition.specs.Words.{afterStop}
-use Rattle.text.specs.declared.Next.{Next}
-use Rattle.text.specs.Tokens.{behind, tokensAt, First}
-use Rattle.text.proofs.TokenLaws.{end-first, word-first, stop-first}
+use Rattle.tokens.specs.declared.Next.{Next}
+use Rattle.tokens.specs.Tokens.{saidAt, tokensAt, First}
+use Rattle.tokens.proofs.TokenLaws.{end-first, word-first, stop-first}
 use Rattle.statement.specs.Reading.{Ends}
 
 -- the statement that goes on at `from` goes on at `place`
@@ -33,14 +32,14 @@ module _ {t : List ℕ} {from place : Stand} (inv : Reached t from place) {r : N
   pub ends-stop : {n : Stand} → r ≡ Next.Stop n → Ends t from n
   ends-stop e = let s = stop-first _ t (place .at) f e in record { up = omega arith; within = s .within; rest = inv .rest ∙ ap afterStop (s .all-are) }
 
-  pub ends-text : {n : Stand} → r ≡ Next.End → n ≡ behind (length t) → Ends t from n
-  ends-text e b =
-      rw b
-      (record {
+  pub ends-text : {n : Stand} → r ≡ Next.End n → Ends t from n
+  ends-text {n} e =
+      let s = end-first _ t (place .at) f e in
+      record {
         up = omega arith;
-        within = omega arith;
-        rest = inv .rest ∙ ap afterStop (end-first _ t (place .at) f e) ∙ sym (tokens-end t Between (length t) (omega arith));
-      })
+        within = s .within;
+        rest = inv .rest ∙ ap afterStop (s .opens) ∙ end-after (saidAt t n) ∙ sym (s .opens) ∙ s .all-are;
+      }
 
 -- where it goes on, it ends as from there
 pub ends-on : {t : List ℕ} {from place n : Stand} → Reached t from place → Ends t place n → Ends t from n

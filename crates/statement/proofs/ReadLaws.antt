@@ -2,13 +2,13 @@
 -- Assumes nothing.
 use Prim.Native.Nat.{ℕ}
 use mathlib.Core.Path.{_≡_}
-use mathlib.Core.List.{List, []}
+use mathlib.Core.List.{List}
 use Rattle.definition.specs.declared.Refusal.{Refusal}
 use Rattle.definition.specs.declared.Statement.{Statement}
 use Rattle.definition.specs.declared.Token.{Token}
-use Rattle.text.specs.declared.Stand.{Stand}
+use Rattle.tokens.specs.declared.Stand.{Stand}
 use Rattle.statement.specs.declared.StatementRead.{StatementRead}
-use Rattle.statement.specs.Reading.{FirstKept, FirstSkipped, FirstRefused, FirstStatement}
+use Rattle.statement.specs.Reading.{FirstKept, FirstSkipped, FirstRefused, FirstNone, FirstStatement}
 
 module _ (ts : List Token) (t : List ℕ) (low : ℕ) {r : StatementRead} (f : FirstStatement ts t low r) where
   -- it is kept, skipped or refused
@@ -22,5 +22,5 @@ module _ (ts : List Token) (t : List ℕ) (low : ℕ) {r : StatementRead} (f : F
   refused-read e = rw e at f
 
   -- or there is none
-  pub end-read : r ≡ StatementRead.End → ts ≡ []
-  end-read e = let g : FirstStatement ts t low StatementRead.End = rw e at f in g
+  pub end-read : {next : Stand} → r ≡ StatementRead.End next → FirstNone ts t next
+  end-read e = rw e at f

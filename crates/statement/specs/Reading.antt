@@ -5,6 +5,7 @@ use mathlib.Core.Path.{_≡_}
 use mathlib.Core.List.{List, [], _∷_}
 use mathlib.Core.Option.{none, some}
 use lib.ListN.{length}
+use Rattle.definition.specs.declared.ByteKind.the-variants.{Newline}
 use Rattle.definition.specs.declared.Clauses.{Clauses}
 use Rattle.definition.specs.declared.Expect.{Expect}
 use Rattle.definition.specs.declared.Refusal.{Refusal}
@@ -13,9 +14,9 @@ use Rattle.definition.specs.declared.Statement.{Statement}
 use Rattle.definition.specs.declared.Token.{Token}
 use Rattle.definition.specs.Basic.{Answer, refuse, give}
 use Rattle.definition.specs.Statement.{noClauses, clauses, named, statement}
-use Rattle.definition.specs.Words.{sentences, firstWords, afterStop}
-use Rattle.text.specs.declared.Stand.{Stand}
-use Rattle.text.specs.Tokens.{tokensAt}
+use Rattle.definition.specs.Words.{unlessOpen, firstOpen, sentences, firstWords, afterStop}
+use Rattle.tokens.specs.declared.Stand.{Stand}
+use Rattle.tokens.specs.Tokens.{saidAt, tokensAt}
 use Rattle.clauses.specs.Places.{SpanInside, Fits}
 use Rattle.statement.specs.declared.Finished.{Finished}
 use Rattle.statement.specs.declared.ClausesRead.{ClausesRead}
@@ -76,9 +77,10 @@ NamedAre text at level from (NamedRead.Refused r) = named text at level (wordsFr
 
 -- ---------------------------------------------------------------- the first statement of the tokens
 
--- the other statements are those from `next` on, which is `low` or after it
+-- the other statements, and the first literal that is left open, are those from `next` on, which is `low` or after it
 pub record Followed (ts : List Token) (text : List ℕ) (low : ℕ) (next : Stand) : Type 0 where
   pub all-are : sentences ts ≡ firstWords ts ∷ sentences (tokensAt text next)
+  pub opens : firstOpen ts ≡ firstOpen (tokensAt text next)
   pub up : low ≤ next .at
   pub within : next .at ≤ length text
 
@@ -98,9 +100,14 @@ pub record FirstRefused (ts : List Token) (text : List ℕ) (r : Refusal) : Type
   pub is : statement text (firstWords ts) ≡ refuse r
   pub all-are : sentences ts ≡ firstWords ts ∷ sentences (afterStop ts)
 
+-- there is none: the tokens end where the reader stands at `next`
+pub record FirstNone (ts : List Token) (text : List ℕ) (next : Stand) : Type 0 where
+  pub ends : ts ≡ unlessOpen (saidAt text next) Newline []
+  pub within : next .at ≤ length text
+
 -- what an answer says of the first statement of the tokens
 abbrev pub FirstStatement : List Token → List ℕ → ℕ → StatementRead → Type 0
 FirstStatement ts text low (StatementRead.Kept s next) = FirstKept ts text low s next
 FirstStatement ts text low (StatementRead.Skipped next) = FirstSkipped ts text low next
 FirstStatement ts text low (StatementRead.Refused r) = FirstRefused ts text r
-FirstStatement ts text low StatementRead.End = ts ≡ []
+FirstStatement ts text low (StatementRead.End next) = FirstNone ts text next

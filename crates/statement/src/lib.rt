@@ -6,7 +6,7 @@ ghost use lib.ListN.{length};
 ghost use Rattle.definition.specs.Basic.{span, refused};
 ghost use Rattle.definition.specs.Statement.{finish as finishOf};
 ghost use Rattle.definition.specs.declared.Token.the-variants.{Word};
-ghost use Rattle.text.specs.Tokens.{tokensAt};
+ghost use Rattle.tokens.specs.Tokens.{tokensAt};
 ghost use Rattle.statement.specs.Reading.{finishedOf, closing, ClausesAre, Ends, NamedAre, FirstStatement};
 use definition::Clauses;
 use definition::Expect;
@@ -15,8 +15,8 @@ use definition::Span;
 use definition::Statement;
 use definition::Step;
 use text::Level;
-use text::Next;
-use text::Stand;
+use tokens::Next;
+use tokens::Stand;
 
 // What the end of a statement gives: its clauses, or a refusal.
 enum Finished {
@@ -112,8 +112,8 @@ pub fn read_clauses(text: &[u8], at: usize, from: Stand) -> ClausesRead
             Next::Stop { next } => {
                 return closed(at, e, c, next);
             }
-            Next::End => {
-                return closed(at, e, c, text::behind(text.len()));
+            Next::End { next } => {
+                return closed(at, e, c, next);
             }
         }
     }
@@ -137,8 +137,8 @@ fn skip_statement(text: &[u8], from: Stand) -> Stand
             Next::Stop { next } => {
                 return next;
             }
-            Next::End => {
-                return text::behind(text.len());
+            Next::End { next } => {
+                return next;
             }
         }
     }
@@ -188,7 +188,7 @@ fn read_named(text: &[u8], at: usize, level: u8, from: Stand) -> NamedRead
                 next,
             );
         }
-        Next::End => {
+        Next::End { next } => {
             return NamedRead::Done(
                 Statement {
                     level: level,
@@ -196,18 +196,19 @@ fn read_named(text: &[u8], at: usize, level: u8, from: Stand) -> NamedRead
                     name: clauses::nowhere(),
                     clauses: clauses::no_clauses(),
                 },
-                text::behind(text.len()),
+                next,
             );
         }
     }
 }
 
-// A kept statement and where the reader stands after it; where it stands after one that is skipped; a refusal; or the end of the text.
+// A kept statement and where the reader stands after it; where it stands after one that is skipped; a refusal; or the end
+// of the tokens, and where the reader stands there.
 pub enum StatementRead {
     Kept(Statement, Stand),
     Skipped(Stand),
     Refused(Refusal),
-    End,
+    End(Stand),
 }
 
 // The statement whose first word is given, and goes on at `from`: its level, then the rest.
@@ -251,8 +252,8 @@ pub fn read_statement(text: &[u8], from: Stand) -> StatementRead
         Next::Stop { next } => {
             return StatementRead::Skipped(next);
         }
-        Next::End => {
-            return StatementRead::End;
+        Next::End { next } => {
+            return StatementRead::End(next);
         }
     }
 }

@@ -10,9 +10,8 @@ use Rattle.definition.specs.declared.Refusal.{Refusal}
 use Rattle.definition.specs.declared.Statement.{Statement}
 use Rattle.definition.specs.Limits.{leastWork, mostStatements}
 use Rattle.definition.specs.Basic.{Answer, refuse, give, _>>=_}
-use Rattle.definition.specs.Statement.{statements}
 use Rattle.definition.specs.Tree.{Open, opened, stillOpen, innermost, parents, parentsIn, forest}
-use Rattle.definition.specs.Words.{statementWords}
+use Rattle.definition.specs.Calls.{keptStatements}
 use Rattle.definition.proofs.ParentLaws.{length-parents, parents-forest}
 use Rattle.tree.specs.declared.RowsRead.{RowsRead}
 use Rattle.rows.specs.Columns.{ROW}
@@ -43,7 +42,7 @@ module _ (n : ℕ) (s : Statement) where
 -- n rows hold the kept statements and their parents in the forest
 pub record Stored (text w w′ : List ℕ) (n : ℕ) : Type 0 where
   pub kept : List Statement
-  pub are : statements text 0 (statementWords text) ≡ give kept
+  pub are : keptStatements text ≡ give kept
   pub many : n ≡ length kept
   pub few : n ≤ mostStatements
   pub storable : Storables kept
@@ -60,7 +59,7 @@ module _ {text w w′ : List ℕ} where
   module _ (n : ℕ) (room : leastWork ≤ length w) where
     by-answer :
         (a : Answer (List Statement)) →
-        statements text 0 (statementWords text) ≡ a →
+        keptStatements text ≡ a →
         ready n w′ ≡ outcome w 0 [] a →
         Held 0 a →
         Stored text w w′ n
@@ -84,7 +83,7 @@ module _ {text w w′ : List ℕ} where
         }
 
     pub stored : RowsAre text w (RowsRead.Rows n) w′ → Stored text w w′ n
-    stored r = by-answer (statements text 0 (statementWords text)) refl (r .is) (r .held)
+    stored r = by-answer (keptStatements text) refl (r .rows .is) (r .rows .held)
 
-  pub turned-down : (r : Refusal) → RowsAre text w (RowsRead.Refused r) w′ → statements text 0 (statementWords text) ≡ refuse r
-  turned-down r h = by-refusal w r (statements text 0 (statementWords text)) (h .is)
+  pub turned-down : (r : Refusal) → RowsAre text w (RowsRead.Refused r) w′ → keptStatements text ≡ refuse r
+  turned-down r h = by-refusal w r (keptStatements text) (h .rows .is)

@@ -8,11 +8,14 @@ use Rattle.definition.specs.declared.Refusal.{Refusal}
 use Rattle.definition.specs.declared.Statement.{Statement}
 use Rattle.definition.specs.Limits.{mostStatements}
 use Rattle.definition.specs.Basic.{Answer, refuse, give}
+use Rattle.definition.specs.Calls.{literalCheck, keptStatements}
 use Rattle.definition.specs.Statement.{statements}
-use Rattle.definition.specs.Tree.{Open, opened, stillOpen, innermost, parents}
 use Rattle.definition.specs.Words.{statementWords}
+use Rattle.tokens.specs.Tokens.{openCheck}
+use Rattle.definition.specs.Tree.{Open, opened, stillOpen, innermost, parents}
 use Rattle.tree.specs.declared.OpenLevels.{OpenLevels}
 use Rattle.tree.specs.declared.RowsRead.{RowsRead}
+use Rattle.tree.specs.declared.StatementsRead.{StatementsRead}
 use Rattle.tree.specs.Levels.{stackOf, Nested}
 use Rattle.rows.specs.Table.{Storable, Storables, putRow, putRows}
 
@@ -43,7 +46,26 @@ abbrev pub Held : ℕ → Answer (List Statement) → Type 0
 Held n (refuse r) = Unit {0}
 Held n (give ss) = Storables ss × (n + length ss ≤ mostStatements)
 
--- the answer r, and work memory w′ after it, of a text and of work memory w
+-- the answer r, and work memory w′ after it, where these are the kept statements and w was work memory
+pub record RowsOf (kept : Answer (List Statement)) (w : List ℕ) (r : RowsRead) (w′ : List ℕ) : Type 0 where
+  pub is : outcomeOf r w′ ≡ outcome w 0 [] kept
+  pub held : Held 0 kept
+
+-- how many rows the statements of a text have, or their refusal
+abbrev pub rowsOf : StatementsRead → RowsRead
+rowsOf (StatementsRead.Rows n end) = RowsRead.Rows n
+rowsOf (StatementsRead.Refused r) = RowsRead.Refused r
+
+-- where the tokens of a text end says what is refused of its literals
+abbrev pub EndOf : List ℕ → StatementsRead → Type 0
+EndOf text (StatementsRead.Rows n end) = (end .at ≤ length text) × (literalCheck text ≡ openCheck text end)
+EndOf text (StatementsRead.Refused r) = Unit {0}
+
+-- the same of the statements of a text, its literals aside
+pub record StatementsAre (text w : List ℕ) (r : StatementsRead) (w′ : List ℕ) : Type 0 where
+  pub rows : RowsOf (statements text 0 (statementWords text)) w (rowsOf r) w′
+  pub end : EndOf text r
+
+-- the same of the kept statements of a text
 pub record RowsAre (text w : List ℕ) (r : RowsRead) (w′ : List ℕ) : Type 0 where
-  pub is : outcomeOf r w′ ≡ outcome w 0 [] (statements text 0 (statementWords text))
-  pub held : Held 0 (statements text 0 (statementWords text))
+  pub rows : RowsOf (keptStatements text) w r w′

@@ -7,7 +7,7 @@ ghost use Rattle.definition.specs.Calls.{entryChecks, checkOf};
 ghost use Rattle.rows.specs.Columns.{ROW, PARENT};
 ghost use Rattle.rows.specs.Table.{Placed, cell};
 ghost use Rattle.tree.specs.Levels.{NoneOpen, Nested, Closed, Opened};
-ghost use Rattle.tree.specs.Reading.{Added, RowsAre};
+ghost use Rattle.tree.specs.Reading.{Added, StatementsAre, RowsAre};
 use definition::Check;
 use definition::LEAST_WORK;
 use definition::MOST_STATEMENTS;
@@ -16,6 +16,7 @@ use definition::Statement;
 use rows::PARENT;
 use rows::ROW;
 use statement::StatementRead;
+use tokens::Stand;
 
 // A number of 32 bits as a place.
 fn wide(n: u32) -> usize
@@ -130,19 +131,25 @@ pub enum RowsRead {
     Refused(Refusal),
 }
 
-// The kept statements of a text as rows of work memory, from row 0 on.
-pub fn read_rows(text: &[u8], work: &mut [u32]) -> RowsRead
+// The number of rows, and where the reader stands at the end of the tokens; or the refusal of a statement.
+enum StatementsRead {
+    Rows(usize, Stand),
+    Refused(Refusal),
+}
+
+// The statements of a text as rows of work memory, from row 0 on, whether a literal is left open or not.
+fn read_statements(text: &[u8], work: &mut [u32]) -> StatementsRead
     requires { ⌜ (length (now text) ≤ mostBytes) × (leastWork ≤ length (now work)) ⌝ }
-    ensures { λ r. ⌜ RowsAre (now (text .entry)) (now (work .entry)) r (now (work .exit)) ⌝ }
+    ensures { λ r. ⌜ StatementsAre (now (text .entry)) (now (work .entry)) r (now (work .exit)) ⌝ }
 {
-    let mut from = text::at_start();
+    let mut from = tokens::at_start();
     let mut n = 0;
     let mut levels = none_open();
     loop {
         match statement::read_statement(text, from) {
             StatementRead::Kept(s, next) => {
                 if MOST_STATEMENTS <= n {
-                    return RowsRead::Refused(Refusal {
+                    return StatementsRead::Refused(Refusal {
                         number: 14,
                         position: s.at,
                         needed: 0,
@@ -156,11 +163,30 @@ pub fn read_rows(text: &[u8], work: &mut [u32]) -> RowsRead
                 from = next;
             }
             StatementRead::Refused(r) => {
-                return RowsRead::Refused(r);
+                return StatementsRead::Refused(r);
             }
-            StatementRead::End => {
-                return RowsRead::Rows(n);
+            StatementRead::End(next) => {
+                return StatementsRead::Rows(n, next);
             }
         }
+    }
+}
+
+// The kept statements of a text as rows of work memory, from row 0 on. 50 comes before any other refusal of theirs: where
+// the tokens were read to their end, where the reader stands says whether a literal is open, and else the rest of the text
+// is looked through.
+pub fn read_rows(text: &[u8], work: &mut [u32]) -> RowsRead
+    requires { ⌜ (length (now text) ≤ mostBytes) × (leastWork ≤ length (now work)) ⌝ }
+    ensures { λ r. ⌜ RowsAre (now (text .entry)) (now (work .entry)) r (now (work .exit)) ⌝ }
+{
+    match read_statements(text, work) {
+        StatementsRead::Rows(n, end) => match tokens::left_open(text, end) {
+            Check::Passed => RowsRead::Rows(n),
+            Check::Refused(open) => RowsRead::Refused(open),
+        },
+        StatementsRead::Refused(r) => match tokens::open_check(text) {
+            Check::Passed => RowsRead::Refused(r),
+            Check::Refused(open) => RowsRead::Refused(open),
+        },
     }
 }

@@ -1,11 +1,12 @@
-// A word reader: it holds the copybook text and where it stands in it. The borrow checker covers no function over a struct that holds a
-// slice, so `reader_at` and `word_of` are proved by hand, and so is `word_at`, whose parameters are plain: its callers are covered.
+// A word reader: it holds the copybook text and where it stands in it. The borrow checker covers no function over a struct
+// that holds a slice, so `reader_at` and `word_of` are proved by hand, and so is `word_at`, whose parameters are plain: its
+// callers are covered.
 ghost use mathlib.Core.Path.{_≡_};
 ghost use Prim.Native.Nat.{_≤_};
 ghost use lib.ListN.{length};
-ghost use Rattle.text.specs.Tokens.{tokensAt, First};
-use text::Next;
-use text::Stand;
+ghost use Rattle.tokens.specs.Tokens.{tokensAt, First};
+use tokens::Next;
+use tokens::Stand;
 
 pub struct WordReader<'a> {
     pub text: &'a [u8],
@@ -24,7 +25,7 @@ pub fn word_of<'a>(r: WordReader<'a>) -> Next
     requires { ⌜ r .stand .at ≤ length (now (r .text)) ⌝ }
     ensures { λ t. ⌜ First (tokensAt (now (r .entry .text)) (r .entry .stand)) (now (r .entry .text)) (r .entry .stand .at) t ⌝ }
 {
-    text::next_token(r.text, r.stand)
+    tokens::next_token(r.text, r.stand)
 }
 
 // The first token of a text from there on, by a reader made for it.

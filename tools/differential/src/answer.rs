@@ -145,11 +145,12 @@ fn listing(text: &[u8], reading: &Reading, shapes: &[Shape], layout: Layout) -> 
 }
 
 /// What the product should say of a copybook: a listing; or a refusal, with what the Rust says; or one that is added,
-/// where the Rust has none such, with how the Rust did.
+/// where the Rust has none such, with how the Rust did; or it accepts, where a literal leaves the Rust no answer.
 pub enum Expected {
     Listing(Listing),
     Refused(Refused, Error),
     Added(Refused, &'static str),
+    Accepted,
 }
 
 /// 29 for a top-level end.
@@ -170,6 +171,9 @@ fn affordable_to_ask(text: &[u8], reading: &Reading) -> bool {
 }
 
 pub fn copybook(text: &[u8], reading: &Reading) -> Result<Expected, String> {
+    if !reading.plain {
+        return Ok(reading.top.as_ref().map_or_else(|r| Expected::Added(*r, "has no answer"), |_| Expected::Accepted));
+    }
     let original = if affordable_to_ask(text, reading) { asked(text, copybook::parse) } else { Original::NotAsked };
     let added = |r: Refused| matches!(r.0, 1 | 2 | 14 | 24 | 27 | 29 | 30);
     match (&reading.top, original) {

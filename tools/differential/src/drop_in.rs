@@ -49,6 +49,11 @@ pub fn added(text: &str, want: Refused) -> Found {
     }
 }
 
+/// The number of the refusal that a copybook gets, or 0.
+pub fn number(text: &[u8]) -> u32 {
+    product::layout(text).map_or_else(|r| r.number, |_| 0)
+}
+
 /// Usage and sign by their numbers.
 fn asked(text: &str, usage: usize, sign: usize) -> fixedformat::Result<(fixedformat::FieldKind, usize)> {
     let sign = (sign > 0).then(|| product::SignKind::ALL[sign - 1]);

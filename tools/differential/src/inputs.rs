@@ -6,6 +6,7 @@
 //!   absent names beside FILLER                                                    fillers
 //!   every white space, comments, periods in odd places                            spread, marked
 //!   keywords in any order                                                         soup
+//!   quotes and apostrophes, most of them in literals after VALUE                  quoted
 //!   damaged copies, of all these and of the written inputs                        damaged
 //!   any bytes; bytes over 127                                                     raw, marked
 //!   counts around 2^31 and 2^64, sums around 2^31                                 large
@@ -450,6 +451,60 @@ impl Maker {
         Self::joined(&out).into_bytes()
     }
 
+    /// A literal, now and then without its end.
+    fn literal(&mut self) -> String {
+        let mark = self.one(&["'", "'", "\""]);
+        let mut inside = String::new();
+        for _ in 0..self.r.below(5) {
+            inside += self.one(&[
+                "a", "St", "4", " ", " ", "-", "3.5", ".", "*", ">", "SEPARATE", " SEPARATE ", "'", "\"", ". ", "*>",
+                ".\t",
+            ]);
+        }
+        if self.chance(90) {
+            inside = inside.replace(mark, &mark.repeat(2));
+        }
+        let before = self.one(&["", "", "", "", "X", "5"]);
+        let end = if self.chance(98) { mark } else { self.one(&["", "\n", "\r\n"]) };
+        format!("{before}{mark}{inside}{end}")
+    }
+
+    /// Quotes and apostrophes, most of them in literals after VALUE.
+    fn quoted(&mut self) -> Vec<u8> {
+        let mut text = String::new();
+        for s in self.statements(6) {
+            let mut words: Vec<String> = s.split(' ').map(Into::into).collect();
+            if self.chance(5) {
+                let i = self.r.below(words.len());
+                words[i] = self.one(&["VALUE", "value", "VALUES"]).into();
+            }
+            if self.chance(5) {
+                let i = self.r.below(words.len());
+                words[i] += self.one(&["'", "\""]);
+            }
+            if self.chance(60) {
+                let key = self.one(&["VALUE", "VALUE", "VALUES", "VALUE IS"]);
+                let mut said = vec![self.cased(key)];
+                for _ in 0..self.r.within(1, 3) {
+                    let plain = self.one(&["5", "ZERO", "3.5", "THRU", "5,"]).to_string();
+                    said.push(if self.chance(80) { self.literal() } else { plain });
+                }
+                let at = if self.chance(90) { words.len() } else { words.len().min(2) };
+                words.splice(at..at, said);
+            }
+            for w in words {
+                text += &w;
+                text +=
+                    self.one(&[" ", " ", " ", " ", " ", " ", " ", "  ", "\n", "\r\n", "\t", " *> it's\n", "\n* 'Z.\n"]);
+            }
+            if self.chance(80) {
+                text.truncate(text.trim_end().len());
+            }
+            text += self.one(&[". ", ".\n", ".\n", ".\r\n", ".*> it's\n", ". 88 C VALUE 'a' 'b'.\n", " .\n"]);
+        }
+        text.into_bytes()
+    }
+
     fn folded_item(&mut self) -> String {
         let n = self.r.below(10);
         let x = format!("PIC X({n})");
@@ -686,7 +741,8 @@ impl Maker {
 
     pub fn copybook(&mut self) -> Vec<u8> {
         match self.r.below(1000) {
-            0..=219 => self.nested(8),
+            0..=169 => self.nested(8),
+            170..=219 => self.quoted(),
             220..=259 => self.nested(30),
             260..=459 => self.folded(),
             460..=579 => self.soup(),

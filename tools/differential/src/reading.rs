@@ -1,6 +1,6 @@
 //! A reading of the rules (docs/RULES.md) of its own: it gives what the Rust does not have, that is places in the text,
-//! positions of refusals and the added refusals 1, 2, 14, 24, 27, 29, 30, 40 and 41, and the owners of bytes. Offsets,
-//! widths and kinds of a listing are taken from the Rust, never from here.
+//! positions of refusals and the added refusals 1, 2, 14, 24, 27, 29, 30, 40, 41 and 50, whether the Rust has an answer,
+//! and the owners of bytes. Offsets, widths and kinds of a listing are taken from the Rust, never from here.
 
 /// A part of the text; length 0 means absent.
 #[derive(Clone, Copy, PartialEq, Eq, Debug, Default)]
@@ -71,6 +71,9 @@ pub struct Reading {
     /// The record's fields, and whether the only root was dropped.
     pub fields: Vec<usize>,
     pub dropped: bool,
+    /// Whether the Rust has an answer, as far as literals go: none holds `*>` or a period that would end a statement,
+    /// and none is left open.
+    pub plain: bool,
     /// The folded top list, or why there is none. The last check, 29 for a top-level end, needs the widths of folds,
     /// and is made on the Rust's answer (`answer::copybook`).
     pub top: Answer<Vec<Shape>>,
@@ -95,46 +98,91 @@ pub fn white(b: u8) -> bool {
     b == 32 || (9..=13).contains(&b)
 }
 
-/// What is read of the text, byte by byte with its place; comments are gone, and each line ends in a blank.
-fn cleaned(text: &[u8]) -> Vec<(u8, usize)> {
-    let mut out = Vec::with_capacity(text.len() + 1);
+/// The words of a text as they are found.
+#[derive(Default)]
+struct Words {
+    /// The statements that have ended, each as its words; none is empty.
+    ended: Vec<Vec<Span>>,
+    /// The words of the statement so far.
+    words: Vec<Span>,
+    /// Whether the last word goes on, and whether VALUE was said.
+    open: bool,
+    value: bool,
+    /// Whether a literal held `*>` or a period that would end a statement.
+    harmed: bool,
+}
+
+impl Words {
+    /// A byte that counts as nothing more than a byte, at its place.
+    fn byte(&mut self, b: u8, place: usize) {
+        if white(b) {
+            self.open = false;
+        } else if self.open {
+            self.words.last_mut().expect("an open word").len += 1;
+        } else {
+            self.words.push(Span { start: place, len: 1 });
+            self.open = true;
+        }
+    }
+
+    /// VALUE or VALUES, third or later, is the word before this place.
+    fn said_value(&self, text: &[u8]) -> bool {
+        let word = self.words.get(2..).and_then(|later| later.last()).map(|w| w.of(text).to_ascii_uppercase());
+        word.is_some_and(|w| w == b"VALUE" || w == b"VALUES")
+    }
+
+    /// A period that ends the statement.
+    fn stop(&mut self) {
+        (self.open, self.value) = (false, false);
+        if !self.words.is_empty() {
+            self.ended.push(std::mem::take(&mut self.words));
+        }
+    }
+
+    /// The words of a line that is no comment, from its place on. 50 where a literal does not close on it.
+    fn line(&mut self, text: &[u8], line: &[u8], at: usize) -> Answer<()> {
+        let cut = |i: usize| line[i..].starts_with(b"*>");
+        let ends = |i: usize| i == line.len() || white(line[i]) || cut(i);
+        let mut i = 0;
+        while i < line.len() {
+            let b = line[i];
+            if self.value && matches!(b, b'\'' | b'"') {
+                let len = line[i + 1..].iter().position(|&m| m == b).ok_or(Refused(50, at + i))?;
+                let close = i + 1 + len;
+                self.harmed |= (i + 1..close).any(|j| cut(j) || line[j] == b'.' && white(line[j + 1]));
+                (i..=close).for_each(|j| self.byte(line[j], at + j));
+                i = close + 1;
+                continue;
+            }
+            if cut(i) {
+                break;
+            }
+            if b == b'.' && ends(i + 1) {
+                self.stop();
+            } else {
+                self.byte(b, at + i);
+                self.value |= white(b) && self.said_value(text);
+            }
+            i += 1;
+        }
+        self.byte(b' ', at + i);
+        self.value |= self.said_value(text);
+        Ok(())
+    }
+}
+
+/// The statements, each as its words, and whether the Rust finds the same ones; or 50.
+fn statements_words(text: &[u8]) -> Answer<(Vec<Vec<Span>>, bool)> {
+    let mut found = Words::default();
     let mut at = 0;
     for line in text.split(|&b| b == 10) {
-        let star = line.iter().find(|&&b| !white(b)) == Some(&b'*');
-        let cut = line.windows(2).position(|w| w == b"*>").unwrap_or(line.len());
-        if !star {
-            out.extend(line[..cut].iter().enumerate().map(|(i, &b)| (b, at + i)));
-            out.push((b' ', usize::MAX));
+        if line.iter().find(|&&b| !white(b)) != Some(&b'*') {
+            found.line(text, line, at)?;
         }
         at += line.len() + 1;
     }
-    out
-}
-
-/// The statements, each as its words; none is empty.
-fn statements_words(text: &[u8]) -> Vec<Vec<Span>> {
-    let bytes = cleaned(text);
-    let mut out = Vec::new();
-    let mut words: Vec<Span> = Vec::new();
-    let mut open = false;
-    for (i, &(b, place)) in bytes.iter().enumerate() {
-        let stop = b == b'.' && bytes.get(i + 1).is_none_or(|n| white(n.0));
-        if stop || white(b) {
-            open = false;
-        } else if open {
-            words.last_mut().expect("an open word").len += 1;
-        } else {
-            words.push(Span { start: place, len: 1 });
-            open = true;
-        }
-        if stop && !words.is_empty() {
-            out.push(std::mem::take(&mut words));
-        }
-    }
-    if !words.is_empty() {
-        out.push(words);
-    }
-    out
+    found.stop();
+    Ok((found.ended, !found.harmed))
 }
 
 /// A number below the limit: digits, with a plus in front or none.
@@ -244,10 +292,10 @@ fn statement(text: &[u8], words: &[Span]) -> Answer<Option<Statement>> {
     Ok(Some(s))
 }
 
-fn statements(text: &[u8]) -> (Vec<Statement>, Answer<()>) {
+fn statements(text: &[u8], words: &[Vec<Span>]) -> (Vec<Statement>, Answer<()>) {
     let mut kept = Vec::new();
-    for words in statements_words(text) {
-        match statement(text, &words) {
+    for words in words {
+        match statement(text, words) {
             Err(r) => return (kept, Err(r)),
             Ok(None) => {}
             Ok(Some(s)) => {
@@ -504,19 +552,24 @@ impl Laying<'_> {
 }
 
 pub fn read(text: &[u8]) -> Reading {
+    let refused = |statements, plain, r| Reading { statements, fields: Vec::new(), dropped: false, plain, top: Err(r) };
     if let Err(r) = text_checks(text) {
-        return Reading { statements: Vec::new(), fields: Vec::new(), dropped: false, top: Err(r) };
+        return refused(Vec::new(), true, r);
     }
-    let (mut kept, read) = statements(text);
+    let (words, plain) = match statements_words(text) {
+        Ok(found) => found,
+        Err(r) => return refused(Vec::new(), false, r),
+    };
+    let (mut kept, read) = statements(text, &words);
     if let Err(r) = read {
-        return Reading { statements: kept, fields: Vec::new(), dropped: false, top: Err(r) };
+        return refused(kept, plain, r);
     }
     let fields = fields(&mut kept);
     let dropped = fields.first().is_some_and(|&k| k > 0);
     let laying = Laying { text, kept: &kept };
     let folded = laying.list(&fields, 0).and_then(|(items, _)| laying.fold(items));
     let top = folded.map(|items| items.into_iter().map(|i| i.shape).collect());
-    Reading { statements: kept, fields, dropped, top }
+    Reading { statements: kept, fields, dropped, plain, top }
 }
 
 // ---------------------------------------------------------------- the owner rule

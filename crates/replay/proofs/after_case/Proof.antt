@@ -6,8 +6,8 @@ use mathlib.Core.Path.{_≡_}
 use mathlib.Core.List.{List}
 use native.Mathlib.Omega.{arith}
 use lib.ListN.{length}
-use Rattle.text.specs.declared.Next.{Next}
-use Rattle.text.specs.declared.Stand.{Stand}
+use Rattle.tokens.specs.declared.Next.{Next}
+use Rattle.tokens.specs.declared.Stand.{Stand}
 use Rattle.replay.specs.Places.{Later, Bounded}
 use Rattle.replay.proofs.PlaceLaws.{word-in, stop-in}
 use Rattle.replay.proofs.after_case.Statement.{statement}

@@ -11,8 +11,8 @@ enum-known-p c = search needs
 token-requires : tie.Need-token-requires
 token-requires c κs = search inside-at
 
-enum-known-start : tie.Need-enum-known-start
-enum-known-start c = search needs
+enum-known-next : tie.Need-enum-known-next
+enum-known-next c = search needs
 
 enum-told : tie.Need-enum-told
 enum-told c = search needs
@@ -50,7 +50,7 @@ next-word-spec =
     (tie.spec
     enum-known-p
     token-requires
-    enum-known-start
+    enum-known-next
     enum-told
     no-word-requires
     enum-told-2

@@ -19,10 +19,11 @@ use Rattle.definition.specs.Basic.{uppers, span, part, Answer, refuse, give}
 use Rattle.definition.specs.Statement.{noClauses, step, finish, clauses}
 use Rattle.definition.proofs.StatementLaws.{clauses-none, clauses-go, clauses-fail}
 use Rattle.definition.specs.Words.{firstWords}
-use Rattle.text.specs.declared.Next.{Next}
-use Rattle.text.specs.declared.Stand.{Stand}
-use Rattle.text.specs.Tokens.{behind, tokensAt, FirstWord, First}
-use Rattle.text.proofs.TokenLaws.{end-first, word-first, word-less, stop-first}
+use Rattle.definition.proofs.WordLaws.{end-words}
+use Rattle.tokens.specs.declared.Next.{Next}
+use Rattle.tokens.specs.declared.Stand.{Stand}
+use Rattle.tokens.specs.Tokens.{saidAt, tokensAt, FirstWord, First}
+use Rattle.tokens.proofs.TokenLaws.{end-first, word-first, word-less, stop-first}
 use Rattle.statement.specs.declared.ClausesRead.{ClausesRead}
 use Rattle.clauses.specs.Places.{Fits}
 use Rattle.clauses.proofs.FitLaws.{none-fit, step-fits}
@@ -95,9 +96,9 @@ module _ {t : List ℕ} {at : ℕ} {from place : Stand} {e : Expect} {c : Clause
   stop-closed {n} q p =
       rw p (closes t at from n (finish at e c) (rest inv (stop-first _ t (place .at) f q .all-are) ∙ clauses-none t at e c) (finish-fits t at e (inv .fits)) (ends-stop (inv .reached) f q))
 
-  end-closed : {n : Stand} {y : ClausesRead} → r ≡ Next.End → n ≡ behind (length t) → y ≡ closing n (finish at e c) → ClausesAre t at from y
-  end-closed {n} q b p =
-      rw p (closes t at from n (finish at e c) (rest inv (end-first _ t (place .at) f q) ∙ clauses-none t at e c) (finish-fits t at e (inv .fits)) (ends-text (inv .reached) f q b))
+  end-closed : {n : Stand} {y : ClausesRead} → r ≡ Next.End n → y ≡ closing n (finish at e c) → ClausesAre t at from y
+  end-closed {n} q p =
+      rw p (closes t at from n (finish at e c) (rest inv (end-first _ t (place .at) f q .opens) ∙ ap (clauses t at e c) (end-words (saidAt t n)) ∙ clauses-none t at e c) (finish-fits t at e (inv .fits)) (ends-text (inv .reached) f q))
 
 abbrev Inv-loop : tie.InvT-loop
 Inv-loop text at place₀ e₀ c₀ place e c = Left text at place₀ place e c
@@ -153,6 +154,5 @@ read-clauses-spec =
     (λ c κs. search needs)
     returns-2
     (λ c. search needs)
-    (λ c κs. search needs)
     (λ c κs. search needs)
     returns-3)

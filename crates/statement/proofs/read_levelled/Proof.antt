@@ -12,12 +12,12 @@ use Rattle.definition.specs.declared.Statement.{Statement}
 use Rattle.definition.specs.declared.Token.{Token}
 use Rattle.definition.specs.declared.Token.the-variants.{Word}
 use Rattle.definition.specs.Basic.{span, part, number}
-use Rattle.definition.specs.Words.{sentences, firstWords}
+use Rattle.definition.specs.Words.{firstOpen, sentences, firstWords}
 use Rattle.definition.proofs.StatementLaws.{statement-bad, statement-skipped, statement-kept, statement-refused}
-use Rattle.definition.proofs.WordLaws.{sentences-next}
+use Rattle.definition.proofs.WordLaws.{sentences-word, open-after}
 use Rattle.text.specs.declared.Level.{Level}
-use Rattle.text.specs.declared.Stand.{Stand}
-use Rattle.text.specs.Tokens.{tokensAt}
+use Rattle.tokens.specs.declared.Stand.{Stand}
+use Rattle.tokens.specs.Tokens.{tokensAt}
 use Rattle.text.specs.Words.{levelled}
 use Rattle.statement.specs.declared.NamedRead.{NamedRead}
 use Rattle.statement.specs.declared.StatementRead.{StatementRead}
@@ -31,9 +31,11 @@ all t s l from = Word (span s l) ∷ tokensAt t from
 
 -- the statements after it are those after its end
 followed : (t : List ℕ) (s l : ℕ) {from n : Stand} → Ends t from n → Followed (all t s l from) t (from .at) n
+unfolding firstOpen
 followed t s l {from} e =
     record {
-      all-are = sentences-next (tokensAt t from) (Word (span s l)) ∙ ap (λ (ts : List Token). firstWords (all t s l from) ∷ sentences ts) (e .rest);
+      all-are = sentences-word (tokensAt t from) (span s l) ∙ ap (λ (ts : List Token). firstWords (all t s l from) ∷ sentences ts) (e .rest);
+      opens = sym (open-after (tokensAt t from)) ∙ ap firstOpen (e .rest);
       up = e .up;
       within = e .within;
     }
@@ -48,7 +50,7 @@ module _ (t : List ℕ) (s l : ℕ) (from : Stand) {v : Level} (p : levelled v �
   bad e =
       record {
         is = statement-bad t (span s l) (wordsFrom t from) (level-is t s l v p ∙ ap levelled e);
-        all-are = sentences-next (tokensAt t from) (Word (span s l));
+        all-are = sentences-word (tokensAt t from) (span s l);
       }
 
   module _ {k : ℕ} (e : v ≡ Level.Value k) where
@@ -72,7 +74,7 @@ module _ (t : List ℕ) (s l : ℕ) (from : Stand) {v : Level} (p : levelled v �
           let d : NamedAre t s k from (NamedRead.Refused x) = rw i at g in
           record {
             is = statement-refused t (span s l) (wordsFrom t from) read q d;
-            all-are = sentences-next (tokensAt t from) (Word (span s l));
+            all-are = sentences-word (tokensAt t from) (span s l);
           }
 
 add-level-of : tie.Need-add-level-of

@@ -15,10 +15,11 @@ use Rattle.definition.specs.Basic.{span, absent}
 use Rattle.definition.specs.Statement.{noClauses, named}
 use Rattle.definition.proofs.StatementLaws.{named-none, named-given, named-refused}
 use Rattle.definition.specs.Words.{firstWords}
-use Rattle.text.specs.declared.Next.{Next}
-use Rattle.text.specs.declared.Stand.{Stand}
-use Rattle.text.specs.Tokens.{behind, tokensAt, FirstWord, First}
-use Rattle.text.proofs.TokenLaws.{end-first, word-first, stop-first}
+use Rattle.definition.proofs.WordLaws.{end-words}
+use Rattle.tokens.specs.declared.Next.{Next}
+use Rattle.tokens.specs.declared.Stand.{Stand}
+use Rattle.tokens.specs.Tokens.{saidAt, tokensAt, FirstWord, First}
+use Rattle.tokens.proofs.TokenLaws.{end-first, word-first, stop-first}
 use Rattle.clauses.proofs.FitLaws.{none-fit}
 use Rattle.statement.specs.declared.ClausesRead.{ClausesRead}
 use Rattle.statement.specs.declared.NamedRead.{NamedRead}
@@ -78,8 +79,9 @@ module _ (t : List ℕ) (at level : ℕ) (from : Stand) (h : from .at ≤ length
     stopped : {n : Stand} → r ≡ Next.Stop n → NamedAre t at level from (NamedRead.Done (of level at w c) n)
     stopped q = bare b (tokens-named t at level (stop-first _ t (from .at) f q .all-are)) p p′ (ends-stop (reached-start h) f q)
 
-    ended : {n : Stand} → r ≡ Next.End → n ≡ behind (length t) → NamedAre t at level from (NamedRead.Done (of level at w c) n)
-    ended q e = bare b (tokens-named t at level (end-first _ t (from .at) f q)) p p′ (ends-text (reached-start h) f q e)
+    ended : {n : Stand} → r ≡ Next.End n → NamedAre t at level from (NamedRead.Done (of level at w c) n)
+    ended {n} q =
+        bare b (tokens-named t at level (end-first _ t (from .at) f q .opens) ∙ ap (named t at level) (end-words (saidAt t n))) p p′ (ends-text (reached-start h) f q)
 
 read-clauses-requires : tie.Need-read-clauses-requires
 read-clauses-requires c κs = search within
@@ -112,7 +114,6 @@ read-named-spec =
     (λ c κs. search needs)
     returns-3
     (λ c. search needs)
-    (λ c κs. search needs)
     (λ c κs. search needs)
     (λ c κs. search needs)
     returns-4)

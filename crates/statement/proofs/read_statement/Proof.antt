@@ -2,19 +2,20 @@
 -- Assumes nothing.
 use borrow.Author.Needs.{needs}
 use Prim.Native.Nat.{ℕ, _+_, _<_, _≤_}
-use mathlib.Core.Path.{_≡_}
+use mathlib.Core.Path.{_≡_, refl}
 use mathlib.Core.List.{List, _∷_}
 use native.Mathlib.Omega.{arith}
 use lib.ListN.{length}
 use Rattle.definition.specs.declared.Token.{Token}
 use Rattle.definition.specs.declared.Token.the-variants.{Word, Stop}
 use Rattle.definition.specs.Basic.{span}
+use Rattle.definition.specs.Words.{firstOpen}
 use Rattle.definition.proofs.StatementLaws.{statement-empty}
-use Rattle.definition.proofs.WordLaws.{sentences-next}
-use Rattle.text.specs.declared.Next.{Next}
-use Rattle.text.specs.declared.Stand.{Stand}
-use Rattle.text.specs.Tokens.{tokensAt, FirstWord, First}
-use Rattle.text.proofs.TokenLaws.{end-first, word-first, stop-first}
+use Rattle.definition.proofs.WordLaws.{sentences-stop}
+use Rattle.tokens.specs.declared.Next.{Next}
+use Rattle.tokens.specs.declared.Stand.{Stand}
+use Rattle.tokens.specs.Tokens.{tokensAt, FirstWord, First}
+use Rattle.tokens.proofs.TokenLaws.{end-first, word-first, stop-first}
 use Rattle.statement.specs.declared.StatementRead.{StatementRead}
 use Rattle.statement.specs.Reading.{Followed, FirstStatement}
 use Rattle.statement.proofs.read_statement.Statement.{statement}
@@ -22,13 +23,13 @@ use Rattle.statement.proofs.read_statement.Tie as tie
 
 -- what holds from a later place on holds from an earlier one on
 earlier-followed : {ts : List Token} {t : List ℕ} {low later : ℕ} {n : Stand} → low ≤ later → Followed ts t later n → Followed ts t low n
-earlier-followed h f = record { all-are = f .all-are; up = omega arith; within = f .within }
+earlier-followed h f = record { all-are = f .all-are; opens = f .opens; up = omega arith; within = f .within }
 
 earlier : (ts : List Token) (t : List ℕ) (low later : ℕ) → low ≤ later → (y : StatementRead) → FirstStatement ts t later y → FirstStatement ts t low y
 earlier ts t low later h (StatementRead.Kept s n) g = record { is = g .is; fits = g .fits; followed = earlier-followed h (g .followed) }
 earlier ts t low later h (StatementRead.Skipped n) g = record { is = g .is; followed = earlier-followed h (g .followed) }
 earlier ts t low later h (StatementRead.Refused r) g = g
-earlier ts t low later h StatementRead.End g = g
+earlier ts t low later h (StatementRead.End n) g = g
 
 module _ (t : List ℕ) (from : Stand) {r : Next} (f : First (tokensAt t from) t (from .at) r) where
   module _ {s l : ℕ} {n : Stand} (q : r ≡ Next.Word s l n) where
@@ -45,34 +46,23 @@ module _ (t : List ℕ) (from : Stand) {r : Next} (f : First (tokensAt t from) t
 
   -- a period alone is an empty statement
   empty : {n : Stand} → r ≡ Next.Stop n → FirstStatement (tokensAt t from) t (from .at + 1) (StatementRead.Skipped n)
+  unfolding firstOpen
   empty {n} q =
       let s = stop-first _ t (from .at) f q in
-      rw (s .all-are) (record { is = statement-empty t; followed = record { all-are = sentences-next (tokensAt t n) Stop; up = omega arith; within = s .within } })
+      rw (s .all-are) (record { is = statement-empty t; followed = record { all-are = sentences-stop (tokensAt t n); opens = refl; up = omega arith; within = s .within } })
 
-  -- the text has ended
-  ended : r ≡ Next.End → FirstStatement (tokensAt t from) t (from .at + 1) StatementRead.End
-  ended q = end-first _ t (from .at) f q
-
-word-at-requires : tie.Need-word-at-requires
-word-at-requires c κs = search needs
-
-enum-known-start : tie.Need-enum-known-start
-enum-known-start c = search needs
+  -- the tokens have ended
+  ended : {n : Stand} → r ≡ Next.End n → FirstStatement (tokensAt t from) t (from .at + 1) (StatementRead.End n)
+  ended q = let s = end-first _ t (from .at) f q in record { ends = s .opens; within = s .within }
 
 read-levelled-requires : tie.Need-read-levelled-requires
-read-levelled-requires c κs = let a = c .before .before .before .before .before .args in places (a .text .now) (a .from) (c .before .before .before .word-at .ensures) (c .before .start .given .1)
+read-levelled-requires c κs = let a = c .before .before .before .before .before .args in places (a .text .now) (a .from) (c .before .before .before .word-at .ensures) (c .before .next .given .1)
 
 returns : tie.Need-returns
 returns c = search begun
 
-enum-known-next : tie.Need-enum-known-next
-enum-known-next c = search needs
-
 returns-2 : tie.Need-returns-2
 returns-2 c = search empty
-
-enum-told : tie.Need-enum-told
-enum-told c = search needs
 
 returns-3 : tie.Need-returns-3
 returns-3 c = search ended
@@ -81,11 +71,11 @@ pub read-statement-spec : {M : Type 1} → statement M
 read-statement-spec =
     tie.close
     (tie.spec
-    word-at-requires
-    enum-known-start
+    (λ c κs. search needs)
+    (λ c. search needs)
     read-levelled-requires
     returns
-    enum-known-next
+    (λ c. search needs)
     returns-2
-    enum-told
+    (λ c. search needs)
     returns-3)

@@ -3,7 +3,7 @@
 use borrow.Author.Needs.{needs}
 use Prim.Native.Nat.{_-_}
 use lib.ListN.{length}
-use Rattle.text.proofs.TokenLaws.{word-less}
+use Rattle.tokens.proofs.TokenLaws.{word-less}
 use Rattle.statement.proofs.EndLaws.{Reached, reached-start, reached-word, ends-stop, ends-text}
 use Rattle.statement.proofs.skip_statement.Statement.{statement}
 use Rattle.statement.proofs.skip_statement.Tie as tie
@@ -43,5 +43,4 @@ skip-statement-spec =
     (λ c. search needs)
     returns
     (λ c. search needs)
-    (λ c κs. search needs)
     returns-2)

@@ -38,16 +38,16 @@ use denote.Triple.Table.{entered, cited}
 use denote.Triple.Walked.{says, needs, Stays, stay-none, stay-none-slice, walkOf, goes-none, goes-none-slice, Walks, ends-at, walked, walk-meets}
 use denote.Exit.{yes}
 use denote.Triple.Clauses.{ensured, lasts}
-use Rattle.text.specs.Tokens.{tokensAt, First}
-use Rattle.text.specs.declared.Stand.{Stand}
-use Rattle.text.proofs.Stand as P
-use Rattle.text.proofs.Stand.Laws as P′
+use Rattle.tokens.specs.Tokens.{tokensAt, First}
+use Rattle.tokens.specs.declared.Stand.{Stand}
+use Rattle.tokens.proofs.Stand as P
+use Rattle.tokens.proofs.Stand.Laws as P′
 use Rattle.words.specs.declared.WordReader.{WordReader}
-use Rattle.text.specs.declared.Next.{Next as Token}
+use Rattle.tokens.specs.declared.Next.{Next as Token}
 use Rattle.words.proofs.WordReader as T
 use Rattle.words.proofs.WordReader.Laws as T′
-use Rattle.text.proofs.Next as S
-use Rattle.text.proofs.Next.Laws as S′
+use Rattle.tokens.proofs.Next as S
+use Rattle.tokens.proofs.Next.Laws as S′
 use Rattle.words.proofs.reader_at as new
 use Rattle.words.proofs.reader_at.Symbol as new-def
 use Rattle.words.proofs.reader_at.Symbol.{name as #words·reader-at}
@@ -65,6 +65,10 @@ use Rattle.words.proofs.word_at.Code as code
 abbrev B : Lfts 1 → RattleType
 B κs = T.the-row (namedLft 1 0 tt κs)
 
+-- the machine value of where a reader stands
+abbrev stood : Stand → Val
+stood n = LL.val P.the-type P′.the-laws n
+
 abbrev stayed : Stays (wat.ended .signature .params) (wat.ended .kept)
 stayed = (stay-none-slice (0 ∷ []) tt (plain (λ _. u8)) yes, (stay-none (λ _. P.the-row) yes, tt))
 
@@ -76,7 +80,7 @@ module _ {M : Type 1} (𝓤 : URA M) (H : Heap 𝓤) (A : Atoms 𝓤) (mem : Mem
   abbrev Next : Contract 𝓤
   Next = tripleOf 𝓤 H A next.signature (next.spec 𝓤 H A mem run)
 
-module _ {M : Type 1} (𝓤 : URA M) (H : Heap 𝓤) (A : Atoms 𝓤) (W : Given 𝓤 H A) (mem : Memory → SProp 𝓤) (run : Routine → Fun 𝓤) (κ : Lft) (q : Share) (s : RefT (List ℕ)) (n : Stand) (stands : Is P.the-row n (P′.lowered n ∷ [])) (inside : n .at ≤ length (now s)) where
+module _ {M : Type 1} (𝓤 : URA M) (H : Heap 𝓤) (A : Atoms 𝓤) (W : Given 𝓤 H A) (mem : Memory → SProp 𝓤) (run : Routine → Fun 𝓤) (κ : Lft) (q : Share) (s : RefT (List ℕ)) (n : Stand) (stands : Is P.the-row n (stood n ∷ [])) (inside : n .at ≤ length (now s)) where
   -- the machine value that s has
   abbrev v : Val
   v = sliceVal (s .ptr) (length (s .now))
@@ -85,7 +89,7 @@ module _ {M : Type 1} (𝓤 : URA M) (H : Heap 𝓤) (A : Atoms 𝓤) (W : Given
   Found t = First (tokensAt (now s) n) (now s) (n .at) t
 
   abbrev vals : Vals wat.signature (κ, tt)
-  vals = (v ∷ [], (P′.lowered n ∷ [], tt))
+  vals = (v ∷ [], (stood n ∷ [], tt))
 
   -- what both parameters own
   abbrev All : Fml
@@ -144,9 +148,9 @@ module _ {M : Type 1} (𝓤 : URA M) (H : Heap 𝓤) (A : Atoms 𝓤) (W : Given
       move ! (1 ∷ []) $ frame ! $ move ! (1 ∷ []) $ frame ! $ done !
 
   module _ (C : Calls 𝓤 H) (Λ : Loops 𝓤 H) (fm : FmC 𝓤 H (W .laws) C) (known-new : Triple 𝓤 (C #words·reader-at) (New 𝓤 H A mem run)) (known-next : Triple 𝓤 (C #words·word-of) (Next 𝓤 H A mem run)) where
-    walk : Is (ShrSlice (named 0) κ u8) s (v ∷ []) → ent 𝓤 (onEntry 𝓤 H A wat.signature (κ, tt) (q, tt) (s, (n, tt)) vals) (WpFn 𝓤 H C Λ code.function (v ∷ P′.lowered n ∷ []) Post)
+    walk : Is (ShrSlice (named 0) κ u8) s (v ∷ []) → ent 𝓤 (onEntry 𝓤 H A wat.signature (κ, tt) (q, tt) (s, (n, tt)) vals) (WpFn 𝓤 H C Λ code.function (v ∷ stood n ∷ []) Post)
     walk p =
-        qed W (raw (onEntry 𝓤 H A wat.signature (κ, tt) (q, tt) (s, (n, tt)) vals) ∷ []) ∵ enter ! C Λ code.function (v ∷ P′.lowered n ∷ []) _ $
+        qed W (raw (onEntry 𝓤 H A wat.signature (κ, tt) (q, tt) (s, (n, tt)) vals) ∷ []) ∵ enter ! C Λ code.function (v ∷ stood n ∷ []) _ $
         alloc1 ! (λ l₀. alloc1 ! (λ l₁. alloc1 ! (λ l₂. alloc1 ! (λ l₃. alloc0 ! $ params1 ! $ pass1 ! (init ! 4 refl (shr-slice-lawful 𝓤 H A W (named 0) κ u8 .typed s (v ∷ []) p .0)) $ pass1 ! (init ! 2 refl (LL.lawful P.the-type P′.the-laws 𝓤 H A W .typed n _ stands .0)) $ pass0 ! $
         move ! (8 ∷ []) $ use1 W (raw (New 𝓤 H A mem run .pre to-new) ⊛ ‵ All) goes-new $ split ! $
         calls-at ! fm (New 𝓤 H A mem run) known-new to-new (and-then ! (load ! (from ! (stop !)) (look ! 6 refl)) (and-then ! (load ! (from ! (stop !)) (look ! 4 refl)) (no-more !))) (λ u.

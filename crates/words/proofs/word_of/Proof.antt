@@ -1,4 +1,4 @@
--- `words::word_of` meets its contract: a walk of its MIR, by hand. The struct is taken apart, and `text::next_token` is called on the slice and where it stands. All that the proof knows of it is that it meets its contract.
+-- `words::word_of` meets its contract: a walk of its MIR, by hand. The struct is taken apart, and `tokens::next_token` is called on the slice and where it stands. All that the proof knows of it is that it meets its contract.
 -- The struct is Copy: what it owns is had twice, one copy is kept whole for the exit, and the other is what the callee asks, beside the lifetime's token, which comes back.
 -- Assumes nothing.
 use mathlib.Core.Path.{_≡_, refl}
@@ -42,16 +42,17 @@ use denote.Triple.Table.{entered, cited}
 use denote.Triple.Walked.{says, needs, Stays, stay-none, walkOf, goes-none, Walks, ends-at, walked, walk-meets}
 use denote.Exit.{yes}
 use denote.Triple.Clauses.{ensured, lasts}
-use Rattle.text.specs.Tokens.{tokensAt, First}
-use Rattle.text.specs.declared.Next.{Next}
-use Rattle.text.proofs.Next as S
-use Rattle.text.proofs.Next.Laws as S′
-use Rattle.text.proofs.Stand as P
-use Rattle.text.proofs.Stand.Laws as P′
-use Rattle.text.proofs.next_token as step
-use Rattle.text.proofs.next_token.Symbol as step-def
-use Rattle.text.proofs.next_token.Symbol.{name as #text·next-token}
-use Rattle.text.proofs.next_token.Met as step-thm
+use Rattle.tokens.specs.Tokens.{tokensAt, First}
+use Rattle.tokens.specs.declared.Next.{Next}
+use Rattle.tokens.specs.declared.Stand.{Stand}
+use Rattle.tokens.proofs.Next as S
+use Rattle.tokens.proofs.Next.Laws as S′
+use Rattle.tokens.proofs.Stand as P
+use Rattle.tokens.proofs.Stand.Laws as P′
+use Rattle.tokens.proofs.next_token as step
+use Rattle.tokens.proofs.next_token.Symbol as step-def
+use Rattle.tokens.proofs.next_token.Symbol.{name as #tokens·next-token}
+use Rattle.tokens.proofs.next_token.Met as step-thm
 use Rattle.words.specs.declared.WordReader.{WordReader}
 use Rattle.words.proofs.WordReader as T
 use Rattle.words.proofs.WordReader.Laws as T′
@@ -64,6 +65,10 @@ use Rattle.words.proofs.word_of.Code as code
 abbrev B : Lfts 1 → RattleType
 B κs = T.the-row (namedLft 1 0 tt κs)
 
+-- the machine value of where a reader stands
+abbrev stood : Stand → Val
+stood n = LL.val P.the-type P′.the-laws n
+
 abbrev stayed : Stays (word.ended .signature .params) (word.ended .kept)
 stayed = (stay-none B yes, tt)
 
@@ -74,7 +79,7 @@ module _ {M : Type 1} (𝓤 : URA M) (H : Heap 𝓤) (A : Atoms 𝓤) (mem : Mem
 
 module _ {M : Type 1} (𝓤 : URA M) (H : Heap 𝓤) (A : Atoms 𝓤) (W : Given 𝓤 H A) (mem : Memory → SProp 𝓤) (run : Routine → Fun 𝓤) (κ : Lft) (q : Share) (d : WordReader) (inside : d .stand .at ≤ length (now (d .text))) where
   abbrev mach : Val
-  mach = T′.lowered d
+  mach = LL.val (T.the-type (namedLft 1 0 tt (κ, tt))) (T′.the-laws (namedLft 1 0 tt (κ, tt))) d
 
   -- the machine value of text
   abbrev v : Val
@@ -101,7 +106,7 @@ module _ {M : Type 1} (𝓤 : URA M) (H : Heap 𝓤) (A : Atoms 𝓤) (W : Given
 
   -- what the callee is passed
   abbrev passed : Vals step.signature (κ, tt)
-  passed = (v ∷ [], (P′.lowered (d .stand) ∷ [], tt))
+  passed = (v ∷ [], (stood (d .stand) ∷ [], tt))
 
   abbrev to : StepAt 𝓤 H A mem run .Ghost
   to = (((κ, tt), (q, tt), tt, (d .text, (d .stand, tt)), passed), tt)
@@ -128,8 +133,8 @@ module _ {M : Type 1} (𝓤 : URA M) (H : Heap 𝓤) (A : Atoms 𝓤) (W : Given
       suffices ! _ (ends-at 𝓤 H A word.ended stayed (word.clauses 𝓤 H A mem run) W (((κ, tt), (q, tt), tt, (d, tt), (mach ∷ [], tt)), tt) u r (tt, tt) (tt, tt)) $ says ! e $
       move ! (1 ∷ []) $ frame ! $ nothing ! $ move ! (2 ∷ 0 ∷ []) $ fjoin ! $ frame ! $ done !
 
-  module _ (C : Calls 𝓤 H) (Λ : Loops 𝓤 H) (fm : FmC 𝓤 H (W .laws) C) (known : Triple 𝓤 (C #text·next-token) (StepAt 𝓤 H A mem run)) where
-    walk : Holds (hasTy (T′.mir (named 0)) mach) × WT mach → Is P.the-row (d .stand) (P′.lowered (d .stand) ∷ []) → ent 𝓤 (onEntry 𝓤 H A word.signature (κ, tt) (q, tt) (d, tt) (mach ∷ [], tt)) (WpFn 𝓤 H C Λ code.function (mach ∷ []) Post)
+  module _ (C : Calls 𝓤 H) (Λ : Loops 𝓤 H) (fm : FmC 𝓤 H (W .laws) C) (known : Triple 𝓤 (C #tokens·next-token) (StepAt 𝓤 H A mem run)) where
+    walk : Holds (hasTy (T′.mir (named 0)) mach) × WT mach → Is P.the-row (d .stand) (stood (d .stand) ∷ []) → ent 𝓤 (onEntry 𝓤 H A word.signature (κ, tt) (q, tt) (d, tt) (mach ∷ [], tt)) (WpFn 𝓤 H C Λ code.function (mach ∷ []) Post)
     walk wt stands =
         qed W (raw (onEntry 𝓤 H A word.signature (κ, tt) (q, tt) (d, tt) (mach ∷ [], tt)) ∷ []) ∵ enter ! C Λ code.function (mach ∷ []) _ $
         alloc1 ! (λ l₀. alloc1 ! (λ l₁. alloc1 ! (λ l₂. alloc1 ! (λ l₃. alloc0 ! $ params1 ! $ pass1 ! (init ! 4 refl wt) $ pass0 ! $
@@ -146,13 +151,13 @@ module _ {M : Type 1} (𝓤 : URA M) (H : Heap 𝓤) (A : Atoms 𝓤) (W : Given
         move ! (9 ∷ 10 ∷ []) $ free1 ! $ move ! (7 ∷ 8 ∷ []) $ free1 ! $ move ! (5 ∷ 6 ∷ []) $ free1 ! $ move ! (3 ∷ 4 ∷ []) $ free1 ! $ free0 ! $ by ! (exits r u e)))))))))
 
 module _ {M : Type 1} (𝓤 : URA M) (H : Heap 𝓤) (A : Atoms 𝓤) (W : Given 𝓤 H A) (mem : Memory → SProp 𝓤) (run : Routine → Fun 𝓤) where
-  word-of-walks : (C : Calls 𝓤 H) (Λ : Loops 𝓤 H) → FmC 𝓤 H (W .laws) C → Triple 𝓤 (C #text·next-token) (StepAt 𝓤 H A mem run)
+  word-of-walks : (C : Calls 𝓤 H) (Λ : Loops 𝓤 H) → FmC 𝓤 H (W .laws) C → Triple 𝓤 (C #tokens·next-token) (StepAt 𝓤 H A mem run)
       → Walks 𝓤 H A word.ended stayed (WpFn 𝓤 H C Λ code.function) (word.clauses 𝓤 H A mem run)
   word-of-walks C Λ fm known = walked 𝓤 H A word.ended stayed (word.clauses 𝓤 H A mem run) (WpFn 𝓤 H C Λ code.function) (λ κs. (LL.vals (T.the-type (namedLft 1 0 tt κs)) (T′.the-laws (namedLft 1 0 tt κs)), tt)) (λ κs. (LL.tells (T.the-type (namedLft 1 0 tt κs)) (T′.the-laws (namedLft 1 0 tt κs)), tt))
       (λ κs qs bounds a g are. needs 𝓤 _ _ (λ inside. walk 𝓤 H A W mem run (κs .0) (qs .0) (a .0) inside C Λ fm known (LL.lawful (T.the-type (namedLft 1 0 tt κs)) (T′.the-laws (namedLft 1 0 tt κs)) 𝓤 H A W .typed (a .0) _ (are .0) .0) (LL.owed (T.the-type (namedLft 1 0 tt κs)) (T′.the-laws (namedLft 1 0 tt κs)) (a .0) _ (are .0) .1 .0)))
 
 word-of-meets : {M : Type 1} (𝓤 : URA M) (H : Heap 𝓤) (A : Atoms 𝓤) (W : Given 𝓤 H A) (mem : Memory → SProp 𝓤) (run : Routine → Fun 𝓤) (𝓣 : Tables 𝓤 H)
-    → Triple 𝓤 (𝓣 .C #text·next-token) (StepAt 𝓤 H A mem run)
+    → Triple 𝓤 (𝓣 .C #tokens·next-token) (StepAt 𝓤 H A mem run)
     → Meets 𝓤 H A word.signature (WpFn 𝓤 H (𝓣 .C) (𝓣 .Λ) code.function) (word.spec 𝓤 H A mem run)
 word-of-meets 𝓤 H A W mem run 𝓣 known-step = walk-meets 𝓤 H A word.ended stayed W (goes-none 𝓤 H A W 1 B yes (λ κs x f. refl), tt) (word.clauses 𝓤 H A mem run) (WpFn 𝓤 H (𝓣 .C) (𝓣 .Λ) code.function) (WpFn-mono 𝓤 H (W .laws) 𝓣 code.function)
     (word-of-walks 𝓤 H A W mem run (𝓣 .C) (𝓣 .Λ) (fmOf 𝓤 H (W .laws) 𝓣) known-step)
@@ -163,4 +168,4 @@ word-of-spec 𝓤 H 𝓜 𝓖 𝓡 =
     entered 𝓤 H (tripleOf 𝓤 H (𝓖 .A) word.signature (word.spec 𝓤 H (𝓖 .A) (𝓜 .mem) (𝓡 .run)))
     (tables 𝓤 H 𝓜 𝓡 code.env .C) (tables 𝓤 H 𝓜 𝓡 code.env .Λ) #words·word-of code.function (code.unfolded 𝓤 H 𝓜 𝓡)
     (word-of-meets 𝓤 H (𝓖 .A) (givenOf 𝓤 H 𝓜 𝓖) (𝓜 .mem) (𝓡 .run) (tablesOf 𝓤 H 𝓜 (tables 𝓤 H 𝓜 𝓡 code.env))
-    (cited 𝓤 H (StepAt 𝓤 H (𝓖 .A) (𝓜 .mem) (𝓡 .run)) 𝓜 𝓡 code.env #text·next-token step-def.routine code.calls-text·next-token (step-thm.met 𝓤 H 𝓜 𝓖 𝓡)))
+    (cited 𝓤 H (StepAt 𝓤 H (𝓖 .A) (𝓜 .mem) (𝓡 .run)) 𝓜 𝓡 code.env #tokens·next-token step-def.routine code.calls-tokens·next-token (step-thm.met 𝓤 H 𝓜 𝓖 𝓡)))

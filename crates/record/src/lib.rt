@@ -106,7 +106,7 @@ pub fn read_record(text: &[u8], work: &mut [u32], entries: &mut [u32]) -> Record
     requires { ⌜ 8400 ≤ length (now entries) ⌝ }
     ensures { λ r. ⌜ RecordIs (now (text .entry)) (recordFields (now (text .entry)) (length (now (work .entry)))) r (now (work .exit)) (now (entries .exit)) ⌝ }
 {
-    match tree::entry_checks(text, work.len()) {
+    match text::entry_checks(text, work.len()) {
         Check::Passed => {
             return lay_record(text, work, entries);
         }

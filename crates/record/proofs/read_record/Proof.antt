@@ -2,7 +2,8 @@
 -- Assumes nothing.
 use borrow.Author.Needs.{needs}
 use lib.ListN.{length}
-use Rattle.record.proofs.EntryLaws.{Passes, passes, checks-refuse, record-read}
+use Rattle.definition.proofs.CallsLaws.{Passes, passes}
+use Rattle.record.proofs.EntryLaws.{checks-refuse, record-read}
 use Rattle.record.proofs.read_record.Statement.{statement}
 use Rattle.record.proofs.read_record.Tie as tie
 

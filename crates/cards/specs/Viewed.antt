@@ -18,7 +18,7 @@ abbrev pub otherAt : List ℕ → ℕ → ℕ → Bool
 otherAt text i n = eqb n indicatorColumn && otherIndicator (getD text i 0) (drop (i + 1) text)
 
 -- there is room for the view
-pub record Room (text seen : List ℕ) : Type 0 where
+pub record ViewRoom (text seen : List ℕ) : Type 0 where
   pub short : length text ≤ mostBytes
   pub room : length text ≤ length seen
 

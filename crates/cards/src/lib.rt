@@ -5,7 +5,7 @@ ghost use Prim.Native.Nat.{_+_, _≤_, _<_};
 ghost use lib.ListN.{length, getD, drop};
 ghost use Rattle.definition.specs.Limits.{mostBytes};
 ghost use Rattle.definition.specs.Cards.{columnNext, codeNext, shown as shownAs, lineEnds, otherIndicator};
-ghost use Rattle.cards.specs.Viewed.{otherAt, Room, Viewed, CardsRead};
+ghost use Rattle.cards.specs.Viewed.{otherAt, ViewRoom, Viewed, CardsRead};
 use definition::Check;
 use definition::Refusal;
 
@@ -106,7 +106,7 @@ fn is_other(cards: &[u8], i: usize, n: usize) -> bool
 
 // Refusal 51; where there is none, the first bytes of `view` are then the view of the cards.
 fn view_into(cards: &[u8], view: &mut [u8]) -> Check
-    requires { ⌜ Room (now cards) (now view) ⌝ }
+    requires { ⌜ ViewRoom (now cards) (now view) ⌝ }
     ensures { λ r. ⌜ Viewed (now (cards .entry)) r (now (view .exit)) ⌝ }
 {
     let mut i = 0;

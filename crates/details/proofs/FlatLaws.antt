@@ -15,12 +15,13 @@ use Rattle.definition.specs.Details.{Detail, detail, detailsIn, detailBytes, de
 use Rattle.definition.proofs.DetailLaws.{bytes-both, details-length}
 use Rattle.unions.specs.Shown.{listIn}
 use Rattle.listing.specs.Puts.{Put}
-use Rattle.entries.specs.Entered.{Shown, flatIn, itemsFrom, shownAll}
-use Rattle.entries.proofs.FlatLaws.{flat-length}
-use Rattle.details.specs.Detailed.{standing, clausePlaces, flatDetails, Within, Listed, detailsOf, Tabled}
+use Rattle.table.specs.Items.{itemsFrom}
+use Rattle.table.specs.Entered.{Shown, flatIn, shownAll}
+use Rattle.table.proofs.FlatLaws.{flat-length}
+use Rattle.details.specs.Detailed.{standingBytes, clausePlaces, flatDetails, Within, AllThere, detailsOf, RecordTabled}
 
 -- the parts of an entry's details, in the order in which they are put
-pub detail-parts : (x : Detail) → detailBytes x ≡ standing x ++ le8 (x .first) ++ le4 (x .own .slack) ++ clausePlaces (x .own)
+pub detail-parts : (x : Detail) → detailBytes x ≡ standingBytes x ++ le8 (x .first) ++ le4 (x .own .slack) ++ clausePlaces (x .own)
 unfolding detailBytes
 detail-parts x = refl
 
@@ -101,11 +102,11 @@ unfolding itemsFrom shownAll
 all-length w t k zero = refl
 all-length w t k (suc n) = ap suc (all-length w t (suc k) n)
 
-module _ {text w t : List ℕ} {from to n : ℕ} (h : Tabled text w t from to n) where
+module _ {text w t : List ℕ} {from to n : ℕ} (h : RecordTabled text w t from to n) where
   abbrev es : Entries
   es = foldedAll text (listIn w from to)
 
-  pub table-listed : Listed w t n
+  pub table-listed : AllThere w t n
   table-listed =
       record {
         fits = h .table .fits;

@@ -14,11 +14,12 @@ use Rattle.definition.proofs.DetailLaws.{detail-length}
 use Rattle.definition.proofs.Lists.{order}
 use Rattle.listing.specs.Puts.{Put}
 use Rattle.listing.proofs.PutLaws.{put-none, _and_}
-use Rattle.entries.specs.declared.Item.{Item}
-use Rattle.entries.specs.Entered.{Shown, itemAt, ownOf, shownOf, Sound}
-use Rattle.entries.proofs.OwnLaws.{sound-read}
-use Rattle.entries.proofs.LoopLaws.{all, rest, rest-all, At, at-starts, none-left, rest-next, at-fits, at-sound, at-next}
-use Rattle.details.specs.Detailed.{firstIn, detailIn, flatDetails, Within, farthest, First, There, Listed}
+use Rattle.table.specs.declared.Item.{Item}
+use Rattle.table.specs.Items.{itemAt}
+use Rattle.table.specs.Entered.{Shown, ownOf, shownOf, Sound}
+use Rattle.table.proofs.OwnLaws.{sound-read}
+use Rattle.table.proofs.LoopLaws.{all, rest, rest-all, At, at-starts, none-left, rest-next, at-fits, at-sound, at-next}
+use Rattle.details.specs.Detailed.{firstIn, detailIn, flatDetails, Within, farthest, FirstByte, There, AllThere}
 
 -- ---------------------------------------------------------------- one entry
 
@@ -34,7 +35,7 @@ module _ (w t : List ℕ) (k : ℕ) {x : Item} (e : (x ≡ itemAt t k) × (x .of
     pub first-fits : getD lists (itemAt t k .depth) 0 ≤ farthest → getD lists (x .depth) 0 + o < 18446744073709551616
     first-fits l = omega (arith, p .1, subst (λ (y : Item). getD lists (y .depth) 0 ≤ farthest) (sym (e .0)) l)
 
-    pub first-there : First lists (shownOf w (itemAt t k)) (getD lists (x .depth) 0 + o)
+    pub first-there : FirstByte lists (shownOf w (itemAt t k)) (getD lists (x .depth) 0 + o)
     first-there =
         record {
           is = ap (λ (n : ℕ). getD lists (x .depth) 0 + n) (p .0) ∙ ap (λ (y : Item). firstIn lists (shownOf w y)) (e .0);
@@ -85,7 +86,7 @@ pub record Detailing (w t out₀ out starts : List ℕ) (n k place : ℕ) : Type
   pub put : Put out₀ 0 done place out
   pub same : flatDetails (replicate 131 0) (all w t n) ≡ done ++ flatDetails starts (rest w t n k)
 
-pub starts : (w t out : List ℕ) (n : ℕ) → Listed w t n → Detailing w t out out (replicate 131 0) n 0 0
+pub starts : (w t out : List ℕ) (n : ℕ) → AllThere w t n → Detailing w t out out (replicate 131 0) n 0 0
 starts w t out n h =
     record {
       here = at-starts w t n (h .fits) (h .rows);
@@ -122,7 +123,7 @@ module _ {w t out₀ out lists : List ℕ} {n k place : ℕ} (inv : Detailing w 
 
     pub on :
         {first : ℕ} →
-        First lists (shownOf w (itemAt t k)) first →
+        FirstByte lists (shownOf w (itemAt t k)) first →
         {r : ℕ} {after : List ℕ} →
         Put out place (detailBytes (detailIn first (shownOf w (itemAt t k)))) r after →
         {d : ℕ} →

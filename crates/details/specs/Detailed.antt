@@ -11,12 +11,13 @@ use Rattle.definition.specs.Fold.{foldedAll}
 use Rattle.definition.specs.Listing.{flag, spanBytes}
 use Rattle.definition.specs.Details.{Detail, detail, detailBytes, entriesDetails, height}
 use Rattle.unions.specs.Shown.{listIn}
-use Rattle.entries.specs.Entered.{Shown, itemAt, itemsFrom, shownAll, Sound, Rows, Entered}
+use Rattle.table.specs.Items.{itemAt, itemsFrom}
+use Rattle.table.specs.Entered.{Shown, shownAll, Sound, Rows, Entered}
 
 -- ---------------------------------------------------------------- the parts of an entry's details
 
-abbrev pub standing : Detail → List ℕ
-standing x = le4 (x .own .at) ++ (x .own .level ∷ x .depth ∷ flag (x .own .folded) ∷ le4 (x .below))
+abbrev pub standingBytes : Detail → List ℕ
+standingBytes x = le4 (x .own .at) ++ (x .own .level ∷ x .depth ∷ flag (x .own .folded) ∷ le4 (x .below))
 
 abbrev pub clausePlaces : Entry → List ℕ
 clausePlaces e = spanBytes (e .picture) ++ spanBytes (e .over) ++ spanBytes (e .depending)
@@ -47,7 +48,7 @@ abbrev pub farthest : ℕ
 farthest = 5153960755200
 
 -- r is the first byte of an entry, and its offset is one of 32 bits
-pub record First (starts : List ℕ) (x : Shown) (r : ℕ) : Type 0 where
+pub record FirstByte (starts : List ℕ) (x : Shown) (r : ℕ) : Type 0 where
   pub is : r ≡ firstIn starts x
   pub small : x .own .offset < 4294967296
 
@@ -58,7 +59,7 @@ pub record There (w t : List ℕ) (k : ℕ) : Type 0 where
   pub deep : itemAt t k .depth < 130
 
 -- the first n entries are
-pub record Listed (w t : List ℕ) (n : ℕ) : Type 0 where
+pub record AllThere (w t : List ℕ) (n : ℕ) : Type 0 where
   pub fits : 7 * n ≤ length t
   pub rows : Rows w (itemsFrom t 0 n)
   pub deep : Within (shownAll w (itemsFrom t 0 n))
@@ -71,7 +72,7 @@ abbrev pub detailsOf : List ℕ → List ℕ → ℕ → ℕ → List ℕ
 detailsOf text w from to = entriesDetails (foldedAll text (listIn w from to))
 
 -- the table of a record, which was laid
-pub record Tabled (text w t : List ℕ) (from to n : ℕ) : Type 0 where
+pub record RecordTabled (text w t : List ℕ) (from to n : ℕ) : Type 0 where
   pub few : to ≤ mostStatements
   pub table : Entered text w from to t n
   pub deep : height (foldedAll text (listIn w from to)) ≤ 130

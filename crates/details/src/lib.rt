@@ -7,8 +7,9 @@ ghost use lib.ListN.{length, getD, replicate};
 ghost use Rattle.definition.specs.Calls.{afterWriting, fitting, left, writingOf};
 ghost use Rattle.definition.specs.Details.{detail, detailBytes};
 ghost use Rattle.listing.specs.Puts.{Countable, Put};
-ghost use Rattle.entries.specs.Entered.{itemAt, itemsFrom, shownOf, shownAll};
-ghost use Rattle.details.specs.Detailed.{standing, clausePlaces, farthest, First, detailIn, flatDetails, There, Listed, detailsOf, Tabled};
+ghost use Rattle.table.specs.Items.{itemAt, itemsFrom};
+ghost use Rattle.table.specs.Entered.{shownOf, shownAll};
+ghost use Rattle.details.specs.Detailed.{standingBytes, clausePlaces, farthest, FirstByte, detailIn, flatDetails, There, AllThere, detailsOf, RecordTabled};
 use definition::Entry;
 use definition::Refusal;
 use definition::Writing;
@@ -20,8 +21,8 @@ const DEPTHS: usize = 131;
 
 // Where the entry stands: its statement's position and level, its depth, whether folding made it, the entries below it.
 fn put_standing(out: &mut [u8], at: usize, e: Entry, depth: u8, below: usize) -> usize
-    requires { ⌜ Countable at (standing (detail e depth below 0)) ⌝ }
-    ensures { λ r. ⌜ Put (now (out .entry)) at (standing (detail e depth below 0)) r (now (out .exit)) ⌝ }
+    requires { ⌜ Countable at (standingBytes (detail e depth below 0)) ⌝ }
+    ensures { λ r. ⌜ Put (now (out .entry)) at (standingBytes (detail e depth below 0)) r (now (out .exit)) ⌝ }
 {
     let second = listing::put4(out, at, e.at);
     let third = listing::put_byte(out, second, e.level);
@@ -61,18 +62,18 @@ fn depth_of(entries: &[u32], k: usize) -> usize
     requires { ⌜ 7 * k + 7 ≤ length (now entries) ⌝ }
     ensures { λ r. ⌜ r ≡ itemAt (now (entries .entry)) k .depth ⌝ }
 {
-    let x = entries::item_at(entries, k);
+    let x = table::item_at(entries, k);
     x.depth
 }
 
 // The first byte of entry k, by the starts of the open lists.
 fn first_of(work: &[u32], entries: &[u32], k: usize, starts: &[usize; DEPTHS]) -> usize
     requires { ⌜ There (now work) (now entries) k × (getD (now starts) (itemAt (now entries) k .depth) 0 ≤ farthest) ⌝ }
-    ensures { λ r. ⌜ First (now (starts .entry)) (shownOf (now (work .entry)) (itemAt (now (entries .entry)) k)) r ⌝ }
+    ensures { λ r. ⌜ FirstByte (now (starts .entry)) (shownOf (now (work .entry)) (itemAt (now (entries .entry)) k)) r ⌝ }
 {
-    let x = entries::item_at(entries, k);
+    let x = table::item_at(entries, k);
     let depth = x.depth;
-    let offset = entries::offset_of(work, x);
+    let offset = table::offset_of(work, x);
     starts[depth] + offset
 }
 
@@ -88,11 +89,11 @@ fn put_own(
     requires { ⌜ There (now work) (now entries) k × (at ≤ 4294967295) ⌝ }
     ensures { λ r. ⌜ Put (now (out .entry)) at (detailBytes (detailIn first (shownOf (now (work .entry)) (itemAt (now (entries .entry)) k)))) r (now (out .exit)) ⌝ }
 {
-    let x = entries::item_at(entries, k);
+    let x = table::item_at(entries, k);
     put_detail(
         out,
         at,
-        entries::own_of(work, x),
+        table::own_of(work, x),
         x.depth as u8,
         x.below,
         first,
@@ -101,7 +102,7 @@ fn put_own(
 
 // Puts the details of the first n entries.
 fn put_details(work: &[u32], entries: &[u32], n: usize, out: &mut [u8]) -> usize
-    requires { ⌜ Listed (now work) (now entries) n ⌝ }
+    requires { ⌜ AllThere (now work) (now entries) n ⌝ }
     ensures { λ r. ⌜ Put (now (out .entry)) 0 (flatDetails (replicate 131 0) (shownAll (now (work .entry)) (itemsFrom (now (entries .entry)) 0 n))) r (now (out .exit)) ⌝ }
 {
     let mut starts = [0usize; DEPTHS];
@@ -128,7 +129,7 @@ pub fn write_details(
     count: usize,
     out: &mut [u8],
 ) -> Writing
-    requires { ⌜ Tabled (now text) (now work) (now entries) from to count ⌝ }
+    requires { ⌜ RecordTabled (now text) (now work) (now entries) from to count ⌝ }
     ensures { λ r. ⌜ left (writingOf r) (now (out .exit)) [] ≡ afterWriting (fitting (length (now (out .entry))) (detailsOf (now (text .entry)) (now (work .entry)) from to)) (now (out .entry)) [] ⌝ }
 {
     let needed = 47 * count;

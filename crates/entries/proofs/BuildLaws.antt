@@ -19,11 +19,13 @@ use Rattle.rows.specs.Table.{cell, spanAt}
 use Rattle.places.specs.Places.{entryIn}
 use Rattle.unions.specs.Shown.{SizedRow, Measured}
 use Rattle.unions.proofs.FoldedLaws.{count-append, widest-append}
-use Rattle.entries.specs.declared.Item.{Item}
+use Rattle.table.specs.declared.Item.{Item}
 use Rattle.entries.specs.declared.Block.{Block}
-use Rattle.entries.specs.Entered.{Shown, flatIn, itemCells, cells, ownOf, shownOf, shownAll, Sound, Rows}
-use Rattle.entries.specs.Building.{standsAs, block, within, Room, Built, ownItem, unionItem, Small, Open, Closed}
-use Rattle.entries.proofs.FlatLaws.{flat-append, flat-length, size-append, members-few}
+use Rattle.table.specs.Items.{itemCells, allCells}
+use Rattle.table.specs.Entered.{Shown, flatIn, ownOf, shownOf, shownAll, Sound, Rows}
+use Rattle.table.specs.Items.{ItemSmall}
+use Rattle.entries.specs.Building.{standsAs, block, within, TableRoom, Built, ownItem, unionItem, ItemOpen, ItemClosed}
+use Rattle.table.proofs.FlatLaws.{flat-append, flat-length, size-append, members-few}
 
 -- ---------------------------------------------------------------- an item closed
 
@@ -35,14 +37,14 @@ module _ (i : ℕ) {out : List ℕ} {b inner : Block} {depth : ℕ} where
   -- its numbers are small
   pub small-own :
       (member : Bool) (start : ℕ) {m a o v n x y width : ℕ} →
-      Open out b inner depth i →
+      ItemOpen out b inner depth i →
       m ≡ flag member →
       (a ≡ x) × (a < 4294967296) →
       o ≡ a - start →
       (v ≡ y) × (v < 4294967296) →
       Measured n width →
       (7 * b .next + 7 ≤ length out)
-      × Small (record { row = i; mark = m; offset = o; width = v; members = inner .count; below = inner .next - b .next - 1; depth = depth })
+      × ItemSmall (record { row = i; mark = m; offset = o; width = v; members = inner .count; below = inner .next - b .next - 1; depth = depth })
       × (b .count < 4294967296)
       × (b .widest ≤ largest)
       × (width ≤ largest)
@@ -60,8 +62,8 @@ module _ (w : List ℕ) (i : ℕ) {out : List ℕ} {b inner : Block} {depth : �
     pub closed-own :
         {r : Block} {after : List ℕ} →
         Measured (total (entryIn w i)) width →
-        Closed out b inner (record { row = i; mark = m; offset = o; width = v; members = inner .count; below = inner .next - b .next - 1; depth = depth }) width r after →
-        Closed out b inner (ownItem w i member start b inner depth) (total (entryIn w i)) r after
+        ItemClosed out b inner (record { row = i; mark = m; offset = o; width = v; members = inner .count; below = inner .next - b .next - 1; depth = depth }) width r after →
+        ItemClosed out b inner (ownItem w i member start b inner depth) (total (entryIn w i)) r after
     closed-own {r} t h =
         let offset : o ≡ cell w i OFFSET - start = s ∙ ap (λ (n : ℕ). n - start) p in
         record {
@@ -75,8 +77,8 @@ module _ (w : List ℕ) (i : ℕ) {out : List ℕ} {b inner : Block} {depth : �
   pub closed-union :
       {a : ℕ} {r : Block} {after : List ℕ} →
       a ≡ cell w i OFFSET →
-      Closed out b inner (record { row = i; mark = 2; offset = a; width = inner .widest; members = inner .count; below = inner .next - b .next - 1; depth = depth }) (inner .widest) r after →
-      Closed out b inner (unionItem w i b inner depth) (inner .widest) r after
+      ItemClosed out b inner (record { row = i; mark = 2; offset = a; width = inner .widest; members = inner .count; below = inner .next - b .next - 1; depth = depth }) (inner .widest) r after →
+      ItemClosed out b inner (unionItem w i b inner depth) (inner .widest) r after
   closed-union p h =
       record {
         put = h .put ∙ (λ k. sets out (7 * b .next) (i ∷ 2 ∷ p k ∷ inner .widest ∷ inner .count ∷ (inner .next - b .next - 1) ∷ depth ∷ []));
@@ -101,15 +103,15 @@ sets-before (x ∷ xs) cs out k =
     ∙ ap (λ (n : ℕ). sets (sets (set out k x) n cs) (suc k) xs) e
     ∙ sets-before xs cs (set out k x) (suc k)
 
-cells-append : (a b : List Item) → cells (a ++ b) ≡ cells a ++ cells b
-unfolding cells
+cells-append : (a b : List Item) → allCells (a ++ b) ≡ allCells a ++ allCells b
+unfolding allCells
 cells-append [] b = refl
 cells-append (x ∷ a) b = simp (cells-append a b, append-assoc)
 
-cells-length : (a : List Item) → length (cells a) ≡ 7 * length a
-unfolding cells
+cells-length : (a : List Item) → length (allCells a) ≡ 7 * length a
+unfolding allCells
 cells-length [] = omega arith
-cells-length (x ∷ a) = omega (arith, length-append (itemCells x) (cells a), cells-length a)
+cells-length (x ∷ a) = omega (arith, length-append (itemCells x) (allCells a), cells-length a)
 
 shown-append : (w : List ℕ) (a b : List Item) → shownAll w (a ++ b) ≡ shownAll w a ++ shownAll w b
 unfolding shownAll
@@ -128,7 +130,7 @@ shown-length w (x ∷ a) = ap suc (shown-length w a)
 -- ---------------------------------------------------------------- entries after others
 
 pub built-none : (w out : List ℕ) (b : Block) (d : ℕ) → b .widest ≤ largest → Built w out b d end b out
-unfolding shownAll flatIn cells widest
+unfolding shownAll flatIn allCells widest
 built-none w out b d h = record { items = []; rows = tt; is = refl; put = refl; next = omega arith; count = omega arith; most = omega arith; narrow = h }
 
 pub built-as : {w out : List ℕ} {b : Block} {d : ℕ} {es fs : Entries} {r : Block} {after : List ℕ} → es ≡ fs → Built w out b d fs r after → Built w out b d es r after
@@ -140,19 +142,19 @@ module _ {w out : List ℕ} {b : Block} {d : ℕ} {es : Entries} {r : Block} {af
   built-many = sym (shown-length w (p .items)) ∙ ap length (p .is) ∙ flat-length es d
 
   pub built-length : length after ≡ length out
-  built-length = ap length (p .put) ∙ length-sets out (7 * b .next) (cells (p .items))
+  built-length = ap length (p .put) ∙ length-sets out (7 * b .next) (allCells (p .items))
 
   pub _then_ : {fs : Entries} {r′ : Block} {after′ : List ℕ} → Built w after r d fs r′ after′ → Built w out b d (append es fs) r′ after′
   _then_ {fs} {r′} {after′} q =
-      let place : 7 * r .next ≡ 7 * b .next + length (cells (p .items)) = omega (arith, p .next, built-many, cells-length (p .items)) in
+      let place : 7 * r .next ≡ 7 * b .next + length (allCells (p .items)) = omega (arith, p .next, built-many, cells-length (p .items)) in
       record {
         items = p .items ++ q .items;
         rows = rows-append w (p .items) (q .items) (p .rows) (q .rows);
         is = shown-append w (p .items) (q .items) ∙ ap₂ (λ (x y : List Shown). x ++ y) (p .is) (q .is) ∙ sym (flat-append es fs d);
         put =
             q .put
-            ∙ (λ k. sets (p .put k) (place k) (cells (q .items)))
-            ∙ sym (sets-append (cells (p .items)) (cells (q .items)) out (7 * b .next))
+            ∙ (λ k. sets (p .put k) (place k) (allCells (q .items)))
+            ∙ sym (sets-append (allCells (p .items)) (allCells (q .items)) out (7 * b .next))
             ∙ ap (sets out (7 * b .next)) (sym (cells-append (p .items) (q .items)));
         next = omega (arith, p .next, q .next, size-append es fs);
         count = omega (arith, p .count, q .count, count-append es fs);
@@ -161,7 +163,7 @@ module _ {w out : List ℕ} {b : Block} {d : ℕ} {es : Entries} {r : Block} {af
       }
 
   -- room for the rest
-  pub room-rest : {n to : ℕ} (m : ℕ) → n ≡ entries# es + m → Room out b d n to → Room after r d m to
+  pub room-rest : {n to : ℕ} (m : ℕ) → n ≡ entries# es + m → TableRoom out b d n to → TableRoom after r d m to
   room-rest m e h =
       record {
         fits = omega (arith, h .fits, p .next, built-length);
@@ -172,20 +174,20 @@ module _ {w out : List ℕ} {b : Block} {d : ℕ} {es : Entries} {r : Block} {af
         rows = h .rows;
       }
 
-pub room-first : {out : List ℕ} {b : Block} {d n to : ℕ} (m k : ℕ) → n ≡ m + k → Room out b d n to → Room out b d m to
+pub room-first : {out : List ℕ} {b : Block} {d n to : ℕ} (m k : ℕ) → n ≡ m + k → TableRoom out b d n to → TableRoom out b d m to
 room-first m k e h = record { fits = omega (arith, h .fits); small = omega (arith, h .small); deep = h .deep; few = h .few; narrow = h .narrow; rows = h .rows }
 
-pub room-part : {out : List ℕ} {b : Block} {d n to : ℕ} (to′ : ℕ) → to′ ≤ to → Room out b d n to → Room out b d n to′
+pub room-part : {out : List ℕ} {b : Block} {d n to : ℕ} (to′ : ℕ) → to′ ≤ to → TableRoom out b d n to → TableRoom out b d n to′
 room-part to′ e h = record { fits = h .fits; small = h .small; deep = h .deep; few = h .few; narrow = h .narrow; rows = omega (arith, h .rows) }
 
 -- ---------------------------------------------------------------- an entry before its members
 
-pub room-within : {out : List ℕ} {b : Block} {d n to : ℕ} → Room out b d (suc (n + 0)) to → Room out (within b) (d + 1) n to
+pub room-within : {out : List ℕ} {b : Block} {d n to : ℕ} → TableRoom out b d (suc (n + 0)) to → TableRoom out (within b) (d + 1) n to
 room-within h =
     record { fits = omega (arith, h .fits); small = omega (arith, h .small); deep = omega (arith, h .deep); few = omega arith; narrow = omega arith; rows = h .rows }
 
 module _ (b : Block) (d : ℕ) {w out : List ℕ} {ms : Entries} {inner : Block} {mid : List ℕ} (p : Built w out (within b) (d + 1) ms inner mid) where
-  pub room-open : {to : ℕ} (i : ℕ) → i < to → Room out b d (suc (entries# ms + 0)) to → Open mid b inner d i
+  pub room-open : {to : ℕ} (i : ℕ) → i < to → TableRoom out b d (suc (entries# ms + 0)) to → ItemOpen mid b inner d i
   room-open i l h =
       record {
         fits = omega (arith, h .fits, built-length p);
@@ -199,15 +201,15 @@ module _ (b : Block) (d : ℕ) {w out : List ℕ} {ms : Entries} {inner : Block}
       }
 
   module _ (e : Entry) (x : Item) (f : Sound w x) (s : shownOf w x ≡ record { own = e; members = members# ms; below = entries# ms; depth = d }) where
-    closed-put : {after : List ℕ} → after ≡ sets mid (7 * b .next) (itemCells x) → after ≡ sets out (7 * b .next) (cells (x ∷ p .items))
-    unfolding cells
+    closed-put : {after : List ℕ} → after ≡ sets mid (7 * b .next) (itemCells x) → after ≡ sets out (7 * b .next) (allCells (x ∷ p .items))
+    unfolding allCells
     closed-put q =
         let place : 7 * within b .next ≡ 7 * b .next + 7 = omega arith in
         q
-        ∙ ap (λ (l : List ℕ). sets l (7 * b .next) (itemCells x)) (p .put ∙ ap (λ (n : ℕ). sets out n (cells (p .items))) place)
-        ∙ sets-before (itemCells x) (cells (p .items)) out (7 * b .next)
+        ∙ ap (λ (l : List ℕ). sets l (7 * b .next) (itemCells x)) (p .put ∙ ap (λ (n : ℕ). sets out n (allCells (p .items))) place)
+        ∙ sets-before (itemCells x) (allCells (p .items)) out (7 * b .next)
 
-    pub built-entry : {r : Block} {after : List ℕ} {n : ℕ} → n ≡ total e → Closed mid b inner x n r after → Built w out b d (entry e ms end) r after
+    pub built-entry : {r : Block} {after : List ℕ} {n : ℕ} → n ≡ total e → ItemClosed mid b inner x n r after → Built w out b d (entry e ms end) r after
     unfolding shownAll flatIn widest
     built-entry {r} t c =
         record {
@@ -246,14 +248,14 @@ module _ (b : Block) (d : ℕ) {w out : List ℕ} {ms : Entries} {inner : Block}
     pub built-own :
         SizedRow w i →
         (member : Bool) (start : ℕ) {r : Block} {after : List ℕ} →
-        Closed mid b inner (ownItem w i member start b inner d) (total (entryIn w i)) r after →
+        ItemClosed mid b inner (ownItem w i member start b inner d) (total (entryIn w i)) r after →
         Built w out b d (entry (standsAs member start (entryIn w i)) ms end) r after
     built-own f member start c =
         built-entry (standsAs member start (entryIn w i)) (ownItem w i member start b inner d) (sound-own f member start) (own-shown member start) (own-total member start) c
 
     pub built-union :
         ROW * i + ROW ≤ length w →
-        {r : Block} {after : List ℕ} → Closed mid b inner (unionItem w i b inner d) (inner .widest) r after → Built w out b d (entry (union (entryIn w i) (widest ms)) ms end) r after
+        {r : Block} {after : List ℕ} → ItemClosed mid b inner (unionItem w i b inner d) (inner .widest) r after → Built w out b d (entry (union (entryIn w i) (widest ms)) ms end) r after
     built-union f c =
         let wide : inner .widest ≡ widest ms = omega (arith, p .most) in
         built-entry

@@ -18,10 +18,12 @@ use Rattle.places.specs.Places.{rowsForest}
 use Rattle.places.proofs.EntriesLaws.{size-stretch}
 use Rattle.unions.specs.Shown.{listIn}
 use Rattle.unions.proofs.ShownLaws.{entries-size}
-use Rattle.entries.specs.declared.Item.{Item}
+use Rattle.table.specs.declared.Item.{Item}
 use Rattle.entries.specs.declared.Block.{Block}
-use Rattle.entries.specs.Entered.{Shown, flatIn, itemCells, cells, itemAt, itemsFrom, shownAll, Rows, Entered}
-use Rattle.entries.specs.Building.{listed, block, Room, Built}
+use Rattle.table.specs.Items.{itemCells, allCells, itemAt, itemsFrom}
+use Rattle.table.specs.Entered.{Shown, flatIn, shownAll, Rows, Entered}
+use Rattle.table.specs.Entered.{listed}
+use Rattle.entries.specs.Building.{block, TableRoom, Built}
 use Rattle.entries.proofs.BuildLaws.{built-many, built-length}
 use Rattle.layout.proofs.SizeLaws.{folded-size}
 
@@ -40,16 +42,16 @@ item-put t k x vs h =
     item-is (sets (sets t (7 * k) (itemCells x)) (7 * k + 7) vs) k x
     (λ c l. getD-below vs (sets t (7 * k) (itemCells x)) (7 * k + 7) (7 * k + c) (omega arith) ∙ getD-in (itemCells x) t (7 * k) c (7 * k + c) refl l (omega arith))
 
-pub items-put : (xs : List Item) (t : List ℕ) (k : ℕ) → 7 * (k + length xs) ≤ length t → itemsFrom (sets t (7 * k) (cells xs)) k (length xs) ≡ xs
-unfolding cells itemsFrom
+pub items-put : (xs : List Item) (t : List ℕ) (k : ℕ) → 7 * (k + length xs) ≤ length t → itemsFrom (sets t (7 * k) (allCells xs)) k (length xs) ≡ xs
+unfolding allCells itemsFrom
 items-put [] t k h = refl
 items-put (x ∷ xs) t k h =
     let t₁ = sets t (7 * k) (itemCells x) in
     let next : 7 * k + 7 ≡ 7 * suc k = omega arith in
-    let all : sets t (7 * k) (itemCells x ++ cells xs) ≡ sets t₁ (7 * k + 7) (cells xs) = sets-append (itemCells x) (cells xs) t (7 * k) in
-    let first : itemAt (sets t (7 * k) (itemCells x ++ cells xs)) k ≡ x = ap (λ (l : List ℕ). itemAt l k) all ∙ item-put t k x (cells xs) (omega arith) in
-    let more : itemsFrom (sets t (7 * k) (itemCells x ++ cells xs)) (suc k) (length xs) ≡ xs =
-    ap (λ (l : List ℕ). itemsFrom l (suc k) (length xs)) (all ∙ ap (λ (n : ℕ). sets t₁ n (cells xs)) next)
+    let all : sets t (7 * k) (itemCells x ++ allCells xs) ≡ sets t₁ (7 * k + 7) (allCells xs) = sets-append (itemCells x) (allCells xs) t (7 * k) in
+    let first : itemAt (sets t (7 * k) (itemCells x ++ allCells xs)) k ≡ x = ap (λ (l : List ℕ). itemAt l k) all ∙ item-put t k x (allCells xs) (omega arith) in
+    let more : itemsFrom (sets t (7 * k) (itemCells x ++ allCells xs)) (suc k) (length xs) ≡ xs =
+    ap (λ (l : List ℕ). itemsFrom l (suc k) (length xs)) (all ∙ ap (λ (n : ℕ). sets t₁ n (allCells xs)) next)
     ∙ items-put xs t₁ (suc k) (omega (arith, length-sets t (7 * k) (itemCells x))) in
     ap₂ (λ (y : Item) (ys : List Item). y ∷ ys) first more
 
@@ -59,7 +61,7 @@ module _ (text w : List ℕ) (from to : ℕ) where
   few-entries : 2 * entries# (listed text w from to) ≤ 3 * to
   few-entries = omega (arith, folded-size text (listIn w from to), entries-size w (rowsForest w from to) from, size-stretch w from to)
 
-  pub room-all : (out : List ℕ) → to ≤ mostStatements → 8400 ≤ length out → Room out (block 0 0 0) 0 (entries# (listed text w from to)) to
+  pub room-all : (out : List ℕ) → to ≤ mostStatements → 8400 ≤ length out → TableRoom out (block 0 0 0) 0 (entries# (listed text w from to)) to
   room-all out h l =
       let few = few-entries in
       record { fits = omega arith; small = omega arith; deep = omega arith; few = omega arith; narrow = omega arith; rows = h }

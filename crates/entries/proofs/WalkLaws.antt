@@ -23,8 +23,9 @@ use Rattle.unions.proofs.FoldedLaws.{append-end, append-append, redefiners-belo
 use Rattle.unions.proofs.ShownLaws.{walking-here, walking-ends}
 use Rattle.unions.proofs.WidthLaws.{Along, along-starts, along-on, Next, Onward, Following, following-starts, following-none, following-next, next-numbered, next-sized, next-tree, next-is, next-on}
 use Rattle.entries.specs.declared.Block.{Block}
-use Rattle.entries.specs.Building.{listed, itemIn, redefined, unionIn, ownMember, Room, Built}
-use Rattle.entries.proofs.FlatLaws.{size-append}
+use Rattle.table.specs.Entered.{listed}
+use Rattle.entries.specs.Building.{itemIn, redefined, unionIn, ownMember, TableRoom, Built}
+use Rattle.table.proofs.FlatLaws.{size-append}
 use Rattle.entries.proofs.BuildLaws.{built-none, built-as, _then_, room-rest, room-first, room-part}
 
 -- ---------------------------------------------------------------- what a row comes to
@@ -99,22 +100,22 @@ module _ (t w : List ℕ) (i j to : ℕ) where
 
 -- ---------------------------------------------------------------- two parts, one after the other
 
-module _ {es : Entries} (xs ys : Entries) (e : es ≡ append xs ys) {out : List ℕ} {b : Block} {d to : ℕ} (h : Room out b d (entries# es) to) where
+module _ {es : Entries} (xs ys : Entries) (e : es ≡ append xs ys) {out : List ℕ} {b : Block} {d to : ℕ} (h : TableRoom out b d (entries# es) to) where
   sizes : entries# es ≡ entries# xs + entries# ys
   sizes = ap entries# e ∙ size-append xs ys
 
-  pub first-room : Room out b d (entries# xs) to
+  pub first-room : TableRoom out b d (entries# xs) to
   first-room = room-first (entries# xs) (entries# ys) sizes h
 
   module _ {w : List ℕ} {r : Block} {after : List ℕ} (p : Built w out b d xs r after) where
-    pub second-room : Room after r d (entries# ys) to
+    pub second-room : TableRoom after r d (entries# ys) to
     second-room = room-rest p (entries# ys) sizes h
 
     pub both-built : {r′ : Block} {after′ : List ℕ} → Built w after r d ys r′ after′ → Built w out b d es r′ after′
     both-built q = built-as e (p then q)
 
-pub room-as : {es fs : Entries} → es ≡ fs → {out : List ℕ} {b : Block} {d to : ℕ} → Room out b d (entries# es) to → Room out b d (entries# fs) to
-room-as e {out} {b} {d} {to} h = subst (λ (x : Entries). Room out b d (entries# x) to) e h
+pub room-as : {es fs : Entries} → es ≡ fs → {out : List ℕ} {b : Block} {d to : ℕ} → TableRoom out b d (entries# es) to → TableRoom out b d (entries# fs) to
+room-as e {out} {b} {d} {to} h = subst (λ (x : Entries). TableRoom out b d (entries# x) to) e h
 
 -- ---------------------------------------------------------------- the list
 
@@ -122,11 +123,11 @@ room-as e {out} {b} {d} {to} h = subst (λ (x : Entries). Room out b d (entries#
 pub record Listing (t w out₀ out : List ℕ) (from to : ℕ) (b₀ : Block) (d i last : ℕ) (b : Block) : Type 0 where
   pub done : Entries
   pub along : Along t w from to i last done
-  pub room : Room out₀ b₀ d (entries# (listed t w from to)) to
+  pub room : TableRoom out₀ b₀ d (entries# (listed t w from to)) to
   pub built : Built w out₀ b₀ d done b out
 
 pub listing-starts :
-    (t w out : List ℕ) (from to : ℕ) (b : Block) (d : ℕ) → Tree t w from to → Room out b d (entries# (listed t w from to)) to → Listing t w out out from to b d from 0 b
+    (t w out : List ℕ) (from to : ℕ) (b : Block) (d : ℕ) → Tree t w from to → TableRoom out b d (entries# (listed t w from to)) to → Listing t w out out from to b d from 0 b
 listing-starts t w out from to b d h f = record { done = end; along = along-starts t w from to h; room = f; built = built-none w out b d (f .narrow) }
 
 module _ {t w out₀ out : List ℕ} {from to : ℕ} {b₀ : Block} {d i last : ℕ} {b : Block} (inv : Listing t w out₀ out from to b₀ d i last b) where
@@ -134,7 +135,7 @@ module _ {t w out₀ out : List ℕ} {from to : ℕ} {b₀ : Block} {d i last : 
   listing-ends h = built-as (walking-ends (inv .along .walk) h) (inv .built)
 
   module _ {j : ℕ} (h : ChildrenEnd w i to j) where
-    pub listing-room : Room out b d (entries# (shownAt t w i j to last)) to
+    pub listing-room : TableRoom out b d (entries# (shownAt t w i j to last)) to
     listing-room =
         let shown = shownAt t w i j to last in
         let rest = foldedRest t w j to (suc i) in
@@ -150,7 +151,7 @@ module _ {t w out₀ out : List ℕ} {from to : ℕ} {b₀ : Block} {d i last : 
 pub record Redefining (t w out₀ out : List ℕ) (i j to : ℕ) (b₀ : Block) (d : ℕ) (b : Block) (k : ℕ) : Type 0 where
   pub at : ℕ
   pub following : Following t w i j to at k
-  pub room : Room out₀ b₀ d (entries# (redefined t w i j to)) to
+  pub room : TableRoom out₀ b₀ d (entries# (redefined t w i j to)) to
   pub done : Entries
   pub built : Built w out₀ b₀ d done b out
   pub same : redefined t w i j to ≡ append done (redefined t w i at to)
@@ -159,7 +160,7 @@ pub redefining-starts :
     (t w out : List ℕ) (i j to : ℕ) (b : Block) (d : ℕ) {k : ℕ} →
     Base t w i j to →
     k ≡ cell w i NEXT →
-    Room out b d (entries# (redefined t w i j to)) to →
+    TableRoom out b d (entries# (redefined t w i j to)) to →
     Redefining t w out out i j to b d b k
 unfolding append
 redefining-starts t w out i j to b d h e f =
@@ -201,7 +202,7 @@ module _ {t w out₀ out : List ℕ} {i j to : ℕ} {b₀ : Block} {d : ℕ} {b 
             ∙ at-next t w (k - 1) m to (rebased (cell w i OFFSET) (entryIn w (k - 1))) (redefined t w i m to)
             ∙ ap (λ (n : ℕ). entry (rebased n (entryIn w (k - 1))) (listed t w (k - 1 + 1) m) (redefined t w i m to)) (sym z)
 
-        pub redefining-room : Room out b d (entries# (itemIn t w (k - 1) m true start)) m
+        pub redefining-room : TableRoom out b d (entries# (itemIn t w (k - 1) m true start)) m
         redefining-room =
             let item = itemIn t w (k - 1) m true start in
             let rest = redefined t w i m to in

@@ -16,15 +16,12 @@ use Rattle.rows.specs.Table.{cell, spanAt}
 use Rattle.redefines.specs.Targets.{placeAt}
 use Rattle.places.specs.Places.{entryIn}
 use Rattle.unions.specs.Shown.{listIn, redefinersIn}
-use Rattle.entries.specs.declared.Item.{Item}
+use Rattle.table.specs.declared.Item.{Item}
 use Rattle.entries.specs.declared.Block.{Block}
-use Rattle.entries.specs.Entered.{flatIn, itemCells, cells, shownAll, Rows}
+use Rattle.table.specs.Items.{ITEM, UNION, itemCells, allCells}
+use Rattle.table.specs.Entered.{listed, flatIn, shownAll, Rows}
 
 -- ---------------------------------------------------------------- what is built
-
--- the folded list of the rows from `from` up to `to`
-abbrev pub listed : List ℕ → List ℕ → ℕ → ℕ → Entries
-listed text w from to = foldedAll text (listIn w from to)
 
 -- an entry by itself, or as a member of the union that starts there
 abbrev pub standsAs : Bool → ℕ → Entry → Entry
@@ -58,8 +55,8 @@ abbrev pub within : Block → Block
 within b = block (b .next + 1) 0 0
 
 -- there is room for n more entries at that depth, of rows before `to`
-pub record Room (out : List ℕ) (b : Block) (depth n to : ℕ) : Type 0 where
-  pub fits : 7 * (b .next + n) ≤ length out
+pub record TableRoom (out : List ℕ) (b : Block) (depth n to : ℕ) : Type 0 where
+  pub fits : ITEM * (b .next + n) ≤ length out
   pub small : b .next + n < 4294967296
   pub deep : depth ≤ b .next
   pub few : b .count ≤ b .next
@@ -71,7 +68,7 @@ pub record Built (w out : List ℕ) (b : Block) (depth : ℕ) (es : Entries) (r 
   pub items : List Item
   pub rows : Rows w items
   pub is : shownAll w items ≡ flatIn depth es
-  pub put : after ≡ sets out (7 * b .next) (cells items)
+  pub put : after ≡ sets out (ITEM * b .next) (allCells items)
   pub next : r .next ≡ b .next + entries# es
   pub count : r .count ≡ b .count + members# es
   pub most : r .widest ≡ max (b .widest) (widest es)
@@ -87,21 +84,11 @@ ownItem w i member start b inner depth =
 -- the union of row i with its redefiners
 abbrev pub unionItem : List ℕ → ℕ → Block → Block → ℕ → Item
 unionItem w i b inner depth =
-    record { row = i; mark = 2; offset = cell w i OFFSET; width = inner .widest; members = inner .count; below = inner .next - b .next - 1; depth = depth }
-
--- every number of an item fits in 32 bits
-pub record Small (x : Item) : Type 0 where
-  pub row : x .row < 4294967296
-  pub mark : x .mark < 4294967296
-  pub offset : x .offset < 4294967296
-  pub width : x .width < 4294967296
-  pub members : x .members < 4294967296
-  pub below : x .below < 4294967296
-  pub depth : x .depth < 4294967296
+    record { row = i; mark = UNION; offset = cell w i OFFSET; width = inner .widest; members = inner .count; below = inner .next - b .next - 1; depth = depth }
 
 -- what is needed to close it
-pub record Open (out : List ℕ) (b inner : Block) (depth i : ℕ) : Type 0 where
-  pub fits : 7 * b .next + 7 ≤ length out
+pub record ItemOpen (out : List ℕ) (b inner : Block) (depth i : ℕ) : Type 0 where
+  pub fits : ITEM * b .next + ITEM ≤ length out
   pub above : b .next + 1 ≤ inner .next
   pub small : inner .next < 4294967296
   pub members : inner .count ≤ inner .next
@@ -111,8 +98,8 @@ pub record Open (out : List ℕ) (b inner : Block) (depth i : ℕ) : Type 0 wher
   pub row : i < mostStatements
 
 -- the item x of that width stands before its members
-pub record Closed (out : List ℕ) (b inner : Block) (x : Item) (width : ℕ) (r : Block) (after : List ℕ) : Type 0 where
-  pub put : after ≡ sets out (7 * b .next) (itemCells x)
+pub record ItemClosed (out : List ℕ) (b inner : Block) (x : Item) (width : ℕ) (r : Block) (after : List ℕ) : Type 0 where
+  pub put : after ≡ sets out (ITEM * b .next) (itemCells x)
   pub next : r .next ≡ inner .next
   pub count : r .count ≡ b .count + 1
   pub most : r .widest ≡ max (b .widest) width

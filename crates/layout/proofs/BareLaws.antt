@@ -24,12 +24,6 @@ unfolding _>>=_
 bind-bind (refuse r) f g = refl
 bind-bind (give x) f g = refl
 
--- two ways of going on that agree at every value
-pub bind-same : {A B : Type 0} (a : Answer A) (f g : A → Answer B) → ((x : A) → f x ≡ g x) → (a >>= f) ≡ (a >>= g)
-unfolding _>>=_
-bind-same (refuse r) f g h = refl
-bind-same (give x) f g h = h x
-
 -- the same first step, and then ways of going on that agree up to `fin`
 pub bind-along :
     {A B C : Type 0} (a : Answer A) (f : A → Answer C) (g : A → Answer B) (fin : B → Answer C) →

@@ -10,18 +10,18 @@ use Rattle.definition.specs.declared.Pictured.{Pictured}
 use Rattle.definition.specs.Basic.{refuse, give, _>>=_, refused}
 use Rattle.definition.specs.Fold.{Place}
 use Rattle.definition.specs.Layout.{start, slackFrom, entryOf, tooLarge}
-use Rattle.layout.specs.Bare.{placed}
+use Rattle.layout.specs.Bare.{placedEntry}
 
 module _ (text : List ℕ) (s : Statement) (c : Pictured) (seen : List Place) (cursor : ℕ) where
-  pub placed-refused : {r : Refusal} → refuse r ≡ start text s c seen cursor → placed text s c seen cursor ≡ refuse r
-  unfolding placed _>>=_
+  pub placed-refused : {r : Refusal} → refuse r ≡ start text s c seen cursor → placedEntry text s c seen cursor ≡ refuse r
+  unfolding placedEntry _>>=_
   placed-refused h = rw (← h)
 
   module _ {offset : ℕ} (h : give offset ≡ start text s c seen cursor) where
-    pub placed-large : tooLarge (entryOf s c offset (slackFrom cursor s offset)) ≡ true → placed text s c seen cursor ≡ refused 29 (s .at)
-    unfolding placed _>>=_
+    pub placed-large : tooLarge (entryOf s c offset (slackFrom cursor s offset)) ≡ true → placedEntry text s c seen cursor ≡ refused 29 (s .at)
+    unfolding placedEntry _>>=_
     placed-large l = rw (← h, l)
 
-    pub placed-fits : tooLarge (entryOf s c offset (slackFrom cursor s offset)) ≡ false → placed text s c seen cursor ≡ give (entryOf s c offset (slackFrom cursor s offset))
-    unfolding placed _>>=_
+    pub placed-fits : tooLarge (entryOf s c offset (slackFrom cursor s offset)) ≡ false → placedEntry text s c seen cursor ≡ give (entryOf s c offset (slackFrom cursor s offset))
+    unfolding placedEntry _>>=_
     placed-fits l = rw (← h, l)

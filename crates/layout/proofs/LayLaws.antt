@@ -25,12 +25,13 @@ use Rattle.rows.specs.Columns.{ROW, AT, NAME, OFFSET, BEFORE}
 use Rattle.rows.specs.Table.{cell, spanAt, statementAt}
 use Rattle.places.specs.Places.{putPlaces, lastOf, entriesIn, rowsForest}
 use Rattle.redefines.specs.Targets.{placeAt, seenFrom, seenAt}
+use Rattle.redefines.specs.Prints.{Printed}
 use Rattle.places.specs.Children.{ChildrenEnd}
-use Rattle.places.proofs.PlaceLaws.{kept-places, before-places, statement-places, statements-places, first-offset, first-last, seen-low, seen-in, seen-same}
+use Rattle.places.proofs.PlaceLaws.{kept-places, before-places, statement-places, statements-places, first-offset, first-last, seen-low, seen-in, seen-same, printed-places}
 use Rattle.places.proofs.RowLaws.{forest-empty, forest-split, children-end}
 use Rattle.places.proofs.EntriesLaws.{size-stretch, rows-forest, Held, places-held, next-row, of-size}
 use Rattle.limits.proofs.EndLaws.{within}
-use Rattle.layout.specs.Bare.{ItemLaid, placed, bareItem}
+use Rattle.layout.specs.Bare.{ItemLaid, placedEntry, bareItem}
 use Rattle.layout.specs.Outcomes.{stopped, ready, after, layRest, layTable, halted, placing, afterItem, layItem, afterOwn, placeRow}
 use Rattle.layout.proofs.ContentLaws.{leaf-bounded}
 use Rattle.layout.proofs.ListLaws.{restAfter, bare-split, item-is, bare-is}
@@ -164,6 +165,16 @@ item-within text w i j depth last cursor h q =
     let n = subst (λ (z : Entry). entryEnd z ≤ largest) (y .own) (within (entryOf (statementAt w i) (y .contents) (y .offset) (y .slack)) (y .fits) .ends) in
     record { moves = subst (λ (z : ℕ). z ≤ largest) (g .moves) (advance-within cursor (g .laid .own) h n); ends = subst (λ (z : ℕ). z ≤ largest) (g .ends) n }
 
+-- the fingerprints stay
+pub item-printed :
+    (text w : List ℕ) (i j depth last cursor : ℕ) {c e n : ℕ} {w′ : List ℕ} →
+    layItem text w i j depth last cursor ≡ placing c e w′ →
+    Printed text w n →
+    Printed text w′ n
+item-printed text w i j depth last cursor {n = n} q h =
+    let g = item-given text w i last cursor (bareItem text depth (seenAt w last) cursor (statementAt w i) (rowsForest w (suc i) j)) q in
+    subst (λ (x : List ℕ). Printed text x n) (g .put) (printed-places text (entry (g .laid .own) (g .laid .members) end) w i last h)
+
 -- ---------------------------------------------------------------- one item
 
 -- its own place after its members'
@@ -176,7 +187,7 @@ own-then text w i last cursor members (give e) = refl
 
 -- without children
 module _ (text w : List ℕ) (i j depth last cursor : ℕ) (h : j ≤ suc i) where
-  leaf-item : bareItem text depth (seenAt w last) cursor (statementAt w i) (rowsForest w (suc i) j) ≡ (content text (statementAt w i) leaf 0 >>= λ c. placed text (statementAt w i) c (seenAt w last) cursor >>= λ e. give (record { own = e; members = end }))
+  leaf-item : bareItem text depth (seenAt w last) cursor (statementAt w i) (rowsForest w (suc i) j) ≡ (content text (statementAt w i) leaf 0 >>= λ c. placedEntry text (statementAt w i) c (seenAt w last) cursor >>= λ e. give (record { own = e; members = end }))
   unfolding bareItem lay foldCheck _>>=_
   leaf-item = ap (bareItem text depth (seenAt w last) cursor (statementAt w i)) (forest-empty w (suc i) j h)
 
@@ -185,15 +196,15 @@ module _ (text w : List ℕ) (i j depth last cursor : ℕ) (h : j ≤ suc i) whe
   leaf-stop e =
       sym
       (ap (afterItem text w i last cursor) leaf-item
-      ∙ ap (λ (a : Answer Pictured). afterItem text w i last cursor (a >>= λ c. placed text (statementAt w i) c (seenAt w last) cursor >>= λ d. give (record { own = d; members = end }))) (sym e))
+      ∙ ap (λ (a : Answer Pictured). afterItem text w i last cursor (a >>= λ c. placedEntry text (statementAt w i) c (seenAt w last) cursor >>= λ d. give (record { own = d; members = end }))) (sym e))
 
   pub leaf-place : {c : Pictured} → give c ≡ content text (statementAt w i) leaf 0 → placeRow text w i 0 last cursor c ≡ layItem text w i j depth last cursor
   unfolding putPlaces _>>=_
   leaf-place {c} e =
-      own-then text w i last cursor end (placed text (statementAt w i) c (seenAt w last) cursor)
+      own-then text w i last cursor end (placedEntry text (statementAt w i) c (seenAt w last) cursor)
       ∙ sym
       (ap (afterItem text w i last cursor) leaf-item
-      ∙ ap (λ (a : Answer Pictured). afterItem text w i last cursor (a >>= λ d. placed text (statementAt w i) d (seenAt w last) cursor >>= λ o. give (record { own = o; members = end }))) (sym e))
+      ∙ ap (λ (a : Answer Pictured). afterItem text w i last cursor (a >>= λ d. placedEntry text (statementAt w i) d (seenAt w last) cursor >>= λ o. give (record { own = o; members = end }))) (sym e))
 
 pub leaf-narrow : (text : List ℕ) (s : Statement) {c : Pictured} → give c ≡ content text s leaf 0 → c .width ≤ largest
 leaf-narrow text s e = omega (arith, leaf-bounded text s 0 (sym e) .width)
@@ -209,6 +220,10 @@ pub record LaidRows (text w : List ℕ) (a b depth width : ℕ) (w₁ : List ℕ
   pub put : putPlaces text w a 0 (laid .entries) ≡ w₁
   pub many : entries# (laid .entries) ≡ b - a
   pub held : Held text w₁ a 0 (rowsForest w₁ a b) (laid .entries)
+
+-- the fingerprints stay
+pub laid-printed : {text w : List ℕ} {a b depth width n : ℕ} {w₁ : List ℕ} → LaidRows text w a b depth width w₁ → Printed text w n → Printed text w₁ n
+laid-printed {text} {w} {a = a} {n = n} r h = subst (λ (x : List ℕ). Printed text x n) (r .put) (printed-places text (r .laid .entries) w a 0 h)
 
 module _ (text w : List ℕ) (a b depth : ℕ) where
   -- a list begins with no earlier sibling
@@ -278,7 +293,7 @@ module _ (text w : List ℕ) (i j depth last cursor : ℕ) (h : suc i < j) where
       group-item :
           give tt ≡ foldCheck text [] (entriesIn w₁ (suc i) (rowsForest w₁ (suc i) j)) →
           bareItem text depth (seenAt w last) cursor (statementAt w i) (rowsForest w (suc i) j)
-          ≡ (placed text (statementAt w i) (pictured FieldKind.Group width) (seenAt w last) cursor >>= λ e. give (record { own = e; members = n .laid .entries }))
+          ≡ (placedEntry text (statementAt w i) (pictured FieldKind.Group width) (seenAt w last) cursor >>= λ e. give (record { own = e; members = n .laid .entries }))
       unfolding bareItem _>>=_
       group-item e = rw (not-deep, n .is, checked e, group-content (n .laid .width), n .wide)
 
@@ -292,8 +307,8 @@ module _ (text w : List ℕ) (i j depth last cursor : ℕ) (h : suc i < j) where
           let w₂ = putPlaces text w (suc i) 0 es in
           ap (λ (x : List ℕ). placeRow text x i (j - suc i) last cursor c) (sym (n .put))
           ∙ ap (λ (x : ℕ). placeRow text w₂ i x last cursor c) (sym (n .many))
-          ∙ ap (λ (x : Statement). afterOwn text w₂ i last (entries# es) cursor (placed text x c (seenAt w₂ last) cursor)) (statement-places text es w (suc i) 0 i)
-          ∙ ap (λ (x : List Place). afterOwn text w₂ i last (entries# es) cursor (placed text (statementAt w i) c x cursor))
+          ∙ ap (λ (x : Statement). afterOwn text w₂ i last (entries# es) cursor (placedEntry text x c (seenAt w₂ last) cursor)) (statement-places text es w (suc i) 0 i)
+          ∙ ap (λ (x : List Place). afterOwn text w₂ i last (entries# es) cursor (placedEntry text (statementAt w i) c x cursor))
           (seen-same false w₂ w last last (λ k m p q. before-places text es w (suc i) 0 k m (omega arith) q))
-          ∙ own-then text w i last cursor es (placed text (statementAt w i) c (seenAt w last) cursor)
+          ∙ own-then text w i last cursor es (placedEntry text (statementAt w i) c (seenAt w last) cursor)
           ∙ sym (ap (afterItem text w i last cursor) (group-item e))

@@ -16,7 +16,7 @@ use Rattle.definition.specs.Layout.{shallow, content, start, slackFrom, entryOf
 use Rattle.definition.proofs.Answers.{through, given-same, not-refused}
 use Rattle.places.proofs.EntriesLaws.{EntryOf, Of}
 use Rattle.limits.proofs.EndLaws.{within}
-use Rattle.layout.specs.Bare.{ItemLaid, placed, bareItem}
+use Rattle.layout.specs.Bare.{ItemLaid, placedEntry, bareItem}
 use Rattle.layout.proofs.BareLaws.{bind-along}
 use Rattle.layout.proofs.ContentLaws.{content-bytes}
 
@@ -43,7 +43,7 @@ module _ (text : List ℕ) (depth : ℕ) (seen : List Place) (cursor reach : ℕ
       give (record { entries = entry (x .own) (x .members) (l .entries); width = l .width })
 
   pub bare-split : lay text depth seen cursor reach (item s kids later) ≡ (bareItem text depth seen cursor s kids >>= restAfter)
-  unfolding lay bareItem placed _>>=_
+  unfolding lay bareItem placedEntry _>>=_
   bare-split =
       bind-along (shallow (suc depth) kids) _ _ restAfter λ _.
       bind-along (lay text (suc depth) [] 0 0 kids) _ _ restAfter λ inner.
@@ -69,7 +69,7 @@ pub item-is :
     (text : List ℕ) (depth : ℕ) (seen : List Place) (cursor : ℕ) (s : Statement) (kids : Forest) {x : ItemLaid} →
     bareItem text depth seen cursor s kids ≡ give x →
     ItemIs text depth s kids x
-unfolding bareItem placed
+unfolding bareItem placedEntry
 item-is text depth seen cursor s kids h =
     through _ _ h λ _ _ h₁.
     through _ _ h₁ λ inner e₂ h₂.

@@ -23,8 +23,8 @@ pub record ItemLaid : Type 0 where
   pub members : Entries
 
 -- the entry of an item whose kind and width are known
-unfoldable pub placed : List ℕ → Statement → Pictured → List Place → ℕ → Answer Entry
-placed text s c seen cursor = do
+unfoldable pub placedEntry : List ℕ → Statement → Pictured → List Place → ℕ → Answer Entry
+placedEntry text s c seen cursor = do
   offset ← start text s c seen cursor
   let e = entryOf s c offset (slackFrom cursor s offset)
   _ ← refuseIf (tooLarge e) 29 (s .at)
@@ -37,5 +37,5 @@ bareItem text depth seen cursor s kids = do
   inner ← lay text (suc depth) [] 0 0 kids
   _ ← foldCheck text [] (inner .entries)
   c ← content text s kids (inner .width)
-  e ← placed text s c seen cursor
+  e ← placedEntry text s c seen cursor
   give (record { own = e; members = inner .entries })

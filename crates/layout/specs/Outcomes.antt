@@ -11,26 +11,26 @@ use Rattle.definition.specs.Layout.{advance, Laid, lay}
 use Rattle.rows.specs.Table.{statementAt}
 use Rattle.places.specs.Places.{putPlace, putPlaces, lastOf, rowsForest}
 use Rattle.redefines.specs.Targets.{seenAt, baseAfter}
-use Rattle.layout.specs.Bare.{ItemLaid, placed, bareItem}
+use Rattle.layout.specs.Bare.{ItemLaid, placedEntry, bareItem}
 
 -- ---------------------------------------------------------------- a list laid in the table
 
 -- a refusal, or the width of the list, its last sibling and the table
-pub data Outcome : Type 0 where
-  stopped : Refusal → Outcome
-  ready : ℕ → ℕ → List ℕ → Outcome
+pub data ListOutcome : Type 0 where
+  stopped : Refusal → ListOutcome
+  ready : ℕ → ℕ → List ℕ → ListOutcome
 
 -- what a list's answer leads to, in the rows from k on, after the sibling `last`
-abbrev pub after : List ℕ → List ℕ → ℕ → ℕ → Answer Laid → Outcome
+abbrev pub after : List ℕ → List ℕ → ℕ → ℕ → Answer Laid → ListOutcome
 after text w k last (refuse r) = stopped r
 after text w k last (give l) = ready (l .width) (lastOf k last (l .entries)) (putPlaces text w k last (l .entries))
 
 -- the rest of a list, rows i to before `to`, laid after the sibling `last`
-abbrev pub layRest : List ℕ → List ℕ → ℕ → ℕ → ℕ → ℕ → ℕ → ℕ → Outcome
+abbrev pub layRest : List ℕ → List ℕ → ℕ → ℕ → ℕ → ℕ → ℕ → ℕ → ListOutcome
 layRest text w i to depth last cursor reach = after text w i last (lay text depth (seenAt w last) cursor reach (rowsForest w i to))
 
 -- a whole list
-abbrev pub layTable : List ℕ → List ℕ → ℕ → ℕ → ℕ → Outcome
+abbrev pub layTable : List ℕ → List ℕ → ℕ → ℕ → ℕ → ListOutcome
 layTable text w from to depth = layRest text w from to depth 0 0 0
 
 -- ---------------------------------------------------------------- an item laid in the table
@@ -57,4 +57,4 @@ afterOwn text w i last below cursor (give e) = placing (advance cursor e) (entry
 
 -- row i, its kind and width known and `below` rows below it laid, placed after the sibling `last`
 abbrev pub placeRow : List ℕ → List ℕ → ℕ → ℕ → ℕ → ℕ → Pictured → ItemOutcome
-placeRow text w i below last cursor c = afterOwn text w i last below cursor (placed text (statementAt w i) c (seenAt w last) cursor)
+placeRow text w i below last cursor c = afterOwn text w i last below cursor (placedEntry text (statementAt w i) c (seenAt w last) cursor)

@@ -9,6 +9,7 @@ ghost use Rattle.definition.specs.Calls.{pictureOf, checkOf};
 ghost use Rattle.definition.specs.Statement.{usageOf, signOf};
 ghost use Rattle.definition.specs.Tree.{Forest.leaf};
 ghost use Rattle.redefines.specs.Targets.{offsetOf};
+ghost use Rattle.redefines.specs.Prints.{Printed};
 ghost use Rattle.places.specs.Places.{entriesIn, Linked, rowsForest};
 ghost use Rattle.layout.specs.Outcomes.{placeRow, layItem, layTable};
 ghost use Rattle.layout.specs.Steps.{startAt, startOf, itemOf, listOf, Room, checkRow};
@@ -177,7 +178,7 @@ fn place(
     cursor: usize,
     c: Pictured,
 ) -> ItemAnswer
-    requires { ⌜ (ROW * i + ROW ≤ length (now work)) × (last ≤ i) × (i < 4294967296) × (below < 4294967296) × (cursor ≤ largest) × (c .width ≤ largest) ⌝ }
+    requires { ⌜ (ROW * i + ROW ≤ length (now work)) × (last ≤ i) × (i < 4294967296) × (below < 4294967296) × (cursor ≤ largest) × (c .width ≤ largest) × Printed (now text) (now work) i ⌝ }
     ensures { λ r. ⌜ itemOf r (now (work .exit)) ≡ placeRow (now (text .entry)) (now (work .entry)) i below last cursor c ⌝ }
 {
     let s = rows::statement_at(work, i);
@@ -261,7 +262,7 @@ fn lay_item(
     last: usize,
     cursor: usize,
 ) -> ItemAnswer
-    requires { ⌜ (i < j) × Room (now work) j × («depth_left» ≤ deepest) × (last ≤ i) × (cursor ≤ largest) ⌝ }
+    requires { ⌜ (i < j) × Room (now text) (now work) j × («depth_left» ≤ deepest) × (last ≤ i) × (cursor ≤ largest) ⌝ }
     ensures { λ r. ⌜ itemOf r (now (work .exit)) ≡ layItem (now (text .entry)) (now (work .entry)) i j (deepest - «depth_left») last cursor ⌝ }
 {
     let first = i + 1;
@@ -312,7 +313,7 @@ fn lay_item(
 // Lays out the siblings in the rows from `from` up to `to`: each starts where the cursor is, and the list is as wide as its
 // largest end. The remaining depth falls at each group.
 pub fn lay_list(text: &[u8], work: &mut [u32], from: usize, to: usize, depth_left: u32) -> LaidList
-    requires { ⌜ Room (now work) to × («depth_left» ≤ deepest) ⌝ }
+    requires { ⌜ Room (now text) (now work) to × («depth_left» ≤ deepest) ⌝ }
     ensures { λ r. ⌜ listOf r (now (work .exit)) ≡ layTable (now (text .entry)) (now (work .entry)) from to (deepest - «depth_left») ⌝ }
 {
     let mut i = from;

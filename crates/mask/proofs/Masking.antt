@@ -11,18 +11,18 @@ use Rattle.definition.specs.Basic.{Answer, refuse, give, _>>=_}
 use Rattle.definition.specs.Picture.{mask}
 use Rattle.definition.proofs.Lists.{sets-append}
 use Rattle.definition.proofs.PictureLaws.{onto, mask-append}
-use Rattle.mask.specs.Masks.{Room, put}
+use Rattle.mask.specs.Masks.{MaskRoom, put}
 
 mask-sum : (p l : List ℕ) → length (mask (p ++ l)) ≡ length (mask p) + length (mask l)
 mask-sum p l = ap length (mask-append p l) ∙ length-append (mask p) (mask l)
 
 module _ (k : ℕ) (p : List ℕ) where
-  pub room-run : (x : Answer (List ℕ)) {room : ℕ} → Room k (onto p x) room → k + length (mask p) ≤ room
+  pub room-run : (x : Answer (List ℕ)) {room : ℕ} → MaskRoom k (onto p x) room → k + length (mask p) ≤ room
   unfolding _>>=_
   room-run (refuse r) h = absurd h
   room-run (give l) h = omega (arith, mask-sum p l)
 
-  pub room-rest : (x : Answer (List ℕ)) (room : ℕ) → Room k (onto p x) room → Room (k + length (mask p)) x room
+  pub room-rest : (x : Answer (List ℕ)) (room : ℕ) → MaskRoom k (onto p x) room → MaskRoom (k + length (mask p)) x room
   unfolding _>>=_
   room-rest (refuse r) room h = absurd h
   room-rest (give l) room h = omega (arith, mask-sum p l)

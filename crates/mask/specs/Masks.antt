@@ -16,9 +16,9 @@ abbrev pub hidden : ℕ → Bool
 hidden b = among "SVP" b
 
 -- there are symbols, and their mask has room from k on
-abbrev pub Room : ℕ → Answer (List ℕ) → ℕ → Type 0
-Room k (refuse r) room = ⊥
-Room k (give l) room = k + length (mask l) ≤ room
+abbrev pub MaskRoom : ℕ → Answer (List ℕ) → ℕ → Type 0
+MaskRoom k (refuse r) room = ⊥
+MaskRoom k (give l) room = k + length (mask l) ≤ room
 
 -- the output with their mask from k on
 abbrev pub put : ℕ → Answer (List ℕ) → List ℕ → List ℕ
@@ -35,5 +35,5 @@ abbrev pub maskIn : Usage → List ℕ → ℕ → Answer (List ℕ)
 maskIn usage bs room = symbols 0 usage bs >>= λ l. fitting room (if isMasked usage l then mask l else [])
 
 -- an answer and the output, with no work memory lent
-abbrev pub after : Answer ℕ → List ℕ → After ℕ
-after a out = record { answer = a; output = out; work = [] }
+abbrev pub maskAfter : Answer ℕ → List ℕ → After ℕ
+maskAfter a out = record { answer = a; output = out; work = [] }

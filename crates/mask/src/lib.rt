@@ -6,7 +6,7 @@ ghost use lib.ListN.{length, replicate};
 ghost use lib.Seq.{sets};
 ghost use Rattle.definition.specs.Picture.{expand, mask as maskOf};
 ghost use Rattle.definition.specs.Calls.{afterWriting, writingOf};
-ghost use Rattle.mask.specs.Masks.{hidden, Room, put, Wrote, maskIn, after};
+ghost use Rattle.mask.specs.Masks.{hidden, MaskRoom, put, Wrote, maskIn, maskAfter};
 use definition::Refusal;
 use definition::Usage;
 use definition::Writing;
@@ -50,7 +50,7 @@ fn write_run(out: &mut [u8], k: usize, n: usize, b: u8) -> usize
 
 // Writes the mask of a trimmed picture that was read already, and whose mask has room.
 fn write_mask(picture: &[u8], out: &mut [u8])
-    requires { ⌜ Room 0 (expand 0 0 0 (now picture)) (length (now out)) ⌝ }
+    requires { ⌜ MaskRoom 0 (expand 0 0 0 (now picture)) (length (now out)) ⌝ }
     ensures { λ _. ⌜ now (out .exit) ≡ put 0 (expand 0 0 0 (now (picture .entry))) (now (out .entry)) ⌝ }
 {
     let mut k = 0;
@@ -73,7 +73,7 @@ fn write_mask(picture: &[u8], out: &mut [u8])
 // Writes the mask of a picture whose text was checked, where it is edited under the usage, and answers its length; 0 of any other picture. Refusals
 // are the picture's, then 31, with the length of the mask, if it is longer than the output.
 pub fn mask_of(pic: &[u8], usage: Usage, out: &mut [u8]) -> Writing
-    ensures { λ r. ⌜ after (writingOf r) (now (out .exit)) ≡ afterWriting (maskIn usage (now (pic .entry)) (length (now (out .entry)))) (now (out .entry)) [] ⌝ }
+    ensures { λ r. ⌜ maskAfter (writingOf r) (now (out .exit)) ≡ afterWriting (maskIn usage (now (pic .entry)) (length (now (out .entry)))) (now (out .entry)) [] ⌝ }
 {
     match picture::read_shape(pic, 0, usage) {
         Shaped::Shape(s) => {

@@ -1,4 +1,4 @@
--- Laws of equal words: lists with the same bytes are equal, so they agree in their length and at every place.
+-- Laws of equal words: lists with the same bytes are equal, so they have the same fingerprint; lists in upper case, place by place.
 -- Assumes nothing.
 use Prim.Native.Nat.{ℕ, zero, suc, _-_, _<_, _≤_}
 use mathlib.Core.Path.{_≡_, refl, sym, ap, _∙_}
@@ -8,7 +8,10 @@ use native.Mathlib.Omega.{arith}
 use lib.Dec.{eqb}
 use lib.ListN.{length, getD}
 use borrow.Author.Tests.{eqb-true}
+use Rattle.definition.specs.declared.Span.{Span}
 use Rattle.definition.specs.Basic.{same, upper, uppers}
+use Rattle.definition.specs.Fold.{nameOf, sameName}
+use Rattle.names.specs.Prints.{printOf, namePrint}
 
 pub never : {A : Type 0} → false ≡ true → A
 never e = absurd (let z : _≡_ {A = ℕ} 0 1 = cc in omega arith)
@@ -34,23 +37,15 @@ apart a b h = by-test (same a b) refl
     by-test true e = absurd (h (same-equal a b e))
     by-test false e = refl
 
-upper-length : (l : List ℕ) → length (uppers l) ≡ length l
+pub upper-length : (l : List ℕ) → length (uppers l) ≡ length l
 upper-length [] = refl
 upper-length (x ∷ xs) = ap suc (upper-length xs)
 
-upper-at : (l : List ℕ) (i : ℕ) → i < length l → getD (uppers l) i 0 ≡ upper (getD l i 0)
+pub upper-at : (l : List ℕ) (i : ℕ) → i < length l → getD (uppers l) i 0 ≡ upper (getD l i 0)
 upper-at [] i h = absurd (omega arith)
 upper-at (x ∷ xs) zero h = refl
 upper-at (x ∷ xs) (suc i) h = upper-at xs i (omega arith)
 
-module _ (a b : List ℕ) where
-  pub shorter : length a < length b → same (uppers a) (uppers b) ≡ false
-  shorter h = apart (uppers a) (uppers b) (λ e. omega (arith, ap length e, upper-length a, upper-length b))
-
-  pub longer : length b < length a → same (uppers a) (uppers b) ≡ false
-  longer h = apart (uppers a) (uppers b) (λ e. omega (arith, ap length e, upper-length a, upper-length b))
-
-  pub last-apart :
-      {i x y : ℕ} → i < length a → i < length b → x ≡ upper (getD a i 0) → y ≡ upper (getD b i 0) → (x ≡ y → ⊥) → same (uppers a) (uppers b) ≡ false
-  last-apart {i} la lb p q n =
-      apart (uppers a) (uppers b) (λ e. n (p ∙ sym (upper-at a i la) ∙ ap (λ (l : List ℕ). getD l i 0) e ∙ upper-at b i lb ∙ sym q))
+-- names with different fingerprints differ
+pub print-apart : (text : List ℕ) (a b : Span) → (namePrint text a ≡ namePrint text b → ⊥) → sameName text a b ≡ false
+print-apart text a b h = apart (uppers (nameOf text a)) (uppers (nameOf text b)) (λ e. h (ap printOf e))

@@ -1,10 +1,10 @@
-// Names in a text: the part that a span fills, and whether two names are the same, case aside or case included; an absent one means FILLER. Leans on
-// `definition` and `text`.
+// Names in a text: the part that a span fills, whether two names are the same, case aside or case included, and a name's fingerprint; an absent name
+// means FILLER. Leans on `definition` and `text`.
 ghost use mathlib.Core.Path.{_≡_};
 ghost use Prim.Native.Nat.{_+_, _<_};
-ghost use Rattle.definition.specs.Basic.{part, same, uppers};
+ghost use Rattle.definition.specs.Basic.{part, uppers};
 ghost use Rattle.definition.specs.Fold.{sameName, sameSpelling};
-ghost use Rattle.names.specs.Apart.{Apart};
+ghost use Rattle.names.specs.Prints.{byteBack, printOf, namePrint};
 use definition::Span;
 
 // The part of the text that a span fills, cut off at the text's end.
@@ -23,50 +23,18 @@ pub fn part_of(text: &[u8], w: Span) -> &[u8]
     &text[start..end]
 }
 
-// Whether two words differ where it is cheap to see: in length, or in the last byte, case aside. Most do that are compared one after the other.
-fn ends_apart(a: &[u8], b: &[u8]) -> bool
-    ensures { λ r. ⌜ Apart (uppers (now (a .entry))) (uppers (now (b .entry))) r ⌝ }
-{
-    if a.len() < b.len() {
-        return true;
-    }
-    if b.len() < a.len() {
-        return true;
-    }
-    let n = a.len();
-    if n == 0 {
-        return false;
-    }
-    let x = text::upper(a[n - 1]);
-    let y = text::upper(b[n - 1]);
-    if x == y {
-        return false;
-    }
-    true
-}
-
-// Whether two words are the same, case aside.
-fn same_words(a: &[u8], b: &[u8]) -> bool
-    ensures { λ r. ⌜ r ≡ same (uppers (now (a .entry))) (uppers (now (b .entry))) ⌝ }
-{
-    if ends_apart(a, b) {
-        return false;
-    }
-    text::same_name(a, b)
-}
-
 // Whether two names are the same, case aside; an absent one means FILLER.
 pub fn same_names(text: &[u8], a: Span, b: Span) -> bool
     ensures { λ r. ⌜ r ≡ sameName (now (text .entry)) a b ⌝ }
 {
     if 0 < a.len {
         if 0 < b.len {
-            return same_words(part_of(text, a), part_of(text, b));
+            return text::same_name(part_of(text, a), part_of(text, b));
         }
-        return same_words(part_of(text, a), b"FILLER");
+        return text::same_name(part_of(text, a), b"FILLER");
     }
     if 0 < b.len {
-        return same_words(b"FILLER", part_of(text, b));
+        return text::same_name(b"FILLER", part_of(text, b));
     }
     true
 }
@@ -85,4 +53,36 @@ pub fn same_spellings(text: &[u8], a: Span, b: Span) -> bool
         return text::same_spelling(b"FILLER", part_of(text, b));
     }
     true
+}
+
+// ---------------------------------------------------------------- fingerprints
+
+// The byte k places before a word's last, in upper case, or 0 where there is none.
+fn byte_back(w: &[u8], k: usize) -> u8
+    ensures { λ r. ⌜ r ≡ byteBack (uppers (now (w .entry))) k ⌝ }
+{
+    if w.len() <= k {
+        return 0;
+    }
+    text::upper(w[w.len() - 1 - k])
+}
+
+// The fingerprint of a word, case aside.
+fn print_word(w: &[u8]) -> u32
+    ensures { λ r. ⌜ r ≡ printOf (uppers (now (w .entry))) ⌝ }
+{
+    let x = byte_back(w, 2) as u32;
+    let y = byte_back(w, 1) as u32;
+    let z = byte_back(w, 0) as u32;
+    (((w.len() % 256) as u32 * 256 + x) * 256 + y) * 256 + z
+}
+
+// The fingerprint of a name; an absent one means FILLER.
+pub fn print_of(text: &[u8], w: Span) -> u32
+    ensures { λ r. ⌜ r ≡ namePrint (now (text .entry)) w ⌝ }
+{
+    if 0 < w.len {
+        return print_word(part_of(text, w));
+    }
+    print_word(b"FILLER")
 }

@@ -15,7 +15,7 @@ use Rattle.definition.specs.Calls.{After, left, writingOf, pictureOf, ownerAnsw
 use Rattle.definition.specs.Listing.{kindByte}
 use Rattle.kinds.specs.declared.KindNumbers.{KindNumbers}
 use Rattle.kinds.specs.Kinds.{numbersOf}
-use Rattle.numbers.specs.Numbers.{returned, writingNumbers, kindNumbers, pictureNumbers, ownerNumbers, answered}
+use Rattle.numbers.specs.Numbers.{returned, writingNumbers, kindParts, pictureNumbers, ownerNumbers, answered}
 
 -- the answer of a call that writes bytes
 module _ {w : Writing} (l l′ : List ℕ) where
@@ -36,7 +36,7 @@ module _ {a : PicAnswer} (l l′ : List ℕ) where
       a ≡ PicAnswer.Accepted p →
       k ≡ kindByte (p .kind) →
       n ≡ numbersOf (p .kind) →
-      l′ ≡ answered (k ∷ p .width ∷ kindNumbers n) l →
+      l′ ≡ answered (k ∷ p .width ∷ kindParts n) l →
       (0 ≡ returned (pictureOf a)) × (l′ ≡ answered (pictureNumbers (pictureOf a)) l)
   pictured e f g q = rw (e, q, f, g) (refl, refl)
 

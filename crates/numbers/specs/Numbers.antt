@@ -39,13 +39,13 @@ writingNumbers (refuse r) = r .position ∷ r .needed ∷ []
 writingNumbers (give n) = n ∷ 0 ∷ []
 
 -- signed, sign, precision, scale and storage
-abbrev pub kindNumbers : KindNumbers → List ℕ
-kindNumbers k = k .signed ∷ k .sign ∷ k .precision ∷ k .scale ∷ k .storage ∷ []
+abbrev pub kindParts : KindNumbers → List ℕ
+kindParts k = k .signed ∷ k .sign ∷ k .precision ∷ k .scale ∷ k .storage ∷ []
 
 -- the seven numbers of a picture: kind, width and those of the kind; or position, needed length and zeros
 abbrev pub pictureNumbers : Answer Pictured → List ℕ
 pictureNumbers (refuse r) = r .position ∷ r .needed ∷ 0 ∷ 0 ∷ 0 ∷ 0 ∷ 0 ∷ []
-pictureNumbers (give p) = kindByte (p .kind) ∷ p .width ∷ kindNumbers (numbersOf (p .kind))
+pictureNumbers (give p) = kindByte (p .kind) ∷ p .width ∷ kindParts (numbersOf (p .kind))
 
 -- the four numbers of a byte's owner: 0, the entry's number, the piece's first byte and the place inside it; or 1 and the number of the entry that the slack
 -- precedes; or position and needed length. A byte below the record length has an owner

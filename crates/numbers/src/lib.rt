@@ -3,7 +3,7 @@
 ghost use mathlib.Core.Path.{_≡_};
 ghost use mathlib.Core.List.{[], _∷_};
 ghost use Rattle.definition.specs.Calls.{pictureOf, writingOf, ownerAnswerOf};
-ghost use Rattle.numbers.specs.Numbers.{noUsage, returned, writingNumbers, kindNumbers, pictureNumbers, ownerNumbers, answered};
+ghost use Rattle.numbers.specs.Numbers.{noUsage, returned, writingNumbers, kindParts, pictureNumbers, ownerNumbers, answered};
 use definition::OwnerAnswer;
 use definition::PicAnswer;
 use definition::Writing;
@@ -46,7 +46,7 @@ fn put_four(answer: &mut [u64], a: u64, b: u64, c: u64, d: u64)
 
 // Writes seven numbers, five of them a kind's, where there is room for them.
 fn put_seven(answer: &mut [u64], a: u64, b: u64, k: KindNumbers)
-    ensures { λ _. ⌜ now (answer .exit) ≡ answered (a ∷ b ∷ kindNumbers k) (now (answer .entry)) ⌝ }
+    ensures { λ _. ⌜ now (answer .exit) ≡ answered (a ∷ b ∷ kindParts k) (now (answer .entry)) ⌝ }
 {
     if answer.len() < 7 {
         return;

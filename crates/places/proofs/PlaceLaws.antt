@@ -16,11 +16,13 @@ use Rattle.definition.specs.Fold.{Entries, end, entry}
 use Rattle.definition.specs.Search.{entries#}
 use Rattle.definition.proofs.Lists.{order}
 use Rattle.kinds.specs.Kinds.{kindCode}
-use Rattle.rows.specs.Columns.{ROW, NAME, REDEFINES, OFFSET, WIDTH, KIND, BEFORE, BELOW, SLACK, BASE, NEXT}
+use Rattle.rows.specs.Columns.{ROW, NAME, REDEFINES, OFFSET, WIDTH, KIND, BEFORE, BELOW, SLACK, BASE, NEXT, PRINT}
 use Rattle.rows.specs.Table.{cell, statementAt, statementsFrom}
 use Rattle.rows.proofs.TableLaws.{getD-below, getD-above, getD-in, statement-same}
 use Rattle.places.specs.Places.{placeCells, putPlace, putPlaces}
 use Rattle.redefines.specs.Targets.{baseAfter, placeAt, leftOut, seenFrom}
+use Rattle.redefines.specs.Prints.{Printed}
+use Rattle.redefines.proofs.PrintLaws.{printed-same}
 
 -- ---------------------------------------------------------------- one place
 
@@ -42,6 +44,15 @@ module _ (w : List ℕ) (a last below base : ℕ) (e : Entry) where
       (λ (more : a < k). getD-above (placeCells e last below base) w (ROW * a + OFFSET) (ROW * k + c) (omega arith))
       (λ (less : k ≤ a). getD-below (placeCells e last below base) w (ROW * a + OFFSET) (ROW * k + c) (omega arith))
       (order a k)
+
+  -- the column of the fingerprints
+  pub print-place : (k : ℕ) → cell (putPlace w a last below base e) k PRINT ≡ cell w k PRINT
+  unfolding putPlace
+  print-place k =
+      ⊎-elim
+      (λ (less : k < a). getD-below (placeCells e last below base) w (ROW * a + OFFSET) (ROW * k + PRINT) (omega arith))
+      (λ (more : a ≤ k). getD-above (placeCells e last below base) w (ROW * a + OFFSET) (ROW * k + PRINT) (omega arith))
+      (order k a)
 
   -- the rows before it, and after it
   pub before-place : (k c : ℕ) → k < a → c < ROW → cell (putPlace w a last below base e) k c ≡ cell w k c
@@ -80,6 +91,19 @@ module _ (t : List ℕ) where
       kept-places later (firstPut w a last e members) (suc a + entries# members) (suc a) k c l
       ∙ kept-place w₁ a last (entries# members) (baseAfter t w₁ a last) e k c l
       ∙ kept-places members w (suc a) 0 k c l
+
+  -- and so is every fingerprint
+  print-places : (es : Entries) (w : List ℕ) (a last k : ℕ) → cell (putPlaces t w a last es) k PRINT ≡ cell w k PRINT
+  unfolding putPlaces
+  print-places end w a last k = refl
+  print-places (entry e members later) w a last k =
+      let w₁ = membersPut w a members in
+      print-places later (firstPut w a last e members) (suc a + entries# members) (suc a) k
+      ∙ print-place w₁ a last (entries# members) (baseAfter t w₁ a last) e k
+      ∙ print-places members w (suc a) 0 k
+
+  pub printed-places : (es : Entries) (w : List ℕ) (a last : ℕ) {n : ℕ} → Printed t w n → Printed t (putPlaces t w a last es) n
+  printed-places es w a last h = printed-same h (λ k. kept-places es w a last k NAME (lit< tt)) (print-places es w a last)
 
   -- and every row outside
   pub before-places : (es : Entries) (w : List ℕ) (a last k c : ℕ) → k < a → c < ROW → cell (putPlaces t w a last es) k c ≡ cell w k c

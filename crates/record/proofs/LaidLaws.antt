@@ -12,7 +12,7 @@ use borrow.Author.Tests.{ltb-false}
 use Rattle.definition.specs.declared.Check.{Check}
 use Rattle.definition.specs.declared.Refusal.{Refusal}
 use Rattle.definition.specs.declared.Entry.{Entry}
-use Rattle.definition.specs.Limits.{mostStatements, largest}
+use Rattle.definition.specs.Limits.{leastWork, mostStatements, largest}
 use Rattle.definition.specs.Basic.{Answer, refuse, give, _>>=_}
 use Rattle.definition.specs.declared.Statement.{Statement}
 use Rattle.definition.specs.Tree.{Forest, leaf, item, forest, fields}
@@ -29,18 +29,19 @@ use Rattle.definition.specs.Calls.{checkOf}
 use Rattle.definition.specs.Record.{recordLength, endsFit, unfolded}
 use Rattle.places.specs.Places.{putPlaces, entryIn, entriesIn, rowsForest}
 use Rattle.redefines.specs.Targets.{seenFrom}
+use Rattle.redefines.specs.Prints.{PrintsPut}
 use Rattle.layout.specs.Outcomes.{layTable}
 use Rattle.layout.specs.declared.LaidList.{LaidList}
 use Rattle.places.specs.Children.{ChildrenEnd}
-use Rattle.layout.specs.Steps.{listOf}
+use Rattle.layout.specs.Steps.{listOf, Room}
 use Rattle.places.proofs.EntriesLaws.{size-stretch}
 use Rattle.layout.proofs.ListLaws.{bare-split, item-is}
 use Rattle.layout.proofs.LayLaws.{LaidRows, laid-rows, stopped-was}
 use Rattle.places.proofs.RowLaws.{children-end, forest-split, forest-empty}
 use Rattle.places.proofs.PlaceLaws.{length-places, statements-places, places-next}
 use Rattle.unions.specs.Shown.{listIn}
-use Rattle.record.specs.Marks.{UnionsLinked}
-use Rattle.record.proofs.KeptLaws.{forest-kept, list-kept, Ready, marked-tree}
+use Rattle.unions.specs.Marks.{UnionsLinked}
+use Rattle.unions.proofs.KeptLaws.{forest-kept, list-kept, prints-kept, Ready, marked-tree}
 use Rattle.record.specs.declared.RecordLaid.{RecordLaid}
 use Rattle.record.specs.Laying.{FieldsFrom, fieldsOf, laidOf, Listed, RecordIs, recordOf}
 
@@ -236,20 +237,21 @@ module _ (text : List ℕ) where
   unfolding fieldsOf _>>=_
   reading-refused e = ap (λ (x : Answer (List Statement)). laidOf text (x >>= λ ss. give (fields (forest ss)))) e
 
-  -- its statements stand in n rows, whose fields are the rows from `from` on
-  rows-read : {w w′ : List ℕ} {n from : ℕ} → Stored text w w′ n → FieldsFrom w′ n from → give (rowsForest w′ from n) ≡ fieldsOf text
-  unfolding fieldsOf _>>=_
-  rows-read {w′ = w′} {n = n} s f =
-      sym
-      (ap (λ (x : Answer (List Statement)). x >>= λ ss. give (fields (forest ss))) (s .are)
-      ∙ ap (λ (ss : List Statement). give (fields (forest ss))) (sym (s .back) ∙ ap (statementsFrom w′ 0) (let e : n ≡ n - 0 = omega arith in e))
-      ∙ ap give (f .is))
+  -- its statements stand in n rows, whose fields are the rows from `from` on when their names have fingerprints
+  module _ {w w′ : List ℕ} {n : ℕ} (s : Stored text w w′ n) {w″ : List ℕ} (p : PrintsPut text w′ n w″) {from : ℕ} (f : FieldsFrom w″ n from) where
+    rows-read : give (rowsForest w″ from n) ≡ fieldsOf text
+    unfolding fieldsOf _>>=_
+    rows-read =
+        sym
+        (ap (λ (x : Answer (List Statement)). x >>= λ ss. give (fields (forest ss))) (s .are)
+        ∙ ap (λ (ss : List Statement). give (fields (forest ss))) (sym (s .back) ∙ ap (statementsFrom w′ 0) (let e : n ≡ n - 0 = omega arith in e))
+        ∙ ap (λ (x : Forest). give (fields x)) (forest-kept (prints-kept p) 0 n)
+        ∙ ap give (f .is))
 
-  pub fields-laid :
-      {w w′ : List ℕ} {n from : ℕ} →
-      Stored text w w′ n →
-      FieldsFrom w′ n from →
-      (w″ t : List ℕ) (r : RecordLaid) →
-      RecordIs text (give (rowsForest w′ from n)) r w″ t →
-      RecordIs text (fieldsOf text) r w″ t
-  fields-laid s f w″ t r h = subst (λ (a : Answer Forest). RecordIs text a r w″ t) (rows-read s f) h
+    pub fields-laid : (w₁ t : List ℕ) (r : RecordLaid) → RecordIs text (give (rowsForest w″ from n)) r w₁ t → RecordIs text (fieldsOf text) r w₁ t
+    fields-laid w₁ t r h = subst (λ (a : Answer Forest). RecordIs text a r w₁ t) rows-read h
+
+-- and there is room to lay them
+pub rows-room :
+    {text w w′ w″ : List ℕ} {n : ℕ} → Stored text w w′ n → leastWork ≤ length w → PrintsPut text w′ n w″ → Room text w″ n
+rows-room s h p = record { fits = omega (arith, s .few, s .long, h, p .long); small = omega (arith, s .few); printed = p .printed }

@@ -1,5 +1,2 @@
-pub mod MarkLaws
-pub mod KeptLaws
-pub mod LinkLaws
 pub mod LaidLaws
 pub mod EntryLaws

@@ -13,7 +13,7 @@ use Rattle.places.specs.Places.{rowsForest}
 use Rattle.record.specs.declared.RecordLaid.{RecordLaid}
 use Rattle.definition.specs.Listing.{members#}
 use Rattle.unions.specs.Shown.{listIn, Tree}
-use Rattle.entries.specs.Entered.{Entered}
+use Rattle.table.specs.Entered.{Entered}
 
 -- the fields of a record that has n rows are the rows from r on
 pub record FieldsFrom (w : List ℕ) (n r : ℕ) : Type 0 where

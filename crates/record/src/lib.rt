@@ -1,4 +1,4 @@
-// A record laid out in work memory: a copybook read, laid and checked, and its redefiners linked.
+// A record laid out in work memory: a copybook read, laid and checked, its redefiners linked and its table made.
 ghost use mathlib.Core.Path.{_≡_};
 ghost use Prim.Native.Nat.{_+_, _*_, _≤_, _<_};
 ghost use lib.ListN.{length};
@@ -7,50 +7,13 @@ ghost use Rattle.definition.specs.Basic.{give};
 ghost use Rattle.definition.specs.Calls.{recordFields};
 ghost use Rattle.places.specs.Places.{rowsForest};
 ghost use Rattle.layout.specs.Steps.{Room};
-ghost use Rattle.rows.specs.Columns.{ROW, BASE};
-ghost use Rattle.rows.specs.Table.{cell};
-ghost use Rattle.record.specs.Marks.{linkRow, Unlinked, UnionsLinked};
+ghost use Rattle.rows.specs.Columns.{ROW};
 ghost use Rattle.record.specs.Laying.{FieldsFrom, RecordIs, fieldsOf};
 use definition::Check;
 use definition::DEEPEST;
 use definition::Refusal;
 use layout::LaidList;
-use rows::BASE;
-use rows::BEFORE;
-use rows::NEXT;
-use rows::REDEFINES;
-use rows::ROW;
 use tree::RowsRead;
-
-// ---------------------------------------------------------------- the redefiners linked
-
-// Row k before the rows of its union so far: its base names it then.
-fn link_row(work: &mut [u32], k: usize)
-    requires { ⌜ (ROW * k + ROW ≤ length (now work)) × (k < 4294967295) × (cell (now work) k BASE ≤ k) ⌝ }
-    ensures { λ _. ⌜ now (work .exit) ≡ linkRow (now (work .entry)) k ⌝ }
-{
-    let base = rows::wide(work[ROW * k + BASE]);
-    if 0 < base {
-        let row = base - 1;
-        work[ROW * k + NEXT] = work[ROW * row + NEXT];
-        work[ROW * row + NEXT] = (k + 1) as u32;
-        return;
-    }
-}
-
-// Has each row from `from` up to `to` name the next row of its union: from the last row back, for a base is told of its redefiners by them.
-fn link_unions(work: &mut [u32], from: usize, to: usize)
-    requires { ⌜ Unlinked (now work) from to ⌝ }
-    ensures { λ _. ⌜ UnionsLinked (now (work .entry)) from to (now (work .exit)) ⌝ }
-{
-    let mut k = to;
-    while from < k {
-        k -= 1;
-        link_row(work, k);
-    }
-}
-
-// ---------------------------------------------------------------- a record
 
 // The rows that hold a record, its length, and how many entries its table has, in all and at the top; or why it is refused.
 pub enum RecordLaid {
@@ -86,21 +49,21 @@ pub fn lay_fields(
     from: usize,
     to: usize,
 ) -> RecordLaid
-    requires { ⌜ (from ≤ to) × Room (now work) to × (to ≤ mostStatements) × (8400 ≤ length (now entries)) ⌝ }
+    requires { ⌜ (from ≤ to) × Room (now text) (now work) to × (to ≤ mostStatements) × (8400 ≤ length (now entries)) ⌝ }
     ensures { λ r. ⌜ RecordIs (now (text .entry)) (give (rowsForest (now (work .entry)) from to)) r (now (work .exit)) (now (entries .exit)) ⌝ }
 {
     match layout::lay_list(text, work, from, to, DEEPEST) {
         LaidList::Done { width, last } => match layout::fold_check(text, work, from, to) {
             Check::Passed => {
-                link_unions(work, from, to);
+                unions::link_unions(work, from, to);
                 let made = entries::make_entries(text, work, from, to, entries);
                 let count = made.next;
-                match entries::ends_fit(work, entries, count) {
+                match table::ends_fit(work, entries, count) {
                     Check::Passed => {
                         return RecordLaid::Record {
                             from,
                             to,
-                            length: entries::record_length(work, entries, count),
+                            length: table::record_length(work, entries, count),
                             count,
                             top: made.count,
                         };
@@ -127,6 +90,7 @@ pub fn lay_record(text: &[u8], work: &mut [u32], entries: &mut [u32]) -> RecordL
 {
     match tree::read_rows(text, work) {
         RowsRead::Rows(n) => {
+            redefines::put_prints(text, work, n);
             let from = first_field(work, n);
             return lay_fields(text, work, entries, from, n);
         }

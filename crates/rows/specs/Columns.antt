@@ -73,3 +73,7 @@ BASE = 16
 -- the next row of its union, a base's first redefiner or a redefiner's next one: its row and 1, or 0 for none
 abbrev pub NEXT : ℕ
 NEXT = 17
+
+-- the fingerprint of its name
+abbrev pub PRINT : ℕ
+PRINT = 18

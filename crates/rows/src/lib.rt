@@ -52,6 +52,8 @@ pub const BASE: usize = 16;
 
 pub const NEXT: usize = 17;
 
+pub const PRINT: usize = 18;
+
 // Work memory to zero.
 pub fn clear(work: &mut [u32])
     ensures { λ _. ⌜ now (work .exit) ≡ cleared (now (work .entry)) ⌝ }

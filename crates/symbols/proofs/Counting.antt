@@ -13,7 +13,7 @@ use Rattle.definition.specs.Limits.{mostSymbols}
 use Rattle.definition.specs.Basic.{if_then_else_, among}
 use Rattle.definition.specs.Picture.{tally, beforePoint}
 use Rattle.definition.proofs.PictureLaws.{tally-append, tally-run, tally-le, before-append, before-run, tally-sides}
-use Rattle.symbols.specs.Shape.{tallied, times, tallies, runOf, unless, joined, Small}
+use Rattle.symbols.specs.Shape.{tallied, timesIn, tallies, runOf, unless, joined, Small}
 
 -- a point is no digit
 pub no-digit : (b : ℕ) → among "V." b ≡ true → among "9Z*" b ≡ false
@@ -26,13 +26,13 @@ no-digit b h = go (eqb b 86) (eqb b 46) refl refl h
 
 -- what a run adds to a list
 module _ (l : List ℕ) (b n : ℕ) where
-  more : (s : String) → tally s (l ++ replicate n b) ≡ tally s l + times s b n
+  more : (s : String) → tally s (l ++ replicate n b) ≡ tally s l + timesIn s b n
   more s = tally-append s l (replicate n b) ∙ ap (λ (k : ℕ). tally s l + k) (tally-run s b n)
 
   more-symbols : length (l ++ replicate n b) ≡ length l + n
   more-symbols = length-append l (replicate n b) ∙ ap (λ (k : ℕ). length l + k) (length-replicate n b)
 
-  more-whole : tally "9Z*" (beforePoint (l ++ replicate n b)) ≡ tally "9Z*" (beforePoint l) + unless (tally "V." l) (times "9Z*" b n)
+  more-whole : tally "9Z*" (beforePoint (l ++ replicate n b)) ≡ tally "9Z*" (beforePoint l) + unless (tally "V." l) (timesIn "9Z*" b n)
   more-whole =
       before-append "9Z*" l (replicate n b) ∙
       ap (λ (k : ℕ). tally "9Z*" (beforePoint l) + unless (tally "V." l) k) (before-run "9Z*" b n (no-digit b))

@@ -10,7 +10,7 @@ use Rattle.definition.specs.Picture.{beforeClose, repeat}
 use Rattle.symbols.specs.declared.Repeat.{Repeat}
 
 -- k is the place of the first `)`, or the text has none
-pub record Closed (s : List ℕ) (k : ℕ) : Type 0 where
+pub record ClosedAt (s : List ℕ) (k : ℕ) : Type 0 where
   pub found : k < length s → beforeClose s ≡ some (take k s)
   pub missing : length s ≤ k → beforeClose s ≡ none
 

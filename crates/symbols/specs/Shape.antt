@@ -37,12 +37,12 @@ abbrev pub tallies : List ℕ → Tallies
 tallies l = tallied (length l) (tally "9Z*" (beforePoint l)) (λ s. tally s l)
 
 -- n if the byte is one of the text's, else 0
-abbrev pub times : String → ℕ → ℕ → ℕ
-times s b n = if among s b then n else 0
+abbrev pub timesIn : String → ℕ → ℕ → ℕ
+timesIn s b n = if among s b then n else 0
 
 -- the tallies of one symbol that stands n times
 abbrev pub runOf : ℕ → ℕ → Tallies
-runOf b n = tallied n (times "9Z*" b n) (λ s. times s b n)
+runOf b n = tallied n (timesIn "9Z*" b n) (λ s. timesIn s b n)
 
 -- n before the point, 0 after it; so many points stand already
 abbrev pub unless : ℕ → ℕ → ℕ
@@ -87,20 +87,20 @@ pub record Adds (s : Tallies) (n : ℕ) : Type 0 where
   pub few : n ≤ mostSymbols
 
 -- what of CR or DB is awaited after one more byte
-abbrev pub next : Half → ℕ → Half
-next Half.Nothing b =
+abbrev pub awaits : Half → ℕ → Half
+awaits Half.Nothing b =
     if is "C" b then Half.C
     else if is "D" b then Half.D
     else if symbol b then Half.Nothing
     else Half.Wrong
-next Half.C b = if is "R" b then Half.Nothing else Half.Wrong
-next Half.D b = if is "B" b then Half.Nothing else Half.Wrong
-next Half.Wrong b = Half.Wrong
+awaits Half.C b = if is "R" b then Half.Nothing else Half.Wrong
+awaits Half.D b = if is "B" b then Half.Nothing else Half.Wrong
+awaits Half.Wrong b = Half.Wrong
 
 -- and after a list of symbols
 unfoldable pub halves : Half → List ℕ → Half
 halves p [] = p
-halves p (b ∷ bs) = halves (next p b) bs
+halves p (b ∷ bs) = halves (awaits p b) bs
 
 -- nothing is awaited, and every byte was a symbol
 abbrev pub nothing : Half → Bool

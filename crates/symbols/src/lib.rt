@@ -5,8 +5,8 @@ ghost use mathlib.Core.Path.{_≡_};
 ghost use mathlib.Core.List.{[], _∷_, reverse};
 ghost use lib.ListN.{length, replicate, drop};
 ghost use Rattle.definition.specs.Picture.{trimStart, trim as trimmed, symbol};
-ghost use Rattle.symbols.specs.Repeats.{Closed, Repeated};
-ghost use Rattle.symbols.specs.Shape.{tallies, runOf, unless, joined, Adds, next, halves, nothing, Counts};
+ghost use Rattle.symbols.specs.Repeats.{ClosedAt, Repeated};
+ghost use Rattle.symbols.specs.Shape.{tallies, runOf, unless, joined, Adds, awaits, halves, nothing, Counts};
 use definition::MOST_SYMBOLS;
 use definition::Refusal;
 use text::Number;
@@ -52,7 +52,7 @@ pub fn trim(s: &[u8]) -> &[u8]
 
 // Where the first `)` of a text stands, or the length of a text that has none.
 fn close_at(s: &[u8]) -> usize
-    ensures { λ r. ⌜ Closed (now (s .entry)) r ⌝ }
+    ensures { λ r. ⌜ ClosedAt (now (s .entry)) r ⌝ }
 {
     let mut i = 0;
     while i < s.len() {
@@ -296,7 +296,7 @@ fn is_symbol(b: u8) -> bool
 
 // What is awaited after a symbol, where nothing was.
 fn first_half(b: u8) -> Half
-    ensures { λ r. ⌜ r ≡ next Half.Nothing b ⌝ }
+    ensures { λ r. ⌜ r ≡ awaits Half.Nothing b ⌝ }
 {
     if b == b'C' {
         return Half::C;
@@ -312,7 +312,7 @@ fn first_half(b: u8) -> Half
 
 // What is awaited after one more symbol.
 fn next_half(p: Half, b: u8) -> Half
-    ensures { λ r. ⌜ r ≡ next p b ⌝ }
+    ensures { λ r. ⌜ r ≡ awaits p b ⌝ }
 {
     match p {
         Half::Nothing => first_half(b),

@@ -16,7 +16,7 @@ use Rattle.redefines.specs.Targets.{seenFrom, offsetOf, baseFrom}
 use Rattle.redefines.proofs.SearchLaws.{row-most, row-found, back, back-step}
 use Rattle.layout.proofs.SizeLaws.{same-sym, same-first}
 use Rattle.names.proofs.SameLaws.{never}
-use Rattle.unions.specs.Shown.{Open}
+use Rattle.unions.specs.Shown.{Findable}
 
 pub if-not : (b : Bool) {x y z : ℕ} → (x ≡ z → ⊥) → (b ≡ false → y ≡ z → ⊥) → (if b then x else y) ≡ z → ⊥
 if-not true p q e = p e
@@ -41,7 +41,7 @@ module _ (t w : List ℕ) where
 
   module _ (i k last : ℕ) (e : cell w k BEFORE ≡ last) (l : last ≤ k) where
     -- the base's own row
-    pub opens : i ≡ k → given (spanAt (cell w k REDEFINES)) ≡ false → Open t w k (suc k)
+    pub opens : i ≡ k → given (spanAt (cell w k REDEFINES)) ≡ false → Findable t w k (suc k)
     opens q g target =
         ap (λ (n : ℕ). eqb n (suc k)) (back-step t w target k last e l)
         ∙ ap (λ (b : Bool). eqb (if (if b then false else sameName t target (spanAt (cell w k NAME))) then suc k else back t w target last) (suc k)) g
@@ -52,20 +52,20 @@ module _ (t w : List ℕ) where
         go false = ne-eqb (back t w target last) (suc k) (λ x. omega (arith, row-most t w target true last last))
 
     -- a redefiner leaves it open
-    pub passes : Open t w i last → given (spanAt (cell w k REDEFINES)) ≡ true → Open t w i (suc k)
+    pub passes : Findable t w i last → given (spanAt (cell w k REDEFINES)) ≡ true → Findable t w i (suc k)
     passes o g target =
         ap (λ (n : ℕ). eqb n (suc i)) (back-step t w target k last e l)
         ∙ ap (λ (b : Bool). eqb (if (if b then false else sameName t target (spanAt (cell w k NAME))) then suc k else back t w target last) (suc i)) g
         ∙ o target
 
-    module _ (h : i < k) (o : Open t w i last) (g : given (spanAt (cell w k REDEFINES)) ≡ false) where
+    module _ (h : i < k) (o : Findable t w i last) (g : given (spanAt (cell w k REDEFINES)) ≡ false) where
       here : (target : Span) → back t w target (suc k) ≡ (if sameName t target (spanAt (cell w k NAME)) then suc k else back t w target last)
       here target =
           back-step t w target k last e l
           ∙ ap (λ (b : Bool). if (if b then false else sameName t target (spanAt (cell w k NAME))) then suc k else back t w target last) g
 
       -- and so does a base of another name
-      pub differs : sameName t (spanAt (cell w i NAME)) (spanAt (cell w k NAME)) ≡ false → Open t w i (suc k)
+      pub differs : sameName t (spanAt (cell w i NAME)) (spanAt (cell w k NAME)) ≡ false → Findable t w i (suc k)
       differs d target = ap (λ (n : ℕ). eqb n (suc i)) (here target) ∙ go (sameName t target (spanAt (cell w k NAME))) refl
         where
           go :

@@ -2,3 +2,6 @@ pub mod BaseLaws
 pub mod FoldedLaws
 pub mod ShownLaws
 pub mod WidthLaws
+pub mod MarkLaws
+pub mod KeptLaws
+pub mod LinkLaws

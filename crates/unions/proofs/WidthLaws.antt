@@ -25,7 +25,7 @@ use Rattle.places.specs.Places.{entryIn, rowsForest}
 use Rattle.places.specs.Children.{ChildrenEnd, Numbered}
 use Rattle.redefines.proofs.SearchLaws.{back, back-step}
 use Rattle.unions.specs.declared.Standing.{Standing}
-use Rattle.unions.specs.Shown.{standing, listIn, redefinersIn, shownAt, unionOf, nextIn, Open, IsBase, Known, Marked, Sized, Tree, Branch, Base, SizedRow}
+use Rattle.unions.specs.Shown.{standing, listIn, redefinersIn, shownAt, unionOf, nextIn, Findable, IsBase, Known, Marked, Sized, Tree, Branch, Base, SizedRow}
 use Rattle.unions.proofs.BaseLaws.{if-not, opens, passes, differs, closes, swapped}
 use Rattle.unions.proofs.ShownLaws.{RowIs, marked-step, marked-linked, marked-numbered, marked-known, redefined-none, redefined-hit, redefined-miss, redefined-ends, redefined-next, Walking, walking-starts, walking-on}
 
@@ -142,7 +142,7 @@ pub record Next (t w : List ℕ) (i k to : ℕ) (es : Entries) (row : ℕ) : Typ
   pub high : row < to
   pub before : ℕ
   pub back : before ≤ row
-  pub opened : Open t w i before
+  pub opened : Findable t w i before
   pub marked : Marked t w row before (rowsForest w row to)
   pub names : cell w row BASE ≡ suc i
   pub same : es ≡ redefinersIn t w i row to
@@ -205,7 +205,7 @@ module _ (t w : List ℕ) (i to : ℕ) where
       to - k ≤ n →
       i < k →
       last ≤ k →
-      Open t w i last →
+      Findable t w i last →
       Marked t w k last (rowsForest w k to) →
       Onward t w i k to (redefinersIn t w i k to) (nextIn w (suc i) k (rowsForest w k to))
   onward zero k last f h l o m =
@@ -219,7 +219,7 @@ module _ (t w : List ℕ) (i to : ℕ) where
     where
       there :
           k < to →
-          ((j before : ℕ) → to - j ≤ n → i < j → before ≤ j → Open t w i before → Marked t w j before (rowsForest w j to) → Onward t w i j to (redefinersIn t w i j to) (nextIn w (suc i) j (rowsForest w j to))) →
+          ((j before : ℕ) → to - j ≤ n → i < j → before ≤ j → Findable t w i before → Marked t w j before (rowsForest w j to) → Onward t w i j to (redefinersIn t w i j to) (nextIn w (suc i) j (rowsForest w j to))) →
           Onward t w i k to (redefinersIn t w i k to) (nextIn w (suc i) k (rowsForest w k to))
       there more ih =
           let j = suc k + higher (statementAt w k .level) (statementsFrom w (suc k) (to - suc k)) in
@@ -243,7 +243,7 @@ module _ (t w : List ℕ) (i to : ℕ) where
               (b : Bool) →
               sameName t (spanAt (cell w i NAME)) (spanAt (cell w k NAME)) ≡ b →
               RowIs t w k j to last →
-              (Open t w i (suc k) → Onward t w i j to (redefinersIn t w i j to) (nextIn w (suc i) j (rowsForest w j to))) →
+              (Findable t w i (suc k) → Onward t w i j to (redefinersIn t w i j to) (nextIn w (suc i) j (rowsForest w j to))) →
               (((target : Span) → back t w target (suc k) ≡ suc i → ⊥) → nextIn w (suc i) j (rowsForest w j to) ≡ 0) →
               Onward t w i k to (redefinersIn t w i k to) (if x then suc k else nextIn w (suc i) j (rowsForest w j to))
           by-row j c true x g p a q b s row rest none =

@@ -70,8 +70,8 @@ nextIn w u k leaf = 0
 nextIn w u k (item s kids later) = if eqb (cell w k BASE) u then suc k else nextIn w u (suc k + size kids) later
 
 -- a search for a name, from the sibling `last` back, finds row i where row i has that name
-abbrev pub Open : List ℕ → List ℕ → ℕ → ℕ → Type 0
-Open text w i last = (target : Span) → eqb (baseFrom text target w last last) (suc i) ≡ sameName text target (spanAt (cell w i NAME))
+abbrev pub Findable : List ℕ → List ℕ → ℕ → ℕ → Type 0
+Findable text w i last = (target : Span) → eqb (baseFrom text target w last last) (suc i) ≡ sameName text target (spanAt (cell w i NAME))
 
 -- row i has no REDEFINES
 abbrev pub IsBase : List ℕ → ℕ → Type 0
@@ -110,7 +110,7 @@ pub record Branch (text w : List ℕ) (i j to : ℕ) : Type 0 where
   pub high : j ≤ to
   pub fits : ROW * to ≤ length w
   pub next : IsBase w i → cell w i NEXT ≡ nextIn w (suc i) j (rowsForest w j to)
-  pub opened : IsBase w i → Open text w i (suc i)
+  pub opened : IsBase w i → Findable text w i (suc i)
   pub marked : Marked text w (suc i) 0 (rowsForest w (suc i) j)
   pub later : Marked text w j (suc i) (rowsForest w j to)
   pub sized : Sized w i to
@@ -121,7 +121,7 @@ pub record Base (text w : List ℕ) (i j to : ℕ) : Type 0 where
   pub high : j ≤ to
   pub fits : ROW * to ≤ length w
   pub next : cell w i NEXT ≡ nextIn w (suc i) j (rowsForest w j to)
-  pub opened : Open text w i (suc i)
+  pub opened : Findable text w i (suc i)
   pub branch : Branch text w i j to
 
 -- row k is there, and is not too large

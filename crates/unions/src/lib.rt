@@ -1,16 +1,52 @@
-// How the rows of a laid and marked table stand in the folded lists.
+// Unions: each base of a laid table linked with its redefiners, and how the rows stand in the folded lists.
 ghost use mathlib.Core.Path.{_≡_};
-ghost use Prim.Native.Nat.{_+_, _*_};
+ghost use Prim.Native.Nat.{_+_, _*_, _≤_, _<_};
+ghost use lib.ListN.{length};
 ghost use Rattle.definition.specs.Fold.{total, sameSpelling, hasMember, foldedAll};
 ghost use Rattle.places.specs.Places.{entryIn};
 ghost use Rattle.redefines.specs.Targets.{basesAt};
+ghost use Rattle.rows.specs.Columns.{ROW, BASE};
+ghost use Rattle.rows.specs.Table.{cell};
+ghost use Rattle.unions.specs.Marks.{linkRow, Unlinked, UnionsLinked};
 ghost use Rattle.unions.specs.Shown.{standing, listIn, shownNamed, Known, Tree, SizedRow, Measured};
 use definition::Span;
 use rows::BASE;
 use rows::NAME;
+use rows::NEXT;
 use rows::REDEFINES;
 use rows::ROW;
 use rows::WIDTH;
+
+// ---------------------------------------------------------------- the redefiners linked
+
+// Row k before the rows of its union so far: its base names it then.
+fn link_row(work: &mut [u32], k: usize)
+    requires { ⌜ (ROW * k + ROW ≤ length (now work)) × (k < 4294967295) × (cell (now work) k BASE ≤ k) ⌝ }
+    ensures { λ _. ⌜ now (work .exit) ≡ linkRow (now (work .entry)) k ⌝ }
+{
+    let base = rows::wide(work[ROW * k + BASE]);
+    if 0 < base {
+        let row = base - 1;
+        work[ROW * k + NEXT] = work[ROW * row + NEXT];
+        work[ROW * row + NEXT] = (k + 1) as u32;
+        return;
+    }
+}
+
+// Has each row from `from` up to `to` name the next row of its union: from the last row back, for a base is told of its
+// redefiners by them.
+pub fn link_unions(work: &mut [u32], from: usize, to: usize)
+    requires { ⌜ Unlinked (now work) from to ⌝ }
+    ensures { λ _. ⌜ UnionsLinked (now (work .entry)) from to (now (work .exit)) ⌝ }
+{
+    let mut k = to;
+    while from < k {
+        k -= 1;
+        link_row(work, k);
+    }
+}
+
+// ---------------------------------------------------------------- how a row stands
 
 // How an entry stands in the folded list.
 pub enum Standing {

@@ -7,7 +7,7 @@ use Rattle.definition.specs.Limits.{mostStatements}
 use Rattle.definition.specs.Fold.{Entries, foldedAll}
 use Rattle.definition.specs.Listing.{listing, members#}
 use Rattle.definition.specs.Record.{recordLength}
-use Rattle.entries.specs.Entered.{Entered}
+use Rattle.table.specs.Entered.{Entered}
 use Rattle.unions.specs.Shown.{listIn}
 
 -- the entries of the folded list in the rows from `from` up to `to`

@@ -26,9 +26,9 @@ fn put_listing(
     requires { ⌜ Tabled (now text) (now work) (now entries) from to long count top ⌝ }
     ensures { λ r. ⌜ Put (now (out .entry)) 0 (listingOf (now (text .entry)) (now (work .entry)) from to) r (now (out .exit)) ⌝ }
 {
-    let variable = entries::varies(work, entries, count);
+    let variable = table::varies(work, entries, count);
     let at = listing::put_head(out, 0, long, variable, top);
-    entries::put_entries(work, entries, count, out, at)
+    table::put_entries(work, entries, count, out, at)
 }
 
 // How long that listing is.

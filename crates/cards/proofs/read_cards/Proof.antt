@@ -13,7 +13,7 @@ use Rattle.definition.specs.Limits.{mostBytes}
 use Rattle.definition.specs.Basic.{refuse, _>>=_}
 use Rattle.definition.specs.Calls.{entryChecks, cardChecks, checkOf}
 use Rattle.definition.proofs.CallsLaws.{passes}
-use Rattle.cards.specs.Viewed.{Room, Viewed, CardsRead}
+use Rattle.cards.specs.Viewed.{ViewRoom, Viewed, CardsRead}
 use Rattle.cards.proofs.read_cards.Statement.{statement}
 use Rattle.cards.proofs.read_cards.Tie as tie
 
@@ -25,7 +25,7 @@ module _ (t : List ℕ) (work : ℕ) {a : Check} (p : checkOf a ≡ entryChecks 
 
   module _ (e : a ≡ Passed) where
     -- it has room
-    fits : (seen : List ℕ) → mostBytes ≤ length seen → Room t seen
+    fits : (seen : List ℕ) → mostBytes ≤ length seen → ViewRoom t seen
     fits seen h = let short = passes t work p e .short in record { short = short; room = omega arith }
 
     -- and the view is made, or an indicator refused

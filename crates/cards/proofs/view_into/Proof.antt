@@ -18,7 +18,7 @@ use Rattle.definition.specs.Basic.{if_then_else_, give, refused}
 use Rattle.definition.specs.Cards.{columnNext, codeNext, shown, viewFrom, view, firstOther}
 use Rattle.definition.specs.Calls.{indicatorCheck}
 use Rattle.definition.proofs.Lists.{drop-next}
-use Rattle.cards.specs.Viewed.{otherAt, Room, Viewed}
+use Rattle.cards.specs.Viewed.{otherAt, ViewRoom, Viewed}
 use Rattle.cards.proofs.view_into.Statement.{statement}
 use Rattle.cards.proofs.view_into.Tie as tie
 
@@ -31,7 +31,7 @@ record Left (t out₀ out : List ℕ) (i n : ℕ) (code : Bool) : Type 0 where
   seen : view t ≡ take i out ++ viewFrom n code (drop i t)
   other : firstOther 0 1 t ≡ firstOther i n (drop i t)
 
-start : {t out : List ℕ} → Room t out → Left t out out 0 1 false
+start : {t out : List ℕ} → ViewRoom t out → Left t out out 0 1 false
 start h =
     record {
       inside = omega arith;

@@ -9,7 +9,7 @@ use Rattle.definition.specs.declared.Usage.{Usage}
 use Rattle.definition.specs.declared.Check.{Check}
 use Rattle.definition.specs.Basic.{Answer, refuse, _>>=_}
 use Rattle.definition.specs.Calls.{textChecks, pictureMask, afterWriting, maskCall, checkOf}
-use Rattle.mask.specs.Masks.{maskIn, after}
+use Rattle.mask.specs.Masks.{maskIn, maskAfter}
 use borrow.Author.Needs.{needs}
 use Rattle.copybook.proofs.mask.Statement.{statement}
 use Rattle.copybook.proofs.mask.Tie as tie
@@ -18,12 +18,12 @@ module _ (usage : Usage) (bs out : List ℕ) (k : Check) (e : checkOf k ≡ text
   passed :
       k ≡ Check.Passed →
       {a : Answer ℕ} {out′ : List ℕ} →
-      after a out′ ≡ afterWriting (maskIn usage bs (length out)) out [] →
-      after a out′ ≡ maskCall usage bs out
+      maskAfter a out′ ≡ afterWriting (maskIn usage bs (length out)) out [] →
+      maskAfter a out′ ≡ maskCall usage bs out
   unfolding pictureMask _>>=_
   passed y q = let same = rw y at e in rw (← same) q
 
-  refused : {x : Refusal} → k ≡ Check.Refused x → after (refuse x) out ≡ maskCall usage bs out
+  refused : {x : Refusal} → k ≡ Check.Refused x → maskAfter (refuse x) out ≡ maskCall usage bs out
   unfolding pictureMask _>>=_
   refused y = let same = rw y at e in rw (← same)
 

@@ -2,7 +2,7 @@
 -- Assumes nothing.
 use borrow.Author.Needs.{needs}
 use mathlib.Core.Path.{ap}
-use Rattle.entries.specs.declared.Item.{Item}
+use Rattle.table.specs.declared.Item.{Item}
 use Rattle.details.proofs.depth_of.Statement.{statement}
 use Rattle.details.proofs.depth_of.Tie as tie
 

@@ -12,7 +12,8 @@ use Rattle.redefines.specs.Targets.{basesAt}
 use Rattle.places.specs.Places.{entryIn}
 use Rattle.unions.specs.Shown.{shownAt, Base}
 use Rattle.unions.proofs.WidthLaws.{branch-tree, branch-row, branch-base, along-numbered, along-known, along-branch}
-use Rattle.entries.specs.Building.{listed, itemIn, redefined, unionIn}
+use Rattle.table.specs.Entered.{listed}
+use Rattle.entries.specs.Building.{itemIn, redefined, unionIn}
 use Rattle.entries.proofs.BuildLaws.{built-none, built-as, built-length, room-part, room-within, room-open, built-own, built-union}
 use Rattle.entries.proofs.WalkLaws.{shown-under, shown-alone, shown-base, shown-union, members-folded, members-based, first-room, second-room, both-built, room-as, Listing, listing-starts, listing-ends, listing-room, listing-on, Redefining, redefining-starts, chainLeft, redefining-ends, redefining-next, redefining-numbered, redefining-row, redefining-tree, redefining-room, redefining-on, redefining-falls}
 use borrow.Fn.Kinds.{In}

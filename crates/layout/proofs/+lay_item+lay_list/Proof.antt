@@ -23,12 +23,13 @@ use Rattle.rows.specs.Columns.{AT}
 use Rattle.rows.specs.Table.{cell, statementAt}
 use Rattle.places.specs.Places.{entriesIn, Linked, rowsForest}
 use Rattle.places.specs.Children.{ChildrenEnd}
+use Rattle.redefines.proofs.PrintLaws.{printed-less}
 use Rattle.layout.specs.declared.ItemAnswer.{ItemAnswer}
 use Rattle.layout.specs.declared.LaidList.{LaidList}
 use Rattle.definition.specs.Fold.{foldCheck}
-use Rattle.layout.specs.Outcomes.{Outcome, stopped, ready, layRest, layTable, ItemOutcome, halted, layItem, placeRow}
+use Rattle.layout.specs.Outcomes.{ListOutcome, stopped, ready, layRest, layTable, ItemOutcome, halted, layItem, placeRow}
 use Rattle.layout.specs.Steps.{itemOf, listOf, Room}
-use Rattle.layout.proofs.LayLaws.{list-stop, list-step, list-none, item-within, leaf-stop, leaf-place, leaf-narrow, LaidRows, laid-rows, too-deep, inner-stop, fold-stop, group-place}
+use Rattle.layout.proofs.LayLaws.{list-stop, list-step, list-none, item-within, item-printed, leaf-stop, leaf-place, leaf-narrow, LaidRows, laid-rows, laid-printed, too-deep, inner-stop, fold-stop, group-place}
 use borrow.Fn.Kinds.{In}
 use borrow.Fn.PlainCycle.{Measures, is, falls, and}
 use Rattle.layout.proofs.lay_item.Reads as lay-item
@@ -52,12 +53,12 @@ use Rattle.layout.proofs.+lay_item+lay_list.Tie.{close}
 -- what the loop keeps
 record Laying (t w₀ w : List ℕ) (from to depth i last cursor reach : ℕ) : Type 0 where
   same-length : length w ≡ length w₀
-  room : Room w to
+  room : Room t w to
   back : last ≤ i
   moves : cursor ≤ largest
   rest : layTable t w₀ from to depth ≡ layRest t w i to depth last cursor reach
 
-starting : (t w : List ℕ) (from to depth : ℕ) → Room w to → Laying t w w from to depth from 0 0 0
+starting : (t w : List ℕ) (from to depth : ℕ) → Room t w to → Laying t w w from to depth from 0 0 0
 starting t w from to depth h = record { same-length = refl; room = h; back = omega arith; moves = omega arith; rest = refl }
 
 module _ {t w₀ w : List ℕ} {from to depth i last cursor reach : ℕ} (inv : Laying t w₀ w from to depth i last cursor reach) where
@@ -74,7 +75,7 @@ module _ {t w₀ w : List ℕ} {from to depth i last cursor reach : ℕ} (inv : 
       let k = item-within t w i j depth last cursor (inv .moves) laid in
       record {
         same-length = l ∙ inv .same-length;
-        room = record { fits = omega (arith, l, inv .room .fits); small = inv .room .small };
+        room = record { fits = omega (arith, l, inv .room .fits); small = inv .room .small; printed = item-printed t w i j depth last cursor laid (inv .room .printed) };
         back = omega (arith, h .low);
         moves = k .moves;
         rest = rw (add-one i, m) (inv .rest ∙ list-step t w i to j depth last cursor reach h (inv .room .fits) (inv .back) laid);
@@ -92,6 +93,10 @@ module _ {t w₀ w : List ℕ} {from to depth i last cursor reach : ℕ} (inv : 
   ending : to ≤ i → ready reach last w ≡ layTable t w₀ from to depth
   ending h = sym (inv .rest ∙ list-none t w i to depth last cursor reach h)
 
+-- the rows of an item
+room-part : {t w : List ℕ} {to j : ℕ} → Room t w to → j ≤ to → Room t w j
+room-part r h = record { fits = omega (arith, r .fits); small = omega (arith, r .small); printed = printed-less (r .printed) h }
+
 -- ---------------------------------------------------------------- the item
 
 module _ (t w : List ℕ) (i j left last cursor : ℕ) where
@@ -102,14 +107,14 @@ module _ (t w : List ℕ) (i j left last cursor : ℕ) where
 
   module _ (h : i + 1 < j) (z : left ≡ 0 → ⊥) (f : left ≤ 64) where
     -- the call's list is the inner list
-    called : {o : Outcome} → o ≡ layTable t w (i + 1) j (64 - (left - 1)) → layTable t w (suc i) j (suc (64 - left)) ≡ o
+    called : {o : ListOutcome} → o ≡ layTable t w (i + 1) j (64 - (left - 1)) → layTable t w (suc i) j (suc (64 - left)) ≡ o
     called e =
         let d : suc (64 - left) ≡ 64 - (left - 1) = omega arith in
         sym (e ∙ ap (λ (x : ℕ). layTable t w x j (64 - (left - 1))) (add-one i) ∙ ap (layTable t w (suc i) j) (sym d))
 
     inner-list :
         {a : LaidList} {width l : ℕ} {w₁ : List ℕ} →
-        Room w j →
+        Room t w j →
         listOf a w₁ ≡ layTable t w (i + 1) j (64 - (left - 1)) →
         a ≡ LaidList.Done width l →
         LaidRows t w (suc i) j (suc (64 - left)) width w₁
@@ -207,13 +212,16 @@ lay-item-fold-check-requires t c κs =
 
 lay-item-place-requires : (t : ℕ) → lay-item-lts.Need-place-requires (lay-item-callees t) (lay-item-at t) lay-item.Post
 lay-item-place-requires t c κs =
-    (search needs, search needs, search needs, search needs, search needs, lay-item-inner t (c .before .before .before .before .before .before) .narrow)
+    let n = c .before .before .before .before .before .before in
+    let p = n .before .before .before .before .before .before .before .before .before .before .pre .1 in
+    (search needs, search needs, search needs, search needs, search needs, lay-item-inner t n .narrow, laid-printed (lay-item-inner t n) (printed-less (p .1 .printed) (omega (arith, p .0))))
 
 lay-item-place-requires-2 : (t : ℕ) → lay-item-lts.Need-place-requires-2 (lay-item-callees t) (lay-item-at t) lay-item.Post
 lay-item-place-requires-2 t c κs =
     let e = c .before .before .before .before in
-    let a = e .before .before .before .before .before .before .args in
-    (search needs, search needs, search needs, search needs, search needs, narrow (a .text .now) (e .before .statement-at .result) (e .elementary .ensures) (c .before .before .c .given .1))
+    let s = e .before .before .before .before .before .before in
+    let a = s .args in
+    (search needs, search needs, search needs, search needs, search needs, narrow (a .text .now) (e .before .statement-at .result) (e .elementary .ensures) (c .before .before .c .given .1), printed-less (s .pre .1 .1 .printed) (omega (arith, s .pre .1 .0)))
 
 lay-item-returns : (t : ℕ) → lay-item-lts.Need-returns (lay-item-callees t) (lay-item-at t) lay-item.Post
 lay-item-returns t c =
@@ -267,6 +275,10 @@ lay-list-loop-holds t c =
     let s = c .before .before in
     let a = s .args in
     starting (a .text .now) (a .work .now) (a .from) (a .to) (64 - a .depth-left) (s .pre .1 .0)
+
+lay-list-lay-item-requires : (t : ℕ) → lay-list-lts.Need-lay-item-requires (lay-list-callees t) (lay-list-at t) lay-list.Post lay-list-Inv-loop lay-list-μ-loop
+lay-list-lay-item-requires t c κs =
+    (search needs, (search needs, room-part (c .before .before .before .before .loop .inv .room) (c .before .end-of .ensures .high), search needs, search needs, search needs))
 
 lay-list-loop-again : (t : ℕ) → lay-list-lts.Need-loop-again (lay-list-callees t) (lay-list-at t) lay-list.Post lay-list-Inv-loop lay-list-μ-loop
 lay-list-loop-again t c =
@@ -324,7 +336,7 @@ pub +lay-item+lay-list-spec : {M : Type 1} → statement M
     lay-list-μ-loop
     (lay-list-loop-holds t)
     (λ c κs. search needs)
-    (λ c κs. search needs)
+    (lay-list-lay-item-requires t)
     (λ c. search needs)
     (λ c. search needs)
     (λ c κs. search needs)

@@ -20,10 +20,11 @@ use Rattle.limits.specs.declared.Ending.{Ending}
 use Rattle.places.specs.Places.{putPlace}
 use Rattle.redefines.specs.Targets.{seenAt, rowFrom, offsetOf, targetFrom, baseFrom, baseAfter}
 use Rattle.redefines.proofs.SearchLaws.{row-found, base-on, back-none}
+use Rattle.redefines.proofs.PrintLaws.{printed-less}
 use Rattle.limits.specs.Ends.{endOf, endingOf}
 use Rattle.limits.proofs.EndLaws.{ends-at, ends-not}
 use Rattle.layout.specs.declared.Start.{Start}
-use Rattle.layout.specs.Bare.{placed}
+use Rattle.layout.specs.Bare.{placedEntry}
 use Rattle.layout.specs.Outcomes.{halted, placing, afterOwn, placeRow}
 use Rattle.layout.specs.Steps.{startAt, startOf}
 use Rattle.layout.proofs.ItemLaws.{placed-refused, placed-large, placed-fits}
@@ -59,8 +60,8 @@ near : (d : Entry) {x : Ending} {n : ℕ} → endingOf x ≡ endOf d → x ≡ E
 near d px e = omega (arith, ends-at d (sym (ap endingOf e) ∙ px) .starts)
 
 module _ (t w : List ℕ) (i below last cursor : ℕ) (c : Pictured) {s : Statement} (ps : s ≡ statementAt w i) where
-  in-row : {a : Answer Entry} → placed t s c (seenAt w last) cursor ≡ a → afterOwn t w i last below cursor a ≡ placeRow t w i below last cursor c
-  in-row h = sym (ap (λ (x : Statement). afterOwn t w i last below cursor (placed t x c (seenAt w last) cursor)) (sym ps) ∙ ap (afterOwn t w i last below cursor) h)
+  in-row : {a : Answer Entry} → placedEntry t s c (seenAt w last) cursor ≡ a → afterOwn t w i last below cursor a ≡ placeRow t w i below last cursor c
+  in-row h = sym (ap (λ (x : Statement). afterOwn t w i last below cursor (placedEntry t x c (seenAt w last) cursor)) (sym ps) ∙ ap (afterOwn t w i last below cursor) h)
 
   module _ {k : ℕ} (pk : k ≡ targetFrom t (s .clauses .redefines) w last) where
     -- the offset of the sibling that the REDEFINES names
@@ -127,8 +128,14 @@ module _ (t w : List ℕ) (i below last cursor : ℕ) (c : Pictured) {s : Statem
 entry-end-requires : tie.Need-entry-end-requires
 entry-end-requires c κs = narrow (c .before .before .before .before .before .before .before .before .before .before .before .statement-at .result) (c .entry-of .ensures) (c .before .before .before .before .before .before .before .before .before .before .before .before .before .before .before .pre .5)
 
+target-of-requires : tie.Need-target-of-requires
+target-of-requires c κs = let p = c .before .before .before .before .before .before .before .pre in (omega (arith, p .0, p .1), printed-less (p .6) (p .1))
+
 find-row-requires : tie.Need-find-row-requires
-find-row-requires c κs = let s = c .before .before .before .before .before .before .before .before .before .before .before .before .before .before .before .before .before .before .before .before in omega (arith, c .before .before .before .before .before .before .before .before .before .before .before .before .target-of .ensures .1, s .pre .0, s .pre .1)
+find-row-requires c κs =
+    let p = c .before .before .before .before .before .before .before .before .before .before .before .before .before .before .before .before .before .before .before .before .pre in
+    let target = c .before .before .before .before .before .before .before .before .before .before .before .before .target-of .ensures .1 in
+    (omega (arith, target, p .0, p .1), printed-less (p .6) (omega (arith, target, p .1)))
 
 put-place-requires : tie.Need-put-place-requires
 put-place-requires c κs =
@@ -172,7 +179,7 @@ place-spec =
     tie.close
     (tie.spec
     (λ c κs. search needs)
-    (λ c κs. search needs)
+    target-of-requires
     (λ c κs. search needs)
     (λ c. search needs)
     (λ c κs. search needs)

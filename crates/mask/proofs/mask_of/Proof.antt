@@ -17,7 +17,7 @@ use Rattle.definition.specs.Calls.{afterWriting}
 use Rattle.picture.specs.declared.PicShape.{PicShape}
 use Rattle.picture.specs.declared.Shaped.{Shaped}
 use Rattle.picture.specs.Kinds.{maskedBy, Reads}
-use Rattle.mask.specs.Masks.{Room, put, maskIn, after}
+use Rattle.mask.specs.Masks.{MaskRoom, put, maskIn, maskAfter}
 use Rattle.picture.proofs.Shapes.{Behind, behind, behind-refused}
 use borrow.Author.Needs.{needs}
 use Rattle.mask.proofs.mask_of.Statement.{statement}
@@ -28,7 +28,7 @@ whole : (m out : List ℕ) → length m ≤ length out → sets out 0 m ≡ m ++
 whole m out h = sets-eq m out 0 (omega arith) ∙ ap (λ (n : ℕ). m ++ drop n out) (zero-add (length m))
 
 module _ (usage : Usage) (bs out : List ℕ) {r : Shaped} (k : Reads 0 usage bs r) where
-  refused : {x : Refusal} → r ≡ Shaped.Refused x → after (refuse x) out ≡ afterWriting (maskIn usage bs (length out)) out []
+  refused : {x : Refusal} → r ≡ Shaped.Refused x → maskAfter (refuse x) out ≡ afterWriting (maskIn usage bs (length out)) out []
   unfolding _>>=_
   refused e = rw (behind-refused k e)
 
@@ -43,12 +43,12 @@ module _ (usage : Usage) (bs out : List ℕ) {r : Shaped} (k : Reads 0 usage bs 
       masked : isMasked usage (b .list) ≡ m
       masked = sym (q ∙ ap (maskedBy usage) (b .shape))
 
-      plain : m ≡ false → after (give 0) out ≡ afterWriting (maskIn usage bs (length out)) out []
+      plain : m ≡ false → maskAfter (give 0) out ≡ afterWriting (maskIn usage bs (length out)) out []
       unfolding _>>=_
       plain y = rw (b .are, masked, y, le-ltb (length out) 0 (omega arith))
 
       module _ (y : m ≡ true) where
-        full : length out < s .width → after (refuse (record { number = 31; position = 0; needed = s .width })) out ≡ afterWriting (maskIn usage bs (length out)) out []
+        full : length out < s .width → maskAfter (refuse (record { number = 31; position = 0; needed = s .width })) out ≡ afterWriting (maskIn usage bs (length out)) out []
         unfolding _>>=_
         full h = rw (b .are, masked, y, wide, lt-ltb (length out) (s .width) h)
 
@@ -56,14 +56,14 @@ module _ (usage : Usage) (bs out : List ℕ) {r : Shaped} (k : Reads 0 usage bs 
           expanded : expand 0 0 0 w ≡ give (b .list)
           expanded = ap (expand 0 0 0) t ∙ b .expanded
 
-          room : Room 0 (expand 0 0 0 w) (length out)
+          room : MaskRoom 0 (expand 0 0 0 w) (length out)
           room = rw expanded (omega (arith, wide))
 
-          written : {out′ : List ℕ} → out′ ≡ put 0 (expand 0 0 0 w) out → after (give (s .width)) out′ ≡ afterWriting (maskIn usage bs (length out)) out []
+          written : {out′ : List ℕ} → out′ ≡ put 0 (expand 0 0 0 w) out → maskAfter (give (s .width)) out′ ≡ afterWriting (maskIn usage bs (length out)) out []
           unfolding _>>=_
           written p =
               rw (b .are, masked, y, le-ltb (length out) (length (mask (b .list))) (omega (arith, wide)))
-              (ap₂ after (ap give (sym wide)) (p ∙ ap (λ (x : Answer (List ℕ)). put 0 x out) expanded ∙ whole (mask (b .list)) out (omega (arith, wide))))
+              (ap₂ maskAfter (ap give (sym wide)) (p ∙ ap (λ (x : Answer (List ℕ)). put 0 x out) expanded ∙ whole (mask (b .list)) out (omega (arith, wide))))
 
 read-shape-requires : tie.Need-read-shape-requires
 read-shape-requires c κs = search needs

@@ -15,7 +15,7 @@ use Rattle.definition.proofs.Lists.{order}
 use Rattle.definition.proofs.PictureLaws.{onto, expand-end, expand-refused, expand-many, expand-more}
 use Rattle.symbols.specs.declared.Repeat.{Repeat}
 use Rattle.symbols.specs.Repeats.{Repeated, repeatOf}
-use Rattle.mask.specs.Masks.{Room, put, Wrote}
+use Rattle.mask.specs.Masks.{MaskRoom, put, Wrote}
 use Rattle.mask.proofs.Masking.{room-run, room-rest, put-run}
 use borrow.Author.Needs.{needs}
 use Rattle.mask.proofs.write_mask.Statement.{statement}
@@ -26,10 +26,10 @@ record Left (t out₀ out : List ℕ) (k i : ℕ) : Type 0 where
   within : i ≤ length t
   kept : length out ≡ length out₀
   seen : ℕ
-  room : Room k (expand 0 seen 0 (drop i t)) (length out)
+  room : MaskRoom k (expand 0 seen 0 (drop i t)) (length out)
   same : put 0 (expand 0 0 0 t) out₀ ≡ put k (expand 0 seen 0 (drop i t)) out
 
-start : (t out : List ℕ) → Room 0 (expand 0 0 0 t) (length out) → Left t out out 0 0
+start : (t out : List ℕ) → MaskRoom 0 (expand 0 0 0 t) (length out) → Left t out out 0 0
 start t out h = record { within = omega arith; kept = refl; seen = 0; room = h; same = refl }
 
 module _ {t out₀ out : List ℕ} {k i : ℕ} (inv : Left t out₀ out k i) where

@@ -4,8 +4,8 @@ use borrow.Author.Needs.{needs}
 use Rattle.layout.proofs.LayLaws.{LaidRows}
 use Rattle.unions.specs.Shown.{Tree}
 use mathlib.Core.Path.{_∙_}
-use Rattle.entries.proofs.ListedLaws.{table-long, table-ends}
-use Rattle.record.proofs.KeptLaws.{Ready, unlinked, marked-tree}
+use Rattle.table.proofs.ListedLaws.{table-long, table-ends}
+use Rattle.unions.proofs.KeptLaws.{Ready, unlinked, marked-tree}
 use Rattle.record.proofs.LaidLaws.{laid-ready, list-laid, list-refused, fold-refused, end-refused, laid-listed}
 use Rattle.record.proofs.lay_fields.Statement.{statement}
 use Rattle.record.proofs.lay_fields.Tie as tie

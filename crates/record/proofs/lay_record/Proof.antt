@@ -6,7 +6,8 @@ use native.Mathlib.Omega.{arith}
 use Rattle.tree.specs.declared.RowsRead.{RowsRead}
 use Rattle.tree.specs.Reading.{RowsAre}
 use Rattle.tree.proofs.ReadingLaws.{Stored, stored, turned-down}
-use Rattle.record.proofs.LaidLaws.{fields-laid, reading-refused}
+use Rattle.layout.specs.Steps.{Room}
+use Rattle.record.proofs.LaidLaws.{fields-laid, reading-refused, rows-room}
 use Rattle.record.proofs.lay_record.Statement.{statement}
 use Rattle.record.proofs.lay_record.Tie as tie
 
@@ -22,14 +23,36 @@ rows-read x =
     let a = s .args in
     stored (x .n .given .0 .0) (s .pre .1) (subst (λ (y : RowsRead). RowsAre (a .text .now) (a .work .now) y (rr .read-rows .last .1 .0)) (x .n .given .1) (rr .read-rows .ensures))
 
+put-prints-requires : tie.Need-put-prints-requires
+put-prints-requires c κs = let r = rows-read (c .before .before) in let p = c .before .before .before .before .before .before .before .before .before .before .before .pre in omega (arith, r .few, r .long, p .1)
+
+-- and when their names have fingerprints
+room :
+    (z : tie.After-put-prints) →
+    let x = z .before .before .before in
+    let a = x .before .before .before .before .before .before .before .before .before .args in
+    Room (a .text .now) (z .put-prints .last .1 .0) (x .n .given .0 .0)
+room z =
+    let x = z .before .before .before in
+    let p = x .before .before .before .before .before .before .before .before .before .pre in
+    rows-room (rows-read x) (p .1) (z .put-prints .ensures)
+
 first-field-requires : tie.Need-first-field-requires
-first-field-requires c κs = let r = rows-read (c .before .before) in let p = c .before .before .before .before .before .before .before .before .before .before .before .pre in omega (arith, r .few, r .long, p .1)
+first-field-requires c κs = room (c .before .before .before) .fits
 
 lay-fields-requires : tie.Need-lay-fields-requires
-lay-fields-requires c κs = let r = rows-read (c .before .before .before .before .before) in let p = c .before .before .before .before .before .before .before .before .before .before .before .before .before .before .pre in (c .before .before .first-field .ensures .low, record { fits = omega (arith, r .few, r .long, p .1); small = omega (arith, r .few) }, r .few, p .2)
+lay-fields-requires c κs =
+    let z = c .before .before .before .before .before .before in
+    let x = z .before .before .before in
+    (c .before .before .first-field .ensures .low, room z, rows-read x .few, x .before .before .before .before .before .before .before .before .before .pre .2)
 
 returns : tie.Need-returns
-returns c = fields-laid (c .before .before .before .before .before .before .before .before .before .before .before .before .before .before .before .before .before .before .before .args .text .now) (rows-read (c .before .before .before .before .before .before .before .before .before .before)) (c .before .before .before .before .before .before .before .first-field .ensures) (c .before .before .before .before .lay-fields .last .1 .0) (c .before .before .before .before .lay-fields .last .1 .1 .0) (c .before .before .before .before .lay-fields .result) (c .before .before .before .before .lay-fields .ensures)
+returns c =
+    let z = c .before .before .before .before .before .before .before .before .before .before .before in
+    let x = z .before .before .before in
+    let l = c .before .before .before .before .lay-fields in
+    let a = x .before .before .before .before .before .before .before .before .before .args in
+    fields-laid (a .text .now) (rows-read x) (z .put-prints .ensures) (c .before .before .before .before .before .before .before .first-field .ensures) (l .last .1 .0) (l .last .1 .1 .0) (l .result) (l .ensures)
 
 returns-2 : tie.Need-returns-2
 returns-2 c = let rr = c .before .before .before .before .before in let a = c .before .before .before .before .before .before .before .before .before .before .args in reading-refused (a .text .now) (turned-down (c .before .r .given .0 .0) (subst (λ (y : RowsRead). RowsAre (a .text .now) (a .work .now) y (rr .read-rows .last .1 .0)) (c .before .r .given .1) (rr .read-rows .ensures)))
@@ -40,6 +63,7 @@ lay-record-spec =
     (tie.spec
     (λ c κs. search needs)
     (λ c. search needs)
+    put-prints-requires
     first-field-requires
     lay-fields-requires
     (λ c. search needs)

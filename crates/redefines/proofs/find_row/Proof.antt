@@ -1,7 +1,7 @@
 -- `redefines::find_row` meets its contract: what is found from k back is what is found from the last sibling back.
 -- Assumes nothing.
 use borrow.Author.Needs.{needs}
-use Prim.Native.Nat.{ℕ, suc, _*_, _-_, _≤_, _<_}
+use Prim.Native.Nat.{ℕ, suc, _+_, _*_, _-_, _≤_, _<_}
 use mathlib.Core.Path.{_≡_, refl, sym, ap, _∙_}
 use mathlib.Core.Bool.{Bool, true, false}
 use mathlib.Core.List.{List}
@@ -9,23 +9,36 @@ use native.Mathlib.Omega.{arith}
 use lib.ListN.{length}
 use Rattle.definition.specs.declared.Span.{Span}
 use Rattle.definition.specs.Basic.{if_then_else_}
+use Rattle.names.specs.Prints.{namePrint}
 use Rattle.rows.specs.Columns.{ROW, BEFORE}
 use Rattle.rows.specs.Table.{cell}
 use Rattle.redefines.specs.Targets.{isTarget, rowFrom}
+use Rattle.redefines.specs.Prints.{PrintedRow, Printed, PassedBack}
 use Rattle.redefines.proofs.SearchLaws.{row-low, row-over, row-here}
+use Rattle.redefines.proofs.PrintLaws.{printed-less, passed-same}
 use Rattle.redefines.proofs.find_row.Statement.{statement}
 use Rattle.redefines.proofs.find_row.Tie as tie
 
 -- the search goes on from k back
 record Left (t w : List ℕ) (target : Span) (bases : Bool) (last k : ℕ) : Type 0 where
   fits : ROW * last ≤ length w
+  printed : Printed t w last
   within : k ≤ last
   same : rowFrom t target bases w last last ≡ rowFrom t target bases w k k
 
-start : {t w : List ℕ} {target : Span} {bases : Bool} {last : ℕ} → ROW * last ≤ length w → Left t w target bases last last
-start h = record { fits = h; within = omega arith; same = refl }
+start :
+    {t w : List ℕ} {target : Span} {bases : Bool} {last print k : ℕ} →
+    ROW * last ≤ length w →
+    Printed t w last →
+    print ≡ namePrint t target →
+    PassedBack w print last k →
+    Left t w target bases last k
+start {t} {w} {target} {bases} h p e b = record { fits = h; printed = p; within = b .low; same = passed-same t w target bases e p b }
 
 module _ {t w : List ℕ} {target : Span} {bases : Bool} {last k : ℕ} (inv : Left t w target bases last k) where
+  ready : 0 < k → {print : ℕ} → print ≡ namePrint t target → (ROW * (k - 1) + ROW ≤ length w) × PrintedRow t w (k - 1) × (print ≡ namePrint t target)
+  ready h e = (omega (arith, inv .fits, inv .within), inv .printed .rows (k - 1) (omega (arith, inv .within)), e)
+
   module _ (h : 0 < k) {o : Bool} (p : o ≡ isTarget t target bases w (k - 1)) where
     here : rowFrom t target bases w last last ≡ (if o then suc (k - 1) else rowFrom t target bases w (k - 1) (cell w (k - 1) BEFORE))
     here =
@@ -45,12 +58,17 @@ module _ {t w : List ℕ} {target : Span} {bases : Bool} {last k : ℕ} (inv : L
     broken : o ≡ false → {n : ℕ} → n ≡ cell w (k - 1) BEFORE → k - 1 < n → 0 ≡ rowFrom t target bases w last last
     broken e q l = sym (back e ∙ row-over t w target bases (k - 1) (cell w (k - 1) BEFORE) (omega arith))
 
-    next : o ≡ false → {n : ℕ} → n ≡ cell w (k - 1) BEFORE → n ≤ k - 1 → Left t w target bases last n
-    next e {n} q l =
+    next : o ≡ false → {n : ℕ} → n ≡ cell w (k - 1) BEFORE → n ≤ k - 1 → {print m : ℕ} → print ≡ namePrint t target → PassedBack w print n m → Left t w target bases last m
+    next e {n} q l z b =
         record {
           fits = inv .fits;
-          within = omega (arith, inv .within);
-          same = back e ∙ ap (rowFrom t target bases w (k - 1)) (sym q) ∙ row-low t w target bases (k - 1) n l;
+          printed = inv .printed;
+          within = omega (arith, inv .within, b .low);
+          same =
+              back e
+              ∙ ap (rowFrom t target bases w (k - 1)) (sym q)
+              ∙ row-low t w target bases (k - 1) n l
+              ∙ passed-same t w target bases z (printed-less (inv .printed) (omega (arith, inv .within))) b;
         }
 
   done : k ≤ 0 → 0 ≡ rowFrom t target bases w last last
@@ -58,13 +76,16 @@ module _ {t w : List ℕ} {target : Span} {bases : Bool} {last k : ℕ} (inv : L
   done h = sym (inv .same ∙ ap (λ (m : ℕ). rowFrom t target bases w m m) (let e : k ≡ 0 = omega arith in e))
 
 abbrev Inv-loop : tie.InvT-loop
-Inv-loop text work target last bases k₀ k = Left text work target bases last k
+Inv-loop text work target last bases print k₀ k = Left text work target bases last k
 
 abbrev μ-loop : tie.MeasureT-loop
-μ-loop text work target last bases k₀ k = k
+μ-loop text work target last bases print k₀ k = k
 
 loop-holds : tie.Need-loop-holds Inv-loop μ-loop
 loop-holds c = search start
+
+is-target-requires : tie.Need-is-target-requires Inv-loop μ-loop
+is-target-requires c κs = ready (c .before .loop .inv) (c .loop-test .taken) (c .before .before .before .print-of .ensures)
 
 returns : tie.Need-returns Inv-loop μ-loop
 returns c = (search found, search needs)
@@ -84,9 +105,11 @@ find-row-spec =
     (tie.spec
     Inv-loop
     μ-loop
+    (λ c κs. search needs)
+    (λ c κs. search needs)
     loop-holds
     (λ c. search needs)
-    (λ c κs. search needs)
+    is-target-requires
     returns
     (λ c. search needs)
     (λ c. search needs)
@@ -94,6 +117,7 @@ find-row-spec =
     (λ c. search needs)
     (λ c κs. search needs)
     returns-2
+    (λ c κs. search needs)
     (λ c. search needs)
     loop-again
     returns-3)

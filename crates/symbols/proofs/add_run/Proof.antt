@@ -12,7 +12,7 @@ use borrow.Author.Needs.{needs}
 use Rattle.definition.specs.Limits.{mostSymbols}
 use Rattle.definition.specs.Basic.{if_then_else_, among}
 use Rattle.symbols.specs.declared.Tallies.{Tallies}
-use Rattle.symbols.specs.Shape.{times, runOf, unless, joined}
+use Rattle.symbols.specs.Shape.{timesIn, runOf, unless, joined}
 use Rattle.symbols.proofs.Keys.{Each, one-of, Missed, keyed, missed}
 use Rattle.symbols.proofs.add_run.Statement.{statement}
 use Rattle.symbols.proofs.add_run.Tie as tie
@@ -61,7 +61,7 @@ added whole s b n =
     }
 
 module _ (s : Tallies) (n : ℕ) where
-  added-joined : (b whole : ℕ) → whole ≡ s .whole + unless (s .points) (times "9Z*" b n) → added whole s b n ≡ joined s (runOf b n)
+  added-joined : (b whole : ℕ) → whole ≡ s .whole + unless (s .points) (timesIn "9Z*" b n) → added whole s b n ≡ joined s (runOf b n)
   added-joined b whole e i =
       record {
         symbols = s .symbols + n;
@@ -81,7 +81,7 @@ module _ (s : Tallies) (n : ℕ) where
   -- an arm of these keys, which have the tallies of k
   arm :
       (k : ℕ) (ks : List ℕ) (b whole : ℕ) →
-      whole ≡ s .whole + unless (s .points) (times "9Z*" k n) →
+      whole ≡ s .whole + unless (s .points) (timesIn "9Z*" k n) →
       Each (λ b. runOf b n) (runOf k n) ks →
       OneOf ks b →
       added whole s k n ≡ joined s (runOf b n)
@@ -92,7 +92,7 @@ arms : List (List ℕ)
 arms = (68 ∷ []) ∷ (67 ∷ []) ∷ (45 ∷ []) ∷ (43 ∷ []) ∷ (36 ∷ []) ∷ (48 ∷ []) ∷ (44 ∷ 47 ∷ 66 ∷ []) ∷ (46 ∷ []) ∷ (83 ∷ []) ∷ (86 ∷ []) ∷ (80 ∷ []) ∷ (42 ∷ 90 ∷ []) ∷ (57 ∷ []) ∷ (65 ∷ 88 ∷ []) ∷ []
 
 -- another byte is in no set
-none : (s : String) (b n : ℕ) → keyed arms s ≡ true → Missed arms b → 0 ≡ times s b n
+none : (s : String) (b n : ℕ) → keyed arms s ≡ true → Missed arms b → 0 ≡ timesIn s b n
 none s b n k h = sym (ap (λ (t : Bool). if t then n else 0) (missed arms s b k h))
 
 other : (b n : ℕ) → Missed arms b → runOf 0 n ≡ runOf b n

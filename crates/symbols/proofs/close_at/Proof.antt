@@ -6,7 +6,7 @@ use native.Mathlib.Omega.{arith}
 use lib.ListN.{length, getD, take, drop}
 use Rattle.definition.specs.Picture.{beforeClose}
 use Rattle.definition.proofs.PictureLaws.{after, after-none, close-none, close-here, close-later}
-use Rattle.symbols.specs.Repeats.{Closed}
+use Rattle.symbols.specs.Repeats.{ClosedAt}
 use Rattle.symbols.proofs.close_at.Statement.{statement}
 use Rattle.symbols.proofs.close_at.Tie as tie
 use Rattle.symbols.proofs.close_at.Reads as reads
@@ -24,10 +24,10 @@ module _ {s : List ℕ} {i : ℕ} (inv : Left s i) where
   next : i < length s → (getD s i 0 ≡ 41 → ⊥) → Left s (i + 1)
   next h e = record { within = omega arith; same = inv .same ∙ close-later s i h e }
 
-  found : i < length s → getD s i 0 ≡ 41 → Closed s i
+  found : i < length s → getD s i 0 ≡ 41 → ClosedAt s i
   found h e = record { found = λ _. inv .same ∙ close-here s i h e; missing = λ l. absurd (omega arith) }
 
-  none-found : length s ≤ i → Closed s i
+  none-found : length s ≤ i → ClosedAt s i
   none-found h = record { found = λ l. absurd (omega arith); missing = λ _. inv .same ∙ close-none s i h }
 
 abbrev Inv-loop : tie.InvT-loop

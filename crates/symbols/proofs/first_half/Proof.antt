@@ -7,22 +7,22 @@ use borrow.Author.Needs.{needs}
 use borrow.Author.Tests.{ne-eqb}
 use Rattle.definition.specs.Picture.{symbol}
 use Rattle.symbols.specs.declared.Half.{Half}
-use Rattle.symbols.specs.Shape.{next}
+use Rattle.symbols.specs.Shape.{awaits}
 use Rattle.symbols.proofs.first_half.Statement.{statement}
 use Rattle.symbols.proofs.first_half.Tie as tie
 
 module _ {b : ℕ} where
-  is-c : b ≡ 67 → Half.C ≡ next Half.Nothing b
+  is-c : b ≡ 67 → Half.C ≡ awaits Half.Nothing b
   is-c e = rw e
 
-  is-d : b ≡ 68 → Half.D ≡ next Half.Nothing b
+  is-d : b ≡ 68 → Half.D ≡ awaits Half.Nothing b
   is-d e = rw e
 
   module _ (c : b ≡ 67 → ⊥) (d : b ≡ 68 → ⊥) {r : Bool} (p : r ≡ symbol b) where
-    is-one : r ≡ true → Half.Nothing ≡ next Half.Nothing b
+    is-one : r ≡ true → Half.Nothing ≡ awaits Half.Nothing b
     is-one y = rw (ne-eqb b 67 c, ne-eqb b 68 d, ← p, y)
 
-    is-none : r ≡ false → Half.Wrong ≡ next Half.Nothing b
+    is-none : r ≡ false → Half.Wrong ≡ awaits Half.Nothing b
     is-none y = rw (ne-eqb b 67 c, ne-eqb b 68 d, ← p, y)
 
 returns : tie.Need-returns

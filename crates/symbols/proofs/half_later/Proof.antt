@@ -5,7 +5,7 @@ use mathlib.Core.Path.{_≡_, refl, sym}
 use lib.ListN.{replicate}
 use borrow.Author.Needs.{needs}
 use Rattle.symbols.specs.declared.Half.{Half}
-use Rattle.symbols.specs.Shape.{next, halves}
+use Rattle.symbols.specs.Shape.{awaits, halves}
 use Rattle.symbols.proofs.Halves.{halves-more}
 use Rattle.symbols.proofs.half_later.Statement.{statement}
 use Rattle.symbols.proofs.half_later.Tie as tie
@@ -15,11 +15,11 @@ module _ (p : Half) (b n : ℕ) where
   unfolding halves
   zero-times e = rw e
 
-  once : {q : Half} → q ≡ next p b → n ≡ 1 → q ≡ halves p (replicate n b)
+  once : {q : Half} → q ≡ awaits p b → n ≡ 1 → q ≡ halves p (replicate n b)
   unfolding halves
   once h e = rw (e, h)
 
-more : (p : Half) (b n : ℕ) {q r : Half} → (n ≡ 0 → ⊥) → (n ≡ 1 → ⊥) → q ≡ next p b → r ≡ next q b → r ≡ halves p (replicate n b)
+more : (p : Half) (b n : ℕ) {q r : Half} → (n ≡ 0 → ⊥) → (n ≡ 1 → ⊥) → q ≡ awaits p b → r ≡ awaits q b → r ≡ halves p (replicate n b)
 more p b zero z o h g = absurd (z refl)
 more p b (suc zero) z o h g = absurd (o refl)
 more p b (suc (suc n)) z o h g = rw (g, h) (sym (halves-more p b n))

@@ -5,26 +5,26 @@ use mathlib.Core.Path.{_≡_}
 use borrow.Author.Needs.{needs}
 use borrow.Author.Tests.{ne-eqb}
 use Rattle.symbols.specs.declared.Half.{Half}
-use Rattle.symbols.specs.Shape.{next}
+use Rattle.symbols.specs.Shape.{awaits}
 use Rattle.symbols.proofs.next_half.Statement.{statement}
 use Rattle.symbols.proofs.next_half.Tie as tie
 
 module _ (p : Half) (b : ℕ) where
-  started : {r : Half} → p ≡ Half.Nothing → r ≡ next Half.Nothing b → r ≡ next p b
+  started : {r : Half} → p ≡ Half.Nothing → r ≡ awaits Half.Nothing b → r ≡ awaits p b
   started e q = rw (e, q)
 
   module _ (e : p ≡ Half.C) where
-    credit : b ≡ 82 → Half.Nothing ≡ next p b
+    credit : b ≡ 82 → Half.Nothing ≡ awaits p b
     credit h = rw (e, h)
 
-    no-credit : (b ≡ 82 → ⊥) → Half.Wrong ≡ next p b
+    no-credit : (b ≡ 82 → ⊥) → Half.Wrong ≡ awaits p b
     no-credit h = rw (e, ne-eqb b 82 h)
 
   module _ (e : p ≡ Half.D) where
-    debit : b ≡ 66 → Half.Nothing ≡ next p b
+    debit : b ≡ 66 → Half.Nothing ≡ awaits p b
     debit h = rw (e, h)
 
-    no-debit : (b ≡ 66 → ⊥) → Half.Wrong ≡ next p b
+    no-debit : (b ≡ 66 → ⊥) → Half.Wrong ≡ awaits p b
     no-debit h = rw (e, ne-eqb b 66 h)
 
 enum-told : tie.Need-enum-told

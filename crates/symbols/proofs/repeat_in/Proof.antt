@@ -15,11 +15,11 @@ use Rattle.definition.proofs.PictureLaws.{repeat-open}
 use Rattle.text.specs.declared.Number.{Number}
 use Rattle.text.specs.Words.{valued}
 use Rattle.symbols.specs.declared.Repeat.{Repeat}
-use Rattle.symbols.specs.Repeats.{Closed, Repeated}
+use Rattle.symbols.specs.Repeats.{ClosedAt, Repeated}
 use Rattle.symbols.proofs.repeat_in.Statement.{statement}
 use Rattle.symbols.proofs.repeat_in.Tie as tie
 
-module _ (at : ℕ) (inside : List ℕ) {k : ℕ} (closed : Closed inside k) where
+module _ (at : ℕ) (inside : List ℕ) {k : ℕ} (closed : ClosedAt inside k) where
   unclosed : length inside ≤ k → Repeated at (40 ∷ inside) (Repeat.Refused (record { number = 22; position = at; needed = 0 }))
   unfolding _>>=_
   unclosed h = record { same = rw (repeat-open at (40 ∷ inside) (omega arith) refl, closed .missing h); within = omega arith }

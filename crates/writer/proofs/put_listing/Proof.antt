@@ -2,7 +2,7 @@
 -- Assumes nothing.
 use borrow.Author.Needs.{needs}
 use native.Mathlib.Omega.{arith}
-use Rattle.entries.proofs.ListedLaws.{table-fits, table-whole}
+use Rattle.table.proofs.ListedLaws.{table-fits, table-whole}
 use Rattle.writer.proofs.put_listing.Statement.{statement}
 use Rattle.writer.proofs.put_listing.Tie as tie
 

@@ -1,0 +1,4 @@
+pub mod FlatLaws
+pub mod OwnLaws
+pub mod LoopLaws
+pub mod ListedLaws

@@ -14,7 +14,8 @@
  *
  * A call changes no byte of `out` if it refuses, and none past the bytes that it writes. It keeps nothing between
  * calls, and needs no initialisation; calls on different buffers may run at the same time. It takes no memory but
- * stack; how much of that is not proved.
+ * stack: at the deepest nesting that is accepted, 66 levels, 64 KB were measured, and 129 KB for cards, whose text is
+ * copied there. How much is not proved; COPYBOOK_STACK bytes leave room.
  *
  * Buffers. A slice is handed over as a pointer and the number of its elements. What is proved holds if
  *   - the pointer is good for that many elements during the call, and aligned for its type (4 bytes for `work`, 8 for
@@ -43,6 +44,9 @@ extern "C" {
 
 /* How many numbers of 32 bits `work` must have. */
 #define COPYBOOK_WORK 16384
+
+/* How many bytes of stack are enough for every call. */
+#define COPYBOOK_STACK 196608
 
 /* How many numbers `answer` needs. */
 #define COPYBOOK_LAYOUT_ANSWER 2
@@ -98,6 +102,9 @@ enum copybook_number {
     /* the text, after 3 and before 10; the position is that of the opening mark */
     COPYBOOK_LITERAL_OPEN = 50,
 
+    /* cards, after 3 and before 50; the position is that of the byte in column 7 */
+    COPYBOOK_INDICATOR = 51,
+
     COPYBOOK_NO_SUCH_NUMBER = 255 /* a usage or a sign that is none; nothing is touched */
 };
 
@@ -150,7 +157,9 @@ enum copybook_number {
     R(COPYBOOK_RECORD_TOO_SHORT, "a record is shorter than its layout, and not variable", \
       "the record is cut off, or it is of another layout") \
     R(COPYBOOK_LITERAL_OPEN, "a literal after VALUE is not closed on its line", \
-      "close it on its line by the mark that opens it; within it that mark is written twice")
+      "close it on its line by the mark that opens it; within it that mark is written twice") \
+    R(COPYBOOK_INDICATOR, "a card's column 7 holds none of the four indicators", \
+      "a blank marks code, * or / a comment, D a debugging line; a continued line (-) must be written as one")
 
 /* Kinds: the first byte of each entry of a listing, and answer[0] of a picture. */
 enum copybook_kind {
@@ -236,6 +245,18 @@ uint32_t copybook_details(const uint8_t *text, size_t n, uint32_t *work, size_t 
                           uint64_t *answer, size_t k);
 
 /*
+ * The same two for a copybook on cards, COBOL's reference format. Columns are bytes. Columns 1 to 6 and those after 72
+ * are ignored; column 7 is an indicator: a blank for code, * or / for a comment, D for a debugging line, which is
+ * dropped; a carriage return that ends a line is no column, and a line shorter than 7 columns is blank. What is left is
+ * read as free text is, and starts and positions point into `cards`. Refusal 51 comes after 3 and before 50.
+ */
+uint32_t copybook_layout_cards(const uint8_t *cards, size_t n, uint32_t *work, size_t w, uint8_t *out, size_t m,
+                               uint64_t *answer, size_t k);
+
+uint32_t copybook_details_cards(const uint8_t *cards, size_t n, uint32_t *work, size_t w, uint8_t *out, size_t m,
+                                uint64_t *answer, size_t k);
+
+/*
  * Kind, its details and width of one picture, with a usage and a sign. To `answer`, 7 numbers:
  *     kind, width, signed, sign (copybook_has_sign), precision, scale, storage
  * each 0 where the kind has none: text has none of the five; int has signed and sign; binary signed; decimal sign,
@@ -264,6 +285,10 @@ enum copybook_owned { COPYBOOK_PIECE = 0, COPYBOOK_SLACK = 1 };
  */
 uint32_t copybook_owner(const uint8_t *text, size_t n, uint64_t position, uint32_t *work, size_t w, uint64_t *answer,
                         size_t k);
+
+/* The same for a copybook on cards. Refusals: 1 to 3, 51, 50, 10 to 14, 20 to 30, 40, 41. */
+uint32_t copybook_owner_cards(const uint8_t *cards, size_t n, uint64_t position, uint32_t *work, size_t w,
+                              uint64_t *answer, size_t k);
 
 /*
  * Whether a record of `len` bytes is long enough for a layout of `record_len` bytes: COPYBOOK_OK, or

@@ -12,6 +12,8 @@ Where each thing that a comparison must cover is made:
   repeated clauses, SEPARATE in odd places and after VALUE                      REPEATED, Maker.soup
   literals after VALUE: periods, `*>`, white space and other marks in them, doubled and open ones; marks before VALUE; VALUE as
     a name, a target, a picture                                                 QUOTED, Maker.quoted
+  cards: sequence numbers, indicators, text behind column 72, words cut there, comments between words, short and empty lines,
+    carriage returns                                                            CARDS, Maker.cards
   level 88, levels 0 255 256 +05 0005                                           LEVELS, levels
   counts 0, +3, around 2^31 and 2^64; sums around 2^31                          COUNTS, counts, LARGE
   dropped roots with clauses                                                    ROOTS, Maker.nested
@@ -327,6 +329,35 @@ def edges():
     yield "88.\n" * 300 + "1.\n" * 800 + "88.\n"
 
 
+def card_lines():
+    """Last lines of 0, 6, 7, 8, 72, 73 and 80 columns, with every end; each byte below 128 as an indicator, at the end and before more."""
+    wide = "000100 " + "05 A PIC XX".rjust(65)
+    lines = ["000100 05 A PIC X~", "000100 05 A PIC X~000200", "000100 05 A PIC X~000200 ", "000100 05 A PIC~000200 X", wide, wide + "X", wide + "X" * 8]
+    ended = [line.replace("~", "\n") + end for line in lines for end in ("", "\r", "\n", "\r\n")]
+    marks = [f"000100 05 A PIC X.\n000200{chr(b)}{more}" for b in range(128) for more in ("", "    05 B PIC X.")]
+    return ended + marks
+
+
+def far(code, column, more):
+    """A card whose code ends in the column, and more behind it."""
+    return "000100 " + code.rjust(column - 7) + more
+
+
+# ~ stands for a line's end
+CARDS = [text.replace("~", "\n") for text in (
+    "", "\r", "\r\r", "000100\r\r~", "000100 \r\r~", "000100D", "000100 05 A PIC X.\r", "\r~\r~000100 05 A PIC X.\r~",
+    "000010 01 REC.~000020 05 TAG PIC X(5).~000030 05 AGE PIC 99.", "000010 01 REC PIC X.", "05 A   05 B PIC X.",
+    "000100*~000200/~000300D~000400 05 A~000500* VALUE '~000600 PIC X.", "000100   * 05 NO PIC X.~       05 A PIC X.",
+    "000100 05 A PIC X*> .~000200 . 05 B PIC X.", "000100 05 A PIC X VALUE 'a~000200- b'.", "000100*~000200d~000300-", "000100-\x80", "000100 05 A PIC X9",
+    "000100 X. 05 A PIC X VALUE 'open~000200-", "000100 X. 05 A PIC X VALUE 'open~000200 ", "000100 05 A PIC X.\r000200 05 B PIC X.\r", "\t05 A PIC X.", "000100\t05 A PIC X.",
+    "000100 01 R.~000200 05 G.~000300 10 B PIC X.~000400 10 C PIC 9(4) COMP SYNC.~000500 05 H REDEFINES G PIC X(9).",
+)] + [
+    far("05 A PIC X.", 72, "X\n       05 B PIC X."), far("05 A PIC X", 72, ".\n       05 B PIC XX."), far("05 A PIC X*>", 72, "X\n       ."), far("05 A PIC X*", 72, ">\n       ."),
+    far("05 A PIC X VALUE '. '", 72, "'\r\n       ."), far("05 A PIC X VALUE '. ", 72, "'\n       ."), far("05 A PIC X VALUE 'a", 71, "\n       ."), far("05 A", 72, "B PIC X.\n       PIC XX."),
+    far("", 72, "\x80"), far("05 A PIC X", 71, ".X\r\n"), far("05 A PIC X", 71, ". \r"),
+] + card_lines()
+
+
 def chains():
     """Groups in groups. With no second root the outermost is dropped; the innermost list is at depth n - 2 then, else n - 1."""
     for n in (5, 65, 66, 67):
@@ -634,6 +665,53 @@ class Maker:
                 text += w + (" " if self.chance(0.9) else self.one(["\n", "  ", "\t", "\r\n", " *> X. 'Y\n", "\n* 'Z.\n", ""]))
             text = text.rstrip(" ") + self.one([". ", ". ", ".\n", ".\n", ". 88 C VALUE 'a' 'b. c'.\n", ".*> it's\n", " .\n", ".", ""])
         return "quoted", text
+
+    # cards
+
+    def margin(self):
+        """Columns 1 to 6."""
+        return self.one(["%06d" % self.r.randrange(10 ** 6), "%06d" % self.r.randrange(10 ** 6), "      ", "      ", "ABC123", "05 A. ", "'*>.  "])
+
+    def behind(self):
+        """What stands behind column 72."""
+        return self.one(["", "", "", "FISH0001", " ", "X", ".", "'", ">", "*>", ". 05 Z PIC X.", "VALUE '", "\t"])
+
+    def card(self, code, indicator=" "):
+        """A card with this code, and something behind its columns; what is longer is cut by them."""
+        text = self.margin() + indicator + code
+        return text.ljust(72) + self.behind() if self.chance(0.5) else text
+
+    def no_code(self):
+        """A card that is read as blank."""
+        return self.one([
+            lambda: "",
+            lambda: self.margin()[:self.r.randint(0, 6)],
+            lambda: self.margin() + self.one(" */D"),
+            lambda: self.card(self.one(["", " a remark.", " 05 NO PIC X.", " VALUE 'open", "*> no"]), self.one("*/D")),
+        ])()
+
+    def cards(self):
+        """A copybook on cards: its lines, cut where they get too long or anywhere, behind margins and indicators."""
+        _, text = self.one([self.nested, self.nested, self.folded, self.spread, self.quoted, self.marked, self.damaged])()
+        rest, lines = text.replace("\r", self.one(["", "\r"])).replace("\n", " \n "), []
+        while rest and len(lines) < 60:
+            room = self.one([65, 65, self.r.randint(1, 64), 66, 70])
+            code = rest[:room].split("\n")[0]
+            if len(code) == room and self.chance(0.9) and " " in code:  # between words
+                code = code[:code.rindex(" ") + 1]
+            rest = rest[len(code):].removeprefix("\n")
+            while self.chance(0.15):
+                lines.append(self.no_code())
+            # now and then so far in that the code reaches column 72, or passes it
+            indent = self.r.randint(max(0, 62 - len(code)), max(0, 67 - len(code))) if self.chance(0.2) else self.r.randint(0, 8)
+            bad = self.one("-dd\t1A\x00\r") if self.chance(0.01) else " "
+            lines.append(self.card(" " * min(indent, 66) + code, bad))
+        end = self.one(["\n", "\n", "\r\n"])
+        text = end.join(lines) + self.one(["", "", end, end, "\r", "\n", end + end])
+        if self.chance(0.02):
+            i = self.r.randint(0, len(text))
+            text = text[:i] + self.one(["\x80", "\xe5", "\r", "\n"]) + text[i:]
+        return "cards", text
 
     def copybook(self):
         makers = [self.nested] * 5 + [self.folded] * 5 + [self.soup] * 4 + [self.spread] * 3 + [self.marked] * 3 + [self.damaged] * 4 + [self.fillers] + [self.long]

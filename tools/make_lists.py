@@ -15,9 +15,11 @@ with a fixed seed, so that the same lists are made each time:
   with the Rust's: the listing, read back into the oracle's numbers, or the number of the refusal. Where the answer is a refusal that document
   01 adds, the Rust's is held against the reason as far as it shows.
 - crates/test_layout/data/document.txt: the copybooks that documents 01 and 02 speak of, and their traps, with answers written here by hand.
+- crates/test_layout/data/cards.txt: copybooks on cards with the answers of tools/layout_list.py, which reads the code from its columns. The
+  Rust has no cards.
 - crates/test_owner/data/records.txt and asked.txt: copybooks with the owners of their bytes by tools/owner_list.py, which lays each record by
   document 01's owner rule; its length is compared with that of tools/layout_list.py. The Rust has no owners. `tools/make_lists.py` with no
-  argument writes these two lists alone.
+  argument writes these two lists and that of cards alone.
 
 A list has the lexical form of a copybook: a case is the words up to a period. An input is one word: %XX stands for a byte, and % alone for
 the empty input. What follows are decimal numbers.
@@ -486,6 +488,20 @@ def layout_document():
     return [[escaped(text.encode("latin-1")), *answer] for text, answer in cases]
 
 
+CARD_TEXTS = 500
+
+
+def cards():
+    """Card texts, those of inputs.CARDS first."""
+    maker, texts = generator.Maker(SEED), dict.fromkeys(generator.CARDS)
+    while len(texts) < CARD_TEXTS:
+        text = maker.cards()[1]
+        if len(text) < 400:
+            texts.setdefault(text)
+    texts = [reader_list.Cards(text.encode("latin-1")) for text in texts]
+    return [[escaped(text), *layout_list.answer(text)] for text in texts]
+
+
 def owners():
     """The lists of owners."""
     made = "Made by tools/make_lists.py: copybook texts with the owners of their bytes by tools/owner_list.py.\n"
@@ -499,6 +515,7 @@ def main():
     parser.add_argument("oracle_src", type=pathlib.Path, nargs="?", help="the folder with the Rust files; without it, only the lists that need no Rust")
     o = parser.parse_args()
     owners()
+    write("test_layout", "cards.txt", "Made by tools/make_lists.py: copybooks on cards with the answers of tools/layout_list.py.", cards())
     if o.oracle_src is None:
         return
     oracle = compare.Oracle(o.oracle_src)

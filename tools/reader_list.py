@@ -5,6 +5,8 @@ refusal. `1 COUNT` is followed by the statements, 16 numbers for each: level, po
 mark and count, DEPENDING ON name, REDEFINES name. A name or a picture is its start and its length, both 0 if absent. Usage: 0 none said,
 1 COMP-3, 2 COMP. Sign: 0 none said, else 1, plus 1 for LEADING, plus 2 for SEPARATE.
 
+A text of the class `Cards` is on cards with columns, and every position is one in the cards.
+
 `plain(text)` says whether the Rust has an answer, as far as its literals go: no literal after VALUE holds `*>` or a period that would end a
 statement, and none is left open.
 """
@@ -27,16 +29,35 @@ class Refused(Exception):
     """A refusal: its number and its position."""
 
 
+class Cards(bytes):
+    """A copybook on cards."""
+
+
+# ---------------------------------------------------------------- Cards
+
+
+def code(at, card):
+    """What is read of a card at this position, and where that begins; nothing of a card that is no code."""
+    columns = card[:-1] if card.endswith(b"\r") else card  # A carriage return that ends a line is no column.
+    if len(columns) < 7:  # A line shorter than 7 columns is blank.
+        return at, b""
+    if columns[6] not in b" */D":  # The first other indicator, the hyphen included, is 51 at that byte.
+        raise Refused(51, at + 6)
+    # Columns 1 to 6 and those after 72 are ignored. Column 7 is an indicator: byte 32 for code.
+    return at + 7, columns[7:72] if columns[6:7] == b" " else b""
+
+
 # ---------------------------------------------------------------- Text
 
 
 def lines(text):
     """The lines that are read, each with its position."""
-    start = 0
+    start, read = 0, []
     for line in text.split(b"\n"):  # Lines end at byte 10.
-        if not line.lstrip(WHITE).startswith(b"*"):  # A line whose first non-blank is `*` is dropped.
-            yield start, line
+        read.append(code(start, line) if isinstance(text, Cards) else (start, line))
         start += len(line) + 1
+    # A line whose first non-blank is `*` is dropped.
+    return [(at, line) for at, line in read if not line.lstrip(WHITE).startswith(b"*")]
 
 
 def ends_statement(line, i):

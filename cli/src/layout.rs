@@ -1,7 +1,7 @@
 //! `copybook layout`: the lines of the layout listing, or a table for people, or JSON or CSV for machines.
 
 use crate::facts::Facts;
-use crate::{files, machines, refusals, table, Arguments, Command, Failure, Status};
+use crate::{files, forms, machines, refusals, table, Arguments, Command, Failure, Status};
 use copybook::Layout;
 use std::io::{self, Write};
 
@@ -9,7 +9,7 @@ pub const COMMAND: Command = Command {
     name: "layout",
     summary: "where each column starts, how wide it is and what it holds",
     help: "\
-copybook layout [--table [--from-1] | --json | --csv] [FILE]
+copybook layout [--cards] [--table [--from-1] | --json | --csv] [FILE]
 
 Where each column of the copybook's record starts, how wide it is and what it holds: a line for the record,
 
@@ -19,6 +19,7 @@ then one for each entry: depth, name, offset in its group, width of one occurren
 group), OCCURS count, DEPENDING ON and REDEFINES, with a minus for what is absent. An item and those that redefine
 it stand together in a group of the item's name.
 
+  --cards   the copybook is on cards with columns: 1 to 6 and those after 72 are ignored, 7 is an indicator
   --table   for people: places in the record, pictures, slack, and what each item holds in words
   --from-1  the table's bytes count from 1, as mainframe tools count, and not from 0
   --json    the same facts for machines
@@ -27,7 +28,7 @@ it stand together in a group of the item's name.
 A copybook that cannot be laid out gives `refused NUMBER POSITION` and exit status 1; standard error says why.
 docs/FORMATS.md says what each format has, docs/REFUSALS.md what each number means.
 ",
-    flags: &["--table", "--from-1", "--json", "--csv"],
+    flags: &[forms::CARDS, "--table", "--from-1", "--json", "--csv"],
     values: &[],
     run,
 };
@@ -69,19 +70,18 @@ fn lines(layout: &Layout, out: &mut dyn Write) -> io::Result<()> {
 
 fn run(arguments: &Arguments) -> Result<Status, Failure> {
     let format = format(arguments)?;
+    let form = forms::asked(arguments);
     let source = files::read(arguments.file()?)?;
-    let layout = match copybook::layout(&source.text) {
+    let layout = match form.layout(&source.text) {
         Ok(layout) => layout,
-        Err(refusal) => return refusals::print(&refusal, &source),
+        Err(refusal) => return refusals::not_laid_out(&refusal, &source),
     };
-    if layout.top_len() == 0 {
-        refusals::no_entries(&source);
-    }
+    refusals::doubts(&layout, &source, form);
     if let Format::Lines = format {
         files::write(|out| lines(&layout, out))?;
         return Ok(Status::Answered);
     }
-    let facts = match copybook::details(&source.text) {
+    let facts = match form.details(&source.text) {
         Ok(details) => Facts::new(&source.text, &layout, &details),
         Err(refusal) => return refusals::print(&refusal, &source),
     };

@@ -7,6 +7,7 @@
 mod arguments;
 mod facts;
 mod files;
+mod forms;
 mod layout;
 mod machines;
 mod owner;

@@ -1,7 +1,7 @@
 //! `copybook owner`: whose a byte of the record is, or every byte.
 
-use crate::{files, refusals, Arguments, Command, Failure, Status};
-use copybook::{Entry, Layout, Owner, Reader, Refusal};
+use crate::{files, forms, refusals, Arguments, Command, Failure, Status};
+use copybook::{Entry, Form, Layout, Owner, Reader, Refusal};
 use std::ffi::OsStr;
 use std::io::{self, Write};
 
@@ -9,7 +9,7 @@ pub const COMMAND: Command = Command {
     name: "owner",
     summary: "whose the byte at a position of the record is, or every byte",
     help: "\
-copybook owner [FILE] [POSITION]
+copybook owner [--cards] [FILE] [POSITION]
 
 Whose the byte at a position of the record is. Positions count from 0:
 
@@ -25,10 +25,12 @@ NUMBER is the entry's in the layout, from 0; FIRST the first byte of the piece, 
 the byte's place in it. PATH has the names of the groups around the item and its own, joined by periods, and after
 each name with an OCCURS which of them it is, from 1: PEN(3).FISH(2).TAG.
 
+  --cards  the copybook is on cards with columns: 1 to 6 and those after 72 are ignored, 7 is an indicator
+
 One word of digits alone is a POSITION; a FILE of such a name is ./12. A copybook with REDEFINES or DEPENDING ON is
 refused (40): its bytes have no single owner. See copybook layout --table for it.
 ",
-    flags: &[],
+    flags: &[forms::CARDS],
     values: &[],
     run,
 };
@@ -59,8 +61,8 @@ struct Record<'t> {
 }
 
 impl<'t> Record<'t> {
-    fn new(text: &'t [u8], layout: &Layout<'t, '_>) -> Record<'t> {
-        Record { text, entries: layout.entries().collect(), reader: Reader::new() }
+    fn new(form: Form, text: &'t [u8], layout: &Layout<'t, '_>) -> Record<'t> {
+        Record { text, entries: layout.entries().collect(), reader: Reader::of(form) }
     }
 
     fn owner(&mut self, position: usize) -> Result<Owner, Refusal> {
@@ -172,15 +174,14 @@ const PAST_RECORD: u32 = 41;
 
 fn run(arguments: &Arguments) -> Result<Status, Failure> {
     let (file, position) = asked(arguments)?;
+    let form = forms::asked(arguments);
     let source = files::read(file)?;
-    let layout = match copybook::layout(&source.text) {
+    let layout = match form.layout(&source.text) {
         Ok(layout) => layout,
-        Err(refusal) => return refusals::print(&refusal, &source),
+        Err(refusal) => return refusals::not_laid_out(&refusal, &source),
     };
-    if layout.top_len() == 0 {
-        refusals::no_entries(&source);
-    }
-    let mut record = Record::new(&source.text, &layout);
+    refusals::doubts(&layout, &source, form);
+    let mut record = Record::new(form, &source.text, &layout);
     if let Some(position) = position {
         match record.at(position) {
             Ok(line) => files::write(|out| writeln!(out, "{line}"))?,

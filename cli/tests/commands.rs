@@ -193,3 +193,55 @@ fn names_of_any_bytes() {
     assert!(ran(&["layout", "--json"], text).1.contains(r#""name": "\"B\\\",C""#));
     assert!(ran(&["layout", "--csv"], text).1.contains(r#","""B\"",C","#));
 }
+
+// ---------------------------------------------------------------- cards
+
+const CARDS: &str = "000010 01 REC.\n000020    05 TAG PIC X(5).\n000030    05 AGE PIC 99.\n";
+const TRY_CARDS: &str = "(standard input): its lines look like cards with columns: try --cards\n";
+
+#[test]
+fn cards_are_read_by_their_columns() {
+    let (status, out, err) = ran(&["layout", "--cards"], CARDS);
+    assert_eq!((status, err.as_str()), (0, ""));
+    assert_eq!(out, "record 7 fixed 2\n0 TAG 0 5 text - - -\n0 AGE 5 2 int - - -\n");
+    let (status, out, err) = ran(&["owner", "--cards", "5"], CARDS);
+    assert_eq!((status, out.as_str(), err.as_str()), (0, "5 entry 1 AGE int 2 first 5 place 0\n", ""));
+    let (status, json, err) = ran(&["layout", "--cards", "--json"], CARDS);
+    assert_eq!((status, err.as_str()), (0, ""));
+    assert!(json.contains("\"position\": 25, \"line\": 2, \"column\": 11"), "{json}");
+    fails(&["picture", "--cards", "X"], "there is no option --cards");
+}
+
+/// Read as free text, sequence numbers become levels and levels names.
+#[test]
+fn cards_that_are_read_as_free_text() {
+    let (status, out, err) = ran(&["layout"], CARDS);
+    assert_eq!((status, err.as_str()), (0, TRY_CARDS));
+    assert!(out.starts_with("record 2 fixed 1\n0 05 0 2 group"), "{out}");
+    assert_eq!(ran(&["owner"], CARDS).2, TRY_CARDS);
+    // refused
+    let (status, _, err) = ran(&["layout"], &CARDS.replace('\n', "\r\n").replace("000020 ", "000020*"));
+    assert!(status == 1 && err.ends_with(TRY_CARDS), "{err}");
+    // a line that is no card, and an indicator that is none
+    for other in [format!("REMARK\n{CARDS}"), CARDS.replace("000020 ", "000020-"), CARDS.replace("000020 ", "00002A ")]
+    {
+        let err = ran(&["layout"], &other).2;
+        assert!(!err.contains("--cards"), "{err}");
+    }
+    // as cards it is the same
+    let indented = "           05 TAG PIC X(5)\n           VALUE ZERO. 05 5 PIC Q.\n";
+    let (status, _, err) = ran(&["layout"], indented);
+    assert!(status == 1 && !err.contains("--cards"), "{err}");
+}
+
+#[test]
+fn carriage_returns_alone_end_no_line() {
+    const SAID: &str =
+        "(standard input): its lines end in carriage returns alone, and are read as one: end each with byte 10\n";
+    let returns = CARDS.replace('\n', "\r");
+    assert!(ran(&["layout", "--cards"], &returns).2.ends_with(SAID));
+    assert!(ran(&["layout"], &returns).2.ends_with(SAID));
+    assert!(ran(&["owner", "--cards"], &returns).2.ends_with(SAID));
+    assert_eq!(ran(&["layout", "--cards"], "000010 05 TAG PIC X.\r").2, "");
+    assert_eq!(ran(&["layout", "--cards"], &CARDS.replace('\n', "\r\n")).2, "");
+}

@@ -39,7 +39,11 @@ class Copybook:
         out = []
         for item in self.items:
             write(rng, item, 0, out)
-        return "".join(out)
+        return on_cards(rng, out) if self.cards() else "".join(out)
+
+    def cards(self):
+        """Whether it is written on cards."""
+        return self.family == "cards"
 
     def record(self):
         """The name of the record."""
@@ -58,6 +62,14 @@ def words_of(clauses):
     return re.findall(r"""(?:[^\s'"]|'[^']*'|"[^"]*")+""", clauses)
 
 
+NOTES = ("a note", "PIC X(9). OCCURS 4", "05 NOTE COMP.")
+
+
+def without_note(line):
+    """A line without the note at its end."""
+    return next((line.removesuffix(f"  *> {note}") for note in NOTES if line.endswith(f"  *> {note}")), line)
+
+
 def write(rng, item, depth, out):
     words = [f"{item.level:02d}" if rng.random() < 0.8 else str(item.level), item.name] + words_of(item.clauses)
     indent = "   " * depth
@@ -71,12 +83,50 @@ def write(rng, item, depth, out):
             line += " " * rng.choice((1, 1, 1, 2, 5)) + word
     line += "."
     if rng.random() < 0.08:
-        line += "  *> " + rng.choice(("a note", "PIC X(9). OCCURS 4", "05 NOTE COMP."))
+        line += "  *> " + rng.choice(NOTES)
     out.append(line + "\n")
     for condition in item.conditions:
         out.append(f"{indent}   {condition}\n")
     for child in item.children:
         write(rng, child, depth + 1, out)
+
+
+def code_lines(rng, lines):
+    """The lines without their indents and remarks, cut between words so that they fit between column 8 and column 72."""
+    for line in "".join(lines).splitlines():
+        code = ""
+        for word in words_of(without_note(line)):
+            # cobc does not take a line's end just before a picture
+            if len(code) + 1 + len(word) > rng.choice((30, 50)) and code.split()[-1].upper() not in ("PIC", "PICTURE", "IS"):
+                yield code
+                code = ""
+            code += " " * bool(code) + word
+        yield code
+
+
+def on_cards(rng, lines):
+    """The lines on cards: with margins, comments, debugging lines, empty and short lines, and text behind column 72."""
+    numbered, behind = rng.random() < 0.7, rng.random() < 0.7
+    end = rng.choice(("\n", "\n", "\r\n"))
+    out = []
+
+    def card(code, indicator=" "):
+        margin = f"{10 * len(out) + 10:06d}" if numbered else rng.choice(("      ", "AB 12 "))
+        text = margin + indicator + code
+        out.append(text.ljust(72) + rng.choice(("FISH0001", "X", ".", "*>")) if behind and rng.random() < 0.8 else text)
+
+    for code in code_lines(rng, lines):
+        if rng.random() < 0.15:
+            rng.choice((
+                lambda: card(" a remark. 05 NO PIC X.", "*"),
+                lambda: card("", "/"),
+                lambda: card(" 05 NO PIC X(9).", "D"),
+                lambda: out.append(""),
+                lambda: out.append("0000"),
+            ))()
+        room = 65 - len(code)
+        card(" " * (room if rng.random() < 0.3 else rng.randint(0, min(room, 20))) + code)
+    return end.join(out) + rng.choice(("", end))
 
 
 WORDS = ("TAG SIRE DAM WEIGHT LEN-MM HATCH SEASON MARKER ALLELE LOCUS SITE PEN TANK LICE SMOLT FAMILY TRAIT SCORE COST QTY PRICE UNIT STATUS CODE-A "
@@ -393,6 +443,11 @@ def literals(m):
     return items
 
 
+def cards(m):
+    """What the classes before have, on cards."""
+    return with_conditions(m, literals(m) + m.nested(PLAIN, 3, 2, 2, 5, redefines=True), 1)
+
+
 def sync(m):
     """SYNC items in the record's own list, with groups and tables that hold none between them."""
     items = []
@@ -454,7 +509,7 @@ def native(m):
 
 # A class of copybooks, how it is made, and its share. Those of AGREEING meet no departure.
 AGREEING = {"usages": (usages, 3), "signs": (signs, 2), "edited": (edited, 3), "groups": (groups, 2), "tables": (tables, 3), "redefines": (redefines, 3),
-            "conditions": (conditions, 1), "literals": (literals, 2), "sync": (sync, 3), "sync-aligned": (sync_aligned, 2), "mixed": (mixed, 3), "single": (None, 1)}
+            "conditions": (conditions, 1), "literals": (literals, 2), "cards": (cards, 3), "sync": (sync, 3), "sync-aligned": (sync_aligned, 2), "mixed": (mixed, 3), "single": (None, 1)}
 DEPARTURES = {"depending": (depending, 2), "comp-5": (native, 1), "sync-in-groups": (sync_groups, 2), "sync-in-tables": (sync_tables, 2)}
 
 

@@ -5,11 +5,12 @@ its first occurrence from the record's start (a difference of addresses), its le
 import pathlib
 import re
 import subprocess
+import textwrap
 
 from copybooks import Item, walk
 
 # IBM's rules: COMP in 2, 4 and 8 bytes.
-COBC = ["cobc", "-x", "-std=ibm", "-free", "-w"]
+COBC = ["cobc", "-x", "-std=ibm", "-w"]
 
 HEAD = """IDENTIFICATION DIVISION.
 PROGRAM-ID. ASK.
@@ -64,16 +65,33 @@ def program(copybooks):
     return HEAD + data + "PROCEDURE DIVISION.\nASK-ALL.\n" + "".join(questions(c) for c in copybooks) + SHOW
 
 
+def fixed(text):
+    """A program of free lines in fixed columns."""
+    lines = (textwrap.wrap(line, 60, break_on_hyphens=False) for line in text.splitlines())
+    return "".join(f"{'':11}{part}\n" for line in lines for part in line)
+
+
 def ask(copybooks, folder):
     """By number: the error texts that cobc has for a copybook, or the places of its items by name, in capitals: (offset, length, stride or None)."""
+    answers = {}
+    for cards in (False, True):
+        some = [c for c in copybooks if c.cards() == cards]
+        if some:
+            answers |= ask_form(some, folder, cards)
+    return answers
+
+
+def ask_form(copybooks, folder, cards):
+    """The same of copybooks that are all on cards, or all free text."""
     folder = pathlib.Path(folder)
     answers = {}
     left = list(copybooks)
     for c in left:
-        (folder / f"c{c.number}.cpy").write_text(c.text())
+        (folder / f"c{c.number}.cpy").write_bytes(c.text().encode())
     while left:
-        (folder / "ask.cob").write_text(program(left))
-        made = subprocess.run(COBC + ["-o", "ask", "ask.cob"], cwd=folder, capture_output=True, text=True)
+        (folder / "ask.cob").write_text(fixed(program(left)) if cards else program(left))
+        form = "-fixed" if cards else "-free"
+        made = subprocess.run(COBC + [form, "-o", "ask", "ask.cob"], cwd=folder, capture_output=True, text=True)
         if made.returncode == 0:
             break
         errors = {}

@@ -2,7 +2,7 @@
 //! aligned, and a `&mut` slice overlaps nothing else that is lent.
 
 use crate::declared::*;
-use crate::{Facts, FieldKind, NumRepr, Owner, Picture, Refusal, SignKind, Usage};
+use crate::{Facts, FieldKind, Form, NumRepr, Owner, Picture, Refusal, SignKind, Usage};
 
 /// The number in a question for the sign of a SIGN clause, if there is one.
 fn sign_asked(sign: Option<SignKind>) -> u8 {
@@ -12,8 +12,16 @@ fn sign_asked(sign: Option<SignKind>) -> u8 {
 /// The parameters of `copybook_layout` and of every call that answers a copybook in bytes.
 type Written = unsafe extern "C" fn(*const u8, usize, *mut u32, usize, *mut u8, usize, *mut u64, usize) -> u32;
 
-/// The number of bytes written to `out`.
-fn written(call: Written, text: &[u8], work: &mut [u32], out: &mut [u8]) -> Result<usize, Refusal> {
+/// The number of bytes written to `out`, by the call for the form.
+fn written(
+    form: Form,
+    free: Written,
+    cards: Written,
+    text: &[u8],
+    work: &mut [u32],
+    out: &mut [u8],
+) -> Result<usize, Refusal> {
+    let call = if form == Form::Cards { cards } else { free };
     let (mut answer, w, m) = ([0; 2], work.len(), out.len());
     // SAFETY: slices, see above.
     let number = unsafe {
@@ -21,31 +29,31 @@ fn written(call: Written, text: &[u8], work: &mut [u32], out: &mut [u8]) -> Resu
     };
     match number {
         0 => Ok(answer[0] as usize),
-        _ => Err(Refusal::of_copybook(number, answer[0] as usize, answer[1] as usize, text)),
+        _ => Err(Refusal::of_copybook(form, number, answer[0] as usize, answer[1] as usize, text)),
     }
 }
 
 /// The number of bytes of the listing.
-pub fn layout(text: &[u8], work: &mut [u32], out: &mut [u8]) -> Result<usize, Refusal> {
-    written(copybook_layout, text, work, out)
+pub fn layout(form: Form, text: &[u8], work: &mut [u32], out: &mut [u8]) -> Result<usize, Refusal> {
+    written(form, copybook_layout, copybook_layout_cards, text, work, out)
 }
 
 /// The number of bytes of the details.
-pub fn details(text: &[u8], work: &mut [u32], out: &mut [u8]) -> Result<usize, Refusal> {
-    written(copybook_details, text, work, out)
+pub fn details(form: Form, text: &[u8], work: &mut [u32], out: &mut [u8]) -> Result<usize, Refusal> {
+    written(form, copybook_details, copybook_details_cards, text, work, out)
 }
 
-pub fn owner(text: &[u8], position: usize, work: &mut [u32]) -> Result<Owner, Refusal> {
+pub fn owner(form: Form, text: &[u8], position: usize, work: &mut [u32]) -> Result<Owner, Refusal> {
+    let call = if form == Form::Cards { copybook_owner_cards } else { copybook_owner };
     let (mut answer, position, w) = ([0; 4], position as u64, work.len());
     // SAFETY: slices, see above.
-    let number = unsafe {
-        copybook_owner(text.as_ptr(), text.len(), position, work.as_mut_ptr(), w, answer.as_mut_ptr(), answer.len())
-    };
+    let number =
+        unsafe { call(text.as_ptr(), text.len(), position, work.as_mut_ptr(), w, answer.as_mut_ptr(), answer.len()) };
     let [case, entry, first, place] = answer.map(|n| n as usize);
     match (number, case) {
         (0, 0) => Ok(Owner::Piece { entry, first, place }),
         (0, _) => Ok(Owner::Slack { entry }),
-        _ => Err(Refusal::of_copybook(number, case, entry, text)),
+        _ => Err(Refusal::of_copybook(form, number, case, entry, text)),
     }
 }
 

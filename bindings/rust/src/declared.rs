@@ -11,8 +11,28 @@ extern "C" {
         answer: *mut u64,
         k: usize,
     ) -> u32;
+    pub fn copybook_layout_cards(
+        cards: *const u8,
+        n: usize,
+        work: *mut u32,
+        w: usize,
+        out: *mut u8,
+        m: usize,
+        answer: *mut u64,
+        k: usize,
+    ) -> u32;
     pub fn copybook_details(
         text: *const u8,
+        n: usize,
+        work: *mut u32,
+        w: usize,
+        out: *mut u8,
+        m: usize,
+        answer: *mut u64,
+        k: usize,
+    ) -> u32;
+    pub fn copybook_details_cards(
+        cards: *const u8,
         n: usize,
         work: *mut u32,
         w: usize,
@@ -33,6 +53,15 @@ extern "C" {
     ) -> u32;
     pub fn copybook_owner(
         text: *const u8,
+        n: usize,
+        position: u64,
+        work: *mut u32,
+        w: usize,
+        answer: *mut u64,
+        k: usize,
+    ) -> u32;
+    pub fn copybook_owner_cards(
+        cards: *const u8,
         n: usize,
         position: u64,
         work: *mut u32,

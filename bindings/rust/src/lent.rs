@@ -1,26 +1,51 @@
 //! The calls over buffers that the caller lends. A refused call changes no byte of `out`, an accepted one none past
 //! what it wrote; `work` is zero after every call, whatever it held.
 
-use crate::{calls, Details, Layout, Owner, Refusal, Usage};
+use crate::{calls, Details, Form, Layout, Owner, Refusal, Usage};
 use std::borrow::Cow;
 
 /// As [`crate::layout()`], with the listing in `out`. Refusals: 1 to 3, 50, 10 to 14, 20 to 31; `work` needs
 /// [`crate::WORK`] numbers, and an `out` of [`crate::LONGEST_LISTING`] bytes is never too short.
 pub fn layout<'t, 'o>(text: &'t [u8], work: &mut [u32], out: &'o mut [u8]) -> Result<Layout<'t, 'o>, Refusal> {
-    let written = calls::layout(text, work, out)?;
+    layout_of(Form::Free, text, work, out)
+}
+
+/// The same for a copybook of this form; on cards 51 comes before 50.
+pub fn layout_of<'t, 'o>(
+    form: Form,
+    text: &'t [u8],
+    work: &mut [u32],
+    out: &'o mut [u8],
+) -> Result<Layout<'t, 'o>, Refusal> {
+    let written = calls::layout(form, text, work, out)?;
     Ok(Layout::new(text, Cow::Borrowed(&out[..written])))
 }
 
 /// As [`crate::details()`], with their bytes in `out`. Refusals and `work` as for [`layout`]; an `out` of
 /// [`crate::LONGEST_DETAILS`] bytes is never too short.
 pub fn details<'t, 'o>(text: &'t [u8], work: &mut [u32], out: &'o mut [u8]) -> Result<Details<'t, 'o>, Refusal> {
-    let written = calls::details(text, work, out)?;
+    details_of(Form::Free, text, work, out)
+}
+
+/// The same for a copybook of this form; on cards 51 comes before 50.
+pub fn details_of<'t, 'o>(
+    form: Form,
+    text: &'t [u8],
+    work: &mut [u32],
+    out: &'o mut [u8],
+) -> Result<Details<'t, 'o>, Refusal> {
+    let written = calls::details(form, text, work, out)?;
     Ok(Details::new(text, Cow::Borrowed(&out[..written])))
 }
 
 /// As [`crate::owner()`]. Refusals: 1 to 3, 50, 10 to 14, 20 to 30, 40, 41.
 pub fn owner(text: &[u8], position: usize, work: &mut [u32]) -> Result<Owner, Refusal> {
-    calls::owner(text, position, work)
+    owner_of(Form::Free, text, position, work)
+}
+
+/// The same for a copybook of this form; on cards 51 comes before 50.
+pub fn owner_of(form: Form, text: &[u8], position: usize, work: &mut [u32]) -> Result<Owner, Refusal> {
+    calls::owner(form, text, position, work)
 }
 
 /// As [`crate::mask()`], written to `out`. Refusals: 1, 2, 22 to 27, 31; an `out` of [`crate::LONGEST_MASK`] bytes is

@@ -14,9 +14,10 @@
 //! # Ok::<(), copybook::Refusal>(())
 //! ```
 //!
-//! [`layout`], [`details`], [`owner`], [`picture`], [`mask`] and [`check_record_len`] are the calls. A [`Reader`] keeps
-//! the buffers of the first three from call to call; with the functions of [`lent`] they are the caller's own. A
-//! [`Refusal`] has a number and a place; [`Refusal::told`] says it in words:
+//! [`layout`], [`details`], [`owner`], [`picture`], [`mask`] and [`check_record_len`] are the calls. The first three
+//! take a copybook in free text; [`layout_cards`], [`details_cards`] and [`owner_cards`] take one on cards with
+//! columns, and a [`Form`] has them for either. A [`Reader`] keeps the buffers from call to call; with the functions of
+//! [`lent`] they are the caller's own. A [`Refusal`] has a number and a place; [`Refusal::told`] says it in words:
 //!
 //! ```
 //! let text = b"01 R.\n    05 TAG  PIC X(5).\n    05 YEAR REDEFINES TAGS PIC 9(4).\n";
@@ -34,6 +35,7 @@ mod calls;
 mod declared;
 mod details;
 pub mod fixedformat;
+mod form;
 mod kinds;
 mod layout;
 pub mod lent;
@@ -43,11 +45,11 @@ mod told;
 
 pub use bytes::Word;
 pub use details::{Detail, Details};
+pub use form::Form;
 use kinds::Facts;
 pub use kinds::{FieldKind, NumRepr, SignKind, Usage};
 pub use layout::{Entries, Entry, Layout};
 pub use refusal::{line_and_column, Refusal, Row, REFUSALS};
-use std::borrow::Cow;
 pub use told::Told;
 
 /// How many numbers of work memory a call needs.
@@ -82,29 +84,38 @@ pub enum Owner {
 
 /// The layout of the copybook in `text`. Refusals: 1, 2, 50, 10 to 30.
 pub fn layout(text: &[u8]) -> Result<Layout<'_, 'static>, Refusal> {
-    let (mut work, mut out) = (vec![0; WORK], vec![0; LONGEST_LISTING]);
-    let written = calls::layout(text, &mut work, &mut out)?;
-    out.truncate(written);
-    Ok(Layout::new(text, Cow::Owned(out)))
+    Form::Free.layout(text)
+}
+
+/// The layout of a copybook on cards. Refusals: 1, 2, 51, 50, 10 to 30. Places and positions are those in `cards`.
+pub fn layout_cards(cards: &[u8]) -> Result<Layout<'_, 'static>, Refusal> {
+    Form::Cards.layout(cards)
 }
 
 /// What the layout does not say of its entries: their places in the record, slack, levels, pictures, REDEFINES. The
 /// details of an entry have its number in the layout. Refusals: 1, 2, 50, 10 to 30.
 pub fn details(text: &[u8]) -> Result<Details<'_, 'static>, Refusal> {
-    let (mut work, mut out) = (vec![0; WORK], vec![0; LONGEST_DETAILS]);
-    let written = calls::details(text, &mut work, &mut out)?;
-    out.truncate(written);
-    Ok(Details::new(text, Cow::Owned(out)))
+    Form::Free.details(text)
+}
+
+/// The details of a copybook on cards. Refusals as for [`layout_cards`].
+pub fn details_cards(cards: &[u8]) -> Result<Details<'_, 'static>, Refusal> {
+    Form::Cards.details(cards)
 }
 
 /// [`layout`] and [`details`], as many of these as that has entries.
 pub fn layout_and_details(text: &[u8]) -> Result<(Layout<'_, 'static>, Details<'_, 'static>), Refusal> {
-    Ok((layout(text)?, details(text)?))
+    Form::Free.layout_and_details(text)
 }
 
 /// Whose the byte at `position` of the record is. Refusals: 1, 2, 50, 10 to 30, 40, 41.
 pub fn owner(text: &[u8], position: usize) -> Result<Owner, Refusal> {
-    calls::owner(text, position, &mut vec![0; WORK])
+    Form::Free.owner(text, position)
+}
+
+/// Whose the byte at `position` of the record that cards describe is. Refusals: 1, 2, 51, 50, 10 to 30, 40, 41.
+pub fn owner_cards(cards: &[u8], position: usize) -> Result<Owner, Refusal> {
+    Form::Cards.owner(cards, position)
 }
 
 /// Kind and width of a picture, under a usage and with the sign that a SIGN clause gives, if there is one. Refusals: 1,
@@ -124,39 +135,45 @@ pub fn check_record_len(record_len: usize, variable: bool, len: usize) -> Result
     calls::check_record_len(record_len, variable, len)
 }
 
-/// Work memory and outputs that are kept from call to call.
+/// Work memory and outputs that are kept from call to call, for copybooks of one form.
 #[derive(Debug, Clone)]
 pub struct Reader {
+    form: Form,
     work: Vec<u32>,
     listing: Vec<u8>,
     details: Vec<u8>,
 }
 
 impl Reader {
-    /// Buffers that are long enough for every copybook.
+    /// Buffers that are long enough for every copybook in free text.
     pub fn new() -> Reader {
-        Reader { work: vec![0; WORK], listing: vec![0; LONGEST_LISTING], details: vec![0; LONGEST_DETAILS] }
+        Reader::of(Form::Free)
+    }
+
+    /// The same for copybooks of this form.
+    pub fn of(form: Form) -> Reader {
+        Reader { form, work: vec![0; WORK], listing: vec![0; LONGEST_LISTING], details: vec![0; LONGEST_DETAILS] }
     }
 
     /// As [`layout()`]; the layout stands in the reader until the next call.
     pub fn layout<'t>(&mut self, text: &'t [u8]) -> Result<Layout<'t, '_>, Refusal> {
-        lent::layout(text, &mut self.work, &mut self.listing)
+        lent::layout_of(self.form, text, &mut self.work, &mut self.listing)
     }
 
     /// As [`details()`]; they stand in the reader until the next call.
     pub fn details<'t>(&mut self, text: &'t [u8]) -> Result<Details<'t, '_>, Refusal> {
-        lent::details(text, &mut self.work, &mut self.details)
+        lent::details_of(self.form, text, &mut self.work, &mut self.details)
     }
 
     /// As [`layout_and_details()`]; they stand in the reader until the next call.
     pub fn layout_and_details<'t>(&mut self, text: &'t [u8]) -> Result<(Layout<'t, '_>, Details<'t, '_>), Refusal> {
-        let layout = lent::layout(text, &mut self.work, &mut self.listing)?;
-        Ok((layout, lent::details(text, &mut self.work, &mut self.details)?))
+        let layout = lent::layout_of(self.form, text, &mut self.work, &mut self.listing)?;
+        Ok((layout, lent::details_of(self.form, text, &mut self.work, &mut self.details)?))
     }
 
     /// As [`owner()`].
     pub fn owner(&mut self, text: &[u8], position: usize) -> Result<Owner, Refusal> {
-        calls::owner(text, position, &mut self.work)
+        calls::owner(self.form, text, position, &mut self.work)
     }
 }
 

@@ -1,6 +1,7 @@
 //! Refusals: their numbers and names, where in the text they are, and the words in which they are told to people. The
 //! table [`REFUSALS`] is the one source of these words: docs/REFUSALS.md and include/copybook.h are tested against it.
 
+use crate::Form;
 use std::fmt;
 
 /// Why a call turned its input down. Nothing was written.
@@ -18,6 +19,8 @@ pub struct Refusal {
     pub column: usize,
     /// The length that the output must have, at 31; else 0.
     pub needed: usize,
+    /// How the text was read.
+    pub form: Form,
 }
 
 /// What of the text a refusal is about: the place that it carries, and the word that its sentence names.
@@ -27,6 +30,8 @@ pub(crate) enum About {
     Nothing,
     /// One byte.
     Byte,
+    /// One byte, in column 7 of a card.
+    Indicator,
     /// The opening mark of a literal, and the literal as far as its line goes.
     Literal,
     /// A statement, and of it nothing more than its name.
@@ -141,6 +146,9 @@ pub const REFUSALS: &[Row] = {
         row(50, "literal-open", Literal,
             "a literal after VALUE is not closed on its line", "the literal {word} is not closed on its line",
             "close it on its line by the mark that opens it; within it that mark is written twice"),
+        row(51, "indicator", Indicator,
+            "a card's column 7 holds none of the four indicators", "{word} in column 7 is none of the four indicators",
+            "a blank marks code, * or / a comment, D a debugging line; a continued line (-) must be written as one"),
     ]
 };
 
@@ -174,14 +182,14 @@ impl Refusal {
 
     /// A refusal that has no place in a text.
     pub(crate) fn without_place(number: u32, needed: usize) -> Refusal {
-        let mut refusal = Refusal { number, name: "", position: 0, line: 0, column: 0, needed };
+        let mut refusal = Refusal { number, name: "", position: 0, line: 0, column: 0, needed, form: Form::Free };
         refusal.name = refusal.row().name;
         refusal
     }
 
     /// A refusal of a copybook.
-    pub(crate) fn of_copybook(number: u32, position: usize, needed: usize, text: &[u8]) -> Refusal {
-        let plain = Refusal::without_place(number, needed);
+    pub(crate) fn of_copybook(form: Form, number: u32, position: usize, needed: usize, text: &[u8]) -> Refusal {
+        let plain = Refusal { form, ..Refusal::without_place(number, needed) };
         if plain.row().about == About::Nothing {
             return plain;
         }
@@ -191,7 +199,7 @@ impl Refusal {
 
     /// A refusal of a picture: only a byte over 127 has a place.
     pub(crate) fn of_picture(number: u32, position: usize, needed: usize, picture: &[u8]) -> Refusal {
-        let placed = Refusal::of_copybook(number, position, needed, picture);
+        let placed = Refusal::of_copybook(Form::Free, number, position, needed, picture);
         if placed.row().about == About::Byte {
             return placed;
         }

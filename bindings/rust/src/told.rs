@@ -34,10 +34,15 @@ const INDENT: &str = "    ";
 impl Refusal {
     /// The refusal in the words of the text that was refused: the copybook, or the picture that was asked for alone.
     pub fn told<'t>(&self, text: &'t [u8]) -> Told<'t> {
-        let statement = self.statement(text);
-        let word = self.word(text, &statement);
+        // on cards a statement goes on behind columns that are ignored, so its words are looked for in the view
+        let seen = self.form.view(text);
+        let statement = self.statement(&seen);
+        let word = self.word(&seen, &statement).map(|word| word.of(text));
+        let byte = *text.get(self.position).unwrap_or(&0);
         let named = match self.row().about {
-            About::Byte => format!("{:#04x}", text.get(self.position).unwrap_or(&0)),
+            About::Indicator if byte.is_ascii_graphic() => char::from(byte).into(),
+            About::Indicator => format!("the byte {byte:#04x}"),
+            About::Byte => format!("{byte:#04x}"),
             _ => word.map_or("nothing".into(), |word| shown(word.as_bytes())),
         };
         let sentence = match self.row().sentence {
@@ -58,7 +63,7 @@ impl Refusal {
     /// The word that the refusal is about.
     pub(crate) fn word<'t>(&self, text: &'t [u8], statement: &Statement<'t>) -> Option<Word<'t>> {
         match self.row().about {
-            About::Nothing | About::Byte | About::Item => None,
+            About::Nothing | About::Byte | About::Indicator | About::Item => None,
             About::Literal => Some(statement::line_from(text, self.position)),
             About::Level => statement.level,
             About::Count => statement.no_count,

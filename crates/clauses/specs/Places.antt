@@ -5,13 +5,12 @@ use mathlib.Core.List.{List}
 use lib.ListN.{length}
 use Rattle.definition.specs.declared.Clauses.{Clauses}
 use Rattle.definition.specs.declared.Span.{Span}
+use Rattle.definition.proofs.SpanLaws.{Spans}
 
 -- a span lies in the text
 abbrev pub SpanInside : List ℕ → Span → Type 0
 SpanInside text w = w .start + w .len ≤ length text
 
 -- the spans that the clauses name lie in the text
-pub record Fits (text : List ℕ) (c : Clauses) : Type 0 where
-  pub picture : SpanInside text (c .picture)
-  pub depending : SpanInside text (c .depending)
-  pub redefines : SpanInside text (c .redefines)
+abbrev pub Fits : List ℕ → Clauses → Type 0
+Fits text c = Spans (SpanInside text) c

@@ -88,6 +88,16 @@ pub cleared-call :
     left (writingOf x) o w₂ ≡ afterWriting a out work
 cleared-call out work w₁ zero kept a x h = rw (zero, kept) (λ i. record { answer = h i .answer; output = h i .output; work = replicate (length work) 0 })
 
+-- a refusal, and work memory cleared
+pub refused-call :
+    (out work w₁ : List ℕ) {w₂ : List ℕ} →
+    w₂ ≡ cleared w₁ →
+    length w₁ ≡ length work →
+    (a : Answer (List ℕ)) {r : Refusal} →
+    a ≡ refuse r →
+    left (refuse r) out w₂ ≡ afterWriting a out work
+refused-call out work w₁ zero kept a e = rw (e, zero, kept)
+
 -- an owner, or a refusal
 pub owner-call :
     (text work w₁ : List ℕ) {w₂ : List ℕ} →

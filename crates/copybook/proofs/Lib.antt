@@ -1,2 +1,3 @@
 pub mod CallLaws
+pub mod CardLaws
 pub mod Demand3

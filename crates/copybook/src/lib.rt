@@ -1,6 +1,7 @@
-// The public entries: what a copybook's columns are, and which of them has a byte. Each answers in full or with one refusal of
-// document 01's table; a refusal changes no byte of the output, and work memory is zero after every call. `proofs/Demand3` says what
-// the answers of `layout_listing` and `byte_owner` have to do with each other.
+// The public entries: what a copybook's columns are, and which of them has a byte, in free text and on cards. Each
+// answers in full or with one refusal of document 01's table; a refusal changes no byte of the output, and work memory
+// is zero after every call. `proofs/Demand3` says what the answers of the listing and of the byte owner have to do with
+// each other.
 ghost use Prim.Native.Nat.{ℕ};
 ghost use mathlib.Core.Path.{_≡_};
 ghost use mathlib.Core.List.{[]};
@@ -8,7 +9,9 @@ ghost use lib.ListN.{length};
 ghost use Rattle.definition.specs.Calls.{left, afterWriting, layoutListing, layoutDetails, byteOwner, layoutCall, detailsCall, maskCall, pictureAnswer, ownerCall, recordCheck, checkOf, ownerAnswerOf, pictureOf, writingOf};
 ghost use Rattle.entries.specs.Building.{Roomy};
 ghost use Rattle.record.specs.Laying.{Read};
+ghost use Rattle.definition.specs.Calls.{layoutCardsCall, detailsCardsCall, ownerCardsCall};
 use definition::Check;
+use definition::MOST_BYTES;
 use definition::OwnerAnswer;
 use definition::PicAnswer;
 use definition::Refusal;
@@ -204,6 +207,65 @@ pub fn byte_owner(text: &[u8], position: usize, work: &mut [u32]) -> OwnerAnswer
     let found = owner_of(text, position, work);
     rows::clear(work);
     found
+}
+
+// The layout listing of cards, a copybook in COBOL reference format: `layout_listing` of what the reader sees of them.
+// Columns 1 to 6 and those after 72 are ignored, and so are lines with `*`, `/` or `D` in column 7; a carriage return
+// that ends a line is no column. Refusals: 1, 2 and 3, of the whole text; 51, at the first byte in column 7 that is
+// none of those and no blank; then as `layout_listing`. Positions and places are those in the card text.
+// The contract rules out a program that reads column 73, and one whose positions count columns of code alone.
+pub fn layout_cards(cards: &[u8], work: &mut [u32], out: &mut [u8]) -> Writing
+    ensures { λ r. ⌜ left (writingOf r) (now (out .exit)) (now (work .exit)) ≡ layoutCardsCall (now (cards .entry)) (now (out .entry)) (now (work .entry)) ⌝ }
+{
+    let mut view = [32u8; MOST_BYTES];
+    match cards::read_cards(cards, work.len(), &mut view) {
+        Check::Passed => {
+            let n = cards.len();
+            return layout_listing(&view[0..n], work, out);
+        }
+        Check::Refused(r) => {
+            rows::clear(work);
+            return Writing::Refused(r);
+        }
+    }
+}
+
+// The details of the entries of cards: `layout_details` of what the reader sees. Refusals as `layout_cards`; 31 has the
+// length of the details.
+// The contract rules out a program that gives a position in the code alone, and one that takes column 7 for code.
+pub fn layout_details_cards(cards: &[u8], work: &mut [u32], out: &mut [u8]) -> Writing
+    ensures { λ r. ⌜ left (writingOf r) (now (out .exit)) (now (work .exit)) ≡ detailsCardsCall (now (cards .entry)) (now (out .entry)) (now (work .entry)) ⌝ }
+{
+    let mut view = [32u8; MOST_BYTES];
+    match cards::read_cards(cards, work.len(), &mut view) {
+        Check::Passed => {
+            let n = cards.len();
+            return layout_details(&view[0..n], work, out);
+        }
+        Check::Refused(r) => {
+            rows::clear(work);
+            return Writing::Refused(r);
+        }
+    }
+}
+
+// The owner of a byte of the record that cards describe: `byte_owner` of what the reader sees. Refusals: those of
+// `layout_cards` but 31, then 40 and 41.
+// The contract rules out a program that takes an indicator for code, and one that looks for 51 after 50.
+pub fn byte_owner_cards(cards: &[u8], position: usize, work: &mut [u32]) -> OwnerAnswer
+    ensures { λ r. ⌜ left (ownerAnswerOf r) [] (now (work .exit)) ≡ ownerCardsCall (now (cards .entry)) position (now (work .entry)) ⌝ }
+{
+    let mut view = [32u8; MOST_BYTES];
+    match cards::read_cards(cards, work.len(), &mut view) {
+        Check::Passed => {
+            let n = cards.len();
+            return byte_owner(&view[0..n], position, work);
+        }
+        Check::Refused(r) => {
+            rows::clear(work);
+            return OwnerAnswer::Refused(r);
+        }
+    }
 }
 
 // Kind, its details and width of one picture with a usage and a sign. Refusals, in this order: 1 over 65,535 bytes; 2 a byte over 127, at the first

@@ -4,6 +4,7 @@ ghost use mathlib.Core.Path.{_≡_};
 ghost use mathlib.Core.Bool.{_||_};
 ghost use Rattle.definition.specs.Basic.{if_then_else_};
 ghost use Rattle.definition.specs.Calls.{layoutCall, detailsCall, pictureAnswer, maskCall, ownerCall, recordCheck};
+ghost use Rattle.definition.specs.Calls.{layoutCardsCall, detailsCardsCall, ownerCardsCall};
 ghost use Rattle.kinds.specs.Usages.{usageAt, signClauseAt};
 ghost use Rattle.numbers.specs.Numbers.{noUsage, noSign, marked};
 ghost use Rattle.numbers.specs.Numbers.{returned, writingNumbers, pictureNumbers, ownerNumbers, answered};
@@ -44,6 +45,43 @@ pub extern "C" fn copybook_details(
     ensures { λ _. ⌜ now (work .exit) ≡ detailsCall (now (text .entry)) (now (out .entry)) (now (work .entry)) .work ⌝ }
 {
     let w = copybook::layout_details(text, work, out);
+    numbers::hand_on(w, answer)
+}
+
+// The layout listing of cards, as `copybook::layout_cards` says. To `answer`, 2 numbers, as `copybook_layout`.
+// The contract rules out the same two wrong calls as that of `copybook_layout`.
+#[no_mangle]
+pub extern "C" fn copybook_layout_cards(
+    cards: &[u8],
+    work: &mut [u32],
+    out: &mut [u8],
+    answer: &mut [u64],
+) -> u32
+    ensures { λ r. ⌜ r ≡ returned (layoutCardsCall (now (cards .entry)) (now (out .entry)) (now (work .entry)) .answer) ⌝ }
+    ensures { λ _. ⌜ now (answer .exit) ≡ answered (writingNumbers (layoutCardsCall (now (cards .entry)) (now (out .entry)) (now (work .entry)) .answer)) (now (answer .entry)) ⌝ }
+    ensures { λ _. ⌜ now (out .exit) ≡ layoutCardsCall (now (cards .entry)) (now (out .entry)) (now (work .entry)) .output ⌝ }
+    ensures { λ _. ⌜ now (work .exit) ≡ layoutCardsCall (now (cards .entry)) (now (out .entry)) (now (work .entry)) .work ⌝ }
+{
+    let w = copybook::layout_cards(cards, work, out);
+    numbers::hand_on(w, answer)
+}
+
+// The details of the entries of cards, as `copybook::layout_details_cards` says. To `answer`, 2 numbers, as
+// `copybook_layout`.
+// The contract rules out the same two wrong calls as that of `copybook_layout`.
+#[no_mangle]
+pub extern "C" fn copybook_details_cards(
+    cards: &[u8],
+    work: &mut [u32],
+    out: &mut [u8],
+    answer: &mut [u64],
+) -> u32
+    ensures { λ r. ⌜ r ≡ returned (detailsCardsCall (now (cards .entry)) (now (out .entry)) (now (work .entry)) .answer) ⌝ }
+    ensures { λ _. ⌜ now (answer .exit) ≡ answered (writingNumbers (detailsCardsCall (now (cards .entry)) (now (out .entry)) (now (work .entry)) .answer)) (now (answer .entry)) ⌝ }
+    ensures { λ _. ⌜ now (out .exit) ≡ detailsCardsCall (now (cards .entry)) (now (out .entry)) (now (work .entry)) .output ⌝ }
+    ensures { λ _. ⌜ now (work .exit) ≡ detailsCardsCall (now (cards .entry)) (now (out .entry)) (now (work .entry)) .work ⌝ }
+{
+    let w = copybook::layout_details_cards(cards, work, out);
     numbers::hand_on(w, answer)
 }
 
@@ -97,6 +135,24 @@ pub extern "C" fn copybook_owner(
     ensures { λ _. ⌜ now (work .exit) ≡ ownerCall (now (text .entry)) position (now (work .entry)) .work ⌝ }
 {
     let o = copybook::byte_owner(text, position as usize, work);
+    numbers::hand_on_owner(o, answer)
+}
+
+// The owner of a byte of the record that cards describe, as `copybook::byte_owner_cards` says. To `answer`, 4 numbers,
+// as `copybook_owner`.
+// The contract rules out the same two wrong calls as that of `copybook_owner`.
+#[no_mangle]
+pub extern "C" fn copybook_owner_cards(
+    cards: &[u8],
+    position: u64,
+    work: &mut [u32],
+    answer: &mut [u64],
+) -> u32
+    ensures { λ r. ⌜ r ≡ returned (ownerCardsCall (now (cards .entry)) position (now (work .entry)) .answer) ⌝ }
+    ensures { λ _. ⌜ now (answer .exit) ≡ answered (ownerNumbers (ownerCardsCall (now (cards .entry)) position (now (work .entry)) .answer)) (now (answer .entry)) ⌝ }
+    ensures { λ _. ⌜ now (work .exit) ≡ ownerCardsCall (now (cards .entry)) position (now (work .entry)) .work ⌝ }
+{
+    let o = copybook::byte_owner_cards(cards, position as usize, work);
     numbers::hand_on_owner(o, answer)
 }
 

@@ -1,24 +1,32 @@
--- Demand 3: of an accepted copybook without REDEFINES and DEPENDING ON, a dropped root's own aside, every byte has exactly one owner, and the
--- byte owner names it; the listing has the record length, offsets and widths of the owner rule; a record is the pieces it is cut into.
+-- Demand 3: of an accepted copybook, free text or cards, without REDEFINES and DEPENDING ON, a dropped root's own
+-- aside, every byte has exactly one owner, and the byte owner names it; the listing has the record length, offsets and
+-- widths of the owner rule; a record is the pieces it is cut into.
 -- Assumes nothing.
 use Prim.Native.Nat.{ℕ, _-_, _≤_, _<_}
-use mathlib.Core.Path.{_≡_, sym, _∙_, ap, subst}
+use mathlib.Core.Path.{_≡_, refl, sym, _∙_, ap, subst}
 use mathlib.Core.Bool.{true, false}
 use mathlib.Core.List.{List, [], append-nil}
 use native.Mathlib.Omega.{arith}
 use lib.ListN.{length}
 use borrow.Author.Tests.{lt-ltb, le-ltb}
 use Rattle.definition.specs.declared.Refusal.{Refusal}
-use Rattle.definition.specs.Basic.{refuse, give, _>>=_, refused}
-use Rattle.definition.specs.Tree.{Forest}
+use Rattle.definition.specs.declared.Span.{Span}
+use Rattle.definition.specs.declared.Owner.{Owner}
+use Rattle.definition.specs.Basic.{part, Answer, refuse, give, _>>=_, refused}
+use Rattle.definition.specs.Words.{statementWords}
+use Rattle.definition.specs.Tree.{Forest, forest}
 use Rattle.definition.specs.Fold.{Entries}
 use Rattle.definition.specs.Record.{recordLength, layout}
-use Rattle.definition.specs.Calls.{recordFields, entries, ownerIn, byteOwner}
+use Rattle.definition.specs.Cards.{Form, viewIn}
+use Rattle.definition.specs.Calls.{keptStatements, recordFields, entries, ownerIn, byteOwner, called}
 use Rattle.definition.specs.Owner.{extent, pieces, ownerFrom, ownerOf, overlaid, cut, join}
 use Rattle.definition.specs.Placed.{placed}
 use Rattle.definition.specs.Search.{seek, Row, rows, walk}
-use Rattle.definition.specs.Demand.{Tells, Spot, told, spots, Demand, Kept}
-use Rattle.definition.proofs.Answers.{through, refused-through}
+use Rattle.definition.specs.Demand.{Tells, Spot, told, spots, EachSpan, ownerOn, Demand, Kept}
+use Rattle.definition.proofs.Answers.{through, given-same, refused-through}
+use Rattle.definition.proofs.CallsLaws.{called-as}
+use Rattle.definition.proofs.SpanLaws.{ForestSpans, statements-spans, forest-spans, fields-spans, layout-spans}
+use Rattle.definition.proofs.CardLaws.{view-words}
 use Rattle.definition.proofs.Pieces.{Found, found, owned-someone, join-cut}
 use Rattle.definition.proofs.Cover.{plain, layout-placed, placed-length}
 use Rattle.definition.proofs.Seek.{seek-owner}
@@ -101,37 +109,72 @@ unfolding entries byteOwner _>>=_
 read-fields text work f h = (rw h, λ q. rw h)
 
 -- the refusals of the reader are those of the byte owner
-pub reader-refuses : (text : List ℕ) (work q : ℕ) (r : Refusal) → entries text work ≡ refuse r → byteOwner text work q ≡ refuse r
+pub reader-refuses :
+    (text : List ℕ) (work q : ℕ) (r : Refusal) →
+    entries text work ≡ refuse r →
+    byteOwner text work q ≡ refuse r
 unfolding entries byteOwner ownerIn
 reader-refuses text work q r h = refused-through (recordFields text work) (layout text) _ r h
 
--- of fields without REDEFINES and DEPENDING ON
+-- the fields that are read, and the entries laid from them, name places that stand so in the copybook's own text
+module _ (form : Form) (text : List ℕ) (work : ℕ) (f : Forest) where
+  abbrev SameIn : Span → Type 0
+  SameIn w = part (viewIn form text) w ≡ part text w
+
+  fields-spelt : recordFields (viewIn form text) work ≡ give f → ForestSpans SameIn f
+  unfolding recordFields keptStatements
+  fields-spelt h =
+      through _ _ h λ _ _ h₁.
+      through _ _ h₁ λ ss e h₂.
+      through _ _ e λ _ _ h₃.
+      let words = view-words form text in
+      let kept = statements-spans SameIn refl (statementWords (viewIn form text)) (viewIn form text) 0 words h₃ in
+      subst (ForestSpans SameIn) (given-same h₂)
+      (fields-spans SameIn (forest ss) (forest-spans SameIn ss kept))
+
+  view-spans :
+      (es : Entries) →
+      recordFields (viewIn form text) work ≡ give f →
+      layout (viewIn form text) f ≡ give es →
+      EachSpan SameIn es
+  view-spans es read laidOut = layout-spans SameIn refl (viewIn form text) f es (fields-spelt read) laidOut
+
+-- of fields without REDEFINES and DEPENDING ON, where the byte owner answers as in those fields
 demanded :
-    (text : List ℕ) (work : ℕ) (f : Forest) (es : Entries) →
-    recordFields text work ≡ give f →
+    (text : List ℕ) (owner : ℕ → Answer Owner) (f : Forest) (es : Entries) →
+    ((q : ℕ) → owner q ≡ ownerIn text f q) →
     layout text f ≡ give es →
     overlaid f ≡ false →
-    Demand text work f es
-demanded text work f es read laidOut free =
+    Demand text owner f es
+demanded text owner f es asked laidOut free =
     let one = one-owner text f es laidOut free in
     record {
       items = items text f es laidOut free;
       in-order = in-order text f es laidOut free;
       covered = sym (cover text f es laidOut free);
       one-owner = λ q l. one q l .one;
-      named = λ q l. read-fields text work f read .1 q ∙ answers text f es laidOut free q l ∙ ap give (one q l .names);
+      named = λ q l. asked q ∙ answers text f es laidOut free q l ∙ ap give (one q l .names);
       whole = whole text f es laidOut free;
     }
 
 -- Demand 3, whole: every accepted copybook keeps it
-pub demand3 : (text : List ℕ) (work : ℕ) (es : Entries) → entries text work ≡ give es → Kept text work es
+pub demand3 :
+    (form : Form) (text : List ℕ) (work : ℕ) (es : Entries) →
+    called form (λ t. entries t work) text work ≡ give es →
+    Kept form text work es
 unfolding entries
-demand3 text work es h =
-    through _ _ h λ f read laidOut.
+demand3 form text work es h =
+    let seen = viewIn form text in
+    let laying : List ℕ → Answer Entries = λ t. entries t work in
+    let accepted : entries seen work ≡ give es = sym (called-as laying laying form text work h) ∙ h in
+    through _ _ accepted λ f read laidOut.
+    let asked : (q : ℕ) → ownerOn form text work q ≡ ownerIn seen f q =
+    λ q. called-as laying (λ t. byteOwner t work q) form text work h ∙ read-fields seen work f read .1 q in
     record {
       of = f;
       read = read;
       laidOut = laidOut;
-      demand = demanded text work f es read laidOut;
-      refuses = λ o q. read-fields text work f read .1 q ∙ refuses-40 text f es laidOut o q;
+      spelt = view-spans form text work f es read laidOut;
+      demand = demanded seen (ownerOn form text work) f es asked laidOut;
+      refuses = λ o q. asked q ∙ refuses-40 seen f es laidOut o q;
     }

@@ -5,6 +5,8 @@ pub mod WordLaws
 pub mod QuoteLaws
 pub mod PictureLaws
 pub mod StatementLaws
+pub mod SpanLaws
+pub mod CardLaws
 pub mod TreeLaws
 pub mod ParentLaws
 pub mod LayoutLaws

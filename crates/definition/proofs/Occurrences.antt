@@ -12,7 +12,7 @@ use lib.Dec.{eqb}
 use Rattle.definition.specs.declared.Owner.{Owner}
 use Rattle.definition.specs.declared.Statement.{Statement}
 use Rattle.definition.specs.declared.Entry.{Entry}
-use Rattle.definition.specs.Basic.{if_then_else_, give}
+use Rattle.definition.specs.Basic.{if_then_else_, Answer, give}
 use Rattle.definition.specs.Tree.{Forest, leaf, item}
 use Rattle.definition.specs.Fold.{Entries, end, entry, times, total}
 use Rattle.definition.specs.Layout.{entryOf}
@@ -20,7 +20,6 @@ use Rattle.definition.specs.Record.{recordLength}
 use Rattle.definition.specs.Owner.{Holder, occurrence, slack, storage, isAligned, pieces}
 use Rattle.definition.specs.Placed.{contentOf}
 use Rattle.definition.specs.Search.{entries#}
-use Rattle.definition.specs.Calls.{byteOwner}
 use Rattle.definition.specs.Demand.{Fewest, Starts, aligned, Tells, Spot, spot, gap, each, single, told, Among, naming, Demand}
 use Rattle.definition.proofs.Answers.{given-same}
 use Rattle.definition.proofs.Pieces.{among-append, among-left, among-right, laid-before}
@@ -120,9 +119,13 @@ module _ (n first width : ℕ) where
 
 -- ---------------------------------------------------------------- owners
 
-module _ {text : List ℕ} {work : ℕ} {f : Forest} {es : Entries} (d : Demand text work f es) where
+module _ {text : List ℕ} {owner : ℕ → Answer Owner} {f : Forest} {es : Entries} (d : Demand text owner f es) where
   -- each byte of each occurrence is owned by it
-  pub occurrence-owned : (k first width place : ℕ) → Occurs 0 0 es (spot (occurrence k) first width) → place < width → byteOwner text work (first + place) ≡ give (Owner.Piece k first place)
+  pub occurrence-owned :
+      (k first width place : ℕ) →
+      Occurs 0 0 es (spot (occurrence k) first width) →
+      place < width →
+      owner (first + place) ≡ give (Owner.Piece k first place)
   occurrence-owned k first width place o l =
       let y = spot (occurrence k) first width in
       let listed = occurs-told k first width es 0 0 0 o in
@@ -137,7 +140,7 @@ module _ {text : List ℕ} {work : ℕ} {f : Forest} {es : Entries} (d : Demand 
   pub owner-occurs :
       (q k first place : ℕ) →
       q < recordLength es →
-      byteOwner text work q ≡ give (Owner.Piece k first place) →
+      owner q ≡ give (Owner.Piece k first place) →
       (width : ℕ) × Occurs 0 0 es (spot (occurrence k) first width) × (place < width) × (q ≡ first + place)
   owner-occurs q k first place l e =
       let one = d .one-owner q l in

@@ -1,6 +1,6 @@
--- The calls: the layout listing, its details, the picture answer, the mask, the byte owner and the record check, each
--- from what the caller hands in to what the call answers and leaves. Checks run in the order of document 01's table; a
--- line of a `do` is a check or a stage.
+-- The calls: the layout listing, its details and the byte owner, of free text and of cards; the picture answer, the
+-- mask and the record check; each from what the caller hands in to what the call answers and leaves. Checks run in the
+-- order of document 01's table; a line of a `do` is a check or a stage.
 -- Assumes nothing.
 use Prim.Native.Nat.{ℕ, zero, suc, _+_}
 use mathlib.Core.Bool.{Bool, true, false, _&&_, not}
@@ -20,6 +20,7 @@ use Rattle.definition.specs.declared.Check.{Check}
 use Rattle.definition.specs.Limits.{mostBytes, leastWork}
 use Rattle.definition.specs.Basic.{if_then_else_, Answer, refuse, give, _>>=_, refused, refuseIf}
 use Rattle.definition.specs.Words.{tokensOf, firstOpen, statementWords}
+use Rattle.definition.specs.Cards.{view, firstOther, Form, freeText, cardText}
 use Rattle.definition.specs.Statement.{statements}
 use Rattle.definition.specs.Tree.{Forest, forest, fields}
 use Rattle.definition.specs.Picture.{picture, symbols, isMasked, mask}
@@ -120,6 +121,30 @@ byteOwner text work position = do
 abbrev pub recordCheck : ℕ → Bool → ℕ → Answer (Unit {0})
 recordCheck recordLen isVariable len = refuseIf (not isVariable && ltb len recordLen) 42 0
 
+-- ---------------------------------------------------------------- cards
+
+-- 51: the first indicator that is none of the four, at that byte
+unfoldable pub indicatorCheck : List ℕ → Answer (Unit {0})
+indicatorCheck text = elim (firstOther 0 1 text) [ none ↦ give tt | some p ↦ refused 51 p ]
+
+-- 1, 2 and 3 look at the whole card text, ignored columns included; then 51
+unfoldable pub cardChecks : List ℕ → ℕ → Answer (Unit {0})
+cardChecks text work = do
+  _ ← entryChecks text work
+  indicatorCheck text
+
+-- a call for cards: their checks, then the call for free text, on the view; 1, 2 and 3 do not come again (`CardLaws`,
+-- of the proofs, says so)
+unfoldable pub onCards : {A : Type 0} → (List ℕ → Answer A) → List ℕ → ℕ → Answer A
+onCards call text work = do
+  _ ← cardChecks text work
+  call (view text)
+
+-- a call for a copybook of either form
+abbrev pub called : {A : Type 0} → Form → (List ℕ → Answer A) → List ℕ → ℕ → Answer A
+called freeText call text work = call text
+called cardText call text work = onCards call text work
+
 -- ---------------------------------------------------------------- what a call leaves
 
 -- the answer, the lent output and the lent work memory
@@ -150,21 +175,44 @@ cleared work = replicate (length work) 0
 abbrev pub afterWriting : Answer (List ℕ) → List ℕ → List ℕ → After ℕ
 afterWriting a out work = record { answer = written a; output = outputAfter a out; work = cleared work }
 
--- the layout listing of a text, with an output and work memory lent
-abbrev pub layoutCall : List ℕ → List ℕ → List ℕ → After ℕ
-layoutCall text out work = afterWriting (layoutListing text (length work) (length out)) out work
+-- the layout listing of a copybook, with an output and work memory lent
+abbrev pub layoutCallIn : Form → List ℕ → List ℕ → List ℕ → After ℕ
+layoutCallIn form text out work =
+    afterWriting (called form (λ t. layoutListing t (length work) (length out)) text (length work)) out work
 
 -- the details of its entries, with an output and work memory lent
-abbrev pub detailsCall : List ℕ → List ℕ → List ℕ → After ℕ
-detailsCall text out work = afterWriting (layoutDetails text (length work) (length out)) out work
+abbrev pub detailsCallIn : Form → List ℕ → List ℕ → List ℕ → After ℕ
+detailsCallIn form text out work =
+    afterWriting (called form (λ t. layoutDetails t (length work) (length out)) text (length work)) out work
 
 -- the mask of a picture, with an output lent
 abbrev pub maskCall : Usage → List ℕ → List ℕ → After ℕ
 maskCall usage bs out = afterWriting (pictureMask usage bs (length out)) out []
 
 -- the byte owner, with work memory lent
+abbrev pub ownerCallIn : Form → List ℕ → ℕ → List ℕ → After Owner
+ownerCallIn form text position work =
+    left (called form (λ t. byteOwner t (length work) position) text (length work)) [] (cleared work)
+
+-- these three for free text,
+abbrev pub layoutCall : List ℕ → List ℕ → List ℕ → After ℕ
+layoutCall = layoutCallIn freeText
+
+abbrev pub detailsCall : List ℕ → List ℕ → List ℕ → After ℕ
+detailsCall = detailsCallIn freeText
+
 abbrev pub ownerCall : List ℕ → ℕ → List ℕ → After Owner
-ownerCall text position work = record { answer = byteOwner text (length work) position; output = []; work = cleared work }
+ownerCall = ownerCallIn freeText
+
+-- and for cards
+abbrev pub layoutCardsCall : List ℕ → List ℕ → List ℕ → After ℕ
+layoutCardsCall = layoutCallIn cardText
+
+abbrev pub detailsCardsCall : List ℕ → List ℕ → List ℕ → After ℕ
+detailsCardsCall = detailsCallIn cardText
+
+abbrev pub ownerCardsCall : List ℕ → ℕ → List ℕ → After Owner
+ownerCardsCall = ownerCallIn cardText
 
 -- ---------------------------------------------------------------- what the answers of the code mean
 

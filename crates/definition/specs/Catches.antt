@@ -20,11 +20,14 @@ use Rattle.definition.specs.declared.Pictured.{Pictured}
 use Rattle.definition.specs.declared.Entry.{Entry}
 use Rattle.definition.specs.declared.Owner.{Owner}
 use Rattle.definition.specs.declared.Span.{Span}
-use Rattle.definition.specs.Basic.{if_then_else_, bytes, same, span, absent, le4, le8, Answer, refuse, give}
+use Rattle.definition.specs.Basic.{if_then_else_, bytes, among, same, span, absent, le4, le8}
+use Rattle.definition.specs.Basic.{Answer, refuse, give}
 use Rattle.definition.specs.Fold.{Entries, end, entry}
 use Rattle.definition.specs.Record.{recordLength, variable}
 use Rattle.definition.specs.Listing.{flag, spanBytes, kindByte, details, members#}
-use Rattle.definition.specs.Calls.{entries, layoutListing, layoutDetails, pictureAnswer, pictureMask, byteOwner, recordCheck}
+use Rattle.definition.specs.Cards.{Form, freeText, cardText}
+use Rattle.definition.specs.Calls.{entries, layoutListing, layoutDetails, pictureAnswer, byteOwner}
+use Rattle.definition.specs.Calls.{indicatorCheck, called}
 use Rattle.definition.specs.Computing.{computing}
 
 -- ---------------------------------------------------------------- answers in numbers
@@ -92,20 +95,55 @@ pub data Catch : Type 0 where
   owned : String → ℕ → Owner → Catch
   -- a copybook, a position, and the number of the refusal
   notOwned : String → ℕ → ℕ → Catch
+  -- a row of one of these kinds whose copybook is cards
+  cards : Catch → Catch
+  -- cards whose last line ends with the text, with a carriage return, with byte 10 or with both, and their columns
+  ending : String → List (List ℕ) → Catch
+  -- of the bytes below 128, those that may follow six columns of a card
+  indicators : String → Catch
 
-abbrev pub right : Catch → Bool
-right (accepted text len isVariable cs) =
+-- a call for a copybook, with 16,384 numbers of work memory lent
+abbrev asked : {A : Type 0} → Form → (List ℕ → Answer A) → List ℕ → Answer A
+asked form call text = called form call text 16384
+
+-- its columns are these
+abbrev hasColumns : Form → List ℕ → List (List ℕ) → Bool
+hasColumns form text cs = gives (λ es. sameColumns (columns es) cs) (asked form (λ t. entries t 16384) text)
+
+-- of the first n bytes, those among `ok` are taken for an indicator, or end the line, and the others are refused
+abbrev indicated : String → ℕ → Bool
+indicated ok zero = true
+indicated ok (suc b) =
+    let check = indicatorCheck (bytes "123456" ++ b ∷ []) in
+    (if among ok b then gives (λ _. true) check else refuses 51 6 0 check) && indicated ok b
+
+abbrev rightIn : Form → Catch → Bool
+rightIn form (accepted text len isVariable cs) =
     gives
     (λ es. eqb (recordLength es) len && (eqb (flag (variable es)) (flag isVariable) && sameColumns (columns es) cs))
-    (entries (bytes text) 16384)
-right (turnedDown text n p) = refuses n p 0 (entries (bytes text) 16384)
-right (listed text room l) = gives (same l) (layoutListing (bytes text) 16384 room)
-right (noRoom text room needed) = refuses 31 0 needed (layoutListing (bytes text) 16384 room)
-right (detailed text l) = gives (same l) (layoutDetails (bytes text) 16384 (length l))
-right (noDetails text room needed) = refuses 31 0 needed (layoutDetails (bytes text) 16384 room)
-right (pictured text u s width kind) = gives (λ p. same (column 0 (p .width) (p .kind)) (column 0 width kind)) (pictureAnswer u s (bytes text))
-right (owned text p o) = gives (λ a. same (ownerShown a) (ownerShown o)) (byteOwner (bytes text) 16384 p)
-right (notOwned text p n) = refuses n 0 0 (byteOwner (bytes text) 16384 p)
+    (asked form (λ t. entries t 16384) (bytes text))
+rightIn form (turnedDown text n p) = refuses n p 0 (asked form (λ t. entries t 16384) (bytes text))
+rightIn form (listed text room l) = gives (same l) (asked form (λ t. layoutListing t 16384 room) (bytes text))
+rightIn form (noRoom text room needed) =
+    refuses 31 0 needed (asked form (λ t. layoutListing t 16384 room) (bytes text))
+rightIn form (detailed text l) = gives (same l) (asked form (λ t. layoutDetails t 16384 (length l)) (bytes text))
+rightIn form (noDetails text room needed) =
+    refuses 31 0 needed (asked form (λ t. layoutDetails t 16384 room) (bytes text))
+rightIn form (pictured text u s width kind) =
+    gives (λ p. same (column 0 (p .width) (p .kind)) (column 0 width kind)) (pictureAnswer u s (bytes text))
+rightIn form (owned text p o) =
+    gives (λ a. same (ownerShown a) (ownerShown o)) (asked form (λ t. byteOwner t 16384 p) (bytes text))
+rightIn form (notOwned text p n) = refuses n 0 0 (asked form (λ t. byteOwner t 16384 p) (bytes text))
+rightIn form (cards row) = rightIn cardText row
+rightIn form (ending text cs) =
+    hasColumns cardText (bytes text) cs
+    && hasColumns cardText (bytes text ++ bytes "\r") cs
+    && hasColumns cardText (bytes text ++ bytes "\n") cs
+    && hasColumns cardText (bytes text ++ bytes "\r\n") cs
+rightIn form (indicators ok) = indicated ok 128
+
+abbrev pub right : Catch → Bool
+right row = rightIn freeText row
 
 abbrev pub all : List Catch → Bool
 all [] = true
@@ -121,6 +159,19 @@ fishListing =
     ++ hex "01 0c000000 03000000 00000000 05000000 00 00000000 00000000 00000000 00000000 00000000"
     ++ hex "03 1d000000 04000000 06000000 02000000 00 00000000 00000000 00000000 00000000 00000000 00"
     ++ hex "04 39000000 02000000 08000000 04000000 01 03000000 00000000 00000000 00000000 00000000 04 01 00 00"
+
+-- a text after another
+abbrev joined : String → String → String
+joined ε t = t
+joined (c ∷ᶜ s) t = c ∷ᶜ joined s t
+
+-- the worked example as cards, with sequence numbers, text behind column 72, a comment, a page eject, a debugging line,
+-- short lines and carriage returns
+abbrev pub cardFish : String
+cardFish =
+    joined "000100 01 FISH.                                                         FISH0001\r\n"
+    (joined "000200* 05 NO PIC X.\n000300/\n000400D 05 NO PIC X.\n\n0005\r\n"
+    "000600     05 TAG PIC X(5).\n       05 SIRE PIC 9(4)\n           COMP SYNC. 05 WT OCCURS 3 PIC 9(3)V9.")
 
 -- a group that stands twice, with slack in each, after a byte; then an item that stands 0 times after its slack
 abbrev pub tank : String
@@ -255,6 +306,56 @@ table =
     ∷ turnedDown "05 A PIC X VALUE 5 IT'S." 50 21
     ∷ turnedDown "X. 05 A PIC X VALUE 5. 88 Y VALUE '" 50 34
     ∷ turnedDown "05 A B VALUE '\u{80}" 2 14
+    -- cards: `000010 01 REC` is level 1, and as free text level 10 with the name 01; places are those in the card text
+    ∷ cards (detailed "000010 01 REC PIC X." (facts 7 1 0 false 0 0 0 (span 18 1) absent absent))
+    ∷ detailed "000010 01 REC PIC X." (facts 0 10 0 false 0 0 0 (span 18 1) absent absent)
+    ∷ cards (listed "000010 01 R. 05 TAG\n000020* no\n000030 PIC X." 48
+    (hex "00 01000000 00 01000000 01 10000000 03000000 00000000 01000000"
+    ++ hex "00 00000000 00000000 00000000 00000000 00000000"))
+    ∷ cards (noRoom "000010 05 TAG PIC X." 47 48)
+    ∷ cards (noDetails "000010 05 TAG PIC X." 46 47)
+    ∷ cards (accepted cardFish 20 false
+    (column 0 5 Text ∷ column 6 2 (Binary false) ∷ column 8 4 (Decimal 4 1 NumRepr.Display SignKind.Unsigned) ∷ []))
+    ∷ cards (owned cardFish 5 (Owner.Slack 1))
+    ∷ cards (notOwned cardFish 20 41)
+    -- last lines of 0, 6, 7, 8, 72, 73 and 80 columns
+    ∷ ending "" []
+    ∷ ending "000100 05 A PIC X\n" (column 0 1 Text ∷ [])
+    ∷ ending "000100 05 A PIC X\n000200" (column 0 1 Text ∷ [])
+    ∷ ending "000100 05 A PIC X\n000200 " (column 0 1 Text ∷ [])
+    ∷ ending "000100 05 A PIC X\n000200*" (column 0 1 Text ∷ [])
+    ∷ ending "000100 05 A PIC\n000200 X" (column 0 1 Text ∷ [])
+    ∷ ending "000100                                                       05 A PIC XX" (column 0 2 Text ∷ [])
+    ∷ ending "000100                                                       05 A PIC XXX" (column 0 2 Text ∷ [])
+    ∷ ending "000100                                                       05 A PIC XXXXXXXXXX" (column 0 2 Text ∷ [])
+    -- a period, a `*>` and a literal that reach column 72, and those that go on behind it
+    ∷ cards (accepted
+    "000100                                                       05 A PIC X.X\n       05 B PIC X."
+    2 false (column 0 1 Text ∷ column 1 1 Text ∷ []))
+    ∷ cards (accepted
+    "000100                                                        05 A PIC X.\n       05 B PIC XX."
+    2 false (column 0 2 Text ∷ []))
+    ∷ cards (accepted
+    "000100                                                      05 A PIC X*>X\n       ."
+    1 false (column 0 1 Text ∷ []))
+    ∷ cards (turnedDown "000100                                                       05 A PIC X*>\n       ." 26 61)
+    ∷ cards (accepted
+    "000100                                             05 A PIC X VALUE '. ''\r\n       ."
+    1 false (column 0 1 Text ∷ []))
+    ∷ cards (turnedDown "000100                                              05 A PIC X VALUE '. '\n       ." 50 69)
+    -- what is ignored says nothing, and the rules of free text hold for what is left
+    ∷ cards (accepted "000100 05 A\n000200* VALUE '\n000300 PIC X." 1 false (column 0 1 Text ∷ []))
+    ∷ cards (accepted "000100   * 05 NO PIC X.\n       05 A PIC X." 1 false (column 0 1 Text ∷ []))
+    ∷ cards (accepted "05 A   05 B PIC X." 1 false (column 0 1 Text ∷ []))
+    ∷ cards (turnedDown "000100 05 A PIC X9\n" 26 7)
+    -- 51, at the first indicator that is none of the four, before 50
+    ∷ indicators "\n\r */D"
+    ∷ cards (turnedDown "000100\r\r\n" 51 6)
+    ∷ cards (turnedDown "000100 05 A PIC X VALUE 'a\n000200- b'." 51 33)
+    ∷ cards (turnedDown "000100*\n000200d\n000300-" 51 14)
+    -- 2 comes before 51, and looks at ignored columns too
+    ∷ cards (turnedDown "000100-\u{80}" 2 7)
+    ∷ cards (turnedDown "000100*                                                                 \u{80}" 2 72)
     ∷ []
 
 -- every row of the table is right

@@ -11,6 +11,8 @@ use Rattle.definition.specs.Record.{recordLength, variable, endsFit, unf
 use Rattle.definition.specs.Listing.{entryBytes, entriesBytes, listing}
 use Rattle.definition.specs.Owner.{laid, ownerFrom, overlaid}
 use Rattle.definition.specs.Calls.{firstWide, textChecks, entryChecks, literalCheck, keptStatements, recordFields, entries, layoutListing, layoutDetails, pictureAnswer, pictureMask, ownerIn, byteOwner}
+use Rattle.definition.specs.Calls.{indicatorCheck, cardChecks, onCards}
+use Rattle.definition.specs.Cards.{viewFrom, firstOther}
 use Rattle.definition.specs.Details.{detailsIn, detailBytes, detailsBytes}
 
 unfoldable pub computing : Unit {0}
@@ -21,4 +23,5 @@ unfolding
     laid ownerFrom overlaid
     detailsIn detailBytes detailsBytes
     firstWide textChecks entryChecks literalCheck keptStatements recordFields entries layoutListing layoutDetails pictureAnswer pictureMask ownerIn byteOwner
+    viewFrom firstOther indicatorCheck cardChecks onCards
 computing = tt

@@ -1,5 +1,6 @@
--- Demand 3, as one statement (`demand3`, of the proofs, keeps it): what holds of every accepted copybook without REDEFINES and DEPENDING ON,
--- a dropped root's own clauses aside. It is said by the statements and the listing: nobody has to read how pieces are laid or searched.
+-- Demand 3, as one statement (`demand3`, of the proofs, keeps it): what holds of every accepted copybook, free text or
+-- cards, without REDEFINES and DEPENDING ON, a dropped root's own clauses aside. It is said by the statements and the
+-- listing: nobody has to read how pieces are laid or searched.
 -- Assumes nothing.
 use Prim.Native.Nat.{ℕ, zero, suc, _+_, _-_, _%_, _≤_, _<_}
 use mathlib.Core.Path.{_≡_}
@@ -7,9 +8,11 @@ use mathlib.Core.Bool.{Bool, true, false}
 use mathlib.Core.List.{List, [], _∷_, _++_}
 use mathlib.Core.Logic.{_⊎_}
 use lib.ListN.{length}
+use Rattle.definition.specs.declared.Span.{Span}
 use Rattle.definition.specs.declared.Statement.{Statement}
+use Rattle.definition.specs.declared.Entry.{Entry}
 use Rattle.definition.specs.declared.Owner.{Owner}
-use Rattle.definition.specs.Basic.{give, refused}
+use Rattle.definition.specs.Basic.{part, Answer, give, refused}
 use Rattle.definition.specs.Tree.{Forest, leaf, item}
 use Rattle.definition.specs.Fold.{Entries, end, entry, times, total}
 use Rattle.definition.specs.Layout.{entryOf}
@@ -17,7 +20,8 @@ use Rattle.definition.specs.Record.{recordLength, layout}
 use Rattle.definition.specs.Owner.{Holder, occurrence, slack, Piece, extent, isAligned, pieces, overlaid, cut, join}
 use Rattle.definition.specs.Placed.{contentOf}
 use Rattle.definition.specs.Search.{entries#}
-use Rattle.definition.specs.Calls.{recordFields, byteOwner}
+use Rattle.definition.specs.Cards.{Form, viewIn}
+use Rattle.definition.specs.Calls.{recordFields, byteOwner, called}
 
 -- ---------------------------------------------------------------- offsets and widths
 
@@ -117,10 +121,29 @@ abbrev pub naming : Holder → ℕ → ℕ → Owner
 naming (occurrence k) first q = Owner.Piece k first (q - first)
 naming (slack k) first q = Owner.Slack k
 
+-- ---------------------------------------------------------------- places in the text
+
+-- what holds of the places that an entry names
+pub record EntrySpans (P : Span → Type 0) (e : Entry) : Type 0 where
+  pub name : P (e .name)
+  pub picture : P (e .picture)
+  pub depending : P (e .depending)
+  pub redefines : P (e .redefines)
+  pub over : P (e .over)
+
+abbrev pub EachSpan : (Span → Type 0) → Entries → Type 0
+EachSpan P end = Unit {0}
+EachSpan P (entry e members later) = EntrySpans P e × EachSpan P members × EachSpan P later
+
 -- ---------------------------------------------------------------- the demand
 
--- f are the fields of the record, and es the entries of its listing
-pub record Demand (text : List ℕ) (work : ℕ) (f : Forest) (es : Entries) : Type 0 where
+-- the byte owner of a copybook of this form
+abbrev pub ownerOn : Form → List ℕ → ℕ → ℕ → Answer Owner
+ownerOn form text work q = called form (λ t. byteOwner t work q) text work
+
+-- text is what the reader sees, f are the fields of the record, es the entries of its listing, and the byte owner
+-- answers with `owner`
+pub record Demand (text : List ℕ) (owner : ℕ → Answer Owner) (f : Forest) (es : Entries) : Type 0 where
   -- the listing tells the items; slack is the fewest bytes, and stands only before an elementary SYNC binary item, one with OCCURS 0 included
   pub items : Tells text 0 f es
   -- the record is, in copybook order, one piece for each occurrence of each elementary item, where the listing says, and that slack,
@@ -130,15 +153,20 @@ pub record Demand (text : List ℕ) (work : ℕ) (f : Forest) (es : Entries) : T
   -- every byte below the record length has exactly one owner,
   pub one-owner : (q : ℕ) → q < recordLength es → One (told 0 0 0 es) q
   -- and the byte owner call names it
-  pub named : (q : ℕ) (l : q < recordLength es) → let x = one-owner q l .owner in byteOwner text work q ≡ give (naming (x .holder) (x .first) q)
+  pub named :
+      (q : ℕ) (l : q < recordLength es) →
+      let x = one-owner q l .owner in
+      owner q ≡ give (naming (x .holder) (x .first) q)
   -- a record cut so, and joined again, is itself
   pub whole : (bs : List ℕ) → length bs ≡ recordLength es → join (cut (pieces text f) bs) ≡ bs
 
--- what holds of every accepted copybook: the reader finds the fields of its record, and the layout their entries; the demand is kept, unless a
--- kept statement, a dropped root aside, has a REDEFINES or a DEPENDING ON; then the byte owner refuses every position
-pub record Kept (text : List ℕ) (work : ℕ) (es : Entries) : Type 0 where
+-- what holds of every accepted copybook: the reader finds the fields of its record in what it sees, and the layout
+-- their entries; what an entry names stands so in the copybook's own text; the demand is kept, unless a kept statement,
+-- a dropped root aside, has a REDEFINES or a DEPENDING ON; then the byte owner refuses every position
+pub record Kept (form : Form) (text : List ℕ) (work : ℕ) (es : Entries) : Type 0 where
   pub of : Forest
-  pub read : recordFields text work ≡ give of
-  pub laidOut : layout text of ≡ give es
-  pub demand : overlaid of ≡ false → Demand text work of es
-  pub refuses : overlaid of ≡ true → (q : ℕ) → byteOwner text work q ≡ refused 40 0
+  pub read : recordFields (viewIn form text) work ≡ give of
+  pub laidOut : layout (viewIn form text) of ≡ give es
+  pub spelt : EachSpan (λ w. part (viewIn form text) w ≡ part text w) es
+  pub demand : overlaid of ≡ false → Demand (viewIn form text) (ownerOn form text work) of es
+  pub refuses : overlaid of ≡ true → (q : ℕ) → ownerOn form text work q ≡ refused 40 0

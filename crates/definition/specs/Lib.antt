@@ -12,6 +12,7 @@ pub mod Listing
 pub mod Owner
 pub mod Search
 pub mod Details
+pub mod Cards
 pub mod Calls
 pub mod Computing
 pub mod Catches

@@ -4,8 +4,9 @@
 -- After a word VALUE or VALUES that is third or later in its statement, each quote or apostrophe up to the statement's end
 -- opens a literal that closes at the same mark. Neither a period nor `*>` counts inside it. A literal must close on its own
 -- line.
--- Departures from COBOL: any text is free text, with no columns; white space inside a literal separates words; a quote or an
--- apostrophe before VALUE is a byte like any other.
+-- Free text has no columns; `Cards` says what is seen so of a text that has them.
+-- Departures from COBOL: white space inside a literal separates words; a quote or an apostrophe before VALUE is a byte
+-- like any other.
 -- Assumes nothing.
 use Prim.Native.Nat.{ℕ, zero, suc, _+_, _-_}
 use mathlib.Core.Bool.{Bool, true, false, _&&_, _||_}

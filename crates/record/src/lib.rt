@@ -23,7 +23,7 @@ use tree::RowsRead;
 pub fn read_rows(text: &[u8], work: &mut [u32]) -> RowsRead
     ensures { λ r. ⌜ CopybookRows (now (text .entry)) r (now (work .exit)) ⌝ }
 {
-    match tree::entry_checks(text, work.len()) {
+    match text::entry_checks(text, work.len()) {
         Check::Passed => {}
         Check::Refused(r) => {
             return RowsRead::Refused(r);

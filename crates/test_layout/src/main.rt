@@ -1,7 +1,9 @@
-// Replays answers of `layout_listing`: data/layouts1.txt to layouts4.txt have generated copybooks, data/document.txt those that document 01 speaks of. A case:
-// the text, and the answer: 1, the length of the listing and its bytes; or 0 and the refusal's number, position and needed length. Each
-// answer is asked for with different lengths of output, each time over work memory that is not zero and an output that holds a pattern:
-// work memory must be zero afterwards, and the pattern must stand wherever nothing was to be written. Then texts too long for a list.
+// Replays answers of `layout_listing`: data/layouts1.txt to layouts4.txt have generated copybooks, data/document.txt
+// those that document 01 speaks of; and of `layout_cards`: data/cards.txt has copybooks on cards. A case: the text, and
+// the answer: 1, the length of the listing and its bytes; or 0 and the refusal's number, position and needed length.
+// Each answer is asked for with different lengths of output, each time over work memory that is not zero and an output
+// that holds a pattern: work memory must be zero afterwards, and the pattern must stand wherever nothing was to be
+// written. Then texts too long for a list.
 ghost use Prim.Native.Nat.{_+_, _≤_, _<_};
 ghost use mathlib.Core.Path.{_≡_};
 ghost use lib.ListN.{length};
@@ -58,10 +60,19 @@ fn listing(list: &[u8], p: Reached, out: &[u8], n: usize) -> Reached
     replay::only(list, p, is_untouched(out, n))
 }
 
+// The layout listing of free text, or of cards.
+fn layout(cards: bool, text: &[u8], work: &mut [u32], out: &mut [u8]) -> Writing {
+    if cards {
+        return copybook::layout_cards(text, work, out);
+    }
+    copybook::layout_listing(text, work, out)
+}
+
 // Goes on where the next words are the answer to a text, with an output that ends at a place of these bytes.
 fn answer(
     list: &[u8],
     p: Reached,
+    cards: bool,
     text: &[u8],
     work: &mut [u32],
     out: &mut [u8],
@@ -70,7 +81,7 @@ fn answer(
     requires { ⌜ Inside (now list) p × (end ≤ length (now out)) ⌝ }
     ensures { λ r. ⌜ Inside (now (list .entry)) r ⌝ }
 {
-    match copybook::layout_listing(text, work, &mut out[0..end]) {
+    match layout(cards, text, work, &mut out[0..end]) {
         Writing::Written(n) => {
             let p = replay::number(list, p, 1);
             return listing(list, p, out, n);
@@ -83,7 +94,14 @@ fn answer(
 }
 
 // Whether the words at a place of the list are the answer to a text with so much room and this work memory, and work memory is zero then.
-fn is_answer(list: &[u8], p: Reached, text: &[u8], work: &mut [u32], room: usize) -> bool
+fn is_answer(
+    list: &[u8],
+    p: Reached,
+    cards: bool,
+    text: &[u8],
+    work: &mut [u32],
+    room: usize,
+) -> bool
     requires { ⌜ Inside (now list) p ⌝ }
 {
     if 80000 < room {
@@ -91,7 +109,7 @@ fn is_answer(list: &[u8], p: Reached, text: &[u8], work: &mut [u32], room: usize
     }
     let mut out = [0u8; 80000];
     write_pattern(&mut out);
-    let p = answer(list, p, text, work, &mut out, room);
+    let p = answer(list, p, cards, text, work, &mut out, room);
     if replay::is_cleared(work) {
         return replay::is_whole(list, p);
     }
@@ -99,21 +117,21 @@ fn is_answer(list: &[u8], p: Reached, text: &[u8], work: &mut [u32], room: usize
 }
 
 // The same with just enough work memory.
-fn is_answered(list: &[u8], p: Reached, text: &[u8], room: usize) -> bool
+fn is_answered(list: &[u8], p: Reached, cards: bool, text: &[u8], room: usize) -> bool
     requires { ⌜ Inside (now list) p ⌝ }
 {
     let mut work = [FILL; 16384];
-    is_answer(list, p, text, &mut work, room)
+    is_answer(list, p, cards, text, &mut work, room)
 }
 
 // ---------------------------------------------------------------- lengths of output
 
 // Whether an output that is one byte short is refused with 31 and the needed length, and holds the pattern then; and work memory is zero.
-fn is_short(text: &[u8], out: &mut [u8], needed: usize) -> bool
+fn is_short(cards: bool, text: &[u8], out: &mut [u8], needed: usize) -> bool
     requires { ⌜ (0 < needed) × (needed ≤ length (now out)) ⌝ }
 {
     let mut work = [FILL; 16384];
-    match copybook::layout_listing(text, &mut work, &mut out[0..needed - 1]) {
+    match layout(cards, text, &mut work, &mut out[0..needed - 1]) {
         Writing::Written(_) => {
             return false;
         }
@@ -136,7 +154,7 @@ fn is_short(text: &[u8], out: &mut [u8], needed: usize) -> bool
 }
 
 // The same for a listing of this length.
-fn is_short_of(text: &[u8], needed: usize) -> bool {
+fn is_short_of(cards: bool, text: &[u8], needed: usize) -> bool {
     if needed == 0 {
         return false;
     }
@@ -145,22 +163,22 @@ fn is_short_of(text: &[u8], needed: usize) -> bool {
     }
     let mut out = [0u8; 80000];
     write_pattern(&mut out);
-    is_short(text, &mut out, needed)
+    is_short(cards, text, &mut out, needed)
 }
 
 // Whether a listing of this length is written to an output that has room to spare, its length, or one byte more, and one byte less is
 // refused.
-fn is_listed(list: &[u8], p: Reached, text: &[u8], n: u64) -> bool
+fn is_listed(list: &[u8], p: Reached, cards: bool, text: &[u8], n: u64) -> bool
     requires { ⌜ Inside (now list) p ⌝ }
 {
     if 79999 < n {
         return false;
     }
     let needed = n as usize;
-    if is_answered(list, p, text, 80000) {
-        if is_answered(list, p, text, needed) {
-            if is_answered(list, p, text, needed + 1) {
-                return is_short_of(text, needed);
+    if is_answered(list, p, cards, text, 80000) {
+        if is_answered(list, p, cards, text, needed) {
+            if is_answered(list, p, cards, text, needed + 1) {
+                return is_short_of(cards, text, needed);
             }
         }
     }
@@ -168,11 +186,11 @@ fn is_listed(list: &[u8], p: Reached, text: &[u8], n: u64) -> bool
 }
 
 // Whether a text is refused, with room and with none.
-fn is_refused(list: &[u8], p: Reached, text: &[u8]) -> bool
+fn is_refused(list: &[u8], p: Reached, cards: bool, text: &[u8]) -> bool
     requires { ⌜ Inside (now list) p ⌝ }
 {
-    if is_answered(list, p, text, 80000) {
-        return is_answered(list, p, text, 0);
+    if is_answered(list, p, cards, text, 80000) {
+        return is_answered(list, p, cards, text, 0);
     }
     false
 }
@@ -180,27 +198,27 @@ fn is_refused(list: &[u8], p: Reached, text: &[u8]) -> bool
 // ---------------------------------------------------------------- lists
 
 // Whether the words at a place of the list are the answer to a text, with every length of output.
-fn is_agreed_text(list: &[u8], p: Reached, text: &[u8]) -> bool
+fn is_agreed_text(list: &[u8], p: Reached, cards: bool, text: &[u8]) -> bool
     requires { ⌜ Inside (now list) p ⌝ }
 {
     let mark = replay::take_number(list, p);
     let place = mark.place;
     let number = replay::take_number(list, place);
     if mark.value == 1 {
-        return is_listed(list, p, text, number.value);
+        return is_listed(list, p, cards, text, number.value);
     }
-    is_refused(list, p, text)
+    is_refused(list, p, cards, text)
 }
 
 // Whether the case at a place of the list agrees.
-fn is_agreed(list: &[u8], at: usize) -> bool
+fn is_agreed(list: &[u8], at: usize, cards: bool) -> bool
     requires { ⌜ at ≤ length (now list) ⌝ }
 {
     let mut text = [0u8; 65536];
     let input = replay::take_input(list, Reached::At(at), &mut text);
     let place = input.place;
     let n = input.len;
-    is_agreed_text(list, place, &text[..n])
+    is_agreed_text(list, place, cards, &text[..n])
 }
 
 // One case more, up to a million.
@@ -215,57 +233,57 @@ fn add(t: Tally, agrees: bool) -> Tally
 }
 
 // Replays the case at a place, if there is one.
-fn replay_case(list: &[u8], at: usize, t: Tally) -> Tally
+fn replay_case(list: &[u8], at: usize, cards: bool, t: Tally) -> Tally
     requires { ⌜ (at < length (now list)) × Fair 1000000 t ⌝ }
     ensures { λ r. ⌜ Fair 1000000 r ⌝ }
 {
     if replay::is_case(list, at) {
-        return add(t, is_agreed(list, at));
+        return add(t, is_agreed(list, at, cards));
     }
     t
 }
 
-// Replays a list, after the cases of another.
-fn replay_list(list: &[u8], before: Tally) -> Tally
+// Replays a list of free texts, or of cards, after the cases of another.
+fn replay_list(list: &[u8], cards: bool, before: Tally) -> Tally
     requires { ⌜ Fair 1000000 before ⌝ }
     ensures { λ r. ⌜ Fair 1000000 r ⌝ }
 {
     let mut t = before;
     let mut at = 0;
     while at < list.len() {
-        t = replay_case(list, at, t);
+        t = replay_case(list, at, cards, t);
         at = replay::after_case(list, at);
     }
     t
 }
 
 // Reads a list and replays it, after the cases of another.
-fn replay_file(name: &[u8], before: Tally) -> Tally
+fn replay_file(name: &[u8], cards: bool, before: Tally) -> Tally
     requires { ⌜ Fair 1000000 before ⌝ }
     ensures { λ r. ⌜ Fair 1000000 r ⌝ }
 {
     let mut list = [0u8; 400000];
     let n = replay::read_list(name, &mut list);
-    replay_list(&list[..n], before)
+    replay_list(&list[..n], cards, before)
 }
 
 // ---------------------------------------------------------------- limits of the entry
 
 // Whether the answer to a text, with just enough work memory, is the one case of a list.
 fn is_enough(list: &[u8], text: &[u8]) -> bool {
-    is_answered(list, Reached::At(0), text, 80000)
+    is_answered(list, Reached::At(0), false, text, 80000)
 }
 
 // The same with one number less of work memory.
 fn is_less(list: &[u8], text: &[u8]) -> bool {
     let mut work = [FILL; 16383];
-    is_answer(list, Reached::At(0), text, &mut work, 80000)
+    is_answer(list, Reached::At(0), false, text, &mut work, 80000)
 }
 
 // The same with more work memory.
 fn is_more(list: &[u8], text: &[u8]) -> bool {
     let mut work = [FILL; 17000];
-    is_answer(list, Reached::At(0), text, &mut work, 80000)
+    is_answer(list, Reached::At(0), false, text, &mut work, 80000)
 }
 
 // 65,536 bytes, of which the last but one ends `5 A PIC X(7)`.
@@ -336,14 +354,18 @@ fn replay_limits(t: Tally) -> Tally
 }
 
 fn main() {
-    let t = replay_file(b"layouts1.txt", replay::no_cases());
-    let t = replay_file(b"layouts2.txt", t);
-    let t = replay_file(b"layouts3.txt", t);
-    let t = replay_file(b"layouts4.txt", t);
+    let t = replay_file(b"layouts1.txt", false, replay::no_cases());
+    let t = replay_file(b"layouts2.txt", false, t);
+    let t = replay_file(b"layouts3.txt", false, t);
+    let t = replay_file(b"layouts4.txt", false, t);
     replay::print_tally(b"parse", t);
     replay::print_tally(
         b"document",
-        replay_file(b"document.txt", replay::no_cases()),
+        replay_file(b"document.txt", false, replay::no_cases()),
+    );
+    replay::print_tally(
+        b"cards",
+        replay_file(b"cards.txt", true, replay::no_cases()),
     );
     replay::print_tally(b"limits", replay_limits(replay::no_cases()));
 }

@@ -160,7 +160,7 @@ fn answer(list: &[u8], p: Reached, text: &[u8], work: &mut [u32]) -> Reached
     requires { ⌜ Inside (now list) p ⌝ }
     ensures { λ r. ⌜ Inside (now (list .entry)) r ⌝ }
 {
-    match tree::entry_checks(text, work.len()) {
+    match text::entry_checks(text, work.len()) {
         Check::Passed => {
             if 65535 < text.len() {
                 return Reached::Differs;

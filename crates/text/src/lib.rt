@@ -8,9 +8,10 @@ ghost use Prim.Native.Nat.{_+_};
 ghost use lib.ListN.{drop};
 ghost use Rattle.definition.specs.Limits.{largest};
 ghost use Rattle.definition.specs.Basic.{white, upper as upperOf, uppers, same, numeral, below, number, count};
-ghost use Rattle.definition.specs.Calls.{firstWide, textChecks, checkOf};
+ghost use Rattle.definition.specs.Calls.{firstWide, textChecks, entryChecks, checkOf};
 ghost use Rattle.text.specs.Words.{folded as foldedOf, valued, levelled, isFound, wideCheck};
 use definition::Check;
+use definition::LEAST_WORK;
 use definition::MOST_BYTES;
 use definition::Refusal;
 
@@ -214,6 +215,26 @@ pub fn text_checks(text: &[u8]) -> Check
     }
     if has_wide(text) {
         return wide_check(text);
+    }
+    Check::Passed
+}
+
+// Refusals 1 to 3: those of the text, and work memory under 16,384 numbers.
+pub fn entry_checks(text: &[u8], work_len: usize) -> Check
+    ensures { λ r. ⌜ checkOf r ≡ entryChecks (now (text .entry)) «work_len» ⌝ }
+{
+    match text_checks(text) {
+        Check::Passed => {}
+        Check::Refused(r) => {
+            return Check::Refused(r);
+        }
+    }
+    if work_len < LEAST_WORK {
+        return Check::Refused(Refusal {
+            number: 3,
+            position: 0,
+            needed: 0,
+        });
     }
     Check::Passed
 }

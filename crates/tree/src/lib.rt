@@ -1,15 +1,13 @@
-// A text read into rows of work memory: the entry's own checks, the open levels that give each statement its parent, and the reading.
+// A text read into rows of work memory: the open levels that give each statement its parent, and the reading.
 ghost use mathlib.Core.Path.{_≡_};
 ghost use Prim.Native.Nat.{_+_, _*_, _-_, _≤_, _<_};
 ghost use lib.ListN.{length};
 ghost use Rattle.definition.specs.Limits.{mostBytes, leastWork, mostStatements};
-ghost use Rattle.definition.specs.Calls.{entryChecks, checkOf};
 ghost use Rattle.rows.specs.Columns.{ROW, PARENT};
 ghost use Rattle.rows.specs.Table.{Placed, cell};
 ghost use Rattle.tree.specs.Levels.{NoneOpen, Nested, Closed, Opened};
 ghost use Rattle.tree.specs.Reading.{Added, StatementsAre, RowsAre};
 use definition::Check;
-use definition::LEAST_WORK;
 use definition::MOST_STATEMENTS;
 use definition::Refusal;
 use definition::Statement;
@@ -23,26 +21,6 @@ fn wide(n: u32) -> usize
     ensures { λ r. ⌜ r ≡ n ⌝ }
 {
     n as usize
-}
-
-// Refusals 1 to 3: those of the text, and work memory under 16,384 numbers.
-pub fn entry_checks(text: &[u8], work_len: usize) -> Check
-    ensures { λ r. ⌜ checkOf r ≡ entryChecks (now (text .entry)) «work_len» ⌝ }
-{
-    match text::text_checks(text) {
-        Check::Passed => {}
-        Check::Refused(r) => {
-            return Check::Refused(r);
-        }
-    }
-    if work_len < LEAST_WORK {
-        return Check::Refused(Refusal {
-            number: 3,
-            position: 0,
-            needed: 0,
-        });
-    }
-    Check::Passed
 }
 
 // The levels that are open, the innermost last, and how many; the row of the innermost and 1, or 0 for none. The rows of the others follow by the

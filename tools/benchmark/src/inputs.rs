@@ -158,3 +158,22 @@ pub const PICTURES: [(&str, Usage, Option<SignKind>); 12] = [
     ("$$,$$$,$$$,$$9.99CR", Usage::Display, None),
     ("*(9)9.9(4)-", Usage::Display, None),
 ];
+
+/// A copybook on cards, with sequence numbers, its lines cut between words where they pass column 72.
+pub fn on_cards(text: &str) -> String {
+    const ROOM: usize = 65;
+    let mut codes: Vec<String> = Vec::new();
+    for line in text.lines() {
+        codes.push(String::new());
+        for word in line.split_whitespace() {
+            let code = codes.last_mut().expect("a line");
+            if code.len() + 1 + word.len() > ROOM {
+                codes.push(word.to_owned());
+            } else {
+                code.push(' ');
+                code.push_str(word);
+            }
+        }
+    }
+    codes.iter().zip(1..).map(|(code, number)| format!("{:06} {code}\n", number * 10)).collect()
+}

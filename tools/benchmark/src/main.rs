@@ -10,7 +10,7 @@ mod inputs;
 
 use fixedformat_core::{copybook, numbers};
 use inputs::{Shape, OWNED, SHAPES, SIZES};
-use product::{fixedformat, lent, SignKind, Usage, LONGEST_LISTING, LONGEST_MASK, WORK};
+use product::{fixedformat, lent, Form, SignKind, Usage, LONGEST_LISTING, LONGEST_MASK, WORK};
 use std::hint::black_box;
 
 const ROUNDS: usize = 15;
@@ -192,6 +192,32 @@ fn goals(all: &[Measured]) {
     }
 }
 
+// ---------------------------------------------------------------- cards
+
+/// Microseconds for the listing of a copybook of this form.
+fn listed(form: Form, text: &[u8], lent: &mut Buffers) {
+    let layout = lent::layout_of(form, black_box(text), &mut lent.work, &mut lent.out);
+    drop(black_box(layout.unwrap_or_else(|r| panic!("{r}"))));
+}
+
+/// Copybooks on cards, beside what is seen of them as free text.
+fn cards() {
+    println!("\n## Cards, beside the same copybook as free text\n");
+    println!("| Copybook | Statements | Bytes | Cards, µs | Free text, µs | Cards / free text |");
+    println!("|---|---|---|---|---|---|");
+    for size in SIZES {
+        let shape = &SHAPES[0];
+        let text = inputs::on_cards(&shape.text(size)).into_bytes();
+        let seen = Form::Cards.view(&text).into_owned();
+        let (mut a, mut b) = (Buffers::new(), Buffers::new());
+        let [cards, free] =
+            best([&mut || listed(Form::Cards, &text, &mut a), &mut || listed(Form::Free, &seen, &mut b)]);
+        assert_eq!(a.out, b.out);
+        print!("| {} | {size} | {} | {cards:.2} |", shape.name, text.len());
+        println!(" {free:.2} | {:.2} |", cards / free);
+    }
+}
+
 // ---------------------------------------------------------------- pictures
 
 /// A picture: the Rust's `parse_pic`, and our picture answer; of an edited picture our mask too, since the Rust's
@@ -258,6 +284,7 @@ fn main() {
     drop_ins(&all);
     growth(&all);
     goals(&all);
+    cards();
     pictures();
     owners();
 }

@@ -26,6 +26,7 @@
 
 mod answer;
 mod calls;
+#[allow(dead_code)] // the calls for cards are compared by tools/cards
 #[path = "../../../bindings/rust/src/declared.rs"]
 mod declared;
 mod drop_in;

@@ -8,7 +8,8 @@ use Rattle.definition.specs.Calls.{recordFields}
 use Rattle.tree.specs.declared.RowsRead.{RowsRead}
 use Rattle.tree.specs.Reading.{RowsAre}
 use Rattle.tree.proofs.ReadingLaws.{Stored, stored, turned-down}
-use Rattle.record.proofs.EntryLaws.{Passes, passes, checks-refuse, read-refused, read-kept}
+use Rattle.definition.proofs.CallsLaws.{Passes, passes}
+use Rattle.record.proofs.EntryLaws.{checks-refuse, read-refused, read-kept}
 use Rattle.record.proofs.read_rows.Statement.{statement}
 use Rattle.record.proofs.read_rows.Tie as tie
 

@@ -25,11 +25,10 @@ use Rattle.tokens.specs.declared.Stand.{Stand}
 use Rattle.tokens.specs.Tokens.{saidAt, tokensAt, FirstWord, First}
 use Rattle.tokens.proofs.TokenLaws.{end-first, word-first, word-less, stop-first}
 use Rattle.statement.specs.declared.ClausesRead.{ClausesRead}
-use Rattle.clauses.specs.Places.{Fits}
-use Rattle.clauses.proofs.FitLaws.{none-fit, step-fits}
+use Rattle.definition.proofs.SpanLaws.{none-spans, step-spans, AnswerSpans, finish-spans}
+use Rattle.clauses.specs.Places.{SpanInside, Fits}
 use Rattle.statement.specs.Reading.{wordsFrom, Ends, closing, ClausesAre}
 use Rattle.statement.proofs.EndLaws.{Reached, reached-start, reached-word, ends-stop, ends-text}
-use Rattle.statement.proofs.FinishLaws.{finish-fits, AnswerFits}
 use Rattle.statement.proofs.read_clauses.Statement.{statement}
 use Rattle.statement.proofs.read_clauses.Tie as tie
 
@@ -41,13 +40,13 @@ record Left (t : List ℕ) (at : ℕ) (from place : Stand) (e : Expect) (c : Cla
 
 -- before the first word
 start : {t : List ℕ} {at : ℕ} {from : Stand} {c : Clauses} → from .at ≤ length t → c ≡ noClauses → Left t at from from Expect.Clause c
-start {t} h p = record { reached = reached-start h; same = rw p; fits = rw p (none-fit t) }
+start {t} h p = record { reached = reached-start h; same = rw p; fits = rw p (none-spans (SpanInside t) (omega arith)) }
 
 -- a statement that ends before n, with this answer
 closes :
     (t : List ℕ) (at : ℕ) (from n : Stand) (a : Answer Clauses) →
     clauses t at Expect.Clause noClauses (wordsFrom t from) ≡ a →
-    AnswerFits t a →
+    AnswerSpans (SpanInside t) a →
     Ends t from n →
     ClausesAre t at from (closing n a)
 closes t at from n (give c) p f h = record { is = p; fits = f; ends = h }
@@ -85,7 +84,7 @@ module _ {t : List ℕ} {at : ℕ} {from place : Stand} {e : Expect} {c : Clause
           record {
             reached = reached-word (inv .reached) f q;
             same = rest inv (first .all-are) ∙ clauses-go t at e c (span s l) (wordsFrom t n) z;
-            fits = rw z at (step-fits t e (span s l) (uppers (part t (span s l))) c inside (inv .fits));
+            fits = rw z at (step-spans (SpanInside t) (omega arith) e (span s l) (uppers (part t (span s l))) c inside (inv .fits));
           }
 
       fail : {k : ℕ} → x ≡ Fail k → ClausesAre t at from (ClausesRead.Refused (record { number = k; position = at; needed = 0 }))
@@ -94,11 +93,11 @@ module _ {t : List ℕ} {at : ℕ} {from place : Stand} {e : Expect} {c : Clause
   -- the statement ends at its period, or with the text
   stop-closed : {n : Stand} {y : ClausesRead} → r ≡ Next.Stop n → y ≡ closing n (finish at e c) → ClausesAre t at from y
   stop-closed {n} q p =
-      rw p (closes t at from n (finish at e c) (rest inv (stop-first _ t (place .at) f q .all-are) ∙ clauses-none t at e c) (finish-fits t at e (inv .fits)) (ends-stop (inv .reached) f q))
+      rw p (closes t at from n (finish at e c) (rest inv (stop-first _ t (place .at) f q .all-are) ∙ clauses-none t at e c) (finish-spans (SpanInside t) at e (inv .fits)) (ends-stop (inv .reached) f q))
 
   end-closed : {n : Stand} {y : ClausesRead} → r ≡ Next.End n → y ≡ closing n (finish at e c) → ClausesAre t at from y
   end-closed {n} q p =
-      rw p (closes t at from n (finish at e c) (rest inv (end-first _ t (place .at) f q .opens) ∙ ap (clauses t at e c) (end-words (saidAt t n)) ∙ clauses-none t at e c) (finish-fits t at e (inv .fits)) (ends-text (inv .reached) f q))
+      rw p (closes t at from n (finish at e c) (rest inv (end-first _ t (place .at) f q .opens) ∙ ap (clauses t at e c) (end-words (saidAt t n)) ∙ clauses-none t at e c) (finish-spans (SpanInside t) at e (inv .fits)) (ends-text (inv .reached) f q))
 
 abbrev Inv-loop : tie.InvT-loop
 Inv-loop text at place₀ e₀ c₀ place e c = Left text at place₀ place e c

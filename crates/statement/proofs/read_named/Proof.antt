@@ -20,7 +20,8 @@ use Rattle.tokens.specs.declared.Next.{Next}
 use Rattle.tokens.specs.declared.Stand.{Stand}
 use Rattle.tokens.specs.Tokens.{saidAt, tokensAt, FirstWord, First}
 use Rattle.tokens.proofs.TokenLaws.{end-first, word-first, stop-first}
-use Rattle.clauses.proofs.FitLaws.{none-fit}
+use Rattle.definition.proofs.SpanLaws.{none-spans}
+use Rattle.clauses.specs.Places.{SpanInside}
 use Rattle.statement.specs.declared.ClausesRead.{ClausesRead}
 use Rattle.statement.specs.declared.NamedRead.{NamedRead}
 use Rattle.statement.specs.Reading.{wordsFrom, Ends, ClausesDone, ClausesAre, NamedAre}
@@ -46,7 +47,7 @@ bare :
     Ends t from n →
     NamedAre t at level from (NamedRead.Done (of level at w c) n)
 bare {t} {at} {level} h p q q′ e =
-    rw (q, q′) (record { is = p ∙ named-none t at level; fits = record { begins = h; name = omega arith; clauses = none-fit t }; ends = e })
+    rw (q, q′) (record { is = p ∙ named-none t at level; fits = record { begins = h; name = omega arith; clauses = none-spans (SpanInside t) (omega arith) }; ends = e })
 
 module _ (t : List ℕ) (at level : ℕ) (from : Stand) (h : from .at ≤ length t) {r : Next} (f : First (tokensAt t from) t (from .at) r) where
   module _ {s l : ℕ} {n : Stand} (q : r ≡ Next.Word s l n) where

@@ -8,10 +8,10 @@ use Rattle.test_layout.proofs.replay_list.Statement.{statement}
 use Rattle.test_layout.proofs.replay_list.Tie as tie
 
 abbrev Inv-loop : tie.InvT-loop
-Inv-loop list t₀ at₀ t at = Fair 1000000 t
+Inv-loop list cards t₀ at₀ t at = Fair 1000000 t
 
 abbrev μ-loop : tie.MeasureT-loop
-μ-loop list t₀ at₀ t at = length list - at
+μ-loop list cards t₀ at₀ t at = length list - at
 
 loop-holds : tie.Need-loop-holds Inv-loop μ-loop
 loop-holds c = search needs

@@ -1,4 +1,4 @@
--- `tree::entry_checks` meets its contract: the text's checks, then the size of work memory.
+-- `text::entry_checks` meets its contract: the text's checks, then the size of work memory.
 -- Assumes nothing.
 use borrow.Author.Needs.{needs}
 use Prim.Native.Nat.{ℕ, _≤_, _<_}
@@ -11,8 +11,8 @@ use Rattle.definition.specs.declared.Refusal.{Refusal}
 use Rattle.definition.specs.Limits.{leastWork}
 use Rattle.definition.specs.Basic.{refuse, give, refused, _>>=_}
 use Rattle.definition.specs.Calls.{textChecks, entryChecks, checkOf}
-use Rattle.tree.proofs.entry_checks.Statement.{statement}
-use Rattle.tree.proofs.entry_checks.Tie as tie
+use Rattle.text.proofs.entry_checks.Statement.{statement}
+use Rattle.text.proofs.entry_checks.Tie as tie
 
 module _ (t : List ℕ) (work : ℕ) {a : Check} (p : checkOf a ≡ textChecks t) where
   -- the text is refused

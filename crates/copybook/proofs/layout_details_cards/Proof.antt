@@ -1,0 +1,77 @@
+-- `copybook::layout_details_cards` meets its contract: the checks of cards, then the details of their view.
+-- Assumes nothing.
+use borrow.Author.Needs.{needs}
+use mathlib.Core.Path.{refl, subst}
+use native.Mathlib.Omega.{arith}
+use lib.ListN.{length}
+use Rattle.definition.specs.declared.Check.{Check}
+use Rattle.definition.specs.Calls.{layoutDetails, onCards, afterWriting}
+use Rattle.cards.specs.Viewed.{Seen, CardsRead}
+use Rattle.copybook.proofs.CallLaws.{refused-call}
+use Rattle.copybook.proofs.CardLaws.{cards-refused, cards-seen}
+use Rattle.copybook.proofs.layout_details_cards.Statement.{statement}
+use Rattle.copybook.proofs.layout_details_cards.Tie as tie
+
+-- the view, where the checks are passed
+seen :
+    (x : tie.After-enum-told) →
+    let a = x .before .before .before .before .before .before .before .before .args in
+    Seen (a .cards .now) (length (a .work .now)) (x .before .before .before .read-cards .last .1 .1 .0)
+seen x =
+    let a = x .before .before .before .before .before .before .before .before .args in
+    let r = x .before .before .before .read-cards in
+    let n = length (a .work .now) in
+    subst (λ (y : Check). CardsRead (a .cards .now) n y (r .last .1 .1 .0)) (x .enum-told .given .1) (r .ensures)
+
+part-layout-details-end : tie.Need-part-layout-details-end
+part-layout-details-end c =
+    let s = seen (c .before) .short in
+    omega (arith, c .before .before .before .before .read-cards .kept .1 .1 .0)
+
+returns : tie.Need-returns
+returns c =
+    let x = c .before .before .before .before .before .before .before .before .before in
+    let a = x .before .before .before .before .before .before .before .before .args in
+    cards-seen
+    (λ t. layoutDetails t (length (a .work .now)) (length (a .out .now)))
+    (a .cards .now)
+    (length (a .work .now))
+    (λ y. afterWriting y (a .out .now) (a .work .now))
+    (x .before .before .before .read-cards .last .1 .1 .0)
+    (seen x)
+    (c .before .before .before .before .layout-details .ensures)
+
+returns-2 : tie.Need-returns-2
+returns-2 c =
+    let x = c .before .before .before .before .before in
+    let r = x .before .before .before .read-cards in
+    let a = x .before .before .before .before .before .before .before .before .args in
+    let n = length (a .work .now) in
+    refused-call
+    (a .out .now)
+    (a .work .now)
+    (a .work .now)
+    (c .before .before .clear .ensures)
+    refl
+    (onCards (λ t. layoutDetails t n (length (a .out .now))) (a .cards .now) n)
+    (cards-refused (λ t. layoutDetails t n (length (a .out .now))) (a .cards .now) n
+    (subst (λ (y : Check). CardsRead (a .cards .now) n y (r .last .1 .1 .0)) (x .r .given .1) (r .ensures)))
+
+pub layout-details-cards-spec : {M : Type 1} → statement M
+layout-details-cards-spec =
+    tie.close
+    (tie.spec
+    (λ c. search needs)
+    (λ c κs. search needs)
+    (λ c. search needs)
+    (λ c. search needs)
+    (λ c. search needs)
+    part-layout-details-end
+    (λ c κs. search needs)
+    (λ c. search needs)
+    (λ c. search needs)
+    returns
+    (λ c. search needs)
+    (λ c κs. search needs)
+    (λ c. search needs)
+    returns-2)

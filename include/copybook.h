@@ -14,7 +14,7 @@
  *
  * A call changes no byte of `out` if it refuses, and none past the bytes that it writes. It keeps nothing between
  * calls, and needs no initialisation; calls on different buffers may run at the same time. It takes no memory but
- * stack: at the deepest nesting that is accepted, 66 levels, 64 KB were measured, and 129 KB for cards, whose text is
+ * stack: at the deepest nesting that is accepted, 66 levels, 64 KB were measured, and 128 KB for cards, whose text is
  * copied there. How much is not proved; COPYBOOK_STACK bytes leave room.
  *
  * Buffers. A slice is handed over as a pointer and the number of its elements. What is proved holds if

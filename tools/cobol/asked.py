@@ -55,13 +55,13 @@ ASKED = [
      "R 0 4; A 0 4"),
     ("01 R. 05 A PIC X(4) VALUE 'a.",
      "refused 50 26",
-     "?"),
+     "error: invalid literal: 'a. ...'"),
     ("01 R. 05 A PIC X(9) VALUE 'it''s. so'. 05 B PIC X.",
      "record 10 fixed 2 / 0 A 0 9 text - - - / 0 B 9 1 text - - -",
      "R 0 10; A 0 9; B 9 1"),
     ("01 R. 05 A PIC S9 SIGN LEADING VALUE ' SEPARATE '.",
      "record 2 fixed 1 / 0 A 0 2 int - - -",
-     "?"),
+     "R 0 1; A 0 1"),
     ("01 R. 05 A PIC X. 66 B RENAMES A.",
      "refused 21 18",
      "R 0 1; A 0 1; B 0 1"),
@@ -204,6 +204,8 @@ def tree(text):
     roots, open_items = [], []
     for statement in re.findall(r"""(?:'[^']*'|"[^"]*"|[^'"])+?\.(?=\s|$)""", text):
         level, *words = statement.strip()[:-1].split()
+        if not words:  # what an open literal leaves
+            continue
         name = "FILLER" if words[0] in ("PIC", "FILLER") else words[0]
         item = Item(name, level=int(level))
         clauses = " ".join(words)

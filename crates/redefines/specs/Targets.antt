@@ -2,7 +2,7 @@
 -- earlier sibling of that name, with the count of names compared; and its base, the latest of that name that is no
 -- redefiner itself.
 -- Assumes nothing.
-use Prim.Native.Nat.{ℕ, zero, suc, _-_}
+use Prim.Native.Nat.{ℕ, zero, suc, _≤_}
 use mathlib.Core.Path.{_≡_}
 use mathlib.Core.Bool.{Bool, true, false, _&&_}
 use mathlib.Core.List.{List, [], _∷_}
@@ -67,13 +67,23 @@ offsetOf w (suc k) = some (cell w k OFFSET)
 abbrev pub targetFrom : List ℕ → Span → List ℕ → ℕ → ℕ
 targetFrom text redefines w last = if given redefines then rowFrom text redefines false w last last else 0
 
+-- a search from the sibling `last` back ended there, after looking at so many
+pub record Ended (text : List ℕ) (target : Span) (bases : Bool) (w : List ℕ) (last : ℕ) (r : Found) : Type 0 where
+  pub row : r .row ≡ rowFrom text target bases w last last
+  pub looked : r .compared ≡ lookedFrom text target bases w last last
+  pub low : r .row ≤ last
+
 -- where a search ended and how many names it compared, as the definition says it
 abbrev pub searchOf : List ℕ → Found → Search
 searchOf w r = record { found = offsetOf w (r .row); compared = r .compared }
 
+-- no search
+abbrev pub nothing : Search
+nothing = record { found = none; compared = 0 }
+
 -- the definition's search for the target of a REDEFINES, if there is one
 abbrev pub targetSearch : List ℕ → Span → List Place → Search
-targetSearch text redefines seen = if given redefines then searchBack text redefines seen else record { found = none; compared = 0 }
+targetSearch text redefines seen = if given redefines then searchBack text redefines seen else nothing
 
 -- the row that a search for a name ended at, if any, has that name
 abbrev pub Named : List ℕ → Span → List ℕ → ℕ → Type 0

@@ -4,8 +4,8 @@
 ghost use mathlib.Core.Path.{_≡_};
 ghost use Prim.Native.Nat.{_+_, _*_, _≤_, _<_};
 ghost use lib.ListN.{length};
-ghost use Rattle.redefines.specs.Targets.{leftOut, isTarget, rowFrom, lookedFrom, targetFrom, baseFrom};
-ghost use Rattle.redefines.specs.Targets.{seenAt, searchOf, targetSearch, Named};
+ghost use Rattle.redefines.specs.Targets.{leftOut, isTarget, Ended, seenAt, searchOf, targetSearch, targetFrom};
+ghost use Rattle.redefines.specs.Targets.{Named, baseFrom};
 ghost use Rattle.redefines.specs.Prints.{Printed, PrintedRow, PrintsPut, PassedBack};
 ghost use Rattle.names.specs.Prints.{namePrint};
 ghost use Rattle.rows.specs.Columns.{ROW};
@@ -85,7 +85,7 @@ pub struct Found {
 // The latest sibling of that name from `last` back, or the latest base of that name.
 fn search_back(text: &[u8], work: &[u32], target: Span, last: usize, bases: bool) -> Found
     requires { ⌜ (ROW * last ≤ length (now work)) × Printed (now text) (now work) last ⌝ }
-    ensures { λ r. ⌜ (r .row ≡ rowFrom (now (text .entry)) target bases (now (work .entry)) last last) × (r .compared ≡ lookedFrom (now (text .entry)) target bases (now (work .entry)) last last) × (r .row ≤ last) ⌝ }
+    ensures { λ r. ⌜ Ended (now (text .entry)) target bases (now (work .entry)) last r ⌝ }
 {
     let print = names::print_of(text, target);
     let mut k = pass_back(work, last, print);

@@ -2,7 +2,7 @@
 -- finds, and looks at as many siblings as that compares names; and the search for a base.
 -- Assumes nothing.
 use Prim.Native.Nat.{ℕ, zero, suc, _≤_, _<_}
-use mathlib.Core.Path.{_≡_, refl, sym, ap, _∙_}
+use mathlib.Core.Path.{_≡_, refl, sym, ap, subst, _∙_}
 use mathlib.Core.Bool.{Bool, true, false}
 use mathlib.Core.List.{List, _∷_}
 use mathlib.Core.Logic.{⊎-elim}
@@ -18,7 +18,7 @@ use Rattle.rows.specs.Columns.{ROW, NAME, REDEFINES, OFFSET, BEFORE}
 use Rattle.rows.specs.Table.{cell, spanAt}
 use Rattle.redefines.specs.declared.Found.{Found}
 use Rattle.redefines.specs.Targets.{leftOut, isTarget, rowFrom, lookedFrom, seenFrom, seenAt, placeAt, offsetOf, searchOf}
-use Rattle.redefines.specs.Targets.{Named, baseFrom, baseAfter}
+use Rattle.redefines.specs.Targets.{targetFrom, Named, baseFrom, baseAfter}
 
 pub if-most : (b : Bool) {x y n : ℕ} → x ≤ n → y ≤ n → (if b then x else y) ≤ n
 if-most true p q = p
@@ -144,7 +144,7 @@ module _ (t w : List ℕ) (target : Span) where
       λ i. record { found = found i; compared = compared i }
 
   -- it ends at a row of that name
-  pub row-named : (n last : ℕ) → Named t target w (rowFrom t target false w n last)
+  row-named : (n last : ℕ) → Named t target w (rowFrom t target false w n last)
   unfolding rowFrom
   row-named zero last = tt
   row-named (suc k) last = go (eqb last (suc k)) (sameName t target (spanAt (cell w k NAME))) refl (row-named k (cell w k BEFORE)) (row-named k last)
@@ -158,6 +158,13 @@ module _ (t w : List ℕ) (target : Span) where
       go true true q p on = q
       go true false q p on = p
       go false b q p on = on
+
+  pub target-named : (last : ℕ) {k : ℕ} → k ≡ targetFrom t target w last → Named t target w k
+  target-named last e = subst (Named t target w) (sym e) (go (given target))
+    where
+      go : (g : Bool) → Named t target w (if g then rowFrom t target false w last last else 0)
+      go true = row-named last last
+      go false = tt
 
 -- ---------------------------------------------------------------- bases
 

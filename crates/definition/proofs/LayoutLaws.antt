@@ -15,7 +15,8 @@ use Rattle.definition.specs.Basic.{given, Answer, give, _>>=_, refused, 
 use Rattle.definition.specs.Tree.{Forest, leaf, item}
 use Rattle.definition.specs.Fold.{Entries, end, entry, append, total, entryEnd}
 use Rattle.definition.specs.Fold.{sameName, sameSpelling, Place, placeOf, Search, oneMore, searchBack, find}
-use Rattle.definition.specs.Fold.{hasMember, rebased, redefiners, widest, withRedefiners, foldCheck, foldedList, foldedBelow, foldedAll}
+use Rattle.definition.specs.Fold.{hasMember, rebased, redefiners, widest, withRedefiners, foldCheck}
+use Rattle.definition.specs.Fold.{foldedList, foldedBelow, foldedAll}
 use Rattle.definition.specs.Layout.{shallow, content, start, slackFrom, entryOf, tooLarge, advance, Laid, lay}
 use Rattle.definition.specs.Record.{recordLength, variable, endsFit}
 

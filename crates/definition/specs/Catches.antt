@@ -27,8 +27,8 @@ use Rattle.definition.specs.Fold.{Entries, end, entry, Place, searchBack
 use Rattle.definition.specs.Record.{recordLength, variable}
 use Rattle.definition.specs.Listing.{flag, spanBytes, kindByte, details, members#}
 use Rattle.definition.specs.Cards.{Form, freeText, cardText}
-use Rattle.definition.specs.Calls.{recordFields, entries, layoutListing, layoutDetails, pictureAnswer, pictureMask, byteOwner}
-use Rattle.definition.specs.Calls.{indicatorCheck, called}
+use Rattle.definition.specs.Calls.{entries, layoutListing, layoutDetails, pictureAnswer, pictureMask, byteOwner}
+use Rattle.definition.specs.Calls.{recordFields, indicatorCheck, called}
 use Rattle.definition.specs.Computing.{computing}
 
 -- ---------------------------------------------------------------- answers in numbers

@@ -1,5 +1,5 @@
 -- Request A.5's sentence, as one statement (`stops-at-the-name`, of the proofs, keeps it): the search for a target ends
--- at the first match back from the item, and it compared exactly as many names as the distance back to the match, or all
+-- at the first match back from the item, and the names it compared are exactly the distance back to the match, or all
 -- earlier siblings where none has the name.
 -- Assumes nothing.
 use Prim.Native.Nat.{ℕ, suc}

@@ -75,17 +75,17 @@ module _ (t w : List ℕ) (target : Span) (bases : Bool) {print : ℕ} (e : prin
       by-test true q = refl
       by-test false q = q
 
-  -- what is found and looked at from `last` back is that from r back, after so many siblings
-  pub record Passed (last n r : ℕ) : Type 0 where
+  -- what is found from `last` back is found from r back; the siblings looked at on the way are the rows between
+  pub record Passed (last r : ℕ) : Type 0 where
     pub row : rowFrom t target bases w last last ≡ rowFrom t target bases w r r
-    pub looked : lookedFrom t target bases w last last ≡ n + lookedFrom t target bases w r r
+    pub looked : lookedFrom t target bases w last last + r ≡ last + lookedFrom t target bases w r r
 
   -- a run of such rows
   run :
       (d r : ℕ) →
       ((j : ℕ) → r ≤ j → j < r + d → (cell w j PRINT ≡ print → ⊥) × (cell w j BEFORE ≡ j)) →
       Printed t w (r + d) →
-      Passed (r + d) d r
+      Passed (r + d) r
   run zero r h p =
       let z : r + 0 ≡ r = omega arith in
       record {
@@ -98,6 +98,11 @@ module _ (t w : List ℕ) (target : Span) (bases : Bool) {print : ℕ} (e : prin
       let no = not-target k (p .rows k (omega arith)) (other .0) in
       let ih = run d r (λ j l m. h j l (omega arith)) (printed-less p (omega arith)) in
       let z : r + suc d ≡ suc k = omega arith in
+      let one =
+      ap (λ (m : ℕ). lookedFrom t target bases w m m) z
+      ∙ looked-here t w target bases k
+      ∙ ap (λ (b : Bool). if b then 1 else suc (lookedFrom t target bases w k (cell w k BEFORE))) no
+      ∙ ap (λ (m : ℕ). suc (lookedFrom t target bases w k m)) (other .1) in
       record {
         row =
             ap (λ (m : ℕ). rowFrom t target bases w m m) z
@@ -105,18 +110,11 @@ module _ (t w : List ℕ) (target : Span) (bases : Bool) {print : ℕ} (e : prin
             ∙ ap (λ (b : Bool). if b then suc k else rowFrom t target bases w k (cell w k BEFORE)) no
             ∙ ap (rowFrom t target bases w k) (other .1)
             ∙ ih .row;
-        looked =
-            ap (λ (m : ℕ). lookedFrom t target bases w m m) z
-            ∙ looked-here t w target bases k
-            ∙ ap (λ (b : Bool). if b then 1 else suc (lookedFrom t target bases w k (cell w k BEFORE))) no
-            ∙ omega (arith, ap (lookedFrom t target bases w k) (other .1), ih .looked);
+        looked = omega (arith, one, ih .looked);
       }
 
-  pub passed : {last r : ℕ} → Printed t w last → PassedBack w print last r → Passed last (last - r) r
+  pub passed : {last r : ℕ} → Printed t w last → PassedBack w print last r → Passed last r
   passed {last} {r} p b =
-      let z : last ≡ r + (last - r) = omega (arith, b .low) in
+      let z : r + (last - r) ≡ last = omega (arith, b .low) in
       let x = run (last - r) r (λ j l m. b .others j l (omega arith)) (printed-less p (omega arith)) in
-      record {
-        row = ap (λ (m : ℕ). rowFrom t target bases w m m) z ∙ x .row;
-        looked = ap (λ (m : ℕ). lookedFrom t target bases w m m) z ∙ x .looked;
-      }
+      subst (λ (m : ℕ). Passed m r) z x

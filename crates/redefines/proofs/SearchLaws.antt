@@ -11,14 +11,14 @@ use lib.Dec.{lit<, eqb}
 use borrow.Author.Tests.{eq-eqb, ne-eqb}
 use Rattle.definition.specs.declared.Span.{Span}
 use Rattle.definition.specs.Basic.{if_then_else_, given}
-use Rattle.definition.specs.Fold.{Search, searchBack, find, sameName}
+use Rattle.definition.specs.Fold.{Place, Search, searchBack, find, sameName}
 use Rattle.definition.proofs.LayoutLaws.{search-none, search-hit, search-miss, find-none, find-hit, find-miss}
 use Rattle.definition.proofs.Lists.{order}
 use Rattle.rows.specs.Columns.{ROW, NAME, REDEFINES, OFFSET, BEFORE}
 use Rattle.rows.specs.Table.{cell, spanAt}
 use Rattle.redefines.specs.declared.Found.{Found}
-use Rattle.redefines.specs.Targets.{leftOut, isTarget, rowFrom, lookedFrom, seenFrom, seenAt, placeAt, offsetOf, searchOf}
-use Rattle.redefines.specs.Targets.{targetFrom, Named, baseFrom, baseAfter}
+use Rattle.redefines.specs.Targets.{placeAt, leftOut, seenFrom, seenAt, isTarget, rowFrom, lookedFrom, offsetOf}
+use Rattle.redefines.specs.Targets.{searchOf, targetFrom, Named, baseFrom, baseAfter}
 
 pub if-most : (b : Bool) {x y n : ℕ} → x ≤ n → y ≤ n → (if b then x else y) ≤ n
 if-most true p q = p
@@ -68,7 +68,8 @@ module _ (t w : List ℕ) (target : Span) (bases : Bool) where
       if-most (eqb last (suc k)) (if-most (isTarget t target bases w k) (omega arith) (omega (arith, back))) (omega (arith, on))
 
   -- the same of how many siblings are looked at
-  looked-skip : (k last : ℕ) → (last ≡ suc k → ⊥) → lookedFrom t target bases w (suc k) last ≡ lookedFrom t target bases w k last
+  looked-skip :
+      (k last : ℕ) → (last ≡ suc k → ⊥) → lookedFrom t target bases w (suc k) last ≡ lookedFrom t target bases w k last
   unfolding lookedFrom
   looked-skip k last h = rw (ne-eqb last (suc k) h, lookedFrom)
 
@@ -79,7 +80,10 @@ module _ (t w : List ℕ) (target : Span) (bases : Bool) where
   unfolding lookedFrom
   looked-over n last = over (lookedFrom t target bases w) looked-skip n last refl
 
-  pub looked-here : (k : ℕ) → lookedFrom t target bases w (suc k) (suc k) ≡ (if isTarget t target bases w k then 1 else suc (lookedFrom t target bases w k (cell w k BEFORE)))
+  pub looked-here :
+      (k : ℕ) →
+      lookedFrom t target bases w (suc k) (suc k)
+      ≡ (if isTarget t target bases w k then 1 else suc (lookedFrom t target bases w k (cell w k BEFORE)))
   unfolding lookedFrom
   looked-here k = rw (eq-eqb (suc k) (suc k) refl, lookedFrom)
 
@@ -93,7 +97,8 @@ module _ (t w : List ℕ) (target : Span) (bases : Bool) where
           (c : Bool) →
           sameName t target (spanAt (cell w k NAME)) ≡ c →
           find t target (seenFrom bases w k (cell w k BEFORE)) ≡ offsetOf w (rowFrom t target bases w k (cell w k BEFORE)) →
-          find t target (placeAt w k ∷ seenFrom bases w k (cell w k BEFORE)) ≡ offsetOf w (if c then suc k else rowFrom t target bases w k (cell w k BEFORE))
+          find t target (placeAt w k ∷ seenFrom bases w k (cell w k BEFORE))
+          ≡ offsetOf w (if c then suc k else rowFrom t target bases w k (cell w k BEFORE))
       named true q p = find-hit t target (placeAt w k) (seenFrom bases w k (cell w k BEFORE)) q
       named false q p = find-miss t target (placeAt w k) (seenFrom bases w k (cell w k BEFORE)) q ∙ p
 
@@ -110,33 +115,48 @@ module _ (t w : List ℕ) (target : Span) (bases : Bool) where
 -- ---------------------------------------------------------------- the target
 
 module _ (t w : List ℕ) (target : Span) where
+  abbrev comparedFrom : ℕ → ℕ → ℕ
+  comparedFrom n last = searchBack t target (seenFrom false w n last) .compared
+
   -- as many siblings are looked at as the definition compares names
-  looked-compared : (n last : ℕ) → searchBack t target (seenFrom false w n last) .compared ≡ lookedFrom t target false w n last
+  looked-compared : (n last : ℕ) → comparedFrom n last ≡ lookedFrom t target false w n last
   unfolding lookedFrom seenFrom
   looked-compared zero last = ap (λ (s : Search). s .compared) (search-none t target)
   looked-compared (suc k) last = go (eqb last (suc k)) (looked-compared k (cell w k BEFORE)) (looked-compared k last)
     where
+      seen : List Place
+      seen = seenFrom false w k (cell w k BEFORE)
+
+      looked : ℕ
+      looked = lookedFrom t target false w k (cell w k BEFORE)
+
+      is : Bool
+      is = sameName t target (spanAt (cell w k NAME))
+
       named :
           (c : Bool) →
-          sameName t target (spanAt (cell w k NAME)) ≡ c →
-          searchBack t target (seenFrom false w k (cell w k BEFORE)) .compared ≡ lookedFrom t target false w k (cell w k BEFORE) →
-          searchBack t target (placeAt w k ∷ seenFrom false w k (cell w k BEFORE)) .compared
-          ≡ (if c then 1 else suc (lookedFrom t target false w k (cell w k BEFORE)))
-      named true q p = ap (λ (s : Search). s .compared) (search-hit t target (placeAt w k) (seenFrom false w k (cell w k BEFORE)) q)
-      named false q p =
-          ap (λ (s : Search). s .compared) (search-miss t target (placeAt w k) (seenFrom false w k (cell w k BEFORE)) q) ∙ ap suc p
+          is ≡ c →
+          searchBack t target seen .compared ≡ looked →
+          searchBack t target (placeAt w k ∷ seen) .compared ≡ (if c then 1 else suc looked)
+      named true q p = ap (λ (s : Search). s .compared) (search-hit t target (placeAt w k) seen q)
+      named false q p = ap (λ (s : Search). s .compared) (search-miss t target (placeAt w k) seen q) ∙ ap suc p
 
       go :
           (a : Bool) →
-          searchBack t target (seenFrom false w k (cell w k BEFORE)) .compared ≡ lookedFrom t target false w k (cell w k BEFORE) →
-          searchBack t target (seenFrom false w k last) .compared ≡ lookedFrom t target false w k last →
-          searchBack t target (if a then placeAt w k ∷ seenFrom false w k (cell w k BEFORE) else seenFrom false w k last) .compared
-          ≡ (if a then (if sameName t target (spanAt (cell w k NAME)) then 1 else suc (lookedFrom t target false w k (cell w k BEFORE))) else lookedFrom t target false w k last)
-      go true p q = named (sameName t target (spanAt (cell w k NAME))) refl p
+          searchBack t target seen .compared ≡ looked →
+          comparedFrom k last ≡ lookedFrom t target false w k last →
+          searchBack t target (if a then placeAt w k ∷ seen else seenFrom false w k last) .compared
+          ≡ (if a then (if is then 1 else suc looked) else lookedFrom t target false w k last)
+      go true p q = named is refl p
       go false p q = q
 
   -- where the search ends and what it compares is what the definition says
-  pub searched : (last : ℕ) → {r : Found} → r .row ≡ rowFrom t target false w last last → r .compared ≡ lookedFrom t target false w last last → searchOf w r ≡ searchBack t target (seenAt w last)
+  pub searched :
+      (last : ℕ) →
+      {r : Found} →
+      r .row ≡ rowFrom t target false w last last →
+      r .compared ≡ lookedFrom t target false w last last →
+      searchOf w r ≡ searchBack t target (seenAt w last)
   unfolding find
   searched last p q =
       let found = ap (offsetOf w) p ∙ sym (row-found t w target false last last) in
@@ -147,17 +167,25 @@ module _ (t w : List ℕ) (target : Span) where
   row-named : (n last : ℕ) → Named t target w (rowFrom t target false w n last)
   unfolding rowFrom
   row-named zero last = tt
-  row-named (suc k) last = go (eqb last (suc k)) (sameName t target (spanAt (cell w k NAME))) refl (row-named k (cell w k BEFORE)) (row-named k last)
+  row-named (suc k) last =
+      let p = row-named k (cell w k BEFORE) in
+      go (eqb last (suc k)) (sameName t target (spanAt (cell w k NAME))) refl p (row-named k last)
     where
+      back : ℕ
+      back = rowFrom t target false w k (cell w k BEFORE)
+
+      on : ℕ
+      on = rowFrom t target false w k last
+
       go :
           (a b : Bool) →
           sameName t target (spanAt (cell w k NAME)) ≡ b →
-          Named t target w (rowFrom t target false w k (cell w k BEFORE)) →
-          Named t target w (rowFrom t target false w k last) →
-          Named t target w (if a then (if b then suc k else rowFrom t target false w k (cell w k BEFORE)) else rowFrom t target false w k last)
-      go true true q p on = q
-      go true false q p on = p
-      go false b q p on = on
+          Named t target w back →
+          Named t target w on →
+          Named t target w (if a then (if b then suc k else back) else on)
+      go true true q p x = q
+      go true false q p x = p
+      go false b q p x = x
 
   pub target-named : (last : ℕ) {k : ℕ} → k ≡ targetFrom t target w last → Named t target w k
   target-named last e = subst (Named t target w) (sym e) (go (given target))

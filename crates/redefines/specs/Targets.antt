@@ -1,6 +1,6 @@
--- Siblings in the rows, and the search among them that a REDEFINES makes, backward from the item: its target, the latest
--- earlier sibling of that name, with the count of names compared; and its base, the latest of that name that is no
--- redefiner itself.
+-- Siblings in the rows, and the search among them that a REDEFINES makes, backward from the item: for its target, the
+-- latest earlier sibling of that name, with the count of names compared; and for its base, the latest of that name that
+-- is no redefiner itself.
 -- Assumes nothing.
 use Prim.Native.Nat.{ℕ, zero, suc, _≤_}
 use mathlib.Core.Path.{_≡_}

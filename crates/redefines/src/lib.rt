@@ -1,6 +1,6 @@
-// The search that a REDEFINES makes among the earlier siblings in the rows, backward from the item: its target (28 is due
-// where there is none) with the count of names compared, and its base. The fingerprints of the names are put into the
-// rows first: where they differ, the names do. Leans on `definition`, `names` and `rows`.
+// The search that a REDEFINES makes among the earlier siblings in the rows, backward from the item: for its target (28
+// is due where none has the name), with the count of names compared, and for its base. Fingerprints of the names are
+// put into the rows first: where they differ, the names do. Leans on `definition`, `names` and `rows`.
 ghost use mathlib.Core.Path.{_≡_};
 ghost use Prim.Native.Nat.{_+_, _*_, _≤_, _<_};
 ghost use lib.ListN.{length};
@@ -89,32 +89,34 @@ fn search_back(text: &[u8], work: &[u32], target: Span, last: usize, bases: bool
 {
     let print = names::print_of(text, target);
     let mut k = pass_back(work, last, print);
-    let mut compared = last - k;
+    // rows passed that are no siblings
+    let mut gaps = 0;
     while 0 < k {
         let row = k - 1;
+        let compared = last - row - gaps;
         if is_target(text, work, target, print, row, bases) {
-            return Found {
-                row: k,
-                compared: compared + 1,
-            };
+            return Found { row: k, compared };
         }
         let before = rows::wide(work[ROW * row + BEFORE]);
         if row < before {
-            return Found {
-                row: 0,
-                compared: compared + 1,
-            };
+            return Found { row: 0, compared };
         }
+        gaps += row - before;
         k = pass_back(work, before, print);
-        compared = compared + 1 + (before - k);
     }
-    Found { row: 0, compared }
+    Found {
+        row: 0,
+        compared: last - gaps,
+    }
 }
 
 // The sibling that a REDEFINES names, from `last` back; without one nothing is searched for.
 pub fn target_of(text: &[u8], work: &[u32], redefines: Span, last: usize) -> Found
     requires { ⌜ (ROW * last ≤ length (now work)) × Printed (now text) (now work) last ⌝ }
-    ensures { λ r. ⌜ (searchOf (now (work .entry)) r ≡ targetSearch (now (text .entry)) redefines (seenAt (now (work .entry)) last)) × (r .row ≡ targetFrom (now (text .entry)) redefines (now (work .entry)) last) × (r .row ≤ last) ⌝ }
+    ensures { λ r. ⌜ (searchOf (now (work .entry)) r
+        ≡ targetSearch (now (text .entry)) redefines (seenAt (now (work .entry)) last))
+        × (r .row ≡ targetFrom (now (text .entry)) redefines (now (work .entry)) last)
+        × (r .row ≤ last) ⌝ }
 {
     if 0 < redefines.len {
         return search_back(text, work, redefines, last, false);
@@ -125,10 +127,12 @@ pub fn target_of(text: &[u8], work: &[u32], redefines: Span, last: usize) -> Fou
     }
 }
 
-// The base of that name, where the search for the target ended at the row `target`: that row, or where it is a redefiner
-// itself, what a second search finds from there back. A row and 1, or 0 for none.
+// The base of that name, where the search for the target ended at the row `target`: that row itself, or where it is a
+// redefiner, what a second search finds from there back. A row and 1, or 0 for none.
 pub fn base_of(text: &[u8], work: &[u32], redefines: Span, target: usize) -> usize
-    requires { ⌜ (ROW * target ≤ length (now work)) × Printed (now text) (now work) target × Named (now text) redefines (now work) target ⌝ }
+    requires { ⌜ (ROW * target ≤ length (now work))
+        × Printed (now text) (now work) target
+        × Named (now text) redefines (now work) target ⌝ }
     ensures { λ r. ⌜ (r ≡ baseFrom (now (text .entry)) redefines (now (work .entry)) target target) × (r ≤ target) ⌝ }
 {
     if target == 0 {

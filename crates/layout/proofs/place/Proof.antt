@@ -134,8 +134,12 @@ target-of-requires c κs = let p = c .before .before .before .before .before .be
 base-of-requires : tie.Need-base-of-requires
 base-of-requires c κs =
     let p = c .before .before .before .before .before .before .before .before .before .before .before .before .before .before .before .before .before .before .before .before .pre in
-    let target = c .before .before .before .before .before .before .before .before .before .before .before .before .target-of .ensures in
-    (omega (arith, target .2, p .0, p .1), printed-less (p .6) (omega (arith, target .2, p .1)), target-named _ _ _ _ (target .1))
+    let c6 = c .before .before .before .before .before .before in
+    let target = c6 .before .before .before .before .before .before .target-of .ensures in (
+      omega (arith, target .2, p .0, p .1),
+      printed-less (p .6) (omega (arith, target .2, p .1)),
+      target-named _ _ _ _ (target .1),
+    )
 
 put-place-requires : tie.Need-put-place-requires
 put-place-requires c κs =
@@ -145,11 +149,12 @@ put-place-requires c κs =
     let slack = c .before .before .before .before .before .before .before .before in
     let d = c .before .before .before .before .before .before .before .entry-of in
     let ends = c .before .before .before .before .before .before .entry-end .ensures in
-    let end = c .before .before .before .before .end .given .1 in (
+    let end = c .before .before .before .before .end .given .1 in
+    let target = slack .before .before .before .before .before .before .target-of .ensures in (
       p .0,
       omega (arith, p .1, p .2),
       p .3,
-      omega (arith, c .before .base-of .ensures .1, c .before .before .before .before .before .before .before .before .before .before .before .before .before .before .target-of .ensures .2, p .1, p .2),
+      omega (arith, c .before .base-of .ensures .1, target .2, p .1, p .2),
       near (d .result) ends end,
       slim said (d .ensures) (p .5),
       close said (d .ensures) (s .args .cursor) (slack .slack-from .ensures) ends end,
@@ -164,7 +169,9 @@ returns c =
     let made = end .before .before .before in
     let start = made .before .before .before in
     let target = start .before .before .before .before in
-    fits (a .text .now) (a .work .now) (a .i) (a .below) (a .last) (a .cursor) (a .c) (target .before .before .before .before .statement-at .ensures) (target .target-of .ensures .1)
+    let said = target .before .before .before .before .statement-at .ensures in
+    let row = target .target-of .ensures .1 in
+    fits (a .text .now) (a .work .now) (a .i) (a .below) (a .last) (a .cursor) (a .c) said row
     (start .before .before .start-of .ensures) (start .offset .given .1) (made .before .slack-from .ensures) (made .entry-of .ensures) (end .before .before .entry-end .ensures) (end .end .given .1)
     (found .base-of .ensures .0) (placed .put-place .ensures) (c .advanced .ensures)
 

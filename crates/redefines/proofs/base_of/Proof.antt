@@ -9,11 +9,10 @@ use native.Mathlib.Omega.{arith}
 use lib.ListN.{length}
 use Rattle.definition.specs.declared.Span.{Span}
 use Rattle.definition.specs.Basic.{if_then_else_}
-use Rattle.definition.specs.Fold.{sameName}
-use Rattle.rows.specs.Columns.{ROW, NAME, BEFORE}
-use Rattle.rows.specs.Table.{cell, spanAt}
+use Rattle.rows.specs.Columns.{ROW, BEFORE}
+use Rattle.rows.specs.Table.{cell}
 use Rattle.redefines.specs.declared.Found.{Found}
-use Rattle.redefines.specs.Targets.{leftOut, Ended, Named, baseFrom}
+use Rattle.redefines.specs.Targets.{leftOut, isTarget, Ended, Named, baseFrom}
 use Rattle.redefines.specs.Prints.{Printed}
 use Rattle.redefines.proofs.SearchLaws.{row-low, row-over, row-here, back-none}
 use Rattle.redefines.proofs.PrintLaws.{printed-less}
@@ -24,40 +23,38 @@ use Rattle.redefines.proofs.base_of.Tie as tie
 no-target : (t w : List ℕ) (name : Span) {target : ℕ} → target ≡ 0 → 0 ≡ baseFrom t name w target target
 no-target t w name e = sym (ap (λ (m : ℕ). baseFrom t name w m m) e ∙ back-none t w name)
 
-module _ (t w : List ℕ) (name : Span) {target : ℕ} (h : target ≡ 0 → ⊥) {o : Bool} (p : o ≡ leftOut true w (target - 1)) where
+module _ (t w : List ℕ) (name : Span) {target : ℕ} (h : target ≡ 0 → ⊥) where
   abbrev row : ℕ
   row = target - 1
 
+  -- the base from the sibling before that row back
+  abbrev further : ℕ
+  further = baseFrom t name w row (cell w row BEFORE)
+
   here :
-      baseFrom t name w target target
-      ≡ (if (if o then false else sameName t name (spanAt (cell w row NAME))) then suc row else baseFrom t name w row (cell w row BEFORE))
-  here =
-      ap (λ (m : ℕ). baseFrom t name w m m) (let e : target ≡ suc row = omega arith in e)
+      {b : Bool} → isTarget t name true w row ≡ b → baseFrom t name w target target ≡ (if b then suc row else further)
+  here e =
+      ap (λ (m : ℕ). baseFrom t name w m m) (let z : target ≡ suc row = omega arith in z)
       ∙ row-here t w name true row
-      ∙ ap (λ (b : Bool). if (if b then false else sameName t name (spanAt (cell w row NAME))) then suc row else baseFrom t name w row (cell w row BEFORE)) (sym p)
+      ∙ ap (λ (b : Bool). if b then suc row else further) e
 
-  base : o ≡ false → Named t name w target → target ≡ baseFrom t name w target target
-  base e n =
-      let same : Named t name w (suc row) = subst (Named t name w) (let z : target ≡ suc row = omega arith in z) n in
-      omega (
-        arith,
-        here
-            ∙ ap (λ (b : Bool). if (if b then false else sameName t name (spanAt (cell w row NAME))) then suc row else baseFrom t name w row (cell w row BEFORE)) e
-            ∙ ap (λ (b : Bool). if b then suc row else baseFrom t name w row (cell w row BEFORE)) same,
-      )
+  module _ {o : Bool} (p : o ≡ leftOut true w (target - 1)) where
+    base : o ≡ false → Named t name w target → target ≡ baseFrom t name w target target
+    base e n =
+        let same : Named t name w (suc row) = subst (Named t name w) (let z : target ≡ suc row = omega arith in z) n in
+        let is : isTarget t name true w row ≡ true = rw (← p, e) same in
+        omega (arith, here is)
 
-  module _ (e : o ≡ true) where
-    before : baseFrom t name w target target ≡ baseFrom t name w row (cell w row BEFORE)
-    before =
-        here
-        ∙ ap (λ (b : Bool). if (if b then false else sameName t name (spanAt (cell w row NAME))) then suc row else baseFrom t name w row (cell w row BEFORE)) e
+    module _ (e : o ≡ true) where
+      before : baseFrom t name w target target ≡ further
+      before = here {b = false} (rw (← p, e))
 
-    module _ {n : ℕ} (q : n ≡ cell w row BEFORE) where
-      broken : row < n → 0 ≡ baseFrom t name w target target
-      broken l = sym (before ∙ row-over t w name true row (cell w row BEFORE) (omega arith))
+      module _ {n : ℕ} (q : n ≡ cell w row BEFORE) where
+        broken : row < n → 0 ≡ baseFrom t name w target target
+        broken l = sym (before ∙ row-over t w name true row (cell w row BEFORE) (omega arith))
 
-      second : n ≤ row → {r : Found} → Ended t name true w n r → r .row ≡ baseFrom t name w target target
-      second l x = x .row ∙ sym (before ∙ ap (baseFrom t name w row) (sym q) ∙ row-low t w name true row n l)
+        second : n ≤ row → {r : Found} → Ended t name true w n r → r .row ≡ baseFrom t name w target target
+        second l x = x .row ∙ sym (before ∙ ap (baseFrom t name w row) (sym q) ∙ row-low t w name true row n l)
 
 returns : tie.Need-returns
 returns c = (search no-target, search needs)

@@ -16,7 +16,7 @@ use Rattle.definition.proofs.LayoutLaws.{search-none, search-hit, search-miss, 
 use Rattle.definition.proofs.Lists.{order}
 use Rattle.rows.specs.Columns.{ROW, NAME, REDEFINES, OFFSET, BEFORE}
 use Rattle.rows.specs.Table.{cell, spanAt}
-use Rattle.redefines.specs.declared.Found.{Found}
+use Rattle.redefines.specs.declared.SearchEnd.{SearchEnd}
 use Rattle.redefines.specs.Targets.{placeAt, leftOut, seenFrom, seenAt, isTarget, rowFrom, lookedFrom, offsetOf}
 use Rattle.redefines.specs.Targets.{searchOf, targetFrom, Named, baseFrom, baseAfter}
 
@@ -153,7 +153,7 @@ module _ (t w : List ℕ) (target : Span) where
   -- where the search ends and what it compares is what the definition says
   pub searched :
       (last : ℕ) →
-      {r : Found} →
+      {r : SearchEnd} →
       r .row ≡ rowFrom t target false w last last →
       r .compared ≡ lookedFrom t target false w last last →
       searchOf w r ≡ searchBack t target (seenAt w last)

@@ -13,7 +13,7 @@ use Rattle.definition.specs.Basic.{if_then_else_, given}
 use Rattle.definition.specs.Fold.{sameName, Place, Search, searchBack}
 use Rattle.rows.specs.Columns.{NAME, REDEFINES, OFFSET, BEFORE}
 use Rattle.rows.specs.Table.{spanAt, cell}
-use Rattle.redefines.specs.declared.Found.{Found}
+use Rattle.redefines.specs.declared.SearchEnd.{SearchEnd}
 
 -- the name and the offset of the entry in row k
 abbrev pub placeAt : List ℕ → ℕ → Place
@@ -68,22 +68,22 @@ abbrev pub targetFrom : List ℕ → Span → List ℕ → ℕ → ℕ
 targetFrom text redefines w last = if given redefines then rowFrom text redefines false w last last else 0
 
 -- a search from the sibling `last` back ended there, after looking at so many
-pub record Ended (text : List ℕ) (target : Span) (bases : Bool) (w : List ℕ) (last : ℕ) (r : Found) : Type 0 where
+pub record Ended (text : List ℕ) (target : Span) (bases : Bool) (w : List ℕ) (last : ℕ) (r : SearchEnd) : Type 0 where
   pub row : r .row ≡ rowFrom text target bases w last last
   pub looked : r .compared ≡ lookedFrom text target bases w last last
   pub low : r .row ≤ last
 
 -- where a search ended and how many names it compared, as the definition says it
-abbrev pub searchOf : List ℕ → Found → Search
+abbrev pub searchOf : List ℕ → SearchEnd → Search
 searchOf w r = record { found = offsetOf w (r .row); compared = r .compared }
 
 -- no search
-abbrev pub nothing : Search
-nothing = record { found = none; compared = 0 }
+abbrev pub noSearch : Search
+noSearch = record { found = none; compared = 0 }
 
 -- the definition's search for the target of a REDEFINES, if there is one
 abbrev pub targetSearch : List ℕ → Span → List Place → Search
-targetSearch text redefines seen = if given redefines then searchBack text redefines seen else nothing
+targetSearch text redefines seen = if given redefines then searchBack text redefines seen else noSearch
 
 -- the row that a search for a name ended at, if any, has that name
 abbrev pub Named : List ℕ → Span → List ℕ → ℕ → Type 0

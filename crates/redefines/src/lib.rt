@@ -77,13 +77,13 @@ fn pass_back(work: &[u32], last: usize, print: u32) -> usize
 }
 
 // Where a search ended, as the row and 1, or 0 where nothing has the name; and how many names it compared.
-pub struct Found {
+pub struct SearchEnd {
     pub row: usize,
     pub compared: usize,
 }
 
 // The latest sibling of that name from `last` back, or the latest base of that name.
-fn search_back(text: &[u8], work: &[u32], target: Span, last: usize, bases: bool) -> Found
+fn search_back(text: &[u8], work: &[u32], target: Span, last: usize, bases: bool) -> SearchEnd
     requires { ⌜ (ROW * last ≤ length (now work)) × Printed (now text) (now work) last ⌝ }
     ensures { λ r. ⌜ Ended (now (text .entry)) target bases (now (work .entry)) last r ⌝ }
 {
@@ -95,23 +95,23 @@ fn search_back(text: &[u8], work: &[u32], target: Span, last: usize, bases: bool
         let row = k - 1;
         let compared = last - row - gaps;
         if is_target(text, work, target, print, row, bases) {
-            return Found { row: k, compared };
+            return SearchEnd { row: k, compared };
         }
         let before = rows::wide(work[ROW * row + BEFORE]);
         if row < before {
-            return Found { row: 0, compared };
+            return SearchEnd { row: 0, compared };
         }
         gaps += row - before;
         k = pass_back(work, before, print);
     }
-    Found {
+    SearchEnd {
         row: 0,
         compared: last - gaps,
     }
 }
 
 // The sibling that a REDEFINES names, from `last` back; without one nothing is searched for.
-pub fn target_of(text: &[u8], work: &[u32], redefines: Span, last: usize) -> Found
+pub fn target_of(text: &[u8], work: &[u32], redefines: Span, last: usize) -> SearchEnd
     requires { ⌜ (ROW * last ≤ length (now work)) × Printed (now text) (now work) last ⌝ }
     ensures { λ r. ⌜ (searchOf (now (work .entry)) r
         ≡ targetSearch (now (text .entry)) redefines (seenAt (now (work .entry)) last))
@@ -121,7 +121,7 @@ pub fn target_of(text: &[u8], work: &[u32], redefines: Span, last: usize) -> Fou
     if 0 < redefines.len {
         return search_back(text, work, redefines, last, false);
     }
-    Found {
+    SearchEnd {
         row: 0,
         compared: 0,
     }

@@ -11,7 +11,7 @@ use Rattle.definition.specs.declared.Span.{Span}
 use Rattle.definition.specs.Basic.{if_then_else_}
 use Rattle.rows.specs.Columns.{ROW, BEFORE}
 use Rattle.rows.specs.Table.{cell}
-use Rattle.redefines.specs.declared.Found.{Found}
+use Rattle.redefines.specs.declared.SearchEnd.{SearchEnd}
 use Rattle.redefines.specs.Targets.{leftOut, isTarget, Ended, Named, baseFrom}
 use Rattle.redefines.specs.Prints.{Printed}
 use Rattle.redefines.proofs.SearchLaws.{row-low, row-over, row-here, back-none}
@@ -53,7 +53,7 @@ module _ (t w : List ℕ) (name : Span) {target : ℕ} (h : target ≡ 0 → ⊥
         broken : row < n → 0 ≡ baseFrom t name w target target
         broken l = sym (before ∙ row-over t w name true row (cell w row BEFORE) (omega arith))
 
-        second : n ≤ row → {r : Found} → Ended t name true w n r → r .row ≡ baseFrom t name w target target
+        second : n ≤ row → {r : SearchEnd} → Ended t name true w n r → r .row ≡ baseFrom t name w target target
         second l x = x .row ∙ sym (before ∙ ap (baseFrom t name w row) (sym q) ∙ row-low t w name true row n l)
 
 returns : tie.Need-returns

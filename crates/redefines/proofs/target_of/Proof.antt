@@ -9,28 +9,28 @@ use borrow.Author.Tests.{lt-ltb, le-ltb}
 use Rattle.definition.specs.declared.Span.{Span}
 use Rattle.definition.specs.Basic.{if_then_else_}
 use Rattle.definition.specs.Fold.{searchBack}
-use Rattle.redefines.specs.declared.Found.{Found}
-use Rattle.redefines.specs.Targets.{nothing, rowFrom, Ended, seenAt, searchOf, targetSearch, targetFrom}
+use Rattle.redefines.specs.declared.SearchEnd.{SearchEnd}
+use Rattle.redefines.specs.Targets.{noSearch, rowFrom, Ended, seenAt, searchOf, targetSearch, targetFrom}
 use Rattle.redefines.proofs.SearchLaws.{searched}
 use Rattle.redefines.proofs.target_of.Statement.{statement}
 use Rattle.redefines.proofs.target_of.Tie as tie
 
 module _ (t w : List ℕ) (s : Span) (last : ℕ) where
-  module _ (h : 0 < s .len) {r : Found} (p : Ended t s false w last r) where
+  module _ (h : 0 < s .len) {r : SearchEnd} (p : Ended t s false w last r) where
     named : r .row ≡ targetFrom t s w last
     named = p .row ∙ sym (ap (λ (b : Bool). if b then rowFrom t s false w last last else 0) (lt-ltb 0 (s .len) h))
 
     counted : searchOf w r ≡ targetSearch t s (seenAt w last)
     counted =
         searched t w s last (p .row) (p .looked)
-        ∙ sym (ap (λ (b : Bool). if b then searchBack t s (seenAt w last) else nothing) (lt-ltb 0 (s .len) h))
+        ∙ sym (ap (λ (b : Bool). if b then searchBack t s (seenAt w last) else noSearch) (lt-ltb 0 (s .len) h))
 
   module _ (h : s .len ≤ 0) where
     unnamed : 0 ≡ targetFrom t s w last
     unnamed = sym (ap (λ (b : Bool). if b then rowFrom t s false w last last else 0) (le-ltb 0 (s .len) h))
 
-    uncounted : nothing ≡ targetSearch t s (seenAt w last)
-    uncounted = sym (ap (λ (b : Bool). if b then searchBack t s (seenAt w last) else nothing) (le-ltb 0 (s .len) h))
+    uncounted : noSearch ≡ targetSearch t s (seenAt w last)
+    uncounted = sym (ap (λ (b : Bool). if b then searchBack t s (seenAt w last) else noSearch) (le-ltb 0 (s .len) h))
 
 returns : tie.Need-returns
 returns c = (search counted, search named, search needs)

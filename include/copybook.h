@@ -266,8 +266,8 @@ uint32_t copybook_picture(const uint8_t *pic, size_t n, uint8_t usage, uint8_t s
 
 /*
  * The upper-case mask of a picture that is edited under DISPLAY, written to `out`; of any other, 0 bytes. answer[0] is
- * the number of bytes written, answer[1] is 0. A mask has at most 255 bytes. Refusals: those of copybook_picture, and
- * 31 last.
+ * the number of bytes written, answer[1] is 0. A mask has at most 255 bytes. It keeps P, which holds no byte of the
+ * item: without P it is as long as the item is wide. Refusals: those of copybook_picture, and 31 last.
  */
 uint32_t copybook_mask(const uint8_t *pic, size_t n, uint8_t usage, uint8_t *out, size_t m, uint64_t *answer,
                        size_t k);

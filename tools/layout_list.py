@@ -1,6 +1,6 @@
 """A copybook's layout listing by docs/RULES.md, over the kept statements of reader_list.py: Picture, Width, Offsets, and the listing's bytes.
 
-It shares nothing with the crates. `answer(text)` is what the layout listing has to answer, as numbers: `1 LENGTH` and the bytes of the
+It shares nothing with the crates. `picture_answer(picture, usage, sign)` is what the picture answer and the mask have to be. `answer(text)` is what the layout listing has to answer, as numbers: `1 LENGTH` and the bytes of the
 listing, or `0 NUMBER POSITION NEEDED`. `oracle_numbers(text, listing)` reads a listing back into what tools/oracle answers to that text, and
 `printed(text, numbers)` says what the small program prints for an answer.
 """
@@ -13,7 +13,7 @@ import reader_list
 from reader_list import Refused
 
 LARGEST = 2147483647
-MOST_SYMBOLS, MOST_DIGITS, MOST_DEPTH = 65535, 255, 64
+MOST_SYMBOLS, MOST_DIGITS, LONGEST_MASK, MOST_DEPTH = 65535, 255, 255, 64
 DISPLAY, COMP3, COMP = 0, 1, 2
 TEXT, INT, BINARY, DECIMAL, EDITED, GROUP = range(1, 7)
 UNSIGNED, EMBEDDED, LEADING, TRAILING = range(4)
@@ -44,8 +44,13 @@ def symbols(picture, at):
 
 
 def mask(out):
-    """What takes a byte of an edited field."""
-    return bytes(b for b in out if b not in b"SVP")
+    """The symbols without S and V."""
+    return bytes(b for b in out if b not in b"SV")
+
+
+def has_scale(picture):
+    """Whether a picture has a P, wherever it stands: there the Rust has no answer."""
+    return b"P" in picture.upper()
 
 
 def pictured(picture, usage, sign, at):
@@ -62,6 +67,7 @@ def pictured(picture, usage, sign, at):
     before = count(whole, b"9Z*") + sum(max(0, out.count(s) - 1) for s in (b"$", b"+", b"-"))
     after = count(fraction, b"9Z*") + out.count(b"P")
     digits = before + after
+    stored = digits - out.count(b"P")
     edited = count(out, b"Z*.,/B0$+-CD") > 0
     signed = count(out, b"S+-CD") > 0
     chars = count(out, b"XA")
@@ -69,21 +75,35 @@ def pictured(picture, usage, sign, at):
         if digits or edited:
             raise Refused(26, at)
         return TEXT, [], chars
-    width = len(mask(out))
-    if digits > MOST_DIGITS or edited and usage == DISPLAY and width > MOST_DIGITS:
+    masked = edited and usage == DISPLAY
+    if digits > MOST_DIGITS or masked and len(mask(out)) > LONGEST_MASK:
         raise Refused(27, at)
-    if edited and usage == DISPLAY:
-        return EDITED, [max(1, digits), after, signed], width
+    # P holds no byte: a width counts the digits, or the mask, without it.
+    if masked:
+        return EDITED, [max(1, digits), after, signed], len(mask(out)) - out.count(b"P")
     if usage == COMP3:
-        return DECIMAL, [digits, after, STORED_COMP3, EMBEDDED], digits // 2 + 1
+        return DECIMAL, [digits, after, STORED_COMP3, EMBEDDED], stored // 2 + 1
     if usage == COMP:
-        return BINARY, [signed], 2 if digits <= 4 else 4 if digits <= 9 else 8
+        return BINARY, [signed], 2 if stored <= 4 else 4 if stored <= 9 else 8
     sign = sign if signed else UNSIGNED
-    width = digits + (sign in (LEADING, TRAILING))
+    width = stored + (sign in (LEADING, TRAILING))
     zoned = sign == EMBEDDED
     if after or zoned:
         return DECIMAL, [digits, after, STORED_ZONED if zoned else STORED_DISPLAY, sign], width
     return INT, [signed, sign], width
+
+
+def picture_answer(picture, usage, sign):
+    """What the picture answer has to be, as numbers, with the mask: `1 WIDTH KIND DETAILS`, or `0 NUMBER POSITION NEEDED`. Sign 0 is none."""
+    wide = [at for at, byte in enumerate(picture) if byte > 127]
+    if len(picture) > reader_list.MOST_BYTES or wide:
+        return [0, 1, 0, 0] if len(picture) > reader_list.MOST_BYTES else [0, 2, wide[0], 0], b""
+    picture = picture.strip(reader_list.WHITE)
+    try:
+        kind, details, width = pictured(picture, usage, sign - 1 if sign else EMBEDDED, 0)
+    except Refused as r:
+        return [0, *r.args, 0], b""
+    return [1, width, kind, *map(int, details)], mask(symbols(picture, 0)) if kind == EDITED else b""
 
 
 # ---------------------------------------------------------------- Offsets
@@ -205,6 +225,17 @@ def record(text):
         if e.end() > LARGEST:
             raise Refused(29, e.at)
     return top
+
+
+def scaled(text):
+    """Whether an elementary item of a copybook has a P in its picture; no where its statements cannot be read."""
+    def inside(nodes):
+        return any(inside(inner) if inner else s.picture is not None and has_scale(s.picture.text) for s, inner in nodes)
+
+    try:
+        return inside(lists(reader_list.kept_statements(text)))
+    except Refused:
+        return False
 
 
 # ---------------------------------------------------------------- the listing

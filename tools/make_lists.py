@@ -6,14 +6,15 @@
 ORACLE_SRC is the folder with the Rust files; tools/oracle is built from it, and asked. The inputs are those of tools/compare_definition.py,
 with a fixed seed, so that the same lists are made each time:
 
-- crates/test_picture/data/pictures.txt: pictures with the Rust's answers.
-- crates/test_picture/data/document.txt: pictures with the answers of document 01 that the Rust cannot give, written here by hand.
+- crates/test_picture/data/pictures.txt: pictures with the Rust's answers; those with P, where it has none, with the answers of
+  tools/layout_list.py, a reading by documents 01 and 02.
+- crates/test_picture/data/document.txt: pictures with the answers of documents 01 and 02 that the Rust cannot give, written here by hand.
 - crates/test_reader/data/texts.txt: copybook texts with the answers of tools/reader_list.py, a reading by document 01. Where the Rust has
   an answer, the two are compared: its refusals 10 to 13, and where it accepts a copybook without REDEFINES, the names, the nesting, the
   counts and the DEPENDING ON names. It has none where a literal holds a period that would end a statement, or `*>`, or is left open.
 - crates/test_layout/data/layouts1.txt to layouts4.txt: copybook texts with the answers of tools/layout_list.py, a layout by document 01. Each answer is compared
   with the Rust's: the listing, read back into the oracle's numbers, or the number of the refusal. Where the answer is a refusal that document
-  01 adds, the Rust's is held against the reason as far as it shows.
+  01 adds, the Rust's is held against the reason as far as it shows. Copybooks with P in a picture are not compared with the Rust.
 - crates/test_layout/data/document.txt: the copybooks that documents 01 and 02 speak of, and their traps, with answers written here by hand.
 - crates/test_layout/data/cards.txt: copybooks on cards with the answers of tools/layout_list.py, which reads the code from its columns. The
   Rust has no cards.
@@ -86,7 +87,7 @@ def picture_inputs():
 
 
 def pictures(oracle):
-    """The pictures that no added refusal stops, with the Rust's answers."""
+    """The pictures that no added refusal stops, with the Rust's answers; with P, those of layout_list.py."""
     inputs = {}
     for text, usage, sign in picture_inputs():
         i = Input(text.encode("latin-1"), usage, sign, "")
@@ -95,10 +96,12 @@ def pictures(oracle):
             break
     inputs = list(inputs.values())
     cases = []
+    kinds = collections.Counter()
     for i, answer in zip(inputs, oracle.ask(inputs)):
         if not compare.expected(i, answer) and answer[0] in (0, 1) and len(cases) < PICTURES:
-            cases.append([i.usage, i.sign, escaped(i.text), *answer])
-    kinds = collections.Counter(f"refused {c[4]}" if c[3] == 0 else f"kind {c[5]}" for c in cases)
+            made = answer if compare.plain(i) else compare.read(i)
+            cases.append([i.usage, i.sign, escaped(i.text), *made])
+            kinds[("" if compare.plain(i) else "P, ") + (f"kind {made[2]}" if made[0] else f"refused {made[1]}")] += 1
     print(", ".join(f"{k}: {n}" for k, n in sorted(kinds.items())))
     return cases
 
@@ -136,14 +139,42 @@ def both(number, position=0):
 
 # Usage, sign, picture, room, and the answers of `parse_pic` and `mask`.
 DOCUMENT = [
-    # the catches: 255 digits pass and 256 are refused, P takes storage
+    # the catches: 255 digits pass and 256 are refused, P holds no byte
     (DISPLAY, NONE, "9(255)", ROOM, *plain(255, INT, 0, 0)),
     (DISPLAY, NONE, "9(256)", ROOM, *both(27)),
     (COMP, NONE, "9(255)", ROOM, *plain(8, BINARY, 0)),
     (COMP, NONE, "9(256)", ROOM, *both(27)),
     (COMP3, NONE, "9(255)", ROOM, *plain(128, DECIMAL, 255, 0, STORED_COMP3, 1)),
     (COMP3, NONE, "9(256)", ROOM, *both(27)),
-    (DISPLAY, NONE, "99P", ROOM, *plain(3, DECIMAL, 3, 1, STORED_DISPLAY, 0)),
+    (DISPLAY, NONE, "99P", ROOM, *plain(2, DECIMAL, 3, 1, STORED_DISPLAY, 0)),
+    # P: precision and scale count it, no width does, and the mask keeps it
+    (DISPLAY, LEADING, "99P", ROOM, *plain(2, DECIMAL, 3, 1, STORED_DISPLAY, 0)),
+    (COMP3, NONE, "99P", ROOM, *plain(2, DECIMAL, 3, 1, STORED_COMP3, 1)),
+    (COMP, NONE, "99P", ROOM, *plain(2, BINARY, 0)),
+    (DISPLAY, NONE, "P(3)9", ROOM, *plain(1, DECIMAL, 4, 3, STORED_DISPLAY, 0)),
+    (DISPLAY, NONE, "VP9", ROOM, *plain(1, DECIMAL, 2, 2, STORED_DISPLAY, 0)),
+    (DISPLAY, NONE, "S9P(4)", ROOM, *plain(1, DECIMAL, 5, 4, STORED_ZONED, 1)),
+    (DISPLAY, UNSIGNED, "S9P(4)", ROOM, *plain(1, DECIMAL, 5, 4, STORED_DISPLAY, 0)),
+    (DISPLAY, EMBEDDED, "S9P(4)", ROOM, *plain(1, DECIMAL, 5, 4, STORED_ZONED, 1)),
+    (DISPLAY, LEADING, "S9P(4)", ROOM, *plain(2, DECIMAL, 5, 4, STORED_DISPLAY, 2)),
+    (DISPLAY, TRAILING, "S9P(4)", ROOM, *plain(2, DECIMAL, 5, 4, STORED_DISPLAY, 3)),
+    (COMP3, NONE, "S9P(4)", ROOM, *plain(1, DECIMAL, 5, 4, STORED_COMP3, 1)),
+    (DISPLAY, NONE, "P", ROOM, *plain(0, DECIMAL, 1, 1, STORED_DISPLAY, 0)),
+    (COMP3, NONE, "P", ROOM, *plain(1, DECIMAL, 1, 1, STORED_COMP3, 1)),
+    (COMP, NONE, "P", ROOM, *plain(2, BINARY, 0)),
+    (COMP, NONE, "9(4)P", ROOM, *plain(2, BINARY, 0)),
+    (COMP, NONE, "9(5)P", ROOM, *plain(4, BINARY, 0)),
+    (COMP, NONE, "9(9)P", ROOM, *plain(4, BINARY, 0)),
+    (COMP, NONE, "9(10)P", ROOM, *plain(8, BINARY, 0)),
+    (DISPLAY, NONE, "ZZ9P", 4, *edited(3, 4, 1, 0, "ZZ9P")),
+    (DISPLAY, NONE, "ZZ9P", 3, *edited(3, 4, 1, 0, "ZZ9P", 3)),
+    (DISPLAY, NONE, "zp(2)9.9", ROOM, *edited(4, 5, 3, 0, "ZPP9.9")),
+    (COMP, NONE, "ZZ9P", 0, *plain(2, BINARY, 0)),
+    (DISPLAY, NONE, "B(253)9P", ROOM, *edited(254, 2, 1, 0, "B" * 253 + "9P")),
+    (DISPLAY, NONE, "B(254)9P", ROOM, *both(27)),
+    (DISPLAY, NONE, "9(254)P", ROOM, *plain(254, DECIMAL, 255, 1, STORED_DISPLAY, 0)),
+    (DISPLAY, NONE, "9(254)PP", ROOM, *both(27)),
+    (DISPLAY, NONE, "XP", ROOM, *both(26)),
     # over 255 digits, however they are said
     (DISPLAY, NONE, "S9(255)", ROOM, *plain(255, DECIMAL, 255, 0, STORED_ZONED, 1)),
     (DISPLAY, LEADING, "S9(255)", ROOM, *plain(256, INT, 1, 2)),
@@ -151,7 +182,7 @@ DOCUMENT = [
     (DISPLAY, NONE, "9(255)V9", ROOM, *both(27)),
     (DISPLAY, NONE, "9(254)V9", ROOM, *plain(255, DECIMAL, 255, 1, STORED_DISPLAY, 0)),
     (DISPLAY, NONE, "9(255)P", ROOM, *both(27)),
-    (DISPLAY, NONE, "P(255)", ROOM, *plain(255, DECIMAL, 255, 255, STORED_DISPLAY, 0)),
+    (DISPLAY, NONE, "P(255)", ROOM, *plain(0, DECIMAL, 255, 255, STORED_DISPLAY, 0)),
     (DISPLAY, NONE, "P(256)", ROOM, *both(27)),
     (COMP, NONE, "$(256)", ROOM, *plain(8, BINARY, 0)),
     (COMP, NONE, "$(257)", ROOM, *both(27)),
@@ -351,7 +382,7 @@ def check_layout(i, made, answer):
     """How the Rust's answer stands to the one made here; ends the program where it says something else."""
     number = made[1] if made[0] == 0 else 0
     if not compare.plain(i):
-        how, same = "literals, without an answer of the Rust", True
+        how, same = "literals or P, without an answer of the Rust", True
     elif number in compare.ADDED:
         how, same = f"added refusal {number}", compare.due(i, answer, number)
     elif number:
@@ -452,7 +483,11 @@ def layout_document():
         ("05 Z PIC X. 05 A PIC 9(256).", refused(27, 12)),
         (chain(66), listed(chain(66), 1, 0, 1, *(item(f"G{k}", 0, 1, GROUP, 1) for k in range(2, 66)), item("A", 0, 1, TEXT))),
         (chain(67), refused(20, len(chain(67)) - len("67 A PIC X."))),
-        one("05 A PIC 99P.", 0, 3, DECIMAL, 3, 1, STORED_DISPLAY, 0),
+        one("05 A PIC 99P.", 0, 2, DECIMAL, 3, 1, STORED_DISPLAY, 0),
+        one("05 A PIC S9P(4) SIGN LEADING SEPARATE.", 0, 2, DECIMAL, 5, 4, STORED_DISPLAY, 2),
+        one("05 A PIC S9P(4) COMP-3.", 0, 1, DECIMAL, 5, 4, STORED_COMP3, 1),
+        one("05 A PIC 9(9)P COMP.", 0, 4, BINARY, 0),
+        one("05 A PIC zp(2)9.9.", 0, 4, EDITED, 5, 3, 0, "zp(2)9.9"),
         # the traps: a statement that ends at every period, the cursor past a wide redefiner, COMP-3 digits modulo 256, an aligned group
         (dots, listed(dots, 4, 0, 2, item("A", 0, 3, EDITED, 2, 1, 0, "9.9"), item("B.C", 3, 1, TEXT))),
         (wide, listed(wide, 5, 0, 2, item("A", 0, 5, GROUP, 2), item("A", 0, 2, TEXT), item("B", 0, 5, TEXT), item("C", 2, 1, TEXT))),

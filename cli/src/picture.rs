@@ -15,7 +15,7 @@ What an item with this picture holds and how wide it is, in lines of a word and 
     kind WORD       as in the layout: text int bin dec edit
     width BYTES
     holds WORDS
-    mask MASK       of an edited picture alone: its symbols, repeated, that take a byte
+    mask MASK       of an edited picture alone: its symbols, repeated, without S and V
 
   --usage  display (without the option), comp-3 or comp; packed-decimal, binary and the other words of COBOL too
   --sign   the SIGN clause: unsigned, embedded (leading and trailing are that too), leading-separate or

@@ -9,8 +9,11 @@ from copybooks import Copybook, Item
 # Each: the copybook; what the program prints, a line after a slash; what GnuCOBOL answers: name, offset and length of each record and item, or its first error.
 ASKED = [
     ("01 R. 05 A PIC 9P. 05 Z PIC X.",
-     "record 3 fixed 2 / 0 A 0 2 dec - - - / 0 Z 2 1 text - - -",
+     "record 2 fixed 2 / 0 A 0 1 dec - - - / 0 Z 1 1 text - - -",
      "R 0 2; A 0 1; Z 1 1"),
+    ("01 R. 05 A PIC 9P9. 05 Z PIC X.",
+     "record 3 fixed 2 / 0 A 0 2 dec - - - / 0 Z 2 1 text - - -",
+     "error: P must be at start or end of PICTURE string"),
     ("01 R. 05 G COMP. 10 A PIC 9(4). 05 B PIC X.",
      "record 5 fixed 2 / 0 G 0 4 group - - - / 1 A 0 4 int - - - / 0 B 4 1 text - - -",
      "R 0 3; G 0 2; A 0 2; B 2 1"),

@@ -177,6 +177,18 @@ class Maker:
             picture += self.repeat("9", n - before)
         return picture
 
+    def scaled_picture(self, sign, n):
+        """n 9s with P at one end, 18 digits with them at most."""
+        scale = self.repeat("P", self.rng.choice((1, 1, 2, 3, 4, 8)))
+        if self.chance(0.4):
+            return sign + self.rng.choice(("", "V")) + scale + self.repeat("9", n)
+        return sign + self.repeat("9", n) + scale + self.rng.choice(("", "", "V"))
+
+    def scaled_edited(self):
+        """An edited picture with P at its right end."""
+        before = self.rng.choice(("$", "+", "-", "Z", "*", self.repeat("Z", 4), self.repeat("*", 3), "$ZZ", "$$$"))
+        return before + self.repeat("9", self.rng.randint(1, 6)) + self.repeat("P", self.rng.randint(1, 5))
+
     def text_picture(self):
         symbol = self.rng.choice("XXXA")
         n = self.rng.choice((1, 1, 2, 3, 4, 5, 7, 8, 10, 15, 20, 30, 60, 133, 255))
@@ -257,7 +269,7 @@ class Maker:
     # -------------------------------------------------- items
 
     def elementary(self, kinds, occurs=None, value=True, name=None):
-        """An item of one of the kinds: text, display, sign, comp, comp3, edited, sync, native."""
+        """An item of one of the kinds: text, display, sign, comp, comp3, edited, sync, native, scaled, scaled-edited."""
         kind = self.rng.choice(kinds)
         item = Item(name or ("FILLER" if self.chance(0.08) else self.name()), kind=kind, occurs=occurs)
         signed = kind == "sign" or self.chance(0.5)
@@ -271,6 +283,13 @@ class Maker:
                 literal = None
             elif self.chance(0.1):
                 clauses.append(self.usage("DISPLAY"))
+        elif kind == "scaled":
+            digits = self.rng.randint(1, 10)
+            picture = self.scaled_picture("S" if signed else "", digits)
+            usage = self.rng.choice(("", self.comp(digits), self.comp3(), self.sign() if signed else ""))
+            clauses += [usage] if usage else []
+        elif kind == "scaled-edited":
+            picture = self.scaled_edited()
         elif kind == "edited":
             picture = self.edited_picture()
             if self.chance(0.1) and "*" not in picture:
@@ -411,6 +430,11 @@ def edited(m):
     return m.list(("edited",), 3, 14)
 
 
+def scaled(m):
+    """P in pictures, where COBOL allows it."""
+    return m.list(("scaled", "scaled", "scaled-edited", "display"), 3, 12)
+
+
 def groups(m):
     return m.nested(PLAIN, 5, 0, 2, 5)
 
@@ -508,7 +532,7 @@ def native(m):
 
 
 # A class of copybooks, how it is made, and its share. Those of AGREEING meet no departure.
-AGREEING = {"usages": (usages, 3), "signs": (signs, 2), "edited": (edited, 3), "groups": (groups, 2), "tables": (tables, 3), "redefines": (redefines, 3),
+AGREEING = {"usages": (usages, 3), "signs": (signs, 2), "edited": (edited, 3), "scaled": (scaled, 3), "groups": (groups, 2), "tables": (tables, 3), "redefines": (redefines, 3),
             "conditions": (conditions, 1), "literals": (literals, 2), "cards": (cards, 3), "sync": (sync, 3), "sync-aligned": (sync_aligned, 2), "mixed": (mixed, 3), "single": (None, 1)}
 DEPARTURES = {"depending": (depending, 2), "comp-5": (native, 1), "sync-in-groups": (sync_groups, 2), "sync-in-tables": (sync_tables, 2)}
 
@@ -522,6 +546,9 @@ def number_levels(rng, items, level):
             number_levels(rng, item.children, min(level + rng.choice((1, 2, 5)), 48) if level < 48 else 49)
 
 
+MOST_STATEMENTS = 800                               # more are 14
+
+
 def make(number, family, seed):
     rng = random.Random(f"{seed} {number} {family}")
     m = Maker(rng, number)
@@ -531,6 +558,8 @@ def make(number, family, seed):
         return Copybook(number, family, [item], True, rng.getrandbits(32))
     maker = (AGREEING | DEPARTURES)[family][0]
     items = maker(m)
+    while sum(1 for _ in walk(items)) >= MOST_STATEMENTS:     # the root is one more
+        items = maker(m)
     if family in DEPARTURES:                        # where a difference is to be explained, each item's width must show
         for item, _ in walk(items):
             if item.name == "FILLER":

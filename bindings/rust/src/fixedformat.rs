@@ -203,13 +203,14 @@ fn elementary(kind: crate::FieldKind, width: usize) -> FieldKind {
     }
 }
 
-/// The mask of an edited picture of that width. The width is the mask's length, so a picture without repeat counts that
-/// is as long has no symbol that takes no place, and is its own mask: asking for it would take longer than the rest.
+/// The mask of an edited picture of that width: as the original's it has no P, so that the width is its length. A
+/// picture without repeat counts that is as long has no symbol that takes no place, and is its own mask: asking for it
+/// would take longer than the rest.
 fn mask(picture: &str, width: usize) -> String {
     if picture.len() == width && !picture.contains('(') {
         return picture.to_ascii_uppercase();
     }
-    crate::mask(picture.as_bytes(), Usage::Display).expect("the picture of an edited item")
+    crate::mask(picture.as_bytes(), Usage::Display).expect("the picture of an edited item").replace('P', "")
 }
 
 // ---------------------------------------------------------------- errors

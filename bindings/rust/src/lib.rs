@@ -124,7 +124,8 @@ pub fn picture(picture: &[u8], usage: Usage, sign: Option<SignKind>) -> Result<P
     calls::picture(picture, usage, sign)
 }
 
-/// The upper-case mask of a picture that is edited under the usage; no bytes for any other. Refusals: 1, 2, 22 to 27.
+/// The upper-case mask of a picture that is edited under the usage; no bytes for any other. It keeps P, which holds no
+/// byte of the item: without P it is as long as the item is wide. Refusals: 1, 2, 22 to 27.
 pub fn mask(picture: &[u8], usage: Usage) -> Result<String, Refusal> {
     lent::mask(picture, usage, &mut [0; LONGEST_MASK]).map(str::to_owned)
 }

@@ -36,6 +36,30 @@ fn pictures() {
     assert_eq!(ask(" $$$9 ", Display, None), Picture { kind: edited, width: 4 });
 }
 
+/// P holds no byte: precision and scale count it, widths do not, and the mask keeps it.
+#[test]
+fn scaling_positions() {
+    let width = |text: &'static str, usage, sign| picture(text.as_bytes(), usage, sign).unwrap().width;
+    for (text, display, separate, comp3, comp) in [
+        ("99P", 2, 2, 2, 2),
+        ("P(3)9", 1, 1, 1, 2),
+        ("VP9", 1, 1, 1, 2),
+        ("S9P(4)", 1, 2, 1, 2),
+        ("P", 0, 0, 1, 2),
+        ("9(4)P", 4, 4, 3, 2),
+        ("9(9)P", 9, 9, 5, 4),
+    ] {
+        assert_eq!(width(text, Usage::Display, None), display, "{text}");
+        assert_eq!(width(text, Usage::Display, Some(SignKind::TrailingSeparate)), separate, "{text}");
+        assert_eq!(width(text, Usage::Comp3, None), comp3, "{text}");
+        assert_eq!(width(text, Usage::Comp, None), comp, "{text}");
+    }
+    let edited = FieldKind::Edited { precision: 5, scale: 3, signed: false, picture: "zp(2)9.9" };
+    assert_eq!(picture(b"zp(2)9.9", Usage::Display, None).unwrap(), Picture { kind: edited, width: 4 });
+    assert_eq!(mask(b"zp(2)9.9", Usage::Display).unwrap(), "ZPP9.9");
+    assert_eq!(mask(b"ZZ9P", Usage::Display).unwrap(), "ZZ9P");
+}
+
 /// The refusals of a picture, which has no place in a copybook.
 #[test]
 fn pictures_refused() {

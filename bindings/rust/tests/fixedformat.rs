@@ -55,6 +55,9 @@ fn pictures() {
     assert_eq!(book::parse_pic("S9(4)", Usage::Display, Some(SignKind::TrailingSeparate)), Ok((int, 5)));
     let edited = FieldKind::Edited { precision: 4, scale: 0, signed: true, mask: "ZZZ9CR".into() };
     assert_eq!(book::parse_pic(" z(3)9cr ", Usage::Display, None), Ok((edited, 6)));
+    // a mask is as long as its item is wide, so it has no P
+    let edited = FieldKind::Edited { precision: 4, scale: 1, signed: false, mask: "ZZ9".into() };
+    assert_eq!(book::parse_pic("ZZ9P", Usage::Display, None), Ok((edited, 3)));
 }
 
 /// What the original says comes first; then the refusal, with its place and the item.

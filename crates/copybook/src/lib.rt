@@ -271,7 +271,7 @@ pub fn byte_owner_cards(cards: &[u8], position: usize, work: &mut [u32]) -> Owne
 // Kind, its details and width of one picture with a usage and a sign. Refusals, in this order: 1 over 65,535 bytes; 2 a byte over 127, at the first
 // one; then symbol by symbol 22 no `)`, 23 no repeat count, 24 over 65,535 symbols; then 25 no symbol, 26 text mixed with a digit or editing, 27 over
 // 255 digits or an edited DISPLAY mask over 255; at 0 except 2.
-// The contract rules out a program that counts `$$$9` as four digits, and one that answers `S9(4)` SIGN TRAILING SEPARATE with width 4.
+// The contract rules out a program that counts `$$$9` as four digits, and one that gives a P a byte under some usage.
 pub fn parse_pic(pic: &[u8], usage: Usage, sign: SignClause) -> PicAnswer
     ensures { λ r. ⌜ pictureOf r ≡ pictureAnswer usage sign (now (pic .entry)) ⌝ }
 {
@@ -288,7 +288,7 @@ pub fn parse_pic(pic: &[u8], usage: Usage, sign: SignClause) -> PicAnswer
 // Writes the mask of a picture that is edited under the usage, and answers its length; 0 of any other picture. Refusals: those of `parse_pic`, in its
 // order; then 31, with the length of the mask, if it is longer than the output. A refusal changes no byte of the output, and bytes past the mask keep
 // their values.
-// The contract rules out a program that writes before it knows that the mask has room, and one that writes S, V or P.
+// The contract rules out a program that writes before it knows that the mask has room, and one that writes S or V, or leaves P out.
 pub fn mask(pic: &[u8], usage: Usage, out: &mut [u8]) -> Writing
     ensures { λ r. ⌜ left (writingOf r) (now (out .exit)) [] ≡ maskCall usage (now (pic .entry)) (now (out .entry)) ⌝ }
 {

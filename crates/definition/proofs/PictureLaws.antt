@@ -1,22 +1,22 @@
--- Laws of the picture's symbols: tallies, the point and the mask of two lists and of a run, each once over the set, the byte and the count;
+-- Laws of the picture's symbols: tallies, the point and a list without some symbols, of two lists and of a run, each once over the set, the byte and the count;
 -- and of its repeats: the first `)`, the trimmed ends, one more symbol of the expansion.
 -- Assumes nothing.
 use Prim.Native.Nat.{ℕ, zero, suc, _+_, _-_, _≤_, _<_}
 use Prim.Native.String.{String}
 use mathlib.Core.Path.{_≡_, refl, sym, ap, _∙_}
-use mathlib.Core.Bool.{Bool, true, false}
+use mathlib.Core.Bool.{Bool, true, false, _||_}
 use mathlib.Core.List.{List, [], _∷_, _++_, reverse, append-assoc, append-nil, reverse-append, reverse-reverse}
 use mathlib.Core.Option.{Option, none, some}
 use native.Mathlib.Numerals.{add-one}
 use native.Mathlib.Omega.{arith}
-use lib.Dec.{ltb}
+use lib.Dec.{eqb, ltb}
 use lib.ListN.{length, getD, take, drop, replicate, length-drop, drop-of-length-le}
 use lib.Seq.{take-all, take-suc, drop-drop}
-use borrow.Author.Tests.{eq-eqb, ne-eqb, lt-ltb, le-ltb}
+use borrow.Author.Tests.{eq-eqb, ne-eqb, eqb-true, lt-ltb, le-ltb}
 use Rattle.definition.specs.declared.Refusal.{Refusal}
 use Rattle.definition.specs.Limits.{mostSymbols}
 use Rattle.definition.specs.Basic.{if_then_else_, among, white, upper, count, Answer, refuse, give, _>>=_, refused, orRefuse}
-use Rattle.definition.specs.Picture.{trimStart, trim, inFront, beforeClose, repeat, expand, tally, beforePoint, afterPoint, mask}
+use Rattle.definition.specs.Picture.{trimStart, trim, inFront, beforeClose, repeat, expand, tally, beforePoint, afterPoint, without, mask}
 use Rattle.definition.proofs.Lists.{drop-next, take-next}
 
 -- ---------------------------------------------------------------- tallies
@@ -124,47 +124,73 @@ tally-sides s (b ∷ l) h = go (among "V." b) refl (tally-sides s l h)
     go true e q = rw (h b e, tally) (omega arith)
     go false e q = tally-more s b l (beforePoint l) (tally s (afterPoint l)) q
 
--- ---------------------------------------------------------------- the mask
+-- ---------------------------------------------------------------- without some symbols
 
 -- of two lists, one after the other
-pub mask-append : (l m : List ℕ) → mask (l ++ m) ≡ mask l ++ mask m
-unfolding mask
-mask-append [] m = refl
-mask-append (b ∷ l) m = go (among "SVP" b) (mask-append l m)
+pub without-append : (s : String) (l m : List ℕ) → without s (l ++ m) ≡ without s l ++ without s m
+unfolding without
+without-append s [] m = refl
+without-append s (b ∷ l) m = go (among s b) (without-append s l m)
   where
-    go : (t : Bool) → mask (l ++ m) ≡ mask l ++ mask m → (if t then mask (l ++ m) else b ∷ mask (l ++ m)) ≡ (if t then mask l else b ∷ mask l) ++ mask m
+    go :
+        (t : Bool) →
+        without s (l ++ m) ≡ without s l ++ without s m →
+        (if t then without s (l ++ m) else b ∷ without s (l ++ m)) ≡ (if t then without s l else b ∷ without s l) ++ without s m
     go true e = e
     go false e = ap (λ (r : List ℕ). b ∷ r) e
 
 -- of a run: all of it, or nothing
-pub mask-run : (b n : ℕ) → mask (replicate n b) ≡ (if among "SVP" b then [] else replicate n b)
-unfolding mask
-mask-run b zero = go (among "SVP" b)
+pub without-run : (s : String) (b n : ℕ) → without s (replicate n b) ≡ (if among s b then [] else replicate n b)
+unfolding without
+without-run s b zero = go (among s b)
   where
     go : (t : Bool) → _≡_ {A = List ℕ} [] (if t then [] else [])
     go true = refl
     go false = refl
-mask-run b (suc n) = go (among "SVP" b) (mask-run b n)
+without-run s b (suc n) = go (among s b) (without-run s b n)
   where
     go :
         (t : Bool) →
-        mask (replicate n b) ≡ (if t then [] else replicate n b) →
-        (if t then mask (replicate n b) else b ∷ mask (replicate n b)) ≡ (if t then [] else b ∷ replicate n b)
+        without s (replicate n b) ≡ (if t then [] else replicate n b) →
+        (if t then without s (replicate n b) else b ∷ without s (replicate n b)) ≡ (if t then [] else b ∷ replicate n b)
     go true e = e
     go false e = ap (λ (r : List ℕ). b ∷ r) e
 
--- the mask has every symbol but S V P
-pub mask-length : (l : List ℕ) → length l ≡ length (mask l) + tally "SVP" l
-unfolding mask tally
-mask-length [] = refl
-mask-length (b ∷ l) = go (among "SVP" b) (mask-length l)
+-- what is left out is counted
+pub without-length : (s : String) (l : List ℕ) → length l ≡ length (without s l) + tally s l
+unfolding without tally
+without-length s [] = refl
+without-length s (b ∷ l) = go (among s b) (without-length s l)
   where
     go :
         (t : Bool) →
-        length l ≡ length (mask l) + tally "SVP" l →
-        suc (length l) ≡ length (if t then mask l else b ∷ mask l) + (if t then suc (tally "SVP" l) else tally "SVP" l)
+        length l ≡ length (without s l) + tally s l →
+        suc (length l) ≡ length (if t then without s l else b ∷ without s l) + (if t then suc (tally s l) else tally s l)
     go true e = omega arith
     go false e = omega arith
+
+-- the tally of other symbols stays
+tally-without : (s t : String) (l : List ℕ) → ((b : ℕ) → among t b ≡ true → among s b ≡ false) → tally s (without t l) ≡ tally s l
+unfolding without tally
+tally-without s t [] h = refl
+tally-without s t (b ∷ l) h = go (among t b) refl (tally-without s t l h)
+  where
+    go : (y : Bool) → among t b ≡ y → tally s (without t l) ≡ tally s l → tally s (if y then without t l else b ∷ without t l) ≡ tally s (b ∷ l)
+    go true e q = rw (h b e, tally) q
+    go false e q = tally-more s b (without t l) l 0 (q ∙ omega arith) ∙ omega arith
+
+-- P is in the mask
+no-scale : (b : ℕ) → among "SV" b ≡ true → among "P" b ≡ false
+no-scale b h = go (eqb b 83) (eqb b 86) refl refl h
+  where
+    go : (x y : Bool) → eqb b 83 ≡ x → eqb b 86 ≡ y → (x || (y || false)) ≡ true → among "P" b ≡ false
+    go true y ex ey h = rw (eqb-true b 83 ex)
+    go false true ex ey h = rw (eqb-true b 86 ey)
+    go false false ex ey h = absurd (let z : _≡_ {A = ℕ} 0 1 = cc in omega arith)
+
+-- and makes it longer than the item is wide
+pub mask-width : (l : List ℕ) → length (mask l) ≡ length (without "P" (mask l)) + tally "P" l
+mask-width l = without-length "P" (mask l) ∙ ap (λ (n : ℕ). length (without "P" (mask l)) + n) (tally-without "P" "SV" l no-scale)
 
 -- ---------------------------------------------------------------- repeats
 

@@ -7,13 +7,14 @@ use mathlib.Core.List.{List}
 use native.Mathlib.Omega.{arith}
 use lib.Dec.{eqb, leb}
 use Rattle.definition.specs.declared.Usage.{Usage}
+use Rattle.definition.specs.declared.SignKind.{SignKind}
 use Rattle.definition.specs.declared.SignClause.{SignClause}
 use Rattle.definition.specs.declared.FieldKind.{FieldKind}
 use Rattle.definition.specs.declared.Pictured.{Pictured}
 use Rattle.definition.specs.declared.Statement.{Statement}
 use Rattle.definition.specs.Basic.{if_then_else_, part, Answer, refuse, give, _>>=_}
 use Rattle.definition.specs.Statement.{usageOf, signOf}
-use Rattle.definition.specs.Picture.{isBinary, resolveSign, isEmbedded, isText, isMasked, allDigits, fraction, isSigned, numeric, kinded, symbols, picture}
+use Rattle.definition.specs.Picture.{pictured, isBinary, resolveSign, isEmbedded, isText, isMasked, allDigits, storedDigits, fraction, isSigned, storageWidth, numeric, kinded, symbols, picture}
 use Rattle.definition.specs.Owner.{orNone, storage}
 
 -- if it is binary, it has a width
@@ -32,11 +33,10 @@ comp-width true b = omega arith
 comp-width false true = omega arith
 comp-width false false = omega arith
 
-numeric-sized : (u : Usage) (digits scale : ℕ) (signed : Bool) (c : SignClause) → Sized (numeric u digits scale signed c)
-numeric-sized Usage.Comp digits scale signed c e = comp-width (leb digits 4) (leb digits 9)
-numeric-sized Usage.Comp3 digits scale signed c e = never e
-numeric-sized Usage.Display digits scale signed c e =
-    let sign = resolveSign signed c in
+numeric-sized : (u : Usage) (sign : SignKind) (precision scale digits : ℕ) (signed : Bool) → Sized (pictured (numeric u precision scale signed sign) (storageWidth u sign digits))
+numeric-sized Usage.Comp sign precision scale digits signed e = comp-width (leb digits 4) (leb digits 9)
+numeric-sized Usage.Comp3 sign precision scale digits signed e = never e
+numeric-sized Usage.Display sign precision scale digits signed e =
     never (sym (not-binary (eqb scale 0 && not (signed && isEmbedded sign)) _ _ refl refl) ∙ e)
   where
     not-binary : (b : Bool) (k l : FieldKind) → isBinary k ≡ false → isBinary l ≡ false → isBinary (if b then k else l) ≡ false
@@ -46,7 +46,8 @@ numeric-sized Usage.Display digits scale signed c e =
 kinded-sized : (u : Usage) (c : SignClause) (l : List ℕ) → Sized (kinded u c l)
 unfolding kinded
 kinded-sized u c l =
-    if-sized (isText l) _ _ never (if-sized (isMasked u l) _ _ never (numeric-sized u (allDigits l) (fraction l) (isSigned l) c))
+    if-sized (isText l) _ _ never
+    (if-sized (isMasked u l) _ _ never (numeric-sized u (resolveSign (isSigned l) c) (allDigits l) (fraction l) (storedDigits l) (isSigned l)))
 
 answer-sized : (u : Usage) (c : SignClause) (a : Answer (List ℕ)) → Sized (orNone (a >>= λ l. give (kinded u c l)))
 unfolding _>>=_

@@ -26,7 +26,7 @@ use Rattle.definition.specs.Fold.{Entries, end, entry}
 use Rattle.definition.specs.Record.{recordLength, variable}
 use Rattle.definition.specs.Listing.{flag, spanBytes, kindByte, details, members#}
 use Rattle.definition.specs.Cards.{Form, freeText, cardText}
-use Rattle.definition.specs.Calls.{entries, layoutListing, layoutDetails, pictureAnswer, byteOwner}
+use Rattle.definition.specs.Calls.{entries, layoutListing, layoutDetails, pictureAnswer, pictureMask, byteOwner}
 use Rattle.definition.specs.Calls.{indicatorCheck, called}
 use Rattle.definition.specs.Computing.{computing}
 
@@ -65,6 +65,26 @@ ownerShown (Owner.Piece k first place) = 1 ∷ k ∷ first ∷ place ∷ []
 ownerShown (Owner.Slack k) = 2 ∷ k ∷ []
 ownerShown Owner.Unowned = 0 ∷ []
 
+-- no sign, and each of the four
+abbrev pub everySign : List SignClause
+everySign =
+    SignClause.Absent
+    ∷ SignClause.Given SignKind.Unsigned
+    ∷ SignClause.Given SignKind.Embedded
+    ∷ SignClause.Given SignKind.LeadingSeparate
+    ∷ SignClause.Given SignKind.TrailingSeparate
+    ∷ []
+
+-- the width in a picture answer, or none
+abbrev pub widthIn : Answer Pictured → List ℕ
+widthIn (refuse r) = []
+widthIn (give p) = p .width ∷ []
+
+-- the widths of a picture: under DISPLAY with each of these signs, under COMP-3, under COMP
+abbrev pub widthsOf : List ℕ → List SignClause → List ℕ
+widthsOf bs [] = widthIn (pictureAnswer Usage.Comp3 SignClause.Absent bs) ++ widthIn (pictureAnswer Usage.Comp SignClause.Absent bs)
+widthsOf bs (c ∷ cs) = widthIn (pictureAnswer Usage.Display c bs) ++ widthsOf bs cs
+
 -- the answer is such a value, or that refusal: number, position and needed length
 abbrev pub gives : {A : Type 0} → (A → Bool) → Answer A → Bool
 gives f (refuse r) = false
@@ -91,6 +111,10 @@ pub data Catch : Type 0 where
   noDetails : String → ℕ → ℕ → Catch
   -- a picture with a usage and a sign, its width, and what it holds
   pictured : String → Usage → SignClause → ℕ → FieldKind → Catch
+  -- a picture, and its widths: under DISPLAY with no sign and with each of the four, under COMP-3, under COMP
+  widths : String → List ℕ → Catch
+  -- a picture under DISPLAY, and its mask
+  masked : String → String → Catch
   -- a copybook, a position, and the byte's owner
   owned : String → ℕ → Owner → Catch
   -- a copybook, a position, and the number of the refusal
@@ -131,6 +155,8 @@ rightIn form (noDetails text room needed) =
     refuses 31 0 needed (asked form (λ t. layoutDetails t 16384 room) (bytes text))
 rightIn form (pictured text u s width kind) =
     gives (λ p. same (column 0 (p .width) (p .kind)) (column 0 width kind)) (pictureAnswer u s (bytes text))
+rightIn form (widths text ws) = same (widthsOf (bytes text) everySign) ws
+rightIn form (masked text m) = gives (same (bytes m)) (pictureMask Usage.Display (bytes text) (length (bytes m)))
 rightIn form (owned text p o) =
     gives (λ a. same (ownerShown a) (ownerShown o)) (asked form (λ t. byteOwner t 16384 p) (bytes text))
 rightIn form (notOwned text p n) = refuses n 0 0 (asked form (λ t. byteOwner t 16384 p) (bytes text))
@@ -210,6 +236,33 @@ table =
     ∷ pictured "9(4)" Usage.Display (SignClause.Given SignKind.LeadingSeparate) 4 (Int false SignKind.Unsigned)
     ∷ accepted "05 A PIC S9(4) SIGN TRAILING SEPARATE." 5 false (column 0 5 (Int true SignKind.TrailingSeparate) ∷ [])
     ∷ accepted "05 A PIC 9(4) SIGN LEADING SEPARATE." 4 false (column 0 4 (Int false SignKind.Unsigned) ∷ [])
+    -- P holds no byte of a number; precision and scale count it
+    ∷ widths "99P" (2 ∷ 2 ∷ 2 ∷ 2 ∷ 2 ∷ 2 ∷ 2 ∷ [])
+    ∷ widths "P(3)9" (1 ∷ 1 ∷ 1 ∷ 1 ∷ 1 ∷ 1 ∷ 2 ∷ [])
+    ∷ widths "VP9" (1 ∷ 1 ∷ 1 ∷ 1 ∷ 1 ∷ 1 ∷ 2 ∷ [])
+    ∷ widths "S9P(4)" (1 ∷ 1 ∷ 1 ∷ 2 ∷ 2 ∷ 1 ∷ 2 ∷ [])
+    ∷ widths "P" (0 ∷ 0 ∷ 0 ∷ 0 ∷ 0 ∷ 1 ∷ 2 ∷ [])
+    ∷ widths "9(4)P" (4 ∷ 4 ∷ 4 ∷ 4 ∷ 4 ∷ 3 ∷ 2 ∷ [])
+    ∷ widths "9(5)P" (5 ∷ 5 ∷ 5 ∷ 5 ∷ 5 ∷ 3 ∷ 4 ∷ [])
+    ∷ widths "9(9)P" (9 ∷ 9 ∷ 9 ∷ 9 ∷ 9 ∷ 5 ∷ 4 ∷ [])
+    ∷ widths "9(10)P" (10 ∷ 10 ∷ 10 ∷ 10 ∷ 10 ∷ 6 ∷ 8 ∷ [])
+    ∷ pictured "99P" Usage.Display SignClause.Absent 2 (Decimal 3 1 NumRepr.Display SignKind.Unsigned)
+    ∷ pictured "P(3)9" Usage.Display SignClause.Absent 1 (Decimal 4 3 NumRepr.Display SignKind.Unsigned)
+    ∷ pictured "VP9" Usage.Comp3 SignClause.Absent 1 (Decimal 2 2 NumRepr.Comp3 SignKind.Embedded)
+    ∷ pictured "S9P(4)" Usage.Display SignClause.Absent 1 (Decimal 5 4 NumRepr.Zoned SignKind.Embedded)
+    ∷ pictured "S9P(4)" Usage.Display (SignClause.Given SignKind.LeadingSeparate) 2 (Decimal 5 4 NumRepr.Display SignKind.LeadingSeparate)
+    ∷ pictured "P" Usage.Display SignClause.Absent 0 (Decimal 1 1 NumRepr.Display SignKind.Unsigned)
+    -- nor of an edited item, whose mask keeps it
+    ∷ pictured "ZZ9P" Usage.Display SignClause.Absent 3 (Edited 4 1 false)
+    ∷ masked "ZZ9P" "ZZ9P"
+    ∷ pictured "zp(2)9.9" Usage.Display SignClause.Absent 4 (Edited 5 3 false)
+    ∷ masked "zp(2)9.9" "ZPP9.9"
+    ∷ masked "SVZ" "Z"
+    -- the digits and the mask of 27 count it
+    ∷ accepted "05 A PIC 9(254)P." 254 false (column 0 254 (Decimal 255 1 NumRepr.Display SignKind.Unsigned) ∷ [])
+    ∷ turnedDown "05 A PIC 9(254)PP." 27 0
+    ∷ accepted "05 A PIC B(253)9P." 254 false (column 0 254 (Edited 2 1 false) ∷ [])
+    ∷ turnedDown "05 A PIC B(254)9P." 27 0
     -- SEPARATE counts after VALUE, which ends the reading of the other clauses
     ∷ accepted "05 A PIC S9(4) SIGN TRAILING VALUE 5 SEPARATE COMP." 5 false (column 0 5 (Int true SignKind.TrailingSeparate) ∷ [])
     -- PIC is the name; levels

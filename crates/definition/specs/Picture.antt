@@ -2,7 +2,8 @@
 -- Symbols are repeated by `(n)`, then judged one by one: X A text; 9 Z * digit; P fraction digit; V and `.` start the fraction; S sign;
 -- `, / B 0 $ + - CR DB` editing, as Z, * and `.` are too; `+ - CR DB` also mean signed, as S does.
 -- Refusals 22 to 27 carry the position that the caller names.
--- Departures from COBOL: symbols may stand in any order and number; P takes storage.
+-- P holds no byte: the storage width counts digits without it, the edited width the mask without it (A.3).
+-- Departures from COBOL: symbols may stand in any order and number; P is a fraction digit wherever it stands.
 -- Assumes nothing.
 use Prim.Native.Nat.{ℕ, zero, suc, _+_, _-_, _/_, max}
 use Prim.Native.String.{String}
@@ -97,8 +98,13 @@ whole l = tally "9Z*" (beforePoint l) + (tally "$" l - 1) + (tally "+" l - 1) + 
 abbrev pub fraction : List ℕ → ℕ
 fraction l = tally "9Z*" (afterPoint l) + tally "P" l
 
+-- precision counts all of them, P included
 abbrev pub allDigits : List ℕ → ℕ
 allDigits l = whole l + fraction l
+
+-- digits without P
+abbrev pub storedDigits : List ℕ → ℕ
+storedDigits l = whole l + tally "9Z*" (afterPoint l)
 
 abbrev pub isText : List ℕ → Bool
 isText l = ltb 0 (tally "XA" l)
@@ -109,10 +115,14 @@ isSigned l = ltb 0 (tally "S+-CD" l)
 abbrev pub isEdited : List ℕ → Bool
 isEdited l = ltb 0 (tally "Z*.,/B0$+-CD" l)
 
--- the mask: the symbols that take a byte of an edited field
-unfoldable pub mask : List ℕ → List ℕ
-mask [] = []
-mask (b ∷ bs) = if among "SVP" b then mask bs else b ∷ mask bs
+-- the bytes that are none of the text's
+unfoldable pub without : String → List ℕ → List ℕ
+without s [] = []
+without s (b ∷ bs) = if among s b then without s bs else b ∷ without s bs
+
+-- the mask: the symbols without S and V; it keeps P
+abbrev pub mask : List ℕ → List ℕ
+mask l = without "SV" l
 
 -- ---------------------------------------------------------------- kind and width
 
@@ -159,19 +169,23 @@ compWidth digits = if leb digits 4 then 2 else if leb digits 9 then 4 else 8
 abbrev pub byteWidth : ℕ → ℕ
 byteWidth digits = digits / 2 + 1
 
--- a number in DISPLAY: whole and with no overpunched sign it is an int, else a decimal
-abbrev pub display : ℕ → ℕ → Bool → SignKind → Pictured
-display digits scale signed sign =
-    let zoned = signed && isEmbedded sign in
-    pictured
-    (if eqb scale 0 && not zoned then FieldKind.Int signed sign
-    else FieldKind.Decimal digits scale (if zoned then NumRepr.Zoned else NumRepr.Display) sign)
-    (digits + signBytes sign)
+-- storage width of a number, by its digits without P: in DISPLAY these digits, plus 1 for a separate sign
+abbrev pub storageWidth : Usage → SignKind → ℕ → ℕ
+storageWidth Usage.Display sign digits = digits + signBytes sign
+storageWidth Usage.Comp3 sign digits = byteWidth digits
+storageWidth Usage.Comp sign digits = compWidth digits
 
-abbrev pub numeric : Usage → ℕ → ℕ → Bool → SignClause → Pictured
-numeric Usage.Display digits scale signed clause = display digits scale signed (resolveSign signed clause)
-numeric Usage.Comp3 digits scale signed clause = pictured (FieldKind.Decimal digits scale NumRepr.Comp3 SignKind.Embedded) (byteWidth digits)
-numeric Usage.Comp digits scale signed clause = pictured (FieldKind.Binary signed) (compWidth digits)
+-- a number in DISPLAY: whole and with no overpunched sign it is an int, else a decimal
+abbrev pub display : ℕ → ℕ → Bool → SignKind → FieldKind
+display precision scale signed sign =
+    let zoned = signed && isEmbedded sign in
+    if eqb scale 0 && not zoned then FieldKind.Int signed sign
+    else FieldKind.Decimal precision scale (if zoned then NumRepr.Zoned else NumRepr.Display) sign
+
+abbrev pub numeric : Usage → ℕ → ℕ → Bool → SignKind → FieldKind
+numeric Usage.Display precision scale signed sign = display precision scale signed sign
+numeric Usage.Comp3 precision scale signed sign = FieldKind.Decimal precision scale NumRepr.Comp3 SignKind.Embedded
+numeric Usage.Comp precision scale signed sign = FieldKind.Binary signed
 
 -- editing is for DISPLAY alone
 abbrev pub isMasked : Usage → List ℕ → Bool
@@ -179,10 +193,11 @@ isMasked usage l = isEdited l && isDisplay usage
 
 -- kind and width of legal symbols; edited precision is at least 1
 unfoldable pub kinded : Usage → SignClause → List ℕ → Pictured
-kinded usage sign l =
+kinded usage clause l =
+    let sign = resolveSign (isSigned l) clause in
     if isText l then pictured FieldKind.Text (tally "XA" l)
-    else if isMasked usage l then pictured (FieldKind.Edited (max 1 (allDigits l)) (fraction l) (isSigned l)) (length (mask l))
-    else numeric usage (allDigits l) (fraction l) (isSigned l) sign
+    else if isMasked usage l then pictured (FieldKind.Edited (max 1 (allDigits l)) (fraction l) (isSigned l)) (length (without "P" (mask l)))
+    else pictured (numeric usage (allDigits l) (fraction l) (isSigned l) sign) (storageWidth usage sign (storedDigits l))
 
 -- 26: text with a digit or editing
 abbrev pub mixed : List ℕ → Bool

@@ -18,10 +18,10 @@ use Rattle.definition.specs.declared.Statement.{Statement}
 use Rattle.definition.specs.Limits.{mostBytes}
 use Rattle.definition.specs.Basic.{if_then_else_, upper, give, _>>=_}
 use Rattle.definition.specs.Tree.{Forest, leaf, item}
-use Rattle.definition.specs.Picture.{expand, allDigits, fraction, isText, isMasked, mask, isEmbedded, resolveSign, signBytes, display, numeric, kinded, tooLong, symbols, picture}
+use Rattle.definition.specs.Picture.{expand, allDigits, storedDigits, fraction, isText, isMasked, mask, pictured, isEmbedded, signBytes, storageWidth, display, numeric, kinded, tooLong, symbols, picture}
 use Rattle.definition.specs.Layout.{content}
 use Rattle.definition.proofs.Answers.{through, given-same, not-refused, or-false}
-use Rattle.definition.proofs.PictureLaws.{tally-le, mask-length}
+use Rattle.definition.proofs.PictureLaws.{tally-le, without-length, mask-width}
 use Rattle.kinds.specs.Kinds.{Bytes}
 
 -- ---------------------------------------------------------------- symbols
@@ -67,18 +67,15 @@ eight true b = omega arith
 eight false true = omega arith
 eight false false = omega arith
 
-module _ (digits scale : ℕ) (h : digits ≤ 255) (l : scale ≤ digits) (signed : Bool) where
-  display-bounded : (g : SignKind) → Bounded (display digits scale signed g)
-  display-bounded g =
-      record {
-        width = omega (arith, one-byte g);
-        bytes = bytes-test (eqb scale 0 && not (signed && isEmbedded g)) (FieldKind.Int signed g) (FieldKind.Decimal digits scale (if signed && isEmbedded g then NumRepr.Zoned else NumRepr.Display) g) tt (omega arith, omega arith);
-      }
+module _ (precision scale digits : ℕ) (h : precision ≤ 255) (l : scale ≤ precision) (d : digits ≤ precision) (signed : Bool) (g : SignKind) where
+  display-bytes : Bytes (display precision scale signed g)
+  display-bytes =
+      bytes-test (eqb scale 0 && not (signed && isEmbedded g)) (FieldKind.Int signed g) (FieldKind.Decimal precision scale (if signed && isEmbedded g then NumRepr.Zoned else NumRepr.Display) g) tt (omega arith, omega arith)
 
-  numeric-bounded : (u : Usage) (g : SignClause) → Bounded (numeric u digits scale signed g)
-  numeric-bounded Usage.Display g = display-bounded (resolveSign signed g)
-  numeric-bounded Usage.Comp3 g = record { width = omega arith; bytes = (omega arith, omega arith) }
-  numeric-bounded Usage.Comp g = record { width = omega (arith, eight (leb digits 4) (leb digits 9)); bytes = tt }
+  numeric-bounded : (u : Usage) → Bounded (pictured (numeric u precision scale signed g) (storageWidth u g digits))
+  numeric-bounded Usage.Display = record { width = omega (arith, one-byte g); bytes = display-bytes }
+  numeric-bounded Usage.Comp3 = record { width = omega arith; bytes = (omega arith, omega arith) }
+  numeric-bounded Usage.Comp = record { width = omega (arith, eight (leb digits 4) (leb digits 9)); bytes = tt }
 
 module _ (u : Usage) (g : SignClause) (l : List ℕ) (h : length l ≤ mostBytes) (n : tooLong u l ≡ false) where
   short : isText l ≡ false → allDigits l ≤ 255
@@ -94,8 +91,8 @@ module _ (u : Usage) (g : SignClause) (l : List ℕ) (h : length l ≤ mostBytes
       (λ e.
       let d = short e in
       by-test (isMasked u l) _ _
-      (λ m. record { width = omega (arith, mask-length l); bytes = (omega arith, omega arith) })
-      (λ m. numeric-bounded (allDigits l) (fraction l) d (omega arith) _ u g))
+      (λ m. record { width = omega (arith, without-length "SV" l, mask-width l); bytes = (omega arith, omega arith) })
+      (λ m. numeric-bounded (allDigits l) (fraction l) (storedDigits l) d (omega arith) (omega arith) _ _ u))
 
 -- ---------------------------------------------------------------- an item
 

@@ -10,11 +10,11 @@ use lib.Seq.{sets}
 use Rattle.definition.specs.Basic.{Answer, refuse, give, _>>=_}
 use Rattle.definition.specs.Picture.{mask}
 use Rattle.definition.proofs.Lists.{sets-append}
-use Rattle.definition.proofs.PictureLaws.{onto, mask-append}
+use Rattle.definition.proofs.PictureLaws.{onto, without-append}
 use Rattle.mask.specs.Masks.{MaskRoom, put}
 
 mask-sum : (p l : List ℕ) → length (mask (p ++ l)) ≡ length (mask p) + length (mask l)
-mask-sum p l = ap length (mask-append p l) ∙ length-append (mask p) (mask l)
+mask-sum p l = ap length (without-append "SV" p l) ∙ length-append (mask p) (mask l)
 
 module _ (k : ℕ) (p : List ℕ) where
   pub room-run : (x : Answer (List ℕ)) {room : ℕ} → MaskRoom k (onto p x) room → k + length (mask p) ≤ room
@@ -30,4 +30,4 @@ module _ (k : ℕ) (p : List ℕ) where
   pub put-run : (x : Answer (List ℕ)) (out : List ℕ) → put k (onto p x) out ≡ put (k + length (mask p)) x (sets out k (mask p))
   unfolding _>>=_
   put-run (refuse r) out = refl
-  put-run (give l) out = ap (sets out k) (mask-append p l) ∙ sets-append (mask p) (mask l) out k
+  put-run (give l) out = ap (sets out k) (without-append "SV" p l) ∙ sets-append (mask p) (mask l) out k

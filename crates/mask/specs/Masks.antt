@@ -13,7 +13,7 @@ use Rattle.definition.specs.Calls.{After, fitting}
 
 -- the symbol takes no byte of a mask
 abbrev pub hidden : ℕ → Bool
-hidden b = among "SVP" b
+hidden b = among "SV" b
 
 -- there are symbols, and their mask has room from k on
 abbrev pub MaskRoom : ℕ → Answer (List ℕ) → ℕ → Type 0

@@ -13,12 +13,13 @@ use definition::Writing;
 use picture::Shaped;
 use symbols::Repeat;
 
-// Whether a symbol takes no byte of a mask.
+// Whether a symbol takes no byte of a mask. P takes one, though it holds no byte of the item.
 fn is_hidden(b: u8) -> bool
     ensures { λ r. ⌜ r ≡ hidden b ⌝ }
 {
     match b {
-        b'P' | b'S' | b'V' => true,
+        b'P' => false,
+        b'S' | b'V' => true,
         _ => false,
     }
 }
@@ -78,17 +79,17 @@ pub fn mask_of(pic: &[u8], usage: Usage, out: &mut [u8]) -> Writing
     match picture::read_shape(pic, 0, usage) {
         Shaped::Shape(s) => {
             if picture::is_masked(s, usage) {
-                let width = s.width;
-                if out.len() < width {
+                let length = s.mask;
+                if out.len() < length {
                     return Writing::Refused(Refusal {
                         number: 31,
                         position: 0,
-                        needed: width,
+                        needed: length,
                     });
                 }
                 let word = symbols::trim(pic);
                 write_mask(word, out);
-                return Writing::Written(width);
+                return Writing::Written(length);
             }
             return Writing::Written(0);
         }

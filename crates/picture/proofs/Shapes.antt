@@ -9,34 +9,45 @@ use lib.ListN.{length}
 use Rattle.definition.specs.declared.Refusal.{Refusal}
 use Rattle.definition.specs.declared.Usage.{Usage}
 use Rattle.definition.specs.Basic.{Answer, refuse, give, _>>=_, refuseIf}
-use Rattle.definition.specs.Picture.{trim, expand, tally, beforePoint, fraction, mask, mixed, tooLong, symbols}
+use Rattle.definition.specs.Picture.{trim, expand, tally, beforePoint, fraction, allDigits, storedDigits, without, mask, mixed, tooLong, symbols}
 use Rattle.definition.proofs.Answers.{bound, through, given-same, map-refused}
-use Rattle.definition.proofs.PictureLaws.{tally-sides, mask-length}
+use Rattle.definition.proofs.PictureLaws.{tally-sides, without-length, mask-width}
 use Rattle.symbols.specs.declared.Tallies.{Tallies}
 use Rattle.symbols.specs.declared.Half.{Half}
 use Rattle.picture.specs.declared.PicShape.{PicShape}
 use Rattle.picture.specs.declared.Shaped.{Shaped}
 use Rattle.symbols.specs.Shape.{tallies, halves, nothing, counts}
-use Rattle.picture.specs.Kinds.{scaleOf, shapeOf, shapeFor, judged, Reads}
+use Rattle.picture.specs.Kinds.{storedOf, shapeOf, shapeFor, judged, Reads}
 use Rattle.symbols.proofs.Halves.{legal-halves}
 use Rattle.symbols.proofs.Counting.{no-digit}
 
 -- the shape by the tallies
 module _ (l : List ℕ) where
-  scale-same : scaleOf (tallies l) ≡ fraction l
+  stored-same : storedOf (tallies l) ≡ storedDigits l
+  stored-same = omega (arith, tally-sides "9Z*" l no-digit)
+
+  digits-same : storedOf (tallies l) + tally "P" l ≡ allDigits l
+  digits-same = omega (arith, stored-same)
+
+  scale-same : tally "9Z*" l - tally "9Z*" (beforePoint l) + tally "P" l ≡ fraction l
   scale-same = omega (arith, tally-sides "9Z*" l no-digit)
 
-  width-same : length l - tally "SVP" l ≡ length (mask l)
-  width-same = omega (arith, mask-length l)
+  mask-same : length l - tally "SV" l ≡ length (mask l)
+  mask-same = omega (arith, without-length "SV" l)
+
+  width-same : length l - tally "SV" l - tally "P" l ≡ length (without "P" (mask l))
+  width-same = omega (arith, mask-same, mask-width l)
 
   pub shape-same : shapeOf (tallies l) ≡ shapeFor l
   shape-same i =
       record {
         text = shapeFor l .text;
-        digits = tally "9Z*" (beforePoint l) + (tally "$" l - 1) + (tally "+" l - 1) + (tally "-" l - 1) + scale-same i;
+        digits = digits-same i;
+        stored = stored-same i;
         scale = scale-same i;
         signed = shapeFor l .signed;
         edited = shapeFor l .edited;
+        mask = mask-same i;
         width = width-same i;
       }
 

@@ -11,7 +11,7 @@ use Rattle.definition.specs.declared.SignClause.{SignClause}
 use Rattle.definition.specs.declared.FieldKind.{FieldKind}
 use Rattle.definition.specs.declared.Pictured.{Pictured}
 use Rattle.definition.specs.Basic.{if_then_else_, Answer, refuse, give, _>>=_, refuseIf}
-use Rattle.definition.specs.Picture.{tally, mask, fraction, allDigits, isSigned, isEdited, pictured, isDisplay, numeric, symbols}
+use Rattle.definition.specs.Picture.{tally, without, mask, fraction, allDigits, storedDigits, isSigned, isEdited, pictured, isDisplay, resolveSign, storageWidth, numeric, symbols}
 use Rattle.symbols.specs.declared.Tallies.{Tallies}
 use Rattle.symbols.specs.declared.Half.{Half}
 use Rattle.picture.specs.declared.PicShape.{PicShape}
@@ -24,26 +24,30 @@ shapeFor l =
     record {
       text = tally "XA" l;
       digits = allDigits l;
+      stored = storedDigits l;
       scale = fraction l;
       signed = isSigned l;
       edited = isEdited l;
-      width = length (mask l);
+      mask = length (mask l);
+      width = length (without "P" (mask l));
     }
 
--- the digits of the fraction, by the tallies
-abbrev pub scaleOf : Tallies → ℕ
-scaleOf t = t .digits - t .whole + t .scaled
+-- the digits without P, by the tallies
+abbrev pub storedOf : Tallies → ℕ
+storedOf t = t .whole + (t .dollars - 1) + (t .pluses - 1) + (t .minuses - 1) + (t .digits - t .whole)
 
 -- the shape, by the tallies
 abbrev pub shapeOf : Tallies → PicShape
 shapeOf t =
     record {
       text = t .text;
-      digits = t .whole + (t .dollars - 1) + (t .pluses - 1) + (t .minuses - 1) + scaleOf t;
-      scale = scaleOf t;
+      digits = storedOf t + t .scaled;
+      stored = storedOf t;
+      scale = t .digits - t .whole + t .scaled;
       signed = ltb 0 (t .signs);
       edited = ltb 0 (t .edits);
-      width = t .symbols - t .hidden;
+      mask = t .symbols - t .hidden;
+      width = t .symbols - t .hidden - t .scaled;
     }
 
 -- `isMasked`, `mixed`, `tooLong` and `kinded` of the definition, by the shape in place of the symbols: is it edited
@@ -56,14 +60,15 @@ mixedBy s = ltb 0 (s .text) && (ltb 0 (s .digits) || s .edited)
 
 -- too many digits, or too long a mask
 abbrev pub longBy : Usage → PicShape → Bool
-longBy usage s = not (ltb 0 (s .text)) && (ltb 255 (s .digits) || maskedBy usage s && ltb 255 (s .width))
+longBy usage s = not (ltb 0 (s .text)) && (ltb 255 (s .digits) || maskedBy usage s && ltb 255 (s .mask))
 
 -- kind and width
 abbrev pub kindedBy : Usage → SignClause → PicShape → Pictured
-kindedBy usage sign s =
+kindedBy usage clause s =
+    let sign = resolveSign (s .signed) clause in
     if ltb 0 (s .text) then pictured FieldKind.Text (s .text)
     else if maskedBy usage s then pictured (FieldKind.Edited (max 1 (s .digits)) (s .scale) (s .signed)) (s .width)
-    else numeric usage (s .digits) (s .scale) (s .signed) sign
+    else pictured (numeric usage (s .digits) (s .scale) (s .signed) sign) (storageWidth usage sign (s .stored))
 
 -- the last checks: 25, 26, 27
 abbrev pub judged : ℕ → Usage → PicShape → Half → Answer PicShape
@@ -77,6 +82,7 @@ judged at usage s half = do
 pub record Fit (usage : Usage) (s : PicShape) : Type 0 where
   pub short : longBy usage s ≡ false
   pub part : s .scale ≤ s .digits
+  pub held : s .stored ≤ s .digits
 
 -- the answer of the code that reads a shape
 abbrev pub shapedOf : Shaped → Answer PicShape

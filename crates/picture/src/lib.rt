@@ -3,7 +3,7 @@ ghost use Prim.Native.Nat.{ℕ, _+_, _-_, _≤_, max};
 ghost use mathlib.Core.Path.{_≡_};
 ghost use mathlib.Core.Bool.{_&&_};
 ghost use Rattle.definition.specs.Picture.{isDisplay, resolveSign, isEmbedded, signBytes};
-ghost use Rattle.definition.specs.Picture.{compWidth, byteWidth, display as displayOf, numeric as numericOf, picture as pictureIn};
+ghost use Rattle.definition.specs.Picture.{compWidth, byteWidth, storageWidth, display as displayOf, numeric as numericOf, picture as pictureIn};
 ghost use Rattle.definition.specs.Calls.{pictureOf};
 ghost use Rattle.symbols.specs.Shape.{Small};
 ghost use Rattle.picture.specs.Kinds.{shapeOf, maskedBy, mixedBy, longBy, kindedBy, Fit, Judged, Reads};
@@ -21,14 +21,16 @@ use symbols::Tallies;
 
 // ---------------------------------------------------------------- the shape, and the last checks
 
-// What kind and width depend on: the number of X and A, of digits, of digits of the fraction, whether there is a sign symbol,
-// whether there is an editing symbol, and the length of the mask.
+// What kind and width depend on: the number of X and A, of digits, of digits without P, of digits of the fraction, whether there is
+// a sign symbol, whether there is an editing symbol, and the length of the mask with P and without it.
 pub struct PicShape {
     pub text: usize,
     pub digits: usize,
+    pub stored: usize,
     pub scale: usize,
     pub signed: bool,
     pub edited: bool,
+    pub mask: usize,
     pub width: usize,
 }
 
@@ -42,7 +44,7 @@ fn less_one(n: u32) -> u32
     n - 1
 }
 
-// The shape by the tallies: each of `$`, `+`, `-` adds its count less one to the digits.
+// The shape by the tallies: each of `$`, `+`, `-` adds its count less one to the digits; P is a digit of the fraction that holds no byte.
 fn shape_of(t: Tallies) -> PicShape
     requires { ⌜ Small t ⌝ }
     ensures { λ r. ⌜ r ≡ shapeOf t ⌝ }
@@ -50,14 +52,19 @@ fn shape_of(t: Tallies) -> PicShape
     let dollars = less_one(t.dollars);
     let pluses = less_one(t.pluses);
     let minuses = less_one(t.minuses);
-    let scale = t.digits - t.whole + t.scaled;
+    let fraction = t.digits - t.whole;
+    let scale = fraction + t.scaled;
+    let stored = t.whole + dollars + pluses + minuses + fraction;
+    let mask = t.symbols - t.hidden;
     PicShape {
         text: t.text as usize,
-        digits: (t.whole + dollars + pluses + minuses + scale) as usize,
+        digits: (stored + t.scaled) as usize,
+        stored: stored as usize,
         scale: scale as usize,
         signed: 0 < t.signs,
         edited: 0 < t.edits,
-        width: (t.symbols - t.hidden) as usize,
+        mask: mask as usize,
+        width: (mask - t.scaled) as usize,
     }
 }
 
@@ -106,7 +113,7 @@ fn is_long(s: PicShape, usage: Usage) -> bool
         return true;
     }
     if is_masked(s, usage) {
-        return 255 < s.width;
+        return 255 < s.mask;
     }
     false
 }
@@ -130,7 +137,7 @@ fn refusal(number: u32, at: usize) -> Shaped
 
 // The last checks, in order: 25 a byte that is no symbol, 26 text mixed with a digit or editing, 27 too long.
 fn check_shape(s: PicShape, half: Half, usage: Usage, at: usize) -> Shaped
-    requires { ⌜ s .scale ≤ s .digits ⌝ }
+    requires { ⌜ (s .scale ≤ s .digits) × (s .stored ≤ s .digits) ⌝ }
     ensures { λ r. ⌜ Judged at usage s half r ⌝ }
 {
     if symbols::is_legal(half) {
@@ -223,67 +230,56 @@ fn is_zoned(signed: bool, sign: SignKind) -> bool
     }
 }
 
-// Kind and width of a number in DISPLAY.
-fn display(digits: usize, scale: usize, signed: bool, sign: SignKind) -> Pictured
-    requires { ⌜ (digits ≤ 255) × (scale ≤ 255) ⌝ }
-    ensures { λ r. ⌜ r ≡ displayOf digits scale signed sign ⌝ }
+// The bytes that a number takes: P holds none.
+fn storage_width(s: PicShape, usage: Usage, sign: SignKind) -> usize
+    requires { ⌜ s .stored ≤ 255 ⌝ }
+    ensures { λ r. ⌜ r ≡ storageWidth usage sign (s .stored) ⌝ }
 {
-    let width = digits + sign_bytes(sign);
-    if is_zoned(signed, sign) {
-        return Pictured {
-            kind: FieldKind::Decimal {
-                precision: digits as u8,
-                scale: scale as u8,
-                repr: NumRepr::Zoned,
-                sign,
-            },
-            width,
-        };
-    }
-    if scale == 0 {
-        return Pictured {
-            kind: FieldKind::Int { signed, sign },
-            width,
-        };
-    }
-    Pictured {
-        kind: FieldKind::Decimal {
-            precision: digits as u8,
-            scale: scale as u8,
-            repr: NumRepr::Display,
-            sign,
-        },
-        width,
+    match usage {
+        Usage::Display => s.stored + sign_bytes(sign),
+        Usage::Comp3 => byte_width(s.stored),
+        Usage::Comp => comp_width(s.stored),
     }
 }
 
-// Kind and width of a number.
-fn numeric(usage: Usage, digits: usize, scale: usize, signed: bool, clause: SignClause) -> Pictured
-    requires { ⌜ (digits ≤ 255) × (scale ≤ 255) ⌝ }
-    ensures { λ r. ⌜ r ≡ numericOf usage digits scale signed clause ⌝ }
+// The kind of a number in DISPLAY.
+fn display(precision: usize, scale: usize, signed: bool, sign: SignKind) -> FieldKind
+    requires { ⌜ (precision ≤ 255) × (scale ≤ 255) ⌝ }
+    ensures { λ r. ⌜ r ≡ displayOf precision scale signed sign ⌝ }
+{
+    if is_zoned(signed, sign) {
+        return FieldKind::Decimal {
+            precision: precision as u8,
+            scale: scale as u8,
+            repr: NumRepr::Zoned,
+            sign,
+        };
+    }
+    if scale == 0 {
+        return FieldKind::Int { signed, sign };
+    }
+    FieldKind::Decimal {
+        precision: precision as u8,
+        scale: scale as u8,
+        repr: NumRepr::Display,
+        sign,
+    }
+}
+
+// The kind of a number.
+fn numeric(usage: Usage, precision: usize, scale: usize, signed: bool, sign: SignKind) -> FieldKind
+    requires { ⌜ (precision ≤ 255) × (scale ≤ 255) ⌝ }
+    ensures { λ r. ⌜ r ≡ numericOf usage precision scale signed sign ⌝ }
 {
     match usage {
-        Usage::Display => {
-            let sign = resolve_sign(signed, clause);
-            return display(digits, scale, signed, sign);
-        }
-        Usage::Comp3 => {
-            return Pictured {
-                kind: FieldKind::Decimal {
-                    precision: digits as u8,
-                    scale: scale as u8,
-                    repr: NumRepr::Comp3,
-                    sign: SignKind::Embedded,
-                },
-                width: byte_width(digits),
-            };
-        }
-        Usage::Comp => {
-            return Pictured {
-                kind: FieldKind::Binary { signed },
-                width: comp_width(digits),
-            };
-        }
+        Usage::Display => display(precision, scale, signed, sign),
+        Usage::Comp3 => FieldKind::Decimal {
+            precision: precision as u8,
+            scale: scale as u8,
+            repr: NumRepr::Comp3,
+            sign: SignKind::Embedded,
+        },
+        Usage::Comp => FieldKind::Binary { signed },
     }
 }
 
@@ -298,9 +294,9 @@ fn one_at_least(n: usize) -> usize
 }
 
 // Kind and width of a shape that passed the checks.
-fn kind_of(s: PicShape, usage: Usage, sign: SignClause) -> Pictured
+fn kind_of(s: PicShape, usage: Usage, clause: SignClause) -> Pictured
     requires { ⌜ Fit usage s ⌝ }
-    ensures { λ r. ⌜ r ≡ kindedBy usage sign s ⌝ }
+    ensures { λ r. ⌜ r ≡ kindedBy usage clause s ⌝ }
 {
     if 0 < s.text {
         return Pictured {
@@ -319,7 +315,10 @@ fn kind_of(s: PicShape, usage: Usage, sign: SignClause) -> Pictured
             width: s.width,
         };
     }
-    numeric(usage, s.digits, s.scale, s.signed, sign)
+    let sign = resolve_sign(s.signed, clause);
+    let kind = numeric(usage, s.digits, s.scale, s.signed, sign);
+    let width = storage_width(s, usage, sign);
+    Pictured { kind, width }
 }
 
 // Kind and width of a picture whose text was checked; a refusal, 22 to 27, carries the position `at`.

@@ -79,6 +79,9 @@ pub fn find_row(text: &[u8], work: &[u32], target: Span, last: usize, bases: boo
     requires { ⌜ (ROW * last ≤ length (now work)) × Printed (now text) (now work) last ⌝ }
     ensures { λ r. ⌜ (r ≡ rowFrom (now (text .entry)) target bases (now (work .entry)) last last) × (r ≤ last) ⌝ }
 {
+    if last == 0 {
+        return 0;
+    }
     let print = names::print_of(text, target);
     let mut k = pass_back(work, last, print);
     while 0 < k {

@@ -12,7 +12,7 @@ use borrow.Author.Tests.{eqb-true}
 use Rattle.definition.specs.Limits.{mostSymbols}
 use Rattle.definition.specs.Basic.{if_then_else_, among}
 use Rattle.definition.specs.Picture.{tally, beforePoint}
-use Rattle.definition.proofs.PictureLaws.{tally-append, tally-run, tally-le, before-append, before-run, tally-sides}
+use Rattle.definition.proofs.PictureLaws.{tally-append, tally-run, tally-le, before-append, before-run, tally-sides, without-length, mask-width}
 use Rattle.symbols.specs.Shape.{tallied, timesIn, tallies, runOf, unless, joined, Small}
 
 -- a point is no digit
@@ -47,8 +47,9 @@ small-tallied :
     symbols ≤ mostSymbols →
     whole ≤ count "9Z*" →
     ((s : String) → count s ≤ symbols) →
+    count "SV" + count "P" ≤ symbols →
     Small (tallied symbols whole count)
-small-tallied symbols whole count few part le =
+small-tallied symbols whole count few part le apart =
     let small : (s : String) → count s ≤ mostSymbols = λ s. omega (arith, le s) in
     record {
       symbols = few;
@@ -62,11 +63,11 @@ small-tallied symbols whole count few part le =
       minuses = small "-";
       signs = small "S+-CD";
       edits = small "Z*.,/B0$+-CD";
-      hidden = le "SVP";
+      hidden = apart;
     }
 
 -- so few symbols have small tallies
 pub small : (l : List ℕ) → length l ≤ mostSymbols → Small (tallies l)
 small l h =
     small-tallied (length l) (tally "9Z*" (beforePoint l)) (λ s. tally s l) h (omega (arith, tally-sides "9Z*" l no-digit))
-    (λ s. tally-le s l)
+    (λ s. tally-le s l) (omega (arith, without-length "SV" l, mask-width l))

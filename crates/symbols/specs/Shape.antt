@@ -29,7 +29,7 @@ tallied symbols whole count =
       minuses = count "-";
       signs = count "S+-CD";
       edits = count "Z*.,/B0$+-CD";
-      hidden = count "SVP";
+      hidden = count "SV";
     }
 
 -- the tallies of a list of symbols
@@ -66,7 +66,7 @@ joined s t =
       hidden = s .hidden + t .hidden;
     }
 
--- no tally is above 65,535, and those of a part are not above the whole's
+-- no tally is above 65,535, and those of parts are not above the whole's
 pub record Small (s : Tallies) : Type 0 where
   pub symbols : s .symbols ≤ mostSymbols
   pub text : s .text ≤ mostSymbols
@@ -79,7 +79,7 @@ pub record Small (s : Tallies) : Type 0 where
   pub minuses : s .minuses ≤ mostSymbols
   pub signs : s .signs ≤ mostSymbols
   pub edits : s .edits ≤ mostSymbols
-  pub hidden : s .hidden ≤ s .symbols
+  pub hidden : s .hidden + s .scaled ≤ s .symbols
 
 -- n symbols more can be added
 pub record Adds (s : Tallies) (n : ℕ) : Type 0 where

@@ -131,7 +131,7 @@ fn repeat_after(picture: &[u8], next: usize, at: usize) -> Repeat
 // ---------------------------------------------------------------- symbols, judged run by run
 
 // How often the symbols of each set stand in a list of symbols: X A; 9 Z *; those of 9 Z * before the point; P; V and `.`; `$`;
-// `+`; `-`; the signs S + - C D; the editing symbols; S V P, which take no byte of a mask; and all symbols.
+// `+`; `-`; the signs S + - C D; the editing symbols; S and V, which take no byte of a mask; and all symbols.
 pub struct Tallies {
     pub text: u32,
     pub digits: u32,
@@ -203,7 +203,6 @@ fn add_run(s: Tallies, b: u8, n: u32) -> Tallies
         }
         b'P' => {
             r.scaled = s.scaled + n;
-            r.hidden = s.hidden + n;
             return r;
         }
         b'V' => {

@@ -145,7 +145,7 @@ fn listing(text: &[u8], reading: &Reading, shapes: &[Shape], layout: Layout) -> 
 }
 
 /// What the product should say of a copybook: a listing; or a refusal, with what the Rust says; or one that is added,
-/// where the Rust has none such, with how the Rust did; or it accepts, where a literal leaves the Rust no answer.
+/// where the Rust has none such, with how the Rust did; or it accepts, where a literal or a P leaves the Rust no answer.
 pub enum Expected {
     Listing(Listing),
     Refused(Refused, Error),
@@ -171,7 +171,7 @@ fn affordable_to_ask(text: &[u8], reading: &Reading) -> bool {
 }
 
 pub fn copybook(text: &[u8], reading: &Reading) -> Result<Expected, String> {
-    if !reading.plain {
+    if !reading.plain || reading.has_scale(text) && !matches!(reading.top, Err(Refused(1..=14, _))) {
         return Ok(reading.top.as_ref().map_or_else(|r| Expected::Added(*r, "has no answer"), |_| Expected::Accepted));
     }
     let original = if affordable_to_ask(text, reading) { asked(text, copybook::parse) } else { Original::NotAsked };
@@ -202,11 +202,12 @@ const READ_SIGNS: [Option<Sign>; 5] =
     [None, Some(Sign::Unsigned), Some(Sign::Embedded), Some(Sign::Leading), Some(Sign::Trailing)];
 
 /// What the product should say of a picture: its seven numbers, with the kind that the Rust has; or a refusal, with
-/// what the Rust says; or one that is added.
+/// what the Rust says; or one that is added; or its width alone, where a P leaves the Rust no answer.
 pub enum Pictured {
     Numbers([u64; 7], FieldKind),
     Refused(Refused, Error),
     Added(Refused),
+    Width(u64),
 }
 
 pub fn picture(text: &[u8], usage: usize, sign: usize) -> Result<Pictured, String> {
@@ -218,6 +219,9 @@ pub fn picture(text: &[u8], usage: usize, sign: usize) -> Result<Pictured, Strin
         if matches!(r.0, 1 | 2 | 24 | 27) {
             return Ok(Pictured::Added(r));
         }
+    }
+    if reading::has_scale(text) {
+        return Ok(read.map_or_else(Pictured::Added, |(width, _)| Pictured::Width(width as u64)));
     }
     match (read, asked(text, |t| copybook::parse_pic(t, USAGES[usage], SIGNS[sign]))) {
         (Err(r), Original::Gave(Err(e))) if r.0 == e.number() => Ok(Pictured::Refused(r, e)),

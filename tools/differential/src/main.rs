@@ -11,7 +11,9 @@
 //! not have, are those of a reading of the rules that shares no code with the product (`reading`); so are the added
 //! refusals 1, 2, 14, 24, 27, 29, 30 and 50: an input with one is left out of the comparison with the Rust, and counted,
 //! but number and position are checked. So is a copybook in which a literal after VALUE holds a period that would end a
-//! statement, or `*>`: there the Rust has no answer, and tools/quoted compares every byte. The Rust has no byte owner: owners are compared, for some copybooks, with the
+//! statement, or `*>`: there the Rust has no answer, and tools/quoted compares every byte. So is an input with P in a
+//! picture, which holds a byte in the Rust and none here: its refusals, the widths of pictures and the owners of
+//! copybooks are checked, and tools/pictures compares all else. The Rust has no byte owner: owners are compared, for some copybooks, with the
 //! bytes laid one by one by the reading. The masks of the edited pictures of a listing are compared too, and the record
 //! check. A picture is compared under every usage and sign, and its mask under every usage.
 //!
@@ -154,7 +156,12 @@ impl Run {
                     return Err(format!("number {number} where a listing is due"));
                 }
                 self.count(LEFT, number, " (the Rust has no answer)");
-                Ok(())
+                match reading.laid(text) {
+                    Some(laid) if number == 0 && !reading.overlaid() => {
+                        self.owners(r, text, laid.iter().map(|l| l.len as u64).sum())
+                    }
+                    _ => Ok(()),
+                }
             }
             Expected::Listing(want) => {
                 self.accepted(r, text, &want)?;
@@ -240,7 +247,7 @@ impl Run {
         if let Some(laid) = &laid {
             let all: u128 = laid.iter().map(|l| l.len).sum();
             if all != u128::from(record_len) {
-                return Err(format!("owner: {all} bytes are laid where the Rust has a record of {record_len}"));
+                return Err(format!("owner: {all} bytes are laid where the record has {record_len}"));
             }
         }
         let (any, last) = (r.below(record_len as usize + 2) as u64, u64::MAX - r.below(2) as u64);
@@ -328,8 +335,17 @@ impl Run {
                         want
                     }
                     Pictured::Added(want) => {
-                        self.count(PICTURES_LEFT, want.0, "");
+                        self.count(PICTURES_LEFT, want.0, if reading::has_scale(text) { ", with P" } else { "" });
                         want
+                    }
+                    Pictured::Width(width) => {
+                        if got.number != 0 || got.answer.as_ref().is_some_and(|a| a[1] != width) {
+                            let (number, answer) = (got.number, got.answer);
+                            let got = format!("number {number}, answer {answer:?}");
+                            return Err(named(format!("{got}, where width {width} is due")));
+                        }
+                        self.count(PICTURES_LEFT, 0, ", with P");
+                        continue;
                     }
                 };
                 same_refusal(&got, refused, 0).map_err(named)?;

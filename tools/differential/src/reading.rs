@@ -365,10 +365,16 @@ pub fn runs(picture: &[u8], limit: Option<u128>) -> Result<Vec<(u8, u128)>, u32>
     Ok(out)
 }
 
-/// Width of a picture, and whether it is binary; or the number of its refusal.
+/// Whether a picture has a P, wherever it stands: there the Rust has no answer.
+pub fn has_scale(picture: &[u8]) -> bool {
+    picture.to_ascii_uppercase().contains(&b'P')
+}
+
+/// Width of a picture, and whether it is binary; or the number of its refusal. P holds no byte of a width; the digits
+/// and the mask that 27 limits count it.
 pub fn picture(picture: &[u8], usage: Usage, sign: Option<Sign>) -> Result<(u128, bool), u32> {
     let symbols: Vec<u8> = runs(picture, Some(65_535))?.into_iter().flat_map(|(b, n)| vec![b; n as usize]).collect();
-    let (mut text, mut digits, mut width) = (0u128, 0u128, 0u128);
+    let (mut text, mut digits, mut scaled, mut mask) = (0u128, 0u128, 0u128, 0u128);
     let (mut signed, mut edited) = (false, false);
     let mut floats = [0u128; 3];
     let mut i = 0;
@@ -376,7 +382,8 @@ pub fn picture(picture: &[u8], usage: Usage, sign: Option<Sign>) -> Result<(u128
         let next = symbols.get(i + 1).copied();
         match symbols[i] {
             b'X' | b'A' => text += 1,
-            b'9' | b'P' => digits += 1,
+            b'9' => digits += 1,
+            b'P' => scaled += 1,
             b'Z' | b'*' => {
                 digits += 1;
                 edited = true;
@@ -392,28 +399,28 @@ pub fn picture(picture: &[u8], usage: Usage, sign: Option<Sign>) -> Result<(u128
             b'C' if next == Some(b'R') => {
                 (edited, signed) = (true, true);
                 i += 1;
-                width += 1;
+                mask += 1;
             }
             b'D' if next == Some(b'B') => {
                 (edited, signed) = (true, true);
                 i += 1;
-                width += 1;
+                mask += 1;
             }
             _ => return Err(25),
         }
-        width += u128::from(!b"SVP".contains(&symbols[i]));
+        mask += u128::from(!b"SV".contains(&symbols[i]));
         i += 1;
     }
     digits += floats.iter().map(|&n| n.saturating_sub(1)).sum::<u128>();
     if text > 0 {
-        return if digits > 0 || edited { Err(26) } else { Ok((text, false)) };
+        return if digits + scaled > 0 || edited { Err(26) } else { Ok((text, false)) };
     }
     let masked = edited && usage == Usage::Display;
-    if digits > 255 || masked && width > 255 {
+    if digits + scaled > 255 || masked && mask > 255 {
         return Err(27);
     }
     if masked {
-        return Ok((width, false));
+        return Ok((mask - scaled, false));
     }
     Ok(match usage {
         Usage::Display => {
@@ -585,6 +592,11 @@ pub struct Laid {
 const MOST_LAID: usize = 20_000;
 
 impl Reading {
+    /// An elementary item whose picture has a P.
+    pub fn has_scale(&self, text: &[u8]) -> bool {
+        self.statements.iter().any(|s| s.below.is_empty() && has_scale(s.picture.of(text)))
+    }
+
     /// A kept REDEFINES or DEPENDING ON, a dropped root's own aside.
     pub fn overlaid(&self) -> bool {
         let kept = &self.statements[usize::from(self.dropped)..];

@@ -36,8 +36,8 @@ module _ (usage : Usage) (bs out : List ℕ) {r : Shaped} (k : Reads 0 usage bs 
     b : Behind 0 usage bs s
     b = behind k e
 
-    wide : length (mask (b .list)) ≡ s .width
-    wide = ap (λ (x : PicShape). x .width) (sym (b .shape))
+    wide : length (mask (b .list)) ≡ s .mask
+    wide = ap (λ (x : PicShape). x .mask) (sym (b .shape))
 
     module _ {m : Bool} (q : m ≡ maskedBy usage s) where
       masked : isMasked usage (b .list) ≡ m
@@ -48,18 +48,18 @@ module _ (usage : Usage) (bs out : List ℕ) {r : Shaped} (k : Reads 0 usage bs 
       plain y = rw (b .are, masked, y, le-ltb (length out) 0 (omega arith))
 
       module _ (y : m ≡ true) where
-        full : length out < s .width → maskAfter (refuse (record { number = 31; position = 0; needed = s .width })) out ≡ afterWriting (maskIn usage bs (length out)) out []
+        full : length out < s .mask → maskAfter (refuse (record { number = 31; position = 0; needed = s .mask })) out ≡ afterWriting (maskIn usage bs (length out)) out []
         unfolding _>>=_
-        full h = rw (b .are, masked, y, wide, lt-ltb (length out) (s .width) h)
+        full h = rw (b .are, masked, y, wide, lt-ltb (length out) (s .mask) h)
 
-        module _ (h : s .width ≤ length out) {w : List ℕ} (t : w ≡ trim bs) where
+        module _ (h : s .mask ≤ length out) {w : List ℕ} (t : w ≡ trim bs) where
           expanded : expand 0 0 0 w ≡ give (b .list)
           expanded = ap (expand 0 0 0) t ∙ b .expanded
 
           room : MaskRoom 0 (expand 0 0 0 w) (length out)
           room = rw expanded (omega (arith, wide))
 
-          written : {out′ : List ℕ} → out′ ≡ put 0 (expand 0 0 0 w) out → maskAfter (give (s .width)) out′ ≡ afterWriting (maskIn usage bs (length out)) out []
+          written : {out′ : List ℕ} → out′ ≡ put 0 (expand 0 0 0 w) out → maskAfter (give (s .mask)) out′ ≡ afterWriting (maskIn usage bs (length out)) out []
           unfolding _>>=_
           written p =
               rw (b .are, masked, y, le-ltb (length out) (length (mask (b .list))) (omega (arith, wide)))

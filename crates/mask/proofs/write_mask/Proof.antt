@@ -10,7 +10,7 @@ use lib.Seq.{length-sets}
 use Rattle.definition.specs.declared.Refusal.{Refusal}
 use Rattle.definition.specs.Limits.{mostSymbols}
 use Rattle.definition.specs.Basic.{upper, Answer, give}
-use Rattle.definition.specs.Picture.{repeat, expand, mask}
+use Rattle.definition.specs.Picture.{repeat, expand, without, mask}
 use Rattle.definition.proofs.Lists.{order}
 use Rattle.definition.proofs.PictureLaws.{onto, expand-end, expand-refused, expand-many, expand-more}
 use Rattle.symbols.specs.declared.Repeat.{Repeat}
@@ -34,7 +34,7 @@ start t out h = record { within = omega arith; kept = refl; seen = 0; room = h; 
 
 module _ {t out₀ out : List ℕ} {k i : ℕ} (inv : Left t out₀ out k i) where
   done : length t ≤ i → out ≡ put 0 (expand 0 0 0 t) out₀
-  unfolding mask
+  unfolding without
   done h = rw (inv .same, expand-end 0 (inv .seen) t i h)
 
   module _ (h : i < length t) {r : Repeat} (read : Repeated 0 (drop (i + 1) t) r) where

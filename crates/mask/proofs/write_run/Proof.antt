@@ -9,7 +9,7 @@ use native.Mathlib.Omega.{arith}
 use lib.ListN.{length, replicate, length-replicate}
 use lib.Seq.{sets}
 use Rattle.definition.specs.Picture.{mask}
-use Rattle.definition.proofs.PictureLaws.{mask-run}
+use Rattle.definition.proofs.PictureLaws.{without-run}
 use Rattle.mask.specs.Masks.{hidden, Wrote}
 use borrow.Author.Needs.{needs}
 use Rattle.mask.proofs.write_run.Statement.{statement}
@@ -17,10 +17,10 @@ use Rattle.mask.proofs.write_run.Tie as tie
 
 module _ (b n : ℕ) {t : Bool} (e : t ≡ hidden b) where
   unseen : t ≡ true → mask (replicate n b) ≡ []
-  unseen y = mask-run b n ∙ rw (← e, y)
+  unseen y = without-run "SV" b n ∙ rw (← e, y)
 
   shown : t ≡ false → mask (replicate n b) ≡ replicate n b
-  shown y = mask-run b n ∙ rw (← e, y)
+  shown y = without-run "SV" b n ∙ rw (← e, y)
 
   module _ (k : ℕ) where
     room : t ≡ false → {room : ℕ} → k + length (mask (replicate n b)) ≤ room → k + n ≤ room

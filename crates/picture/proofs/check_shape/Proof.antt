@@ -33,9 +33,9 @@ module _ (at : ℕ) (usage : Usage) (s : PicShape) (half : Half) where
         unfolding _>>=_
         long w e = rw e (record { same = rw (← legal, y, ← mix, z, ← size, w); fits = tt })
 
-        good : s .scale ≤ s .digits → k ≡ false → Judged at usage s half (Shaped.Shape s)
+        good : (s .scale ≤ s .digits) × (s .stored ≤ s .digits) → k ≡ false → Judged at usage s half (Shaped.Shape s)
         unfolding _>>=_
-        good p w = record { same = rw (← legal, y, ← mix, z, ← size, w); fits = record { short = sym size ∙ w; part = p } }
+        good p w = record { same = rw (← legal, y, ← mix, z, ← size, w); fits = record { short = sym size ∙ w; part = p .0; held = p .1 } }
 
 is-legal-requires : tie.Need-is-legal-requires
 is-legal-requires c κs = search needs

@@ -21,10 +21,10 @@ module _ (usage : Usage) (s : PicShape) where
     digits h = rw (le-ltb 0 (s .text) n, lt-ltb 255 (s .digits) h)
 
     module _ (h : s .digits ≤ 255) {r : Bool} (m : r ≡ maskedBy usage s) where
-      short : longBy usage s ≡ (r && ltb 255 (s .width))
-      short = rw (le-ltb 0 (s .text) n, le-ltb 255 (s .digits) h) (ap (λ (b : Bool). b && ltb 255 (s .width)) (sym m))
+      short : longBy usage s ≡ (r && ltb 255 (s .mask))
+      short = rw (le-ltb 0 (s .text) n, le-ltb 255 (s .digits) h) (ap (λ (b : Bool). b && ltb 255 (s .mask)) (sym m))
 
-      edited : r ≡ true → ltb 255 (s .width) ≡ longBy usage s
+      edited : r ≡ true → ltb 255 (s .mask) ≡ longBy usage s
       edited e = rw (short, e)
 
       else : r ≡ false → false ≡ longBy usage s

@@ -23,8 +23,8 @@ use Rattle.picture.proofs.read_shape.Tie as tie
 small : {at : ℕ} {w : List ℕ} {r : Counted} → Counts at w r → {t : Tallies} {half : Half} → r ≡ Counted.Symbols t half → Small t
 small k e = rw e at (k .small)
 
-part : (t : Tallies) {s : PicShape} → s ≡ shapeOf t → s .scale ≤ s .digits
-part t e = rw e (omega arith)
+parts : (t : Tallies) {s : PicShape} → s ≡ shapeOf t → (s .scale ≤ s .digits) × (s .stored ≤ s .digits)
+parts t e = rw e (omega arith, omega arith)
 
 module _ (at : ℕ) (usage : Usage) (bs : List ℕ) {w : List ℕ} (trimmed : w ≡ trim bs) {r : Counted} (k : Counts at w r) where
   counted : countedOf r ≡ counts at (trim bs)
@@ -63,7 +63,7 @@ shape-of-requires : tie.Need-shape-of-requires
 shape-of-requires c κs = small (c .before .before .before .count-symbols .ensures) (c .before .tallies .given .1)
 
 check-shape-requires : tie.Need-check-shape-requires
-check-shape-requires c κs = omega (arith, part (c .before .before .tallies .given .0 .0) (c .shape-of .ensures))
+check-shape-requires c κs = parts (c .before .before .tallies .given .0 .0) (c .shape-of .ensures)
 
 returns : tie.Need-returns
 returns c = search accepted

@@ -19,6 +19,11 @@ use Rattle.redefines.proofs.PrintLaws.{printed-less, passed-same}
 use Rattle.redefines.proofs.find_row.Statement.{statement}
 use Rattle.redefines.proofs.find_row.Tie as tie
 
+-- there is no sibling
+none-before : (t w : List ℕ) (target : Span) (bases : Bool) {last : ℕ} → last ≡ 0 → 0 ≡ rowFrom t target bases w last last
+unfolding rowFrom
+none-before t w target bases e = sym (ap (λ (m : ℕ). rowFrom t target bases w m m) e)
+
 -- the search goes on from k back
 record Left (t w : List ℕ) (target : Span) (bases : Bool) (last k : ℕ) : Type 0 where
   fits : ROW * last ≤ length w
@@ -84,20 +89,23 @@ abbrev μ-loop : tie.MeasureT-loop
 loop-holds : tie.Need-loop-holds Inv-loop μ-loop
 loop-holds c = search start
 
+returns : tie.Need-returns Inv-loop μ-loop
+returns c = (search none-before, search needs)
+
 is-target-requires : tie.Need-is-target-requires Inv-loop μ-loop
 is-target-requires c κs = ready (c .before .loop .inv) (c .loop-test .taken) (c .before .before .before .print-of .ensures)
 
-returns : tie.Need-returns Inv-loop μ-loop
-returns c = (search found, search needs)
-
 returns-2 : tie.Need-returns-2 Inv-loop μ-loop
-returns-2 c = (search broken, search needs)
+returns-2 c = (search found, search needs)
+
+returns-3 : tie.Need-returns-3 Inv-loop μ-loop
+returns-3 c = (search broken, search needs)
 
 loop-again : tie.Need-loop-again Inv-loop μ-loop
 loop-again c = search next
 
-returns-3 : tie.Need-returns-3 Inv-loop μ-loop
-returns-3 c = (search done, search needs)
+returns-4 : tie.Need-returns-4 Inv-loop μ-loop
+returns-4 c = (search done, search needs)
 
 pub find-row-spec : {M : Type 1} → statement M
 find-row-spec =
@@ -105,19 +113,20 @@ find-row-spec =
     (tie.spec
     Inv-loop
     μ-loop
+    returns
     (λ c κs. search needs)
     (λ c κs. search needs)
     loop-holds
     (λ c. search needs)
     is-target-requires
-    returns
+    returns-2
     (λ c. search needs)
     (λ c. search needs)
     (λ c. search needs)
     (λ c. search needs)
     (λ c κs. search needs)
-    returns-2
+    returns-3
     (λ c κs. search needs)
     (λ c. search needs)
     loop-again
-    returns-3)
+    returns-4)

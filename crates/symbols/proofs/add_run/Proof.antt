@@ -57,7 +57,7 @@ added whole s b n =
       minuses = more (among "-" b) (s .minuses) n;
       signs = more (among "S+-CD" b) (s .signs) n;
       edits = more (among "Z*.,/B0$+-CD" b) (s .edits) n;
-      hidden = more (among "SVP" b) (s .hidden) n;
+      hidden = more (among "SV" b) (s .hidden) n;
     }
 
 module _ (s : Tallies) (n : ℕ) where
@@ -75,7 +75,7 @@ module _ (s : Tallies) (n : ℕ) where
         minuses = more-times (among "-" b) (s .minuses) n i;
         signs = more-times (among "S+-CD" b) (s .signs) n i;
         edits = more-times (among "Z*.,/B0$+-CD" b) (s .edits) n i;
-        hidden = more-times (among "SVP" b) (s .hidden) n i;
+        hidden = more-times (among "SV" b) (s .hidden) n i;
       }
 
   -- an arm of these keys, which have the tallies of k
@@ -112,7 +112,7 @@ other b n h =
       minuses = none "-" b n refl h i;
       signs = none "S+-CD" b n refl h i;
       edits = none "Z*.,/B0$+-CD" b n refl h i;
-      hidden = none "SVP" b n refl h i;
+      hidden = none "SV" b n refl h i;
     }
 
 add-r : tie.Need-add-r
@@ -164,73 +164,73 @@ returns-3 c =
 add-r-8 : tie.Need-add-r-8
 add-r-8 c = search needs
 
+returns-4 : tie.Need-returns-4
+returns-4 c =
+    let a = c .before .before .before .args in
+    arm (a .s) (a .n) 80 (80 ∷ []) (a .b) (a .s .whole) (whole-kept (a .s .whole) (a .s .points)) (search needs) (c .before .match .keys4)
+
 add-r-9 : tie.Need-add-r-9
 add-r-9 c = search needs
 
-returns-4 : tie.Need-returns-4
-returns-4 c =
-    let a = c .before .before .before .before .args in
-    arm (a .s) (a .n) 80 (80 ∷ []) (a .b) (a .s .whole) (whole-kept (a .s .whole) (a .s .points)) (search needs) (c .before .before .match .keys4)
-
 add-r-10 : tie.Need-add-r-10
 add-r-10 c = search needs
-
-add-r-11 : tie.Need-add-r-11
-add-r-11 c = search needs
 
 returns-5 : tie.Need-returns-5
 returns-5 c =
     let a = c .before .before .before .before .args in
     arm (a .s) (a .n) 86 (86 ∷ []) (a .b) (a .s .whole) (whole-kept (a .s .whole) (a .s .points)) (search needs) (c .before .before .match .keys5)
 
+add-r-11 : tie.Need-add-r-11
+add-r-11 c = search needs
+
 add-r-12 : tie.Need-add-r-12
 add-r-12 c = search needs
-
-add-r-13 : tie.Need-add-r-13
-add-r-13 c = search needs
 
 returns-6 : tie.Need-returns-6
 returns-6 c =
     let a = c .before .before .before .before .args in
     arm (a .s) (a .n) 83 (83 ∷ []) (a .b) (a .s .whole) (whole-kept (a .s .whole) (a .s .points)) (search needs) (c .before .before .match .keys6)
 
+add-r-13 : tie.Need-add-r-13
+add-r-13 c = search needs
+
 add-r-14 : tie.Need-add-r-14
 add-r-14 c = search needs
-
-add-r-15 : tie.Need-add-r-15
-add-r-15 c = search needs
 
 returns-7 : tie.Need-returns-7
 returns-7 c =
     let a = c .before .before .before .before .args in
     arm (a .s) (a .n) 46 (46 ∷ []) (a .b) (a .s .whole) (whole-kept (a .s .whole) (a .s .points)) (search needs) (c .before .before .match .keys7)
 
-add-r-16 : tie.Need-add-r-16
-add-r-16 c = search needs
+add-r-15 : tie.Need-add-r-15
+add-r-15 c = search needs
 
 returns-8 : tie.Need-returns-8
 returns-8 c =
     let a = c .before .before .before .args in
     arm (a .s) (a .n) 44 (44 ∷ 47 ∷ 66 ∷ []) (a .b) (a .s .whole) (whole-kept (a .s .whole) (a .s .points)) (search needs) (c .before .match .keys8)
 
-add-r-17 : tie.Need-add-r-17
-add-r-17 c = search needs
+add-r-16 : tie.Need-add-r-16
+add-r-16 c = search needs
 
 returns-9 : tie.Need-returns-9
 returns-9 c =
     let a = c .before .before .before .args in
     arm (a .s) (a .n) 48 (48 ∷ []) (a .b) (a .s .whole) (whole-kept (a .s .whole) (a .s .points)) (search needs) (c .before .match .keys9)
 
+add-r-17 : tie.Need-add-r-17
+add-r-17 c = search needs
+
 add-r-18 : tie.Need-add-r-18
 add-r-18 c = search needs
-
-add-r-19 : tie.Need-add-r-19
-add-r-19 c = search needs
 
 returns-10 : tie.Need-returns-10
 returns-10 c =
     let a = c .before .before .before .before .args in
     arm (a .s) (a .n) 36 (36 ∷ []) (a .b) (a .s .whole) (whole-kept (a .s .whole) (a .s .points)) (search needs) (c .before .before .match .keys10)
+
+add-r-19 : tie.Need-add-r-19
+add-r-19 c = search needs
 
 add-r-20 : tie.Need-add-r-20
 add-r-20 c = search needs
@@ -238,13 +238,13 @@ add-r-20 c = search needs
 add-r-21 : tie.Need-add-r-21
 add-r-21 c = search needs
 
-add-r-22 : tie.Need-add-r-22
-add-r-22 c = search needs
-
 returns-11 : tie.Need-returns-11
 returns-11 c =
     let a = c .before .before .before .before .before .args in
     arm (a .s) (a .n) 43 (43 ∷ []) (a .b) (a .s .whole) (whole-kept (a .s .whole) (a .s .points)) (search needs) (c .before .before .before .match .keys11)
+
+add-r-22 : tie.Need-add-r-22
+add-r-22 c = search needs
 
 add-r-23 : tie.Need-add-r-23
 add-r-23 c = search needs
@@ -252,30 +252,27 @@ add-r-23 c = search needs
 add-r-24 : tie.Need-add-r-24
 add-r-24 c = search needs
 
-add-r-25 : tie.Need-add-r-25
-add-r-25 c = search needs
-
 returns-12 : tie.Need-returns-12
 returns-12 c =
     let a = c .before .before .before .before .before .args in
     arm (a .s) (a .n) 45 (45 ∷ []) (a .b) (a .s .whole) (whole-kept (a .s .whole) (a .s .points)) (search needs) (c .before .before .before .match .keys12)
 
+add-r-25 : tie.Need-add-r-25
+add-r-25 c = search needs
+
 add-r-26 : tie.Need-add-r-26
 add-r-26 c = search needs
-
-add-r-27 : tie.Need-add-r-27
-add-r-27 c = search needs
 
 returns-13 : tie.Need-returns-13
 returns-13 c =
     let a = c .before .before .before .before .args in
     arm (a .s) (a .n) 67 (67 ∷ []) (a .b) (a .s .whole) (whole-kept (a .s .whole) (a .s .points)) (search needs) (c .before .before .match .keys13)
 
+add-r-27 : tie.Need-add-r-27
+add-r-27 c = search needs
+
 add-r-28 : tie.Need-add-r-28
 add-r-28 c = search needs
-
-add-r-29 : tie.Need-add-r-29
-add-r-29 c = search needs
 
 returns-14 : tie.Need-returns-14
 returns-14 c =
@@ -305,36 +302,35 @@ add-run-spec =
     add-r-7
     returns-3
     add-r-8
-    add-r-9
     returns-4
+    add-r-9
     add-r-10
-    add-r-11
     returns-5
+    add-r-11
     add-r-12
-    add-r-13
     returns-6
+    add-r-13
     add-r-14
-    add-r-15
     returns-7
-    add-r-16
+    add-r-15
     returns-8
-    add-r-17
+    add-r-16
     returns-9
+    add-r-17
     add-r-18
-    add-r-19
     returns-10
+    add-r-19
     add-r-20
     add-r-21
-    add-r-22
     returns-11
+    add-r-22
     add-r-23
     add-r-24
-    add-r-25
     returns-12
+    add-r-25
     add-r-26
-    add-r-27
     returns-13
+    add-r-27
     add-r-28
-    add-r-29
     returns-14
     returns-15)

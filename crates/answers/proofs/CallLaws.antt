@@ -6,9 +6,10 @@ use mathlib.Core.List.{List, []}
 use lib.ListN.{length, replicate}
 use Rattle.definition.specs.declared.OwnerAnswer.{OwnerAnswer}
 use Rattle.definition.specs.declared.Refusal.{Refusal}
+use Rattle.definition.specs.declared.Report.{Report}
 use Rattle.definition.specs.declared.Writing.{Writing}
 use Rattle.definition.specs.Basic.{Answer, refuse, give, _>>=_}
-use Rattle.definition.specs.Calls.{left, recordFields, entries, fitting, layoutListing, layoutDetails, byteOwner, cleared, afterWriting, ownerCall, ownerAnswerOf, writingOf}
+use Rattle.definition.specs.Calls.{left, recordFields, entries, fitting, layoutListing, layoutDetails, report, byteOwner, cleared, afterWriting, ownerCall, ownerAnswerOf, writingOf}
 use Rattle.definition.specs.Fold.{Entries, foldedAll}
 use Rattle.definition.specs.Listing.{listing}
 use Rattle.definition.specs.Details.{entriesDetails, height}
@@ -52,23 +53,25 @@ module _ (text : List ℕ) (n room : ℕ) (show : Entries → List ℕ) where
   shown-laid e = laid-shown ∙ rw e
 
 module _ (text : List ℕ) (n room : ℕ) where
-  -- the layout listing
-  pub listing-refused : {r : Refusal} → laidOf text (recordFields text n) ≡ refuse r → layoutListing text n room ≡ refuse r
-  unfolding layoutListing
-  listing-refused e = shown-not text n room listing e
+  -- a record that is not laid has no report
+  pub report-refused :
+      (what : Report) {r : Refusal} →
+      laidOf text (recordFields text n) ≡ refuse r →
+      report what text n room ≡ refuse r
+  unfolding layoutListing layoutDetails
+  report-refused Report.Listing e = shown-not text n room listing e
+  report-refused Report.Details e = shown-not text n room entriesDetails e
 
-  pub listing-laid : {es : Entries} → laidOf text (recordFields text n) ≡ give es → layoutListing text n room ≡ fitting room (listing (foldedAll text es))
-  unfolding layoutListing
-  listing-laid e = shown-laid text n room listing e
+  -- the reports of one that is
+  module _ {what : Report} {es : Entries} (e : laidOf text (recordFields text n) ≡ give es) where
+    pub listing-laid : what ≡ Report.Listing → report what text n room ≡ fitting room (listing (foldedAll text es))
+    unfolding layoutListing
+    listing-laid is = rw is (shown-laid text n room listing e)
 
-  -- the details
-  pub details-refused : {r : Refusal} → laidOf text (recordFields text n) ≡ refuse r → layoutDetails text n room ≡ refuse r
-  unfolding layoutDetails
-  details-refused e = shown-not text n room entriesDetails e
-
-  pub details-laid : {es : Entries} → laidOf text (recordFields text n) ≡ give es → layoutDetails text n room ≡ fitting room (entriesDetails (foldedAll text es))
-  unfolding layoutDetails
-  details-laid e = shown-laid text n room entriesDetails e
+    pub details-laid :
+        what ≡ Report.Details → report what text n room ≡ fitting room (entriesDetails (foldedAll text es))
+    unfolding layoutDetails
+    details-laid is = rw is (shown-laid text n room entriesDetails e)
 
 -- the lists of a laid record nest at most 130 deep
 pub record-deep : {text : List ℕ} {read : Answer Forest} {w : List ℕ} {from to long : ℕ} → Listed text read w from to long → height (foldedAll text (listIn w from to)) ≤ 130

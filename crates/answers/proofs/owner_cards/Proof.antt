@@ -1,4 +1,4 @@
--- `copybook::byte_owner_cards` meets its contract: the checks of cards, then the owner in their view.
+-- `answers::owner_cards` meets its contract: the checks of cards, then the owner in their view.
 -- Assumes nothing.
 use borrow.Author.Needs.{needs}
 use mathlib.Core.Path.{sym, subst}
@@ -8,9 +8,9 @@ use lib.ListN.{length}
 use Rattle.definition.specs.declared.Check.{Check}
 use Rattle.definition.specs.Calls.{left, byteOwner, cleared}
 use Rattle.cards.specs.Viewed.{Seen, CardsRead}
-use Rattle.copybook.proofs.CardLaws.{cards-refused, cards-seen, cleared-call}
-use Rattle.copybook.proofs.byte_owner_cards.Statement.{statement}
-use Rattle.copybook.proofs.byte_owner_cards.Tie as tie
+use Rattle.answers.proofs.CardLaws.{cards-refused, cards-seen, cleared-call}
+use Rattle.answers.proofs.owner_cards.Statement.{statement}
+use Rattle.answers.proofs.owner_cards.Tie as tie
 
 -- the view, where the checks are passed
 seen :
@@ -23,8 +23,8 @@ seen x =
     let n = length (a .work .now) in
     subst (λ (y : Check). CardsRead (a .cards .now) n y (r .last .1 .1 .0)) (x .enum-told .given .1) (r .ensures)
 
-part-byte-owner-end : tie.Need-part-byte-owner-end
-part-byte-owner-end c =
+part-owner-end : tie.Need-part-owner-end
+part-owner-end c =
     let s = seen (c .before) .short in
     omega (arith, c .before .before .before .before .read-cards .kept .1 .1 .0)
 
@@ -39,7 +39,7 @@ returns c =
     (λ y. left y [] (cleared (a .work .now)))
     (x .before .before .before .read-cards .last .1 .1 .0)
     (seen x)
-    (c .before .before .byte-owner .ensures)
+    (c .before .before .owner .ensures)
 
 returns-2 : tie.Need-returns-2
 returns-2 c =
@@ -53,8 +53,8 @@ returns-2 c =
     (sym (cards-refused (λ t. byteOwner t n (a .position)) (a .cards .now) n
     (subst (λ (y : Check). CardsRead (a .cards .now) n y (r .last .1 .1 .0)) (x .r .given .1) (r .ensures))))
 
-pub byte-owner-cards-spec : {M : Type 1} → statement M
-byte-owner-cards-spec =
+pub owner-cards-spec : {M : Type 1} → statement M
+owner-cards-spec =
     tie.close
     (tie.spec
     (λ c. search needs)
@@ -62,7 +62,7 @@ byte-owner-cards-spec =
     (λ c. search needs)
     (λ c. search needs)
     (λ c. search needs)
-    part-byte-owner-end
+    part-owner-end
     (λ c κs. search needs)
     (λ c. search needs)
     returns

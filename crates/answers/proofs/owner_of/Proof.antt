@@ -1,4 +1,4 @@
--- `copybook::owner_of` meets its contract: the rows read, and a table for the entries of as many.
+-- `answers::owner_of` meets its contract: the rows read, and a table for the entries of as many.
 -- Assumes nothing.
 use borrow.Author.Needs.{needs}
 use Prim.Native.Nat.{ℕ}
@@ -9,9 +9,9 @@ use Rattle.definition.specs.Calls.{byteOwner}
 use Rattle.tree.specs.declared.RowsRead.{RowsRead}
 use Rattle.record.specs.Laying.{Read, CopybookRows}
 use Rattle.owner.proofs.OwnerLaws.{owner-refused}
-use Rattle.copybook.proofs.CallLaws.{not-read}
-use Rattle.copybook.proofs.owner_of.Statement.{statement}
-use Rattle.copybook.proofs.owner_of.Tie as tie
+use Rattle.answers.proofs.CallLaws.{not-read}
+use Rattle.answers.proofs.owner_of.Statement.{statement}
+use Rattle.answers.proofs.owner_of.Tie as tie
 
 -- the rows, where they are known to be read
 held :

@@ -1,4 +1,4 @@
--- `copybook::owner_in` meets its contract: the record laid, and the owner in it.
+-- `answers::owner_in` meets its contract: the record laid, and the owner in it.
 -- Assumes nothing.
 use borrow.Author.Needs.{needs}
 use mathlib.Core.Path.{subst, sym, _∙_}
@@ -7,8 +7,8 @@ use Rattle.definition.specs.Calls.{recordFields}
 use Rattle.record.specs.declared.RecordLaid.{RecordLaid}
 use Rattle.record.specs.Laying.{RecordIs}
 use Rattle.owner.proofs.OwnerLaws.{owner-refused, owner-laid, rows-listed}
-use Rattle.copybook.proofs.owner_in.Statement.{statement}
-use Rattle.copybook.proofs.owner_in.Tie as tie
+use Rattle.answers.proofs.owner_in.Statement.{statement}
+use Rattle.answers.proofs.owner_in.Tie as tie
 
 -- the record, where it is known to be laid
 laid :

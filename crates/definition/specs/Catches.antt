@@ -272,6 +272,9 @@ table =
     -- REDEFINES and DEPENDING ON
     ∷ accepted "05 A PIC X(2). 05 B REDEFINES A PIC X(5). 05 C PIC X." 5 false (column 0 5 Group ∷ column 0 2 Text ∷ column 0 5 Text ∷ column 2 1 Text ∷ [])
     ∷ turnedDown "05 A PIC X. 05 B PIC X. 05 B REDEFINES A PIC X. 05 C REDEFINES B PIC X." 30 48
+    -- 28 before 29
+    ∷ turnedDown "05 A PIC X. 05 B REDEFINES C OCCURS 2147483648 PIC X." 28 12
+    ∷ turnedDown "05 A PIC X. 05 B REDEFINES A OCCURS 2147483648 PIC X." 29 12
     ∷ accepted "05 N PIC 9(2). 05 T OCCURS 1 TO 5 DEPENDING ON N PIC X(3). 05 Z PIC X." 3 true (column 0 2 (Int false SignKind.Unsigned) ∷ column 2 3 Text ∷ column 2 1 Text ∷ [])
     -- a group is not aligned because a member is SYNC
     ∷ accepted "05 A PIC X. 05 G. 10 B PIC 9(4) COMP SYNC." 3 false (column 0 1 Text ∷ column 1 2 Group ∷ column 0 2 (Binary false) ∷ [])

@@ -140,8 +140,8 @@ enum copybook_number {
       "the symbols are X A 9 S V P Z * , . / B 0 $ + - CR DB; N, G and E are not taken") \
     R(COPYBOOK_PICTURE_MIXED, "text mixed with digits or editing", \
       "X and A stand alone: describe the parts as items of their own") \
-    R(COPYBOOK_PICTURE_DIGITS, "more than 255 digits, or an edited mask of more than 255 bytes", \
-      "no COBOL takes that many digits: look for a typing error") \
+    R(COPYBOOK_PICTURE_DIGITS, "more than 31 digits, or an edited mask of more than 255 bytes", \
+      "IBM's longest numbers have 31 digits: look for a typing error") \
     R(COPYBOOK_REDEFINES_TARGET, "REDEFINES names no earlier item of the same list", \
       "the target must stand before it, under the same group") \
     R(COPYBOOK_TOO_LARGE, "a count, an offset, a size or an end above 2,147,483,647", \

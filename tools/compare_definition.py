@@ -342,12 +342,12 @@ def symbols(word):
 
 
 def long_picture(i, answer):
-    """27, of a picture that the oracle accepts: over 255 digits, or a mask over 255 bytes."""
+    """27, of a picture that the oracle accepts: over 31 digits, or a mask over 255 bytes."""
     tally = collections.Counter()
     for symbol, n in runs(i.text.strip()):
         tally[symbol] += n
     digits = sum(tally[s] for s in (b"9", b"Z", b"*", b"P")) + sum(max(0, tally[s] - 1) for s in (b"$", b"+", b"-"))
-    return answer[2] != 1 and (digits > 255 or answer[2] == 5 and answer[6] > 255)
+    return answer[2] != 1 and (digits > layout_list.MOST_DIGITS or answer[2] == 5 and answer[6] > layout_list.LONGEST_MASK)
 
 
 def expected(i, answer):
@@ -372,7 +372,7 @@ def due(i, answer, number):
         0: guess != 29,
         14: i.text.count(b".") >= 800,
         24: any(symbols(w) > 65535 for w in words),
-        27: any(symbols(w) > 255 for w in words),
+        27: any(symbols(w) > layout_list.MOST_DIGITS for w in words),
         29: answer[0] != 1 or guess == 29 or b"DEPENDING" in i.text.upper(),
         30: answer == [2],
     }.get(number, False)

@@ -70,7 +70,7 @@ SYMBOLS = generator.SYMBOLS
 FLOATS = [float_ * n + tail for float_ in ("$", "+", "-") for n in (1, 2, 3, 12) for tail in ("", "9", ".99", ",$$$", "9.99CR", "+", "-")]
 HALVES = [c + a + r + b for c, r in ("CR", "DB", "cr", "Db") for a in ("", "(0)", "(1)", "(2)", "(+1)", "( 1 )") for b in ("", "(0)", "(1)", "(2)")]
 ZEROS = [s + "(0)" for s in SYMBOLS] + [s + "(0)9" for s in SYMBOLS] + ["X" + s + "(0)" for s in SYMBOLS]
-COUNTS = [s + f"({n})" for s in "X9ZSPV$" for n in (0, 1, 4, 5, 9, 10, 17, 18, 19, 31, 38, 254, 255, 256, 65534, 65535, 65536, 2**32, 2**64 - 1, 2**64, 2**64 + 3, 10 * 2**64)]
+COUNTS = [s + f"({n})" for s in "X9ZSPV$" for n in (0, 1, 4, 5, 9, 10, 17, 18, 19, 30, 31, 32, 33, 38, 254, 255, 256, 65534, 65535, 65536, 2**32, 2**64 - 1, 2**64, 2**64 + 3, 10 * 2**64)]
 
 
 def picture_inputs():
@@ -139,13 +139,16 @@ def both(number, position=0):
 
 # Usage, sign, picture, room, and the answers of `parse_pic` and `mask`.
 DOCUMENT = [
-    # the catches: 255 digits pass and 256 are refused, P holds no byte
-    (DISPLAY, NONE, "9(255)", ROOM, *plain(255, INT, 0, 0)),
+    # the catches: 31 digits pass and 32 are refused, P holds no byte
+    (DISPLAY, NONE, "9(31)", ROOM, *plain(31, INT, 0, 0)),
+    (DISPLAY, NONE, "9(32)", ROOM, *both(27)),
+    (COMP, NONE, "9(31)", ROOM, *plain(8, BINARY, 0)),
+    (COMP, NONE, "9(32)", ROOM, *both(27)),
+    (COMP3, NONE, "9(31)", ROOM, *plain(16, DECIMAL, 31, 0, STORED_COMP3, 1)),
+    (COMP3, NONE, "9(32)", ROOM, *both(27)),
+    (DISPLAY, NONE, "9(255)", ROOM, *both(27)),
     (DISPLAY, NONE, "9(256)", ROOM, *both(27)),
-    (COMP, NONE, "9(255)", ROOM, *plain(8, BINARY, 0)),
-    (COMP, NONE, "9(256)", ROOM, *both(27)),
-    (COMP3, NONE, "9(255)", ROOM, *plain(128, DECIMAL, 255, 0, STORED_COMP3, 1)),
-    (COMP3, NONE, "9(256)", ROOM, *both(27)),
+    (COMP3, NONE, "9(257)", ROOM, *both(27)),
     (DISPLAY, NONE, "99P", ROOM, *plain(2, DECIMAL, 3, 1, STORED_DISPLAY, 0)),
     # P: precision and scale count it, no width does, and the mask keeps it
     (DISPLAY, LEADING, "99P", ROOM, *plain(2, DECIMAL, 3, 1, STORED_DISPLAY, 0)),
@@ -172,32 +175,41 @@ DOCUMENT = [
     (COMP, NONE, "ZZ9P", 0, *plain(2, BINARY, 0)),
     (DISPLAY, NONE, "B(253)9P", ROOM, *edited(254, 2, 1, 0, "B" * 253 + "9P")),
     (DISPLAY, NONE, "B(254)9P", ROOM, *both(27)),
-    (DISPLAY, NONE, "9(254)P", ROOM, *plain(254, DECIMAL, 255, 1, STORED_DISPLAY, 0)),
-    (DISPLAY, NONE, "9(254)PP", ROOM, *both(27)),
+    (DISPLAY, NONE, "9(30)P", ROOM, *plain(30, DECIMAL, 31, 1, STORED_DISPLAY, 0)),
+    (DISPLAY, NONE, "9(30)PP", ROOM, *both(27)),
     (DISPLAY, NONE, "XP", ROOM, *both(26)),
-    # over 255 digits, however they are said
-    (DISPLAY, NONE, "S9(255)", ROOM, *plain(255, DECIMAL, 255, 0, STORED_ZONED, 1)),
-    (DISPLAY, LEADING, "S9(255)", ROOM, *plain(256, INT, 1, 2)),
-    (DISPLAY, NONE, "S9(256)", ROOM, *both(27)),
-    (DISPLAY, NONE, "9(255)V9", ROOM, *both(27)),
-    (DISPLAY, NONE, "9(254)V9", ROOM, *plain(255, DECIMAL, 255, 1, STORED_DISPLAY, 0)),
-    (DISPLAY, NONE, "9(255)P", ROOM, *both(27)),
-    (DISPLAY, NONE, "P(255)", ROOM, *plain(0, DECIMAL, 255, 255, STORED_DISPLAY, 0)),
-    (DISPLAY, NONE, "P(256)", ROOM, *both(27)),
-    (COMP, NONE, "$(256)", ROOM, *plain(8, BINARY, 0)),
-    (COMP, NONE, "$(257)", ROOM, *both(27)),
+    # over 31 digits, however they are said
+    (DISPLAY, NONE, "S9(31)", ROOM, *plain(31, DECIMAL, 31, 0, STORED_ZONED, 1)),
+    (DISPLAY, LEADING, "S9(31)", ROOM, *plain(32, INT, 1, 2)),
+    (DISPLAY, NONE, "S9(32)", ROOM, *both(27)),
+    (DISPLAY, NONE, "9(31)V9", ROOM, *both(27)),
+    (DISPLAY, NONE, "9(30)V9", ROOM, *plain(31, DECIMAL, 31, 1, STORED_DISPLAY, 0)),
+    (DISPLAY, NONE, "9(31)P", ROOM, *both(27)),
+    (DISPLAY, NONE, "P(31)", ROOM, *plain(0, DECIMAL, 31, 31, STORED_DISPLAY, 0)),
+    (DISPLAY, NONE, "P(32)", ROOM, *both(27)),
+    (COMP, NONE, "$(32)", ROOM, *plain(8, BINARY, 0)),
+    (COMP, NONE, "$(33)", ROOM, *both(27)),
+    (DISPLAY, NONE, "+(32)", ROOM, *edited(32, 31, 0, 1, "+" * 32)),
+    (DISPLAY, NONE, "-(33)", ROOM, *both(27)),
+    (DISPLAY, NONE, "$(17)+(17)", ROOM, *both(27)),
+    (DISPLAY, NONE, "$(16)+(16)9", ROOM, *edited(33, 31, 0, 1, "$" * 16 + "+" * 16 + "9")),
+    (DISPLAY, NONE, "*(31)", ROOM, *edited(31, 31, 0, 0, "*" * 31)),
+    (COMP3, NONE, "*(32)", ROOM, *both(27)),
     (COMP, NONE, "B(256)9", ROOM, *plain(2, BINARY, 0)),
+    (DISPLAY, NONE, "X(32)", ROOM, *plain(32, TEXT)),
     (DISPLAY, NONE, "X(256)", ROOM, *plain(256, TEXT)),
     # a mask of 255 and of 256
-    (DISPLAY, NONE, "Z(255)", ROOM, *edited(255, 255, 0, 0, "Z" * 255)),
-    (DISPLAY, NONE, "Z(256)", ROOM, *both(27)),
+    (DISPLAY, NONE, "Z(31)", ROOM, *edited(31, 31, 0, 0, "Z" * 31)),
+    (DISPLAY, NONE, "Z(32)", ROOM, *both(27)),
     (DISPLAY, NONE, "B(255)", ROOM, *edited(255, 1, 0, 0, "B" * 255)),
     (DISPLAY, NONE, "B(256)", ROOM, *both(27)),
-    (DISPLAY, NONE, "9(253)CR", ROOM, *edited(255, 253, 0, 1, "9" * 253 + "CR")),
-    (DISPLAY, NONE, "9(254)CR", ROOM, *both(27)),
-    (DISPLAY, NONE, "S(65279)V(1)$(255)", ROOM, *edited(255, 254, 0, 1, "$" * 255)),
-    (DISPLAY, NONE, "S(65279)V(1)$(256)", ROOM, *both(24)),
-    (DISPLAY, NONE, "S(65278)V(1)$(256)", ROOM, *both(27)),
+    (DISPLAY, NONE, "9,(254)", ROOM, *edited(255, 1, 0, 0, "9" + "," * 254)),
+    (DISPLAY, NONE, "9,(255)", ROOM, *both(27)),
+    (DISPLAY, NONE, "0(252)9CR", ROOM, *edited(255, 1, 0, 1, "0" * 252 + "9CR")),
+    (DISPLAY, NONE, "0(253)9CR", ROOM, *both(27)),
+    (DISPLAY, NONE, "S(65279)V(1)/(255)", ROOM, *edited(255, 1, 0, 1, "/" * 255)),
+    (DISPLAY, NONE, "S(65279)V(1)/(256)", ROOM, *both(24)),
+    (DISPLAY, NONE, "S(65278)V(1)/(256)", ROOM, *both(27)),
     # 65,535 symbols and one more, during expansion: before a symbol that is none and before a text mixed with digits, after a bad count
     (DISPLAY, NONE, "X(65535)", ROOM, *plain(65535, TEXT)),
     (DISPLAY, NONE, "X(65536)", ROOM, *both(24)),
@@ -227,12 +239,12 @@ DOCUMENT = [
     (DISPLAY, NONE, "zz9v.99b", 0, *edited(7, 5, 2, 0, "ZZ9.99B", 0)),
     (DISPLAY, NONE, "zz9v.99b", 7, *edited(7, 5, 2, 0, "ZZ9.99B")),
     (DISPLAY, NONE, "$$$9", 4, *edited(4, 3, 0, 0, "$$$9")),
-    (DISPLAY, NONE, "Z(255)", 254, *edited(255, 255, 0, 0, "Z" * 255, 254)),
+    (DISPLAY, NONE, "B(255)", 254, *edited(255, 1, 0, 0, "B" * 255, 254)),
     (DISPLAY, NONE, "Z(0).(0)", 0, *plain(0, INT, 0, 0)),
     (DISPLAY, NONE, "9(4)", 0, *plain(4, INT, 0, 0)),
     (COMP, NONE, "ZZ9.99", 0, *plain(4, BINARY, 0)),
     (COMP3, NONE, "ZZ9.99", 0, *plain(3, DECIMAL, 5, 2, STORED_COMP3, 1)),
-    (DISPLAY, NONE, "Z(256)", 0, *both(27)),
+    (DISPLAY, NONE, "Z(32)", 0, *both(27)),
     (DISPLAY, NONE, "ZX", 0, *both(26)),
     (DISPLAY, NONE, "", 0, *plain(0, INT, 0, 0)),
     # marked catches, once more by running
@@ -478,9 +490,9 @@ def layout_document():
     cases = [
         (fish, listed(fish, 20, 0, 3, item("TAG", 0, 5, TEXT), item("SIRE", 6, 2, BINARY, 0), item("WT", 8, 4, DECIMAL, 4, 1, STORED_DISPLAY, 0, occurs=3))),
         # the catches that are not marked
-        one("05 A PIC 9(255).", 0, 255, INT, 0, 0),
-        ("05 A PIC 9(256).", refused(27, 0)),
-        ("05 Z PIC X. 05 A PIC 9(256).", refused(27, 12)),
+        one("05 A PIC 9(31).", 0, 31, INT, 0, 0),
+        ("05 A PIC 9(32).", refused(27, 0)),
+        ("05 Z PIC X. 05 A PIC 9(32).", refused(27, 12)),
         (chain(66), listed(chain(66), 1, 0, 1, *(item(f"G{k}", 0, 1, GROUP, 1) for k in range(2, 66)), item("A", 0, 1, TEXT))),
         (chain(67), refused(20, len(chain(67)) - len("67 A PIC X."))),
         one("05 A PIC 99P.", 0, 2, DECIMAL, 3, 1, STORED_DISPLAY, 0),
@@ -491,7 +503,8 @@ def layout_document():
         # the traps: a statement that ends at every period, the cursor past a wide redefiner, COMP-3 digits modulo 256, an aligned group
         (dots, listed(dots, 4, 0, 2, item("A", 0, 3, EDITED, 2, 1, 0, "9.9"), item("B.C", 3, 1, TEXT))),
         (wide, listed(wide, 5, 0, 2, item("A", 0, 5, GROUP, 2), item("A", 0, 2, TEXT), item("B", 0, 5, TEXT), item("C", 2, 1, TEXT))),
-        one("05 A PIC 9(255) COMP-3.", 0, 128, DECIMAL, 255, 0, STORED_COMP3, 1),
+        one("05 A PIC 9(31) COMP-3.", 0, 16, DECIMAL, 31, 0, STORED_COMP3, 1),
+        ("05 A PIC 9(32) COMP-3.", refused(27, 0)),
         ("05 A PIC 9(256) COMP-3.", refused(27, 0)),
         ("05 A PIC 9(257) COMP-3.", refused(27, 0)),
         (group, listed(group, 5, 0, 2, item("A", 0, 1, TEXT), item("G", 1, 4, GROUP, 2), item("B", 0, 1, TEXT), item("C", 2, 2, BINARY, 0))),

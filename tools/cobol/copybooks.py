@@ -177,6 +177,21 @@ class Maker:
             picture += self.repeat("9", n - before)
         return picture
 
+    def long_item(self):
+        """A number of 19 to 31 digits, DISPLAY, COMP-3 or edited."""
+        n = self.rng.choice((19, 20, 25, 28, 29, 30, 31, 31))
+        form = self.rng.randrange(4)
+        if form == 0:
+            clauses = self.pic(self.number_picture(self.chance(0.5), n))
+        elif form == 1:
+            clauses = self.pic(self.number_picture(self.chance(0.5), n)) + " " + self.comp3()
+        elif form == 2:
+            clauses = self.pic(self.repeat("9", n - 2) + "PP")
+        else:
+            head = self.rng.choice((f"Z({n})", f"*({n})", f"Z({n - 1})9", f"$({n})9", f"+({n})9", f"-({n + 1})", f"Z({n - 3})9.99", f"Z({n - 3})9V99"))
+            clauses = self.pic(head)
+        return Item(self.name(), clauses, "long")
+
     def scaled_picture(self, sign, n):
         """n 9s with P at one end, 18 digits with them at most."""
         scale = self.repeat("P", self.rng.choice((1, 1, 2, 3, 4, 8)))
@@ -435,6 +450,11 @@ def scaled(m):
     return m.list(("scaled", "scaled", "scaled-edited", "display"), 3, 12)
 
 
+def long_numbers(m):
+    """Numbers of 19 to 31 digits."""
+    return [m.long_item() for _ in range(m.rng.randint(2, 10))]
+
+
 def groups(m):
     return m.nested(PLAIN, 5, 0, 2, 5)
 
@@ -532,7 +552,7 @@ def native(m):
 
 
 # A class of copybooks, how it is made, and its share. Those of AGREEING meet no departure.
-AGREEING = {"usages": (usages, 3), "signs": (signs, 2), "edited": (edited, 3), "scaled": (scaled, 3), "groups": (groups, 2), "tables": (tables, 3), "redefines": (redefines, 3),
+AGREEING = {"usages": (usages, 3), "signs": (signs, 2), "edited": (edited, 3), "scaled": (scaled, 3), "long": (long_numbers, 2), "groups": (groups, 2), "tables": (tables, 3), "redefines": (redefines, 3),
             "conditions": (conditions, 1), "literals": (literals, 2), "cards": (cards, 3), "sync": (sync, 3), "sync-aligned": (sync_aligned, 2), "mixed": (mixed, 3), "single": (None, 1)}
 DEPARTURES = {"depending": (depending, 2), "comp-5": (native, 1), "sync-in-groups": (sync_groups, 2), "sync-in-tables": (sync_tables, 2)}
 

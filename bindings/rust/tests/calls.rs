@@ -63,7 +63,7 @@ fn scaling_positions() {
 /// The refusals of a picture, which has no place in a copybook.
 #[test]
 fn pictures_refused() {
-    for (text, number) in [("X(", 22), ("X()", 23), ("X(65536)", 24), ("Q", 25), ("X9", 26), ("9(256)", 27)] {
+    for (text, number) in [("X(", 22), ("X()", 23), ("X(65536)", 24), ("Q", 25), ("X9", 26), ("9(32)", 27)] {
         let r = picture(text.as_bytes(), Usage::Display, None).unwrap_err();
         assert_eq!((r.number, r.position, r.line, r.column, r.needed), (number, 0, 0, 0, 0), "{text}");
         assert_eq!(mask(text.as_bytes(), Usage::Display), Err(r), "{text}");
@@ -76,8 +76,10 @@ fn masks() {
     assert_eq!(mask(b"*(4)9-", Usage::Display).unwrap(), "****9-");
     assert_eq!(mask(b"9(3)V99", Usage::Display).unwrap(), "");
     assert_eq!(mask(b"zz9", Usage::Comp3).unwrap(), "");
-    assert_eq!(mask(b"Z(255)", Usage::Display).unwrap(), "Z".repeat(255));
-    assert_eq!(mask(b"Z(256)", Usage::Display).unwrap_err().number, 27);
+    assert_eq!(mask(b"Z(31)", Usage::Display).unwrap(), "Z".repeat(31));
+    assert_eq!(mask(b"Z(32)", Usage::Display).unwrap_err().number, 27);
+    assert_eq!(mask(b"B(255)", Usage::Display).unwrap(), "B".repeat(255));
+    assert_eq!(mask(b"B(256)", Usage::Display).unwrap_err().number, 27);
 }
 
 /// The mask of an edited entry, from the picture that the listing points to.

@@ -100,8 +100,8 @@ fn sentences() {
     says("05 A OCCURS 9999999999 PIC X.", "A has a count, an offset, a size or an end above 2,147,483,647", "");
     let fold = "05 A PIC X. 05 B PIC X. 05 B REDEFINES A PIC X. 05 C REDEFINES B PIC X.";
     says(fold, "C starts before the item B that it is folded under", "B");
-    let far = "05 A PIC 9(256). 05 B PIC Q.";
-    says(far, "the picture 9(256) of A has more than 255 digits, or an edited mask of more than 255 bytes", "9(256)");
+    let far = "05 A PIC 9(32). 05 B PIC Q.";
+    says(far, "the picture 9(32) of A has more than 31 digits, or an edited mask of more than 255 bytes", "9(32)");
 }
 
 /// An open literal is told as far as its line goes, and what stands behind a literal is found.
@@ -210,7 +210,7 @@ fn every_number() {
         refused(b"05 A PIC X(65536)."),
         refused(b"05 A PIC Q."),
         refused(b"05 A PIC X9."),
-        refused(b"05 A PIC 9(256)."),
+        refused(b"05 A PIC 9(32)."),
         refused(b"05 A REDEFINES B PIC X."),
         refused(b"05 A PIC X OCCURS 2147483648."),
         refused(b"05 A PIC X. 05 B PIC X. 05 B REDEFINES A PIC X. 05 C REDEFINES B PIC X."),

@@ -84,7 +84,7 @@ pub fn byte_owner_cards(cards: &[u8], position: usize, work: &mut [u32]) -> Owne
 
 // Kind, its details and width of one picture with a usage and a sign. Refusals, in this order: 1 over 65,535 bytes; 2 a byte over 127, at the first
 // one; then symbol by symbol 22 no `)`, 23 no repeat count, 24 over 65,535 symbols; then 25 no symbol, 26 text mixed with a digit or editing, 27 over
-// 255 digits or an edited DISPLAY mask over 255; at 0 except 2.
+// 31 digits, P included, or an edited DISPLAY mask over 255; at 0 except 2.
 // The contract rules out a program that counts `$$$9` as four digits, and one that gives a P a byte under some usage.
 pub fn parse_pic(pic: &[u8], usage: Usage, sign: SignClause) -> PicAnswer
     ensures { λ r. ⌜ pictureOf r ≡ pictureAnswer usage sign (now (pic .entry)) ⌝ }

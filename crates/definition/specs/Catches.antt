@@ -113,6 +113,8 @@ pub data Catch : Type 0 where
   pictured : String → Usage → SignClause → ℕ → FieldKind → Catch
   -- a picture, and its widths: under DISPLAY with no sign and with each of the four, under COMP-3, under COMP
   widths : String → List ℕ → Catch
+  -- a picture with a usage, and the number of its refusal
+  unread : String → Usage → ℕ → Catch
   -- a picture under DISPLAY, and its mask
   masked : String → String → Catch
   -- a copybook, a position, and the byte's owner
@@ -156,6 +158,7 @@ rightIn form (noDetails text room needed) =
 rightIn form (pictured text u s width kind) =
     gives (λ p. same (column 0 (p .width) (p .kind)) (column 0 width kind)) (pictureAnswer u s (bytes text))
 rightIn form (widths text ws) = same (widthsOf (bytes text) everySign) ws
+rightIn form (unread text u n) = refuses n 0 0 (pictureAnswer u SignClause.Absent (bytes text))
 rightIn form (masked text m) = gives (same (bytes m)) (pictureMask Usage.Display (bytes text) (length (bytes m)))
 rightIn form (owned text p o) =
     gives (λ a. same (ownerShown a) (ownerShown o)) (asked form (λ t. byteOwner t 16384 p) (bytes text))
@@ -258,11 +261,43 @@ table =
     ∷ pictured "zp(2)9.9" Usage.Display SignClause.Absent 4 (Edited 5 3 false)
     ∷ masked "zp(2)9.9" "ZPP9.9"
     ∷ masked "SVZ" "Z"
-    -- the digits and the mask of 27 count it
-    ∷ accepted "05 A PIC 9(254)P." 254 false (column 0 254 (Decimal 255 1 NumRepr.Display SignKind.Unsigned) ∷ [])
-    ∷ turnedDown "05 A PIC 9(254)PP." 27 0
-    ∷ accepted "05 A PIC B(253)9P." 254 false (column 0 254 (Edited 2 1 false) ∷ [])
-    ∷ turnedDown "05 A PIC B(254)9P." 27 0
+    -- 31 digits and no more, P included
+    ∷ widths "9(31)" (31 ∷ 31 ∷ 31 ∷ 31 ∷ 31 ∷ 16 ∷ 8 ∷ [])
+    ∷ widths "S9(31)" (31 ∷ 31 ∷ 31 ∷ 32 ∷ 32 ∷ 16 ∷ 8 ∷ [])
+    ∷ widths "9(30)V9" (31 ∷ 31 ∷ 31 ∷ 31 ∷ 31 ∷ 16 ∷ 8 ∷ [])
+    ∷ widths "9(30)P" (30 ∷ 30 ∷ 30 ∷ 30 ∷ 30 ∷ 16 ∷ 8 ∷ [])
+    ∷ widths "Z(31)" (31 ∷ 31 ∷ 31 ∷ 31 ∷ 31 ∷ 16 ∷ 8 ∷ [])
+    ∷ widths "*(31)" (31 ∷ 31 ∷ 31 ∷ 31 ∷ 31 ∷ 16 ∷ 8 ∷ [])
+    ∷ widths "$(32)" (32 ∷ 32 ∷ 32 ∷ 32 ∷ 32 ∷ 16 ∷ 8 ∷ [])
+    ∷ widths "+(32)" (32 ∷ 32 ∷ 32 ∷ 32 ∷ 32 ∷ 16 ∷ 8 ∷ [])
+    ∷ widths "-(32)" (32 ∷ 32 ∷ 32 ∷ 32 ∷ 32 ∷ 16 ∷ 8 ∷ [])
+    ∷ pictured "9(31)" Usage.Comp3 SignClause.Absent 16 (Decimal 31 0 NumRepr.Comp3 SignKind.Embedded)
+    ∷ pictured "9(30)P" Usage.Display SignClause.Absent 30 (Decimal 31 1 NumRepr.Display SignKind.Unsigned)
+    ∷ unread "9(32)" Usage.Display 27
+    ∷ unread "9(32)" Usage.Comp3 27
+    ∷ unread "9(32)" Usage.Comp 27
+    ∷ unread "9(31)V9" Usage.Display 27
+    ∷ unread "9(31)P" Usage.Display 27
+    ∷ unread "P(32)" Usage.Comp 27
+    ∷ unread "Z(32)" Usage.Display 27
+    ∷ unread "*(32)" Usage.Comp3 27
+    ∷ unread "$(33)" Usage.Display 27
+    ∷ unread "+(33)" Usage.Display 27
+    ∷ unread "-(33)" Usage.Comp 27
+    ∷ turnedDown "05 Z PIC X. 05 A PIC 9(32)." 27 12
+    ∷ pictured "X(32)" Usage.Display SignClause.Absent 32 Text
+    -- a mask of 255 bytes and no more, P included
+    ∷ pictured "B(255)" Usage.Display SignClause.Absent 255 (Edited 1 0 false)
+    ∷ pictured "9,(254)" Usage.Display SignClause.Absent 255 (Edited 1 0 false)
+    ∷ pictured "0(255)" Usage.Display SignClause.Absent 255 (Edited 1 0 false)
+    ∷ pictured "/(254)Z" Usage.Display SignClause.Absent 255 (Edited 1 0 false)
+    ∷ pictured "B(253)9P" Usage.Display SignClause.Absent 254 (Edited 2 1 false)
+    ∷ unread "B(256)" Usage.Display 27
+    ∷ unread "9,(255)" Usage.Display 27
+    ∷ unread "0(256)" Usage.Display 27
+    ∷ unread "/(255)Z" Usage.Display 27
+    ∷ unread "B(254)9P" Usage.Display 27
+    ∷ pictured "B(256)9" Usage.Comp SignClause.Absent 2 (Binary false)
     -- SEPARATE counts after VALUE, which ends the reading of the other clauses
     ∷ accepted "05 A PIC S9(4) SIGN TRAILING VALUE 5 SEPARATE COMP." 5 false (column 0 5 (Int true SignKind.TrailingSeparate) ∷ [])
     -- PIC is the name; levels

@@ -22,6 +22,14 @@ deepest = 64
 abbrev pub mostSymbols : ℕ
 mostSymbols = 65535
 
+-- a number has no more digits, P included (27)
+abbrev pub mostDigits : ℕ
+mostDigits = 31
+
+-- a mask has no more bytes (27)
+abbrev pub longestMask : ℕ
+longestMask = 255
+
 -- no count, aligned cursor, size or end is larger (29)
 abbrev pub largest : ℕ
 largest = 2147483647

@@ -18,7 +18,7 @@ use Rattle.definition.specs.declared.SignClause.{SignClause}
 use Rattle.definition.specs.declared.NumRepr.{NumRepr}
 use Rattle.definition.specs.declared.FieldKind.{FieldKind}
 use Rattle.definition.specs.declared.Pictured.{Pictured}
-use Rattle.definition.specs.Limits.{mostSymbols}
+use Rattle.definition.specs.Limits.{mostSymbols, mostDigits, longestMask}
 use Rattle.definition.specs.Basic.{if_then_else_, is, among, white, upper, count, Answer, refuse, give, _>>=_, refused, refuseIf, orRefuse}
 
 -- ---------------------------------------------------------------- repeats
@@ -203,9 +203,9 @@ kinded usage clause l =
 abbrev pub mixed : List ℕ → Bool
 mixed l = isText l && (ltb 0 (allDigits l) || isEdited l)
 
--- 27: non-text with over 255 digits, or an edited DISPLAY mask over 255
+-- 27: non-text with over 31 digits, P included, or an edited DISPLAY mask over 255
 abbrev pub tooLong : Usage → List ℕ → Bool
-tooLong usage l = not (isText l) && (ltb 255 (allDigits l) || isMasked usage l && ltb 255 (length (mask l)))
+tooLong usage l = not (isText l) && (ltb mostDigits (allDigits l) || isMasked usage l && ltb longestMask (length (mask l)))
 
 -- the symbols of a picture, if it is not refused; white space around it is trimmed
 unfoldable pub symbols : ℕ → Usage → List ℕ → Answer (List ℕ)

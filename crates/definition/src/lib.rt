@@ -12,6 +12,10 @@ pub const DEEPEST: u32 = 64;
 
 pub const MOST_SYMBOLS: u32 = 65535;
 
+pub const MOST_DIGITS: usize = 31;
+
+pub const LONGEST_MASK: usize = 255;
+
 pub const LARGEST: usize = 2147483647;
 
 pub const LARGEST_COUNT: u64 = 2147483647;

@@ -15,7 +15,7 @@ use Rattle.definition.specs.declared.NumRepr.{NumRepr}
 use Rattle.definition.specs.declared.FieldKind.{FieldKind}
 use Rattle.definition.specs.declared.Pictured.{Pictured}
 use Rattle.definition.specs.declared.Statement.{Statement}
-use Rattle.definition.specs.Limits.{mostBytes}
+use Rattle.definition.specs.Limits.{mostBytes, mostDigits, longestMask}
 use Rattle.definition.specs.Basic.{if_then_else_, upper, give, _>>=_}
 use Rattle.definition.specs.Tree.{Forest, leaf, item}
 use Rattle.definition.specs.Picture.{expand, allDigits, storedDigits, fraction, isText, isMasked, mask, pictured, isEmbedded, signBytes, storageWidth, display, numeric, kinded, tooLong, symbols, picture}
@@ -67,7 +67,7 @@ eight true b = omega arith
 eight false true = omega arith
 eight false false = omega arith
 
-module _ (precision scale digits : ℕ) (h : precision ≤ 255) (l : scale ≤ precision) (d : digits ≤ precision) (signed : Bool) (g : SignKind) where
+module _ (precision scale digits : ℕ) (h : precision ≤ mostDigits) (l : scale ≤ precision) (d : digits ≤ precision) (signed : Bool) (g : SignKind) where
   display-bytes : Bytes (display precision scale signed g)
   display-bytes =
       bytes-test (eqb scale 0 && not (signed && isEmbedded g)) (FieldKind.Int signed g) (FieldKind.Decimal precision scale (if signed && isEmbedded g then NumRepr.Zoned else NumRepr.Display) g) tt (omega arith, omega arith)
@@ -78,10 +78,10 @@ module _ (precision scale digits : ℕ) (h : precision ≤ 255) (l : scale ≤ p
   numeric-bounded Usage.Comp = record { width = omega (arith, eight (leb digits 4) (leb digits 9)); bytes = tt }
 
 module _ (u : Usage) (g : SignClause) (l : List ℕ) (h : length l ≤ mostBytes) (n : tooLong u l ≡ false) where
-  short : isText l ≡ false → allDigits l ≤ 255
+  short : isText l ≡ false → allDigits l ≤ mostDigits
   short e =
-      let q : (ltb 255 (allDigits l) || isMasked u l && ltb 255 (length (mask l))) ≡ false = ap (λ (b : Bool). not b && (ltb 255 (allDigits l) || isMasked u l && ltb 255 (length (mask l)))) (sym e) ∙ n in
-      ltb-false 255 (allDigits l) (or-false (ltb 255 (allDigits l)) (isMasked u l && ltb 255 (length (mask l))) q .0)
+      let q : (ltb mostDigits (allDigits l) || isMasked u l && ltb longestMask (length (mask l))) ≡ false = ap (λ (b : Bool). not b && (ltb mostDigits (allDigits l) || isMasked u l && ltb longestMask (length (mask l)))) (sym e) ∙ n in
+      ltb-false mostDigits (allDigits l) (or-false (ltb mostDigits (allDigits l)) (isMasked u l && ltb longestMask (length (mask l))) q .0)
 
   kinded-bounded : Bounded (kinded u g l)
   unfolding kinded

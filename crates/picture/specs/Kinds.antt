@@ -10,6 +10,7 @@ use Rattle.definition.specs.declared.Usage.{Usage}
 use Rattle.definition.specs.declared.SignClause.{SignClause}
 use Rattle.definition.specs.declared.FieldKind.{FieldKind}
 use Rattle.definition.specs.declared.Pictured.{Pictured}
+use Rattle.definition.specs.Limits.{mostDigits, longestMask}
 use Rattle.definition.specs.Basic.{if_then_else_, Answer, refuse, give, _>>=_, refuseIf}
 use Rattle.definition.specs.Picture.{tally, without, mask, fraction, allDigits, storedDigits, isSigned, isEdited, pictured, isDisplay, resolveSign, storageWidth, numeric, symbols}
 use Rattle.symbols.specs.declared.Tallies.{Tallies}
@@ -60,7 +61,7 @@ mixedBy s = ltb 0 (s .text) && (ltb 0 (s .digits) || s .edited)
 
 -- too many digits, or too long a mask
 abbrev pub longBy : Usage → PicShape → Bool
-longBy usage s = not (ltb 0 (s .text)) && (ltb 255 (s .digits) || maskedBy usage s && ltb 255 (s .mask))
+longBy usage s = not (ltb 0 (s .text)) && (ltb mostDigits (s .digits) || maskedBy usage s && ltb longestMask (s .mask))
 
 -- kind and width
 abbrev pub kindedBy : Usage → SignClause → PicShape → Pictured
@@ -78,7 +79,7 @@ judged at usage s half = do
   _ ← refuseIf (longBy usage s) 27 at
   give s
 
--- a shape whose digits fit their bytes
+-- a shape that is not too long
 pub record Fit (usage : Usage) (s : PicShape) : Type 0 where
   pub short : longBy usage s ≡ false
   pub part : s .scale ≤ s .digits

@@ -2,12 +2,15 @@
 ghost use Prim.Native.Nat.{ℕ, _+_, _-_, _≤_, max};
 ghost use mathlib.Core.Path.{_≡_};
 ghost use mathlib.Core.Bool.{_&&_};
+ghost use Rattle.definition.specs.Limits.{mostDigits};
 ghost use Rattle.definition.specs.Picture.{isDisplay, resolveSign, isEmbedded, signBytes};
 ghost use Rattle.definition.specs.Picture.{compWidth, byteWidth, storageWidth, display as displayOf, numeric as numericOf, picture as pictureIn};
 ghost use Rattle.definition.specs.Calls.{pictureOf};
 ghost use Rattle.symbols.specs.Shape.{Small};
 ghost use Rattle.picture.specs.Kinds.{shapeOf, maskedBy, mixedBy, longBy, kindedBy, Fit, Judged, Reads};
 use definition::FieldKind;
+use definition::LONGEST_MASK;
+use definition::MOST_DIGITS;
 use definition::NumRepr;
 use definition::PicAnswer;
 use definition::Pictured;
@@ -102,18 +105,18 @@ fn is_mixed(s: PicShape) -> bool
     s.edited
 }
 
-// Whether a picture that is no text has over 255 digits, or an edited DISPLAY one a mask over 255.
+// Whether a picture that is no text has over 31 digits, P included, or an edited DISPLAY one a mask over 255.
 fn is_long(s: PicShape, usage: Usage) -> bool
     ensures { λ r. ⌜ r ≡ longBy usage s ⌝ }
 {
     if 0 < s.text {
         return false;
     }
-    if 255 < s.digits {
+    if MOST_DIGITS < s.digits {
         return true;
     }
     if is_masked(s, usage) {
-        return 255 < s.mask;
+        return LONGEST_MASK < s.mask;
     }
     false
 }
@@ -232,7 +235,7 @@ fn is_zoned(signed: bool, sign: SignKind) -> bool
 
 // The bytes that a number takes: P holds none.
 fn storage_width(s: PicShape, usage: Usage, sign: SignKind) -> usize
-    requires { ⌜ s .stored ≤ 255 ⌝ }
+    requires { ⌜ s .stored ≤ mostDigits ⌝ }
     ensures { λ r. ⌜ r ≡ storageWidth usage sign (s .stored) ⌝ }
 {
     match usage {
@@ -244,7 +247,7 @@ fn storage_width(s: PicShape, usage: Usage, sign: SignKind) -> usize
 
 // The kind of a number in DISPLAY.
 fn display(precision: usize, scale: usize, signed: bool, sign: SignKind) -> FieldKind
-    requires { ⌜ (precision ≤ 255) × (scale ≤ 255) ⌝ }
+    requires { ⌜ (precision ≤ mostDigits) × (scale ≤ mostDigits) ⌝ }
     ensures { λ r. ⌜ r ≡ displayOf precision scale signed sign ⌝ }
 {
     if is_zoned(signed, sign) {
@@ -268,7 +271,7 @@ fn display(precision: usize, scale: usize, signed: bool, sign: SignKind) -> Fiel
 
 // The kind of a number.
 fn numeric(usage: Usage, precision: usize, scale: usize, signed: bool, sign: SignKind) -> FieldKind
-    requires { ⌜ (precision ≤ 255) × (scale ≤ 255) ⌝ }
+    requires { ⌜ (precision ≤ mostDigits) × (scale ≤ mostDigits) ⌝ }
     ensures { λ r. ⌜ r ≡ numericOf usage precision scale signed sign ⌝ }
 {
     match usage {

@@ -169,10 +169,10 @@ impl Maker {
         head + &nines + tail + end
     }
 
-    /// Around the limits of 255 digits, 255 bytes of mask and 65,535 symbols, and of counts.
+    /// Around the limits of 31 digits, 255 bytes of mask and 65,535 symbols, and of counts.
     fn picture_limit(&mut self) -> String {
         let symbol = self.one(&SYMBOLS);
-        let base = *[255usize, 255, 255, 9, 4, 128, 65_535, 65_535, 65_534, 32_768][self.r.below(10)..]
+        let base = *[31usize, 31, 255, 9, 4, 128, 65_535, 65_535, 65_534, 32_768][self.r.below(10)..]
             .first()
             .expect("below 10");
         let n = base + self.r.below(4) - 1;

@@ -24,6 +24,8 @@ type Answer<T> = Result<T, Refused>;
 pub const LARGEST: u128 = 2_147_483_647;
 pub const MOST_STATEMENTS: usize = 800;
 pub const DEEPEST: usize = 64;
+const MOST_DIGITS: u128 = 31;
+const LONGEST_MASK: u128 = 255;
 
 #[derive(Clone, Copy, PartialEq, Eq, Debug)]
 pub enum Usage {
@@ -416,7 +418,7 @@ pub fn picture(picture: &[u8], usage: Usage, sign: Option<Sign>) -> Result<(u128
         return if digits + scaled > 0 || edited { Err(26) } else { Ok((text, false)) };
     }
     let masked = edited && usage == Usage::Display;
-    if digits + scaled > 255 || masked && mask > 255 {
+    if digits + scaled > MOST_DIGITS || masked && mask > LONGEST_MASK {
         return Err(27);
     }
     if masked {

@@ -6,6 +6,7 @@ use mathlib.Core.Bool.{Bool, true, false, _&&_}
 use lib.Dec.{ltb}
 use borrow.Author.Tests.{lt-ltb, le-ltb}
 use Rattle.definition.specs.declared.Usage.{Usage}
+use Rattle.definition.specs.Limits.{mostDigits, longestMask}
 use Rattle.picture.specs.declared.PicShape.{PicShape}
 use Rattle.picture.specs.Kinds.{maskedBy, longBy}
 use borrow.Author.Needs.{needs}
@@ -17,14 +18,14 @@ module _ (usage : Usage) (s : PicShape) where
   text h = rw (lt-ltb 0 (s .text) h)
 
   module _ (n : s .text ≤ 0) where
-    digits : 255 < s .digits → true ≡ longBy usage s
-    digits h = rw (le-ltb 0 (s .text) n, lt-ltb 255 (s .digits) h)
+    digits : mostDigits < s .digits → true ≡ longBy usage s
+    digits h = rw (le-ltb 0 (s .text) n, lt-ltb mostDigits (s .digits) h)
 
-    module _ (h : s .digits ≤ 255) {r : Bool} (m : r ≡ maskedBy usage s) where
-      short : longBy usage s ≡ (r && ltb 255 (s .mask))
-      short = rw (le-ltb 0 (s .text) n, le-ltb 255 (s .digits) h) (ap (λ (b : Bool). b && ltb 255 (s .mask)) (sym m))
+    module _ (h : s .digits ≤ mostDigits) {r : Bool} (m : r ≡ maskedBy usage s) where
+      short : longBy usage s ≡ (r && ltb longestMask (s .mask))
+      short = rw (le-ltb 0 (s .text) n, le-ltb mostDigits (s .digits) h) (ap (λ (b : Bool). b && ltb longestMask (s .mask)) (sym m))
 
-      edited : r ≡ true → ltb 255 (s .mask) ≡ longBy usage s
+      edited : r ≡ true → ltb longestMask (s .mask) ≡ longBy usage s
       edited e = rw (short, e)
 
       else : r ≡ false → false ≡ longBy usage s

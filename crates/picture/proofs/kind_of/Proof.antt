@@ -1,4 +1,4 @@
--- `picture::kind_of` meets its contract: a law for each exit, and that the digits fit a byte.
+-- `picture::kind_of` meets its contract: a law for each exit, and that the digits are few.
 -- Assumes nothing.
 use Prim.Native.Nat.{ℕ, _≤_, _<_, max}
 use mathlib.Core.Path.{_≡_}
@@ -11,6 +11,7 @@ use Rattle.definition.specs.declared.SignKind.{SignKind}
 use Rattle.definition.specs.declared.SignClause.{SignClause}
 use Rattle.definition.specs.declared.FieldKind.{FieldKind}
 use Rattle.definition.specs.declared.Pictured.{Pictured}
+use Rattle.definition.specs.Limits.{mostDigits, longestMask}
 use Rattle.definition.specs.Picture.{pictured, resolveSign, storageWidth, numeric}
 use Rattle.definition.proofs.Answers.{or-false}
 use Rattle.picture.specs.declared.PicShape.{PicShape}
@@ -20,15 +21,15 @@ use Rattle.picture.proofs.kind_of.Statement.{statement}
 use Rattle.picture.proofs.kind_of.Tie as tie
 
 module _ {usage : Usage} {s : PicShape} (fit : Fit usage s) (n : s .text ≤ 0) where
-  digits-fit : s .digits ≤ 255
+  digits-fit : s .digits ≤ mostDigits
   digits-fit =
       let short = rw (le-ltb 0 (s .text) n) at (fit .short) in
-      ltb-false 255 (s .digits) (or-false (ltb 255 (s .digits)) (maskedBy usage s && ltb 255 (s .mask)) short .0)
+      ltb-false mostDigits (s .digits) (or-false (ltb mostDigits (s .digits)) (maskedBy usage s && ltb longestMask (s .mask)) short .0)
 
-  scale-fits : s .scale ≤ 255
+  scale-fits : s .scale ≤ mostDigits
   scale-fits = omega (arith, digits-fit, fit .part)
 
-  stored-fits : s .stored ≤ 255
+  stored-fits : s .stored ≤ mostDigits
   stored-fits = omega (arith, digits-fit, fit .held)
 
 module _ (usage : Usage) (clause : SignClause) (s : PicShape) where

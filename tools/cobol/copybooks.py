@@ -91,15 +91,23 @@ def write(rng, item, depth, out):
         write(rng, child, depth + 1, out)
 
 
+# the columns of a card that have code, 8 to 72
+CARD = 65
+
+
 def code_lines(rng, lines):
     """The lines without their indents and remarks, cut between words so that they fit between column 8 and column 72."""
     for line in "".join(lines).splitlines():
         code = ""
         for word in words_of(without_note(line)):
-            # cobc does not take a line's end just before a picture
-            if len(code) + 1 + len(word) > rng.choice((30, 50)) and code.split()[-1].upper() not in ("PIC", "PICTURE", "IS"):
-                yield code
-                code = ""
+            # cobc does not take a line's end just before a picture: PIC [IS] goes with it
+            before = words_of(code)
+            kept = len(before)
+            while kept and before[kept - 1].upper() in ("PIC", "PICTURE", "IS"):
+                kept -= 1
+            if kept and len(code) + 1 + len(word) > (rng.choice((30, 50)) if kept == len(before) else CARD):
+                yield " ".join(before[:kept])
+                code = " ".join(before[kept:])
             code += " " * bool(code) + word
         yield code
 
@@ -124,7 +132,7 @@ def on_cards(rng, lines):
                 lambda: out.append(""),
                 lambda: out.append("0000"),
             ))()
-        room = 65 - len(code)
+        room = CARD - len(code)
         card(" " * (room if rng.random() < 0.3 else rng.randint(0, min(room, 20))) + code)
     return end.join(out) + rng.choice(("", end))
 

@@ -6,7 +6,7 @@ ghost use Rattle.definition.specs.Basic.{if_then_else_};
 ghost use Rattle.definition.specs.Calls.{layoutCall, detailsCall, pictureAnswer, maskCall, ownerCall, recordCheck};
 ghost use Rattle.definition.specs.Calls.{layoutCardsCall, detailsCardsCall, ownerCardsCall};
 ghost use Rattle.kinds.specs.Usages.{usageAt, signClauseAt};
-ghost use Rattle.numbers.specs.Numbers.{noUsage, noSign, marked};
+ghost use Rattle.numbers.specs.Numbers.{noUsage, noSign, flagged};
 ghost use Rattle.numbers.specs.Numbers.{returned, writingNumbers, pictureNumbers, ownerNumbers, answered};
 use definition::Check;
 
@@ -161,7 +161,7 @@ pub extern "C" fn copybook_owner_cards(
 // The contract rules out a call that checks a variable record, and one that takes the two lengths for each other.
 #[no_mangle]
 pub extern "C" fn copybook_check_record(record_len: u64, variable: u8, len: u64) -> u32
-    ensures { λ r. ⌜ r ≡ returned (recordCheck record_len (marked variable) len) ⌝ }
+    ensures { λ r. ⌜ r ≡ returned (recordCheck record_len (flagged variable) len) ⌝ }
 {
     match copybook::check_record_len(record_len as usize, variable != 0, len as usize) {
         Check::Passed => {

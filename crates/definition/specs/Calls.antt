@@ -14,6 +14,7 @@ use Rattle.definition.specs.declared.SignClause.{SignClause}
 use Rattle.definition.specs.declared.Pictured.{Pictured}
 use Rattle.definition.specs.declared.Owner.{Owner}
 use Rattle.definition.specs.declared.PicAnswer.{PicAnswer}
+use Rattle.definition.specs.declared.Report.{Report}
 use Rattle.definition.specs.declared.Writing.{Writing}
 use Rattle.definition.specs.declared.OwnerAnswer.{OwnerAnswer}
 use Rattle.definition.specs.declared.Check.{Check}
@@ -89,6 +90,11 @@ unfoldable pub layoutDetails : List ℕ → ℕ → ℕ → Answer (List ℕ)
 layoutDetails text work room = do
   es ← entries text work
   fitting room (entriesDetails es)
+
+-- what is written of a copybook's record
+abbrev pub report : Report → List ℕ → ℕ → ℕ → Answer (List ℕ)
+report Report.Listing text work room = layoutListing text work room
+report Report.Details text work room = layoutDetails text work room
 
 -- the picture answer
 unfoldable pub pictureAnswer : Usage → SignClause → List ℕ → Answer Pictured
@@ -175,15 +181,17 @@ cleared work = replicate (length work) 0
 abbrev pub afterWriting : Answer (List ℕ) → List ℕ → List ℕ → After ℕ
 afterWriting a out work = record { answer = written a; output = outputAfter a out; work = cleared work }
 
--- the layout listing of a copybook, with an output and work memory lent
-abbrev pub layoutCallIn : Form → List ℕ → List ℕ → List ℕ → After ℕ
-layoutCallIn form text out work =
-    afterWriting (called form (λ t. layoutListing t (length work) (length out)) text (length work)) out work
+-- a report of a copybook of this form, with an output and work memory lent
+abbrev pub reportCallIn : Form → Report → List ℕ → List ℕ → List ℕ → After ℕ
+reportCallIn form what text out work =
+    afterWriting (called form (λ t. report what t (length work) (length out)) text (length work)) out work
 
--- the details of its entries, with an output and work memory lent
+-- its layout listing, and the details of its entries
+abbrev pub layoutCallIn : Form → List ℕ → List ℕ → List ℕ → After ℕ
+layoutCallIn form = reportCallIn form Report.Listing
+
 abbrev pub detailsCallIn : Form → List ℕ → List ℕ → List ℕ → After ℕ
-detailsCallIn form text out work =
-    afterWriting (called form (λ t. layoutDetails t (length work) (length out)) text (length work)) out work
+detailsCallIn form = reportCallIn form Report.Details
 
 -- the mask of a picture, with an output lent
 abbrev pub maskCall : Usage → List ℕ → List ℕ → After ℕ

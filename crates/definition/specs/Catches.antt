@@ -320,6 +320,9 @@ table =
     -- REDEFINES and DEPENDING ON
     ∷ accepted "05 A PIC X(2). 05 B REDEFINES A PIC X(5). 05 C PIC X." 5 false (column 0 5 Group ∷ column 0 2 Text ∷ column 0 5 Text ∷ column 2 1 Text ∷ [])
     ∷ turnedDown "05 A PIC X. 05 B PIC X. 05 B REDEFINES A PIC X. 05 C REDEFINES B PIC X." 30 48
+    -- 28 before 29
+    ∷ turnedDown "05 A PIC X. 05 B REDEFINES C OCCURS 2147483648 PIC X." 28 12
+    ∷ turnedDown "05 A PIC X. 05 B REDEFINES A OCCURS 2147483648 PIC X." 29 12
     ∷ accepted "05 N PIC 9(2). 05 T OCCURS 1 TO 5 DEPENDING ON N PIC X(3). 05 Z PIC X." 3 true (column 0 2 (Int false SignKind.Unsigned) ∷ column 2 3 Text ∷ column 2 1 Text ∷ [])
     -- the search for a target ends at the first match back from the item: directly before, the third back, the later of
     -- two, a redefiner; and it compares all earlier siblings, and no name in a group, where none has the name

@@ -241,6 +241,12 @@ pub enum PicAnswer {
     Refused(Refusal),
 }
 
+// What is written of a copybook's record: the layout listing, or the details of its entries.
+pub enum Report {
+    Listing,
+    Details,
+}
+
 // The answer of an entry that writes bytes: how many.
 pub enum Writing {
     Written(usize),

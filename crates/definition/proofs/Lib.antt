@@ -10,6 +10,7 @@ pub mod CardLaws
 pub mod TreeLaws
 pub mod ParentLaws
 pub mod LayoutLaws
+pub mod DistanceLaws
 pub mod ListingLaws
 pub mod CallsLaws
 pub mod Pieces

@@ -20,14 +20,15 @@ use Rattle.definition.specs.declared.Pictured.{Pictured}
 use Rattle.definition.specs.declared.Entry.{Entry}
 use Rattle.definition.specs.declared.Owner.{Owner}
 use Rattle.definition.specs.declared.Span.{Span}
-use Rattle.definition.specs.Basic.{if_then_else_, bytes, among, same, span, absent, le4, le8}
-use Rattle.definition.specs.Basic.{Answer, refuse, give}
-use Rattle.definition.specs.Fold.{Entries, end, entry}
+use Rattle.definition.specs.Basic.{if_then_else_, bytes, among, given, same, span, absent, le4, le8}
+use Rattle.definition.specs.Basic.{Answer, refuse, give, _>>=_}
+use Rattle.definition.specs.Tree.{Forest, leaf, item}
+use Rattle.definition.specs.Fold.{Entries, end, entry, Place, searchBack}
 use Rattle.definition.specs.Record.{recordLength, variable}
 use Rattle.definition.specs.Listing.{flag, spanBytes, kindByte, details, members#}
 use Rattle.definition.specs.Cards.{Form, freeText, cardText}
 use Rattle.definition.specs.Calls.{entries, layoutListing, layoutDetails, pictureAnswer, pictureMask, byteOwner}
-use Rattle.definition.specs.Calls.{indicatorCheck, called}
+use Rattle.definition.specs.Calls.{recordFields, indicatorCheck, called}
 use Rattle.definition.specs.Computing.{computing}
 
 -- ---------------------------------------------------------------- answers in numbers
@@ -85,6 +86,14 @@ abbrev pub widthsOf : List ℕ → List SignClause → List ℕ
 widthsOf bs [] = widthIn (pictureAnswer Usage.Comp3 SignClause.Absent bs) ++ widthIn (pictureAnswer Usage.Comp SignClause.Absent bs)
 widthsOf bs (c ∷ cs) = widthIn (pictureAnswer Usage.Display c bs) ++ widthsOf bs cs
 
+-- how many names each search for a target compares in a list, after the earlier siblings, the latest first
+abbrev pub comparedIn : List ℕ → List Place → Forest → List ℕ
+comparedIn text seen leaf = []
+comparedIn text seen (item s kids later) =
+    let more = comparedIn text (record { name = s .name; offset = 0 } ∷ seen) later in
+    let redefines = s .clauses .redefines in
+    if given redefines then searchBack text redefines seen .compared ∷ more else more
+
 -- the answer is such a value, or that refusal: number, position and needed length
 abbrev pub gives : {A : Type 0} → (A → Bool) → Answer A → Bool
 gives f (refuse r) = false
@@ -121,6 +130,8 @@ pub data Catch : Type 0 where
   owned : String → ℕ → Owner → Catch
   -- a copybook, a position, and the number of the refusal
   notOwned : String → ℕ → ℕ → Catch
+  -- a copybook, and how many names the searches for a target compare among the record's fields, in their order
+  searched : String → List ℕ → Catch
   -- a row of one of these kinds whose copybook is cards
   cards : Catch → Catch
   -- cards whose last line ends with the text, with a carriage return, with byte 10 or with both, and their columns
@@ -163,6 +174,8 @@ rightIn form (masked text m) = gives (same (bytes m)) (pictureMask Usage.Display
 rightIn form (owned text p o) =
     gives (λ a. same (ownerShown a) (ownerShown o)) (asked form (λ t. byteOwner t 16384 p) (bytes text))
 rightIn form (notOwned text p n) = refuses n 0 0 (asked form (λ t. byteOwner t 16384 p) (bytes text))
+rightIn form (searched text counts) =
+    gives (same counts) (asked form (λ t. recordFields t 16384 >>= λ f. give (comparedIn t [] f)) (bytes text))
 rightIn form (cards row) = rightIn cardText row
 rightIn form (ending text cs) =
     hasColumns cardText (bytes text) cs
@@ -311,6 +324,18 @@ table =
     ∷ turnedDown "05 A PIC X. 05 B REDEFINES C OCCURS 2147483648 PIC X." 28 12
     ∷ turnedDown "05 A PIC X. 05 B REDEFINES A OCCURS 2147483648 PIC X." 29 12
     ∷ accepted "05 N PIC 9(2). 05 T OCCURS 1 TO 5 DEPENDING ON N PIC X(3). 05 Z PIC X." 3 true (column 0 2 (Int false SignKind.Unsigned) ∷ column 2 3 Text ∷ column 2 1 Text ∷ [])
+    -- the search for a target ends at the first match back from the item: directly before, the third back, the later of
+    -- two, a redefiner; and it compares all earlier siblings, and no name in a group, where none has the name
+    ∷ searched "05 A PIC X. 05 B REDEFINES A PIC X." (1 ∷ [])
+    ∷ searched "05 A PIC X. 05 B PIC X. 05 C PIC X. 05 D REDEFINES A PIC X." (3 ∷ [])
+    ∷ searched "05 A PIC X. 05 a PIC X. 05 B PIC X. 05 C REDEFINES A PIC X." (2 ∷ [])
+    ∷ accepted "05 A PIC X. 05 a PIC X. 05 B PIC X. 05 C REDEFINES A PIC X." 3 false
+    (column 0 1 Text ∷ column 1 1 Group ∷ column 0 1 Text ∷ column 0 1 Text ∷ column 2 1 Text ∷ [])
+    ∷ searched "05 A PIC X. 05 B REDEFINES A PIC X. 05 C REDEFINES A PIC X. 05 D REDEFINES B PIC X." (1 ∷ 2 ∷ 2 ∷ [])
+    ∷ searched "05 A PIC X. 05 B PIC X. 05 C PIC X. 05 D PIC X. 05 E REDEFINES F PIC X." (4 ∷ [])
+    ∷ turnedDown "05 A PIC X. 05 B PIC X. 05 C PIC X. 05 D PIC X. 05 E REDEFINES F PIC X." 28 48
+    ∷ searched "05 A REDEFINES A PIC X." (0 ∷ [])
+    ∷ searched "05 G. 10 A PIC X. 10 B PIC X. 05 C REDEFINES A PIC X." (1 ∷ [])
     -- a group is not aligned because a member is SYNC
     ∷ accepted "05 A PIC X. 05 G. 10 B PIC 9(4) COMP SYNC." 3 false (column 0 1 Text ∷ column 1 2 Group ∷ column 0 2 (Binary false) ∷ [])
     -- the worked example

@@ -5,7 +5,8 @@ use Rattle.definition.specs.Words.{byteKind, saidNext, tokens, firstOpen
 use Rattle.definition.specs.Statement.{pick, keywordOf, clauseStep, step, clauses, named, statement, statements}
 use Rattle.definition.specs.Tree.{above, notAbove, forest, higher, stillOpen, parents, parentsIn, fields}
 use Rattle.definition.specs.Picture.{trimStart, trim, beforeClose, repeat, expand, legal, tally, beforePoint, afterPoint, without, kinded, symbols, picture}
-use Rattle.definition.specs.Fold.{append, find, hasMember, redefiners, widest, foldCheck, foldedList, foldedBelow}
+use Rattle.definition.specs.Fold.{append, searchBack, find, hasMember, redefiners, widest, foldCheck}
+use Rattle.definition.specs.Fold.{foldedList, foldedBelow}
 use Rattle.definition.specs.Layout.{lay}
 use Rattle.definition.specs.Record.{recordLength, variable, endsFit, unfolded, layout}
 use Rattle.definition.specs.Listing.{entryBytes, entriesBytes, listing}
@@ -19,7 +20,8 @@ unfoldable pub computing : Unit {0}
 unfolding
     same digits number _>>=_ byteKind saidNext tokens firstOpen sentences statementWords pick keywordOf clauseStep step clauses named statement statements
     above notAbove forest higher stillOpen parents parentsIn fields trimStart trim beforeClose repeat expand legal tally beforePoint afterPoint without kinded symbols picture
-    append find hasMember redefiners widest foldCheck foldedList foldedBelow lay recordLength variable endsFit unfolded layout entryBytes entriesBytes listing
+    append searchBack find hasMember redefiners widest foldCheck foldedList foldedBelow
+    lay recordLength variable endsFit unfolded layout entryBytes entriesBytes listing
     laid ownerFrom overlaid
     detailsIn detailBytes detailsBytes
     firstWide textChecks entryChecks literalCheck keptStatements recordFields entries layoutListing layoutDetails pictureAnswer pictureMask ownerIn byteOwner

@@ -6,6 +6,7 @@ pub mod Statement
 pub mod Tree
 pub mod Picture
 pub mod Fold
+pub mod Distance
 pub mod Layout
 pub mod Record
 pub mod Listing

@@ -184,13 +184,14 @@ fn place(
     let s = rows::statement_at(work, i);
     let clauses = s.clauses;
     let redefines = clauses.redefines;
-    let target = redefines::target_of(text, work, redefines, last);
+    let found = redefines::target_of(text, work, redefines, last);
+    let target = found.row;
     match start_of(work, s, c, target, cursor) {
         Start::At(offset) => {
             let e = places::entry_of(s, c, offset, slack_from(cursor, s, offset));
             match limits::entry_end(e) {
                 Ending::At(end) => {
-                    let base = redefines::find_row(text, work, redefines, target, true);
+                    let base = redefines::base_of(text, work, redefines, target);
                     places::put_place(work, i, last, below, base, e);
                     return ItemAnswer::Done {
                         cursor: advanced(cursor, redefines, end),

@@ -19,7 +19,7 @@ use Rattle.rows.specs.Table.{statementAt}
 use Rattle.limits.specs.declared.Ending.{Ending}
 use Rattle.places.specs.Places.{putPlace}
 use Rattle.redefines.specs.Targets.{seenAt, rowFrom, offsetOf, targetFrom, baseFrom, baseAfter}
-use Rattle.redefines.proofs.SearchLaws.{row-found, base-on, back-none}
+use Rattle.redefines.proofs.SearchLaws.{row-found, target-named, base-on, back-none}
 use Rattle.redefines.proofs.PrintLaws.{printed-less}
 use Rattle.limits.specs.Ends.{endOf, endingOf}
 use Rattle.limits.proofs.EndLaws.{ends-at, ends-not}
@@ -131,11 +131,15 @@ entry-end-requires c κs = narrow (c .before .before .before .before .before .be
 target-of-requires : tie.Need-target-of-requires
 target-of-requires c κs = let p = c .before .before .before .before .before .before .before .pre in (omega (arith, p .0, p .1), printed-less (p .6) (p .1))
 
-find-row-requires : tie.Need-find-row-requires
-find-row-requires c κs =
+base-of-requires : tie.Need-base-of-requires
+base-of-requires c κs =
     let p = c .before .before .before .before .before .before .before .before .before .before .before .before .before .before .before .before .before .before .before .before .pre in
-    let target = c .before .before .before .before .before .before .before .before .before .before .before .before .target-of .ensures .1 in
-    (omega (arith, target, p .0, p .1), printed-less (p .6) (omega (arith, target, p .1)))
+    let c6 = c .before .before .before .before .before .before in
+    let target = c6 .before .before .before .before .before .before .target-of .ensures in (
+      omega (arith, target .2, p .0, p .1),
+      printed-less (p .6) (omega (arith, target .2, p .1)),
+      target-named _ _ _ _ (target .1),
+    )
 
 put-place-requires : tie.Need-put-place-requires
 put-place-requires c κs =
@@ -145,11 +149,12 @@ put-place-requires c κs =
     let slack = c .before .before .before .before .before .before .before .before in
     let d = c .before .before .before .before .before .before .before .entry-of in
     let ends = c .before .before .before .before .before .before .entry-end .ensures in
-    let end = c .before .before .before .before .end .given .1 in (
+    let end = c .before .before .before .before .end .given .1 in
+    let target = slack .before .before .before .before .before .before .target-of .ensures in (
       p .0,
       omega (arith, p .1, p .2),
       p .3,
-      omega (arith, c .before .find-row .ensures .1, c .before .before .before .before .before .before .before .before .before .before .before .before .before .before .target-of .ensures .1, p .1, p .2),
+      omega (arith, c .before .base-of .ensures .1, target .2, p .1, p .2),
       near (d .result) ends end,
       slim said (d .ensures) (p .5),
       close said (d .ensures) (s .args .cursor) (slack .slack-from .ensures) ends end,
@@ -164,9 +169,11 @@ returns c =
     let made = end .before .before .before in
     let start = made .before .before .before in
     let target = start .before .before .before .before in
-    fits (a .text .now) (a .work .now) (a .i) (a .below) (a .last) (a .cursor) (a .c) (target .before .before .before .before .statement-at .ensures) (target .target-of .ensures .0)
+    let said = target .before .before .before .before .statement-at .ensures in
+    let row = target .target-of .ensures .1 in
+    fits (a .text .now) (a .work .now) (a .i) (a .below) (a .last) (a .cursor) (a .c) said row
     (start .before .before .start-of .ensures) (start .offset .given .1) (made .before .slack-from .ensures) (made .entry-of .ensures) (end .before .before .entry-end .ensures) (end .end .given .1)
-    (found .find-row .ensures .0) (placed .put-place .ensures) (c .advanced .ensures)
+    (found .base-of .ensures .0) (placed .put-place .ensures) (c .advanced .ensures)
 
 returns-2 : tie.Need-returns-2
 returns-2 c = search large
@@ -186,7 +193,7 @@ place-spec =
     (λ c κs. search needs)
     entry-end-requires
     (λ c. search needs)
-    find-row-requires
+    base-of-requires
     put-place-requires
     (λ c κs. search needs)
     (λ c. search needs)

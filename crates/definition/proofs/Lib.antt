@@ -9,6 +9,8 @@ pub mod SpanLaws
 pub mod CardLaws
 pub mod TreeLaws
 pub mod ParentLaws
+pub mod UsageLaws
+pub mod UngroupedLaws
 pub mod LayoutLaws
 pub mod DistanceLaws
 pub mod ListingLaws

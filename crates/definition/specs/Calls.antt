@@ -23,7 +23,8 @@ use Rattle.definition.specs.Basic.{if_then_else_, Answer, refuse, give, 
 use Rattle.definition.specs.Words.{tokensOf, firstOpen, statementWords}
 use Rattle.definition.specs.Cards.{view, firstOther, Form, freeText, cardText}
 use Rattle.definition.specs.Statement.{statements}
-use Rattle.definition.specs.Tree.{Forest, forest, fields}
+use Rattle.definition.specs.Tree.{Forest}
+use Rattle.definition.specs.Usages.{recordOf}
 use Rattle.definition.specs.Picture.{picture, symbols, isMasked, mask}
 use Rattle.definition.specs.Fold.{Entries}
 use Rattle.definition.specs.Record.{recordLength, layout}
@@ -65,7 +66,7 @@ unfoldable pub recordFields : List ℕ → ℕ → Answer Forest
 recordFields text work = do
   _ ← entryChecks text work
   ss ← keptStatements text
-  give (fields (forest ss))
+  give (recordOf ss)
 
 -- its folded top list: the refusals so far are the reader's, and a copybook without one is accepted
 unfoldable pub entries : List ℕ → ℕ → Answer Entries

@@ -29,6 +29,7 @@ use Rattle.definition.specs.Listing.{flag, spanBytes, kindByte, details,
 use Rattle.definition.specs.Cards.{Form, freeText, cardText}
 use Rattle.definition.specs.Calls.{entries, layoutListing, layoutDetails, pictureAnswer, pictureMask, byteOwner}
 use Rattle.definition.specs.Calls.{recordFields, indicatorCheck, called}
+use Rattle.definition.specs.Ungrouped.{plainUsages}
 use Rattle.definition.specs.Computing.{computing}
 
 -- ---------------------------------------------------------------- answers in numbers
@@ -138,6 +139,8 @@ pub data Catch : Type 0 where
   ending : String → List (List ℕ) → Catch
   -- of the bytes below 128, those that may follow six columns of a card
   indicators : String → Catch
+  -- a copybook, and whether it is one that group usages and DISPLAY leave as it was
+  asBefore : String → Bool → Catch
 
 -- a call for a copybook, with 16,384 numbers of work memory lent
 abbrev asked : {A : Type 0} → Form → (List ℕ → Answer A) → List ℕ → Answer A
@@ -183,6 +186,7 @@ rightIn form (ending text cs) =
     && hasColumns cardText (bytes text ++ bytes "\n") cs
     && hasColumns cardText (bytes text ++ bytes "\r\n") cs
 rightIn form (indicators ok) = indicated ok 128
+rightIn form (asBefore text plain) = eqb (flag (plainUsages (bytes text))) (flag plain)
 
 abbrev pub right : Catch → Bool
 right row = rightIn freeText row
@@ -218,6 +222,14 @@ cardFish =
 -- a group that stands twice, with slack in each, after a byte; then an item that stands 0 times after its slack
 abbrev pub tank : String
 tank = "05 A PIC X. 05 G OCCURS 2. 10 B PIC X. 10 C PIC 9(5) COMP SYNC. 05 D PIC X. 05 E OCCURS 0 PIC 9(9) COMP SYNC. 05 F PIC X."
+
+-- counts in a record of COMP: two aligned items, one of them in a group
+abbrev pub counts : String
+counts = "01 R COMP. 05 A PIC X. 05 B PIC 9(5) SYNC. 05 G. 10 C PIC X. 10 D PIC 9(4) SYNC."
+
+-- five digits, packed
+abbrev packed5 : FieldKind
+packed5 = Decimal 5 0 NumRepr.Comp3 SignKind.Embedded
 
 -- the details of FISH's three entries: slack stands before the second
 abbrev pub fishDetails : List ℕ
@@ -422,6 +434,69 @@ table =
     ∷ turnedDown "05 A PIC X VALUE 5 IT'S." 50 21
     ∷ turnedDown "X. 05 A PIC X VALUE 5. 88 Y VALUE '" 50 34
     ∷ turnedDown "05 A B VALUE '\u{80}" 2 14
+    -- a usage on the dropped root, on one root of two, on a middle group, through groups that name none
+    ∷ accepted "01 R COMP. 05 A PIC 9(4). 05 B PIC 9(9)." 6 false
+    (column 0 2 (Binary false) ∷ column 2 4 (Binary false) ∷ [])
+    ∷ accepted "01 R COMP. 05 A PIC 9(4). 01 S PIC 9(4)." 6 false
+    (column 0 2 Group ∷ column 0 2 (Binary false) ∷ column 2 4 (Int false SignKind.Unsigned) ∷ [])
+    ∷ accepted "01 R. 05 A PIC 9(4). 05 G COMP. 10 B PIC 9(4). 10 C PIC 9(5). 05 D PIC 9(4)." 14 false
+    (column 0 4 (Int false SignKind.Unsigned) ∷ column 4 6 Group ∷ column 0 2 (Binary false) ∷
+    column 2 4 (Binary false) ∷ column 10 4 (Int false SignKind.Unsigned) ∷ [])
+    ∷ accepted "01 R COMP. 05 G. 10 H. 15 A PIC 9(5)." 4 false
+    (column 0 4 Group ∷ column 0 4 Group ∷ column 0 4 (Binary false) ∷ [])
+    -- on two groups, one in the other: the nearer one holds, and the outer one again after it
+    ∷ accepted "01 R COMP. 05 H COMP-3. 10 A PIC 9(5). 05 B PIC 9(5)." 7 false
+    (column 0 3 Group ∷ column 0 3 packed5 ∷ column 3 4 (Binary false) ∷ [])
+    -- a member's own holds; DISPLAY on a member and on an inner group takes the outer one back
+    ∷ accepted "01 R COMP. 05 A PIC 9(5) COMP-3. 05 B PIC 9(5) DISPLAY. 05 C PIC 9(5)." 12 false
+    (column 0 3 packed5 ∷ column 3 5 (Int false SignKind.Unsigned) ∷ column 8 4 (Binary false) ∷ [])
+    ∷ accepted "01 R COMP. 05 G USAGE IS DISPLAY. 10 A PIC 9(5). 05 B PIC 9(5)." 9 false
+    (column 0 5 Group ∷ column 0 5 (Int false SignKind.Unsigned) ∷ column 5 4 (Binary false) ∷ [])
+    ∷ accepted "01 R DISPLAY. 05 G COMP. 10 A PIC 9(5). 05 B PIC 9(5)." 9 false
+    (column 0 4 Group ∷ column 0 4 (Binary false) ∷ column 4 5 (Int false SignKind.Unsigned) ∷ [])
+    -- on a redefining group
+    ∷ accepted "05 A PIC X(8). 05 B REDEFINES A COMP. 10 C PIC 9(4). 10 D PIC 9(9). 05 E PIC 9(4)." 12 false
+    (column 0 8 Group ∷ column 0 8 Text ∷ column 0 6 Group ∷ column 0 2 (Binary false) ∷ column 2 4 (Binary false) ∷
+    column 8 4 (Int false SignKind.Unsigned) ∷ [])
+    -- SYNC under an inherited COMP: slack, and its owner; SYNC and SIGN are not inherited
+    ∷ accepted counts 12 false
+    (column 0 1 Text ∷ column 4 4 (Binary false) ∷ column 8 4 Group ∷ column 0 1 Text ∷ column 2 2 (Binary false) ∷ [])
+    ∷ owned counts 1 (Owner.Slack 1)
+    ∷ owned counts 5 (Owner.Piece 1 4 1)
+    ∷ owned counts 9 (Owner.Slack 4)
+    ∷ owned counts 10 (Owner.Piece 4 10 0)
+    ∷ owned "01 R COMP. 05 A PIC X. 05 B PIC 9(4) SYNC DISPLAY." 1 (Owner.Piece 1 1 0)
+    ∷ accepted "01 R COMP SYNC. 05 A PIC X. 05 B PIC 9(4)." 3 false (column 0 1 Text ∷ column 1 2 (Binary false) ∷ [])
+    ∷ accepted "01 R SIGN LEADING SEPARATE. 05 A PIC S9." 1 false
+    (column 0 1 (Decimal 1 0 NumRepr.Zoned SignKind.Embedded) ∷ [])
+    -- text stays text, and an edited picture is a number under an inherited COMP; 27 counts a mask only under DISPLAY
+    ∷ accepted "01 R COMP. 05 A PIC X(3). 05 B PIC ZZ9.99. 05 C PIC B(256)9." 9 false
+    (column 0 3 Text ∷ column 3 4 (Binary false) ∷ column 7 2 (Binary false) ∷ [])
+    ∷ accepted "01 R COMP-3. 05 A PIC -ZZ9.99. 05 B PIC A." 4 false
+    (column 0 3 (Decimal 5 2 NumRepr.Comp3 SignKind.Embedded) ∷ column 3 1 Text ∷ [])
+    ∷ turnedDown "01 R COMP. 05 C PIC B(256)9 DISPLAY." 27 11
+    -- of several usage words the last holds
+    ∷ accepted "05 A COMP DISPLAY PIC 9(4)." 4 false (column 0 4 (Int false SignKind.Unsigned) ∷ [])
+    ∷ accepted "05 A DISPLAY PIC 9(4) COMP." 2 false (column 0 2 (Binary false) ∷ [])
+    ∷ accepted "05 A PIC 9(4) comp usage display." 4 false (column 0 4 (Int false SignKind.Unsigned) ∷ [])
+    ∷ accepted "05 A COMP DISPLAY PIC 9(5) COMP-3." 3 false (column 0 3 packed5 ∷ [])
+    -- DISPLAY names a usage where a clause may begin, and nowhere else
+    ∷ accepted "05 A COMP PIC 9(4) OCCURS 2 DISPLAY." 8 false (column 0 4 (Int false SignKind.Unsigned) ∷ [])
+    ∷ accepted "05 A COMP PIC 9(4) OCCURS 1 TO 2 DISPLAY." 8 false (column 0 4 (Int false SignKind.Unsigned) ∷ [])
+    ∷ accepted "05 A COMP PIC 9(4) OCCURS 2 TIMES DISPLAY." 8 false (column 0 4 (Int false SignKind.Unsigned) ∷ [])
+    ∷ accepted "05 DISPLAY COMP PIC 9(4)." 2 false (column 0 2 (Binary false) ∷ [])
+    ∷ accepted "05 A COMP PIC S9(4) SIGN DISPLAY." 2 false (column 0 2 (Binary true) ∷ [])
+    ∷ accepted "05 A COMP PIC 9(4) VALUE 5 DISPLAY." 2 false (column 0 2 (Binary false) ∷ [])
+    ∷ turnedDown "05 A COMP PIC DISPLAY." 25 0
+    -- the copybooks that stay as they were
+    ∷ asBefore "01 R. 05 A PIC 9 DISPLAY COMP. 05 B PIC 9 DISPLAY. 88 X COMP DISPLAY. 05 COMP PIC X VALUE DISPLAY." true
+    ∷ asBefore "05 A COMP PIC DISPLAY." true
+    ∷ asBefore "05 A COMP PIC 9 DISPLAY." false
+    ∷ asBefore "05 A COMP PIC 9 DISPLAY COMP." false
+    ∷ asBefore "01 R DISPLAY. 05 A PIC 9." false
+    ∷ asBefore "01 R. 05 G COMP. 10 A PIC X." false
+    -- cards, too
+    ∷ cards (accepted "000100 01 R COMP.\n000200     05 A PIC 9(4)." 2 false (column 0 2 (Binary false) ∷ []))
     -- cards: `000010 01 REC` is level 1, and as free text level 10 with the name 01; places are those in the card text
     ∷ cards (detailed "000010 01 REC PIC X." (facts 7 1 0 false 0 0 0 (span 18 1) absent absent))
     ∷ detailed "000010 01 REC PIC X." (facts 0 10 0 false 0 0 0 (span 18 1) absent absent)

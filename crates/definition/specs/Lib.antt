@@ -4,6 +4,7 @@ pub mod Words
 pub mod Unquoted
 pub mod Statement
 pub mod Tree
+pub mod Usages
 pub mod Picture
 pub mod Fold
 pub mod Distance
@@ -15,6 +16,7 @@ pub mod Search
 pub mod Details
 pub mod Cards
 pub mod Calls
+pub mod Ungrouped
 pub mod Computing
 pub mod Catches
 pub mod Placed

@@ -150,6 +150,7 @@ pub enum Keyword {
     Redefines,
     Occurs,
     Usage,
+    Display,
     Comp3,
     Comp,
     Sign,
@@ -186,12 +187,14 @@ pub enum Step {
     Fail(u32),
 }
 
-// A kept statement; `at` is the first byte of its first word.
+// A kept statement; `at` is the first byte of its first word. `usage` is the usage that holds for it: its own, or else
+// that of the nearest group above it that names one; its clauses have the one that it names.
 pub struct Statement {
     pub level: u8,
     pub at: usize,
     pub name: Span,
     pub clauses: Clauses,
+    pub usage: Usage,
 }
 
 // An entry of the listing. `at` and `level` are its statement's; `over` is its REDEFINES as the statement has it, which

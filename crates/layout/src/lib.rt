@@ -6,7 +6,7 @@ ghost use Rattle.definition.specs.Limits.{deepest, largest};
 ghost use Rattle.definition.specs.Basic.{if_then_else_, given, fewest};
 ghost use Rattle.definition.specs.Layout.{content, slackFrom};
 ghost use Rattle.definition.specs.Calls.{pictureOf, checkOf};
-ghost use Rattle.definition.specs.Statement.{usageOf, signOf};
+ghost use Rattle.definition.specs.Statement.{signOf};
 ghost use Rattle.definition.specs.Tree.{Forest.leaf};
 ghost use Rattle.redefines.specs.Targets.{offsetOf};
 ghost use Rattle.redefines.specs.Prints.{Printed};
@@ -27,8 +27,6 @@ use definition::SignKind;
 use definition::SignWords;
 use definition::Span;
 use definition::Statement;
-use definition::Usage;
-use definition::UsageClause;
 use limits::Ending;
 use rows::AT;
 use rows::BASE;
@@ -105,16 +103,6 @@ fn advanced(cursor: usize, redefines: Span, end: usize) -> usize
     end
 }
 
-// The usage that a statement means.
-fn usage_of(u: UsageClause) -> Usage
-    ensures { λ r. ⌜ r ≡ usageOf u ⌝ }
-{
-    match u {
-        UsageClause::Absent => Usage::Display,
-        UsageClause::Given(v) => v,
-    }
-}
-
 // The sign that a picture is read with.
 fn sign_of(s: SignWords) -> SignClause
     ensures { λ r. ⌜ r ≡ signOf s ⌝ }
@@ -140,14 +128,9 @@ fn elementary(text: &[u8], s: Statement) -> PicAnswer
     let clauses = s.clauses;
     let picture = clauses.picture;
     if 0 < picture.len {
-        let usage = clauses.usage;
+        let usage = s.usage;
         let sign = clauses.sign;
-        return picture::picture_at(
-            names::part_of(text, picture),
-            s.at,
-            usage_of(usage),
-            sign_of(sign),
-        );
+        return picture::picture_at(names::part_of(text, picture), s.at, usage, sign_of(sign));
     }
     PicAnswer::Refused(Refusal {
         number: 21,

@@ -22,6 +22,8 @@ use Rattle.definition.specs.Owner.{size}
 use Rattle.definition.proofs.Answers.{or-false, through, given-same}
 use Rattle.definition.proofs.Lists.{order}
 use Rattle.definition.specs.Calls.{keptStatements}
+use Rattle.definition.specs.Usages.{recordOf}
+use Rattle.definition.proofs.UsageLaws.{along-forest}
 use Rattle.rows.specs.Columns.{ROW, NEXT}
 use Rattle.rows.specs.Table.{cell, statementAt, statementsFrom}
 use Rattle.tree.proofs.ReadingLaws.{Stored}
@@ -234,14 +236,15 @@ module _ (text w : List ℕ) (a b : ℕ) where
 -- the text is refused
 pub reading-refused : (text : List ℕ) {r : Refusal} → keptStatements text ≡ refuse r → fieldsOf text ≡ refuse r
 unfolding fieldsOf _>>=_
-reading-refused text e = ap (λ (x : Answer (List Statement)). x >>= λ ss. give (fields (forest ss))) e
+reading-refused text e = ap (λ (x : Answer (List Statement)). x >>= λ ss. give (recordOf ss)) e
 
 -- its statements stand in n rows, whose names got their fingerprints
 module _ {text w w′ : List ℕ} {n : ℕ} (s : Stored text w w′ n) {w″ : List ℕ} (p : PrintsPut text w′ n w″) where
   pub rows-read : fieldsOf text ≡ give (fields (rowsForest w″ 0 n))
   unfolding fieldsOf _>>=_
   rows-read =
-      ap (λ (x : Answer (List Statement)). x >>= λ ss. give (fields (forest ss))) (s .are)
+      ap (λ (x : Answer (List Statement)). x >>= λ ss. give (recordOf ss)) (s .are)
+      ∙ ap (λ (x : Forest). give (fields x)) (sym (along-forest (s .kept)))
       ∙ ap (λ (ss : List Statement). give (fields (forest ss))) (sym (s .back) ∙ ap (statementsFrom w′ 0) (let e : n ≡ n - 0 = omega arith in e))
       ∙ ap (λ (x : Forest). give (fields x)) (forest-kept (prints-kept p) 0 n)
 

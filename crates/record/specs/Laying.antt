@@ -7,7 +7,8 @@ use lib.ListN.{length}
 use Rattle.definition.specs.Limits.{mostStatements}
 use Rattle.definition.specs.Basic.{Answer, refuse, give, _>>=_}
 use Rattle.definition.specs.Calls.{keptStatements, recordFields}
-use Rattle.definition.specs.Tree.{Forest, forest, fields}
+use Rattle.definition.specs.Tree.{Forest, fields}
+use Rattle.definition.specs.Usages.{recordOf}
 use Rattle.definition.specs.Fold.{Entries, foldedAll}
 use Rattle.definition.specs.Record.{recordLength, unfolded}
 use Rattle.places.specs.Places.{rowsForest}
@@ -27,7 +28,7 @@ pub record FieldsFrom (w : List ℕ) (n r : ℕ) : Type 0 where
 unfoldable pub fieldsOf : List ℕ → Answer Forest
 fieldsOf text = do
   ss ← keptStatements text
-  give (fields (forest ss))
+  give (recordOf ss)
 
 -- the fields of a text, read into work memory w, stand in its first n rows, ready to be laid
 pub record Read (text w : List ℕ) (n : ℕ) : Type 0 where

@@ -9,7 +9,8 @@ ROW = 20
 
 -- ---------------------------------------------------------------- the statement
 
--- its level; its parent, the row and 1, or 0 for none; the place of its first word; its name
+-- its level, and with it the usage that holds; its parent, the row and 1, or 0 for none; the place of its first word;
+-- its name
 abbrev pub LEVEL : ℕ
 LEVEL = 0
 

@@ -149,6 +149,9 @@ pub const REFUSALS: &[Row] = {
         row(51, "indicator", Indicator,
             "a card's column 7 holds none of the four indicators", "{word} in column 7 is none of the four indicators",
             "a blank marks code, * or / a comment, D a debugging line; a continued line (-) must be written as one"),
+        row(53, "past-listing", Nothing,
+            "the entry's number is past the listing", "",
+            "entries are numbered from 0 in the order of the layout, the record's own line not counted"),
     ]
 };
 

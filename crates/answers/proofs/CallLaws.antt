@@ -8,12 +8,14 @@ use Rattle.definition.specs.declared.OwnerAnswer.{OwnerAnswer}
 use Rattle.definition.specs.declared.Refusal.{Refusal}
 use Rattle.definition.specs.declared.Report.{Report}
 use Rattle.definition.specs.declared.Writing.{Writing}
-use Rattle.definition.specs.Basic.{Answer, refuse, give, _>>=_}
-use Rattle.definition.specs.Calls.{left, recordFields, entries, fitting, layoutListing, layoutDetails, report, byteOwner, cleared, afterWriting, ownerCall, ownerAnswerOf, writingOf}
+use Rattle.definition.specs.Basic.{Answer, refuse, give, _>>=_, orRefuse}
+use Rattle.definition.specs.Calls.{left, recordFields, entries, fitting, layoutListing, layoutDetails, entryReasons}
+use Rattle.definition.specs.Calls.{report, byteOwner, cleared, afterWriting, ownerCall, ownerAnswerOf, writingOf}
 use Rattle.definition.specs.Fold.{Entries, foldedAll}
 use Rattle.definition.specs.Listing.{listing}
 use Rattle.definition.specs.Details.{entriesDetails, height}
 use Rattle.definition.specs.Record.{layout}
+use Rattle.definition.specs.Reasons.{chains, chainAt, flat, numbered, reasonsIn, reasonsBytes}
 use Rattle.definition.specs.Tree.{Forest}
 use Rattle.layout.proofs.BareLaws.{layout-is}
 use Rattle.definition.proofs.DetailLaws.{listing-height}
@@ -52,6 +54,27 @@ module _ (text : List ℕ) (n room : ℕ) (show : Entries → List ℕ) where
   unfolding _>>=_
   shown-laid e = laid-shown ∙ rw e
 
+-- the reasons of an entry, refused by the reader
+pub reasons-refused :
+    (text : List ℕ) (n number room : ℕ) {r : Refusal} →
+    laidOf text (recordFields text n) ≡ refuse r →
+    entryReasons text n number room ≡ refuse r
+unfolding entryReasons reasonsIn _>>=_
+reasons-refused text n number room {r} = by-fields (recordFields text n)
+  where
+    by-fields :
+        (a : Answer Forest) →
+        laidOf text a ≡ refuse r →
+        (a >>= λ f. reasonsIn text f number >>= λ rs. fitting room (reasonsBytes rs)) ≡ refuse r
+    by-fields (refuse q) h = ap refuse (cc)
+    by-fields (give f) h =
+        ap
+        (λ (x : Answer Entries).
+        (x >>= λ es. orRefuse 53 0 (numbered number (flat (foldedAll text es))) >>=
+        λ e. give (chainAt (e .at) (chains text [] [] es)))
+        >>= λ rs. fitting room (reasonsBytes rs))
+        h
+
 module _ (text : List ℕ) (n room : ℕ) where
   -- a record that is not laid has no report
   pub report-refused :
@@ -61,6 +84,7 @@ module _ (text : List ℕ) (n room : ℕ) where
   unfolding layoutListing layoutDetails
   report-refused Report.Listing e = shown-not text n room listing e
   report-refused Report.Details e = shown-not text n room entriesDetails e
+  report-refused (Report.Reasons number) e = reasons-refused text n number room e
 
   -- the reports of one that is
   module _ {what : Report} {es : Entries} (e : laidOf text (recordFields text n) ≡ give es) where

@@ -62,6 +62,9 @@ fn report_in(
             Report::Details => {
                 return details::write_details(text, work, entries, from, to, count, out);
             }
+            Report::Reasons(number) => {
+                return reasons::write_reasons(text, work, entries, from, to, count, number, out);
+            }
         },
         RecordLaid::Refused(r) => {
             return Writing::Refused(r);

@@ -4,9 +4,10 @@
 // each other.
 ghost use mathlib.Core.Path.{_≡_};
 ghost use mathlib.Core.List.{[]};
-ghost use Rattle.definition.specs.Calls.{left, layoutCall, detailsCall, maskCall, pictureAnswer, ownerCall, recordCheck};
+ghost use Rattle.definition.specs.Calls.{left, layoutCall, detailsCall, reasonsCall, ownerCall};
+ghost use Rattle.definition.specs.Calls.{layoutCardsCall, detailsCardsCall, reasonsCardsCall, ownerCardsCall};
+ghost use Rattle.definition.specs.Calls.{maskCall, pictureAnswer, recordCheck};
 ghost use Rattle.definition.specs.Calls.{checkOf, ownerAnswerOf, pictureOf, writingOf};
-ghost use Rattle.definition.specs.Calls.{layoutCardsCall, detailsCardsCall, ownerCardsCall};
 use definition::Check;
 use definition::OwnerAnswer;
 use definition::PicAnswer;
@@ -53,6 +54,22 @@ pub fn byte_owner(text: &[u8], position: usize, work: &mut [u32]) -> OwnerAnswer
     answers::owner(text, position, work)
 }
 
+// The reasons of an entry's place, by its number in the listing, from 0: 13 bytes for each, numbers little-endian. Its
+// kind (1): 1 first in its list, 2 directly after the sibling named, 3 slack, 4 laid over the item named, 5 inside the
+// group named; start and length of that item's name (4 each, 0 if none or without a name); the bytes that it adds (4).
+// The item's placing reason comes first, then its slack, then for each group outward kind 5 and the group's own
+// reasons; a dropped root gives none, and a group made by folding has its base's reasons. Added up they are the entry's
+// first byte in the record. Refusals: those of the layout listing but 31, then 53 for a number past the listing, then
+// 31, with the length of the reasons. Answer, output and work memory are as in `layout_listing`.
+// The contract rules out a program that names the sibling directly before although it is a redefiner, and one that
+// stops at the first group.
+pub fn entry_reasons(text: &[u8], number: usize, work: &mut [u32], out: &mut [u8]) -> Writing
+    ensures { λ r. ⌜ left (writingOf r) (now (out .exit)) (now (work .exit))
+        ≡ reasonsCall (now (text .entry)) number (now (out .entry)) (now (work .entry)) ⌝ }
+{
+    answers::report(text, work, Report::Reasons(number), out)
+}
+
 // The layout listing of cards, a copybook in COBOL reference format: `layout_listing` of what the reader sees of them.
 // Columns 1 to 6 and those after 72 are ignored, and so are lines with `*`, `/` or `D` in column 7; a carriage return
 // that ends a line is no column. Refusals: 1, 2 and 3, of the whole text; 51, at the first byte in column 7 that is
@@ -71,6 +88,16 @@ pub fn layout_details_cards(cards: &[u8], work: &mut [u32], out: &mut [u8]) -> W
     ensures { λ r. ⌜ left (writingOf r) (now (out .exit)) (now (work .exit)) ≡ detailsCardsCall (now (cards .entry)) (now (out .entry)) (now (work .entry)) ⌝ }
 {
     answers::report_cards(cards, work, Report::Details, out)
+}
+
+// The reasons of an entry of cards: `entry_reasons` of what the reader sees. Refusals: those of `layout_cards` but 31,
+// then 53, then 31.
+// The contract rules out a program that gives a name's place in the code alone, and one that looks for 53 before 51.
+pub fn entry_reasons_cards(cards: &[u8], number: usize, work: &mut [u32], out: &mut [u8]) -> Writing
+    ensures { λ r. ⌜ left (writingOf r) (now (out .exit)) (now (work .exit))
+        ≡ reasonsCardsCall (now (cards .entry)) number (now (out .entry)) (now (work .entry)) ⌝ }
+{
+    answers::report_cards(cards, work, Report::Reasons(number), out)
 }
 
 // The owner of a byte of the record that cards describe: `byte_owner` of what the reader sees. Refusals: those of

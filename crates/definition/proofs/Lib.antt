@@ -25,3 +25,5 @@ pub mod Walk
 pub mod Told
 pub mod Demand3
 pub mod Occurrences
+pub mod Begins
+pub mod Why

@@ -1,6 +1,6 @@
--- The calls: the layout listing, its details and the byte owner, of free text and of cards; the picture answer, the
--- mask and the record check; each from what the caller hands in to what the call answers and leaves. Checks run in the
--- order of document 01's table; a line of a `do` is a check or a stage.
+-- The calls: the layout listing, its details, the reasons of an entry and the byte owner, of free text and of cards;
+-- the picture answer, the mask and the record check; each from what the caller hands in to what the call answers and
+-- leaves. Checks run in the order of document 01's table; a line of a `do` is a check or a stage.
 -- Assumes nothing.
 use Prim.Native.Nat.{ℕ, zero, suc, _+_}
 use mathlib.Core.Bool.{Bool, true, false, _&&_, not}
@@ -31,6 +31,7 @@ use Rattle.definition.specs.Record.{recordLength, layout}
 use Rattle.definition.specs.Listing.{listing}
 use Rattle.definition.specs.Owner.{pieces, ownerOf, overlaid}
 use Rattle.definition.specs.Details.{entriesDetails}
+use Rattle.definition.specs.Reasons.{reasonsIn, reasonsBytes}
 
 -- ---------------------------------------------------------------- the reader
 
@@ -92,10 +93,18 @@ layoutDetails text work room = do
   es ← entries text work
   fitting room (entriesDetails es)
 
+-- the reasons of an entry by its number: 53 comes after all refusals of the reader but 31
+unfoldable pub entryReasons : List ℕ → ℕ → ℕ → ℕ → Answer (List ℕ)
+entryReasons text work number room = do
+  f ← recordFields text work
+  rs ← reasonsIn text f number
+  fitting room (reasonsBytes rs)
+
 -- what is written of a copybook's record
 abbrev pub report : Report → List ℕ → ℕ → ℕ → Answer (List ℕ)
 report Report.Listing text work room = layoutListing text work room
 report Report.Details text work room = layoutDetails text work room
+report (Report.Reasons number) text work room = entryReasons text work number room
 
 -- the picture answer
 unfoldable pub pictureAnswer : Usage → SignClause → List ℕ → Answer Pictured
@@ -187,12 +196,15 @@ abbrev pub reportCallIn : Form → Report → List ℕ → List ℕ → List ℕ
 reportCallIn form what text out work =
     afterWriting (called form (λ t. report what t (length work) (length out)) text (length work)) out work
 
--- its layout listing, and the details of its entries
+-- its layout listing, the details of its entries, and the reasons of one
 abbrev pub layoutCallIn : Form → List ℕ → List ℕ → List ℕ → After ℕ
 layoutCallIn form = reportCallIn form Report.Listing
 
 abbrev pub detailsCallIn : Form → List ℕ → List ℕ → List ℕ → After ℕ
 detailsCallIn form = reportCallIn form Report.Details
+
+abbrev pub reasonsCallIn : Form → List ℕ → ℕ → List ℕ → List ℕ → After ℕ
+reasonsCallIn form text number = reportCallIn form (Report.Reasons number) text
 
 -- the mask of a picture, with an output lent
 abbrev pub maskCall : Usage → List ℕ → List ℕ → After ℕ
@@ -203,7 +215,7 @@ abbrev pub ownerCallIn : Form → List ℕ → ℕ → List ℕ → After Owner
 ownerCallIn form text position work =
     left (called form (λ t. byteOwner t (length work) position) text (length work)) [] (cleared work)
 
--- these three for free text,
+-- these four for free text,
 abbrev pub layoutCall : List ℕ → List ℕ → List ℕ → After ℕ
 layoutCall = layoutCallIn freeText
 
@@ -212,6 +224,9 @@ detailsCall = detailsCallIn freeText
 
 abbrev pub ownerCall : List ℕ → ℕ → List ℕ → After Owner
 ownerCall = ownerCallIn freeText
+
+abbrev pub reasonsCall : List ℕ → ℕ → List ℕ → List ℕ → After ℕ
+reasonsCall = reasonsCallIn freeText
 
 -- and for cards
 abbrev pub layoutCardsCall : List ℕ → List ℕ → List ℕ → After ℕ
@@ -222,6 +237,9 @@ detailsCardsCall = detailsCallIn cardText
 
 abbrev pub ownerCardsCall : List ℕ → ℕ → List ℕ → After Owner
 ownerCardsCall = ownerCallIn cardText
+
+abbrev pub reasonsCardsCall : List ℕ → ℕ → List ℕ → List ℕ → After ℕ
+reasonsCardsCall = reasonsCallIn cardText
 
 -- ---------------------------------------------------------------- what the answers of the code mean
 

@@ -28,7 +28,7 @@ use Rattle.definition.specs.Record.{recordLength, variable}
 use Rattle.definition.specs.Listing.{flag, spanBytes, kindByte, details, members#}
 use Rattle.definition.specs.Cards.{Form, freeText, cardText}
 use Rattle.definition.specs.Calls.{entries, layoutListing, layoutDetails, pictureAnswer, pictureMask, byteOwner}
-use Rattle.definition.specs.Calls.{recordFields, indicatorCheck, called}
+use Rattle.definition.specs.Calls.{recordFields, entryReasons, indicatorCheck, called}
 use Rattle.definition.specs.Ungrouped.{plainUsages}
 use Rattle.definition.specs.Computing.{computing}
 
@@ -133,6 +133,10 @@ pub data Catch : Type 0 where
   notOwned : String → ℕ → ℕ → Catch
   -- a copybook, and how many names the searches for a target compare among the record's fields, in their order
   searched : String → List ℕ → Catch
+  -- a copybook, the number of an entry, and the bytes of its reasons
+  reasoned : String → ℕ → List ℕ → Catch
+  -- a copybook, the number of an entry, the length of the lent output, and the refusal: number, position, needed length
+  notReasoned : String → ℕ → ℕ → ℕ → ℕ → ℕ → Catch
   -- a row of one of these kinds whose copybook is cards
   cards : Catch → Catch
   -- cards whose last line ends with the text, with a carriage return, with byte 10 or with both, and their columns
@@ -179,6 +183,10 @@ rightIn form (owned text p o) =
 rightIn form (notOwned text p n) = refuses n 0 0 (asked form (λ t. byteOwner t 16384 p) (bytes text))
 rightIn form (searched text counts) =
     gives (same counts) (asked form (λ t. recordFields t 16384 >>= λ f. give (comparedIn t [] f)) (bytes text))
+rightIn form (reasoned text k l) =
+    gives (same l) (asked form (λ t. entryReasons t 16384 k (length l)) (bytes text))
+rightIn form (notReasoned text k room n p needed) =
+    refuses n p needed (asked form (λ t. entryReasons t 16384 k room) (bytes text))
 rightIn form (cards row) = rightIn cardText row
 rightIn form (ending text cs) =
     hasColumns cardText (bytes text) cs
@@ -242,6 +250,30 @@ fishDetails =
 abbrev pub facts : ℕ → ℕ → ℕ → Bool → ℕ → ℕ → ℕ → Span → Span → Span → List ℕ
 facts at level depth folded below first slack picture over depending =
     le4 at ++ (level ∷ depth ∷ flag folded ∷ le4 below) ++ le8 first ++ le4 slack ++ spanBytes picture ++ spanBytes over ++ spanBytes depending
+
+-- a group laid over an item, with an aligned item in it, and an item after both: A, folded with B, has entries 0 and 1
+abbrev pub overlay : String
+overlay = "05 A PIC X(2). 05 B REDEFINES a. 10 C PIC X. 10 D PIC 9(4) COMP SYNC. 05 E PIC X."
+
+-- groups in a group, under a root that is dropped
+abbrev pub nests : String
+nests = "01 R. 05 A PIC X(3). 05 G. 10 B PIC X. 10 H OCCURS 2. 15 C PIC X. 15 D PIC 9(4) COMP SYNC. 05 E PIC X."
+
+-- a redefiner of a redefiner, and an item after them
+abbrev pub layers : String
+layers = "05 A PIC X. 05 B PIC X(4). 05 C REDEFINES B PIC X(2). 05 D REDEFINES c PIC X(9). 05 E PIC X."
+
+-- a group with a member of its own name, redefined: it counts as already folded
+abbrev pub homonym : String
+homonym = "05 Z PIC X. 05 G. 10 G PIC X. 10 H PIC X. 05 B REDEFINES G PIC X(5). 05 C PIC X."
+
+-- items without a name beside FILLER
+abbrev pub nameless : String
+nameless = "05. 10 A PIC X. 05 FILLER PIC X(2). 05 B REDEFINES FILLER PIC X. 05 C PIC X. 05. 10 D PIC X."
+
+-- a reason's bytes: its kind, the start and length of the name, and what it adds
+abbrev pub why : ℕ → ℕ → ℕ → ℕ → List ℕ
+why kind start len adds = kind ∷ le4 start ++ le4 len ++ le4 adds
 
 pub table : List Catch
 table =
@@ -403,6 +435,73 @@ table =
     ++ facts 81 10 1 false 2 4000000000 0 absent absent (span 113 1)
     ++ facts 116 15 2 false 0 4000000000 0 (span 125 4) absent absent
     ++ facts 149 15 2 false 0 6000000000 0 (span 158 1) absent absent)
+    -- the reasons of FISH's three entries, byte by byte; 53 past them, before 31; 31 where they have no room
+    ∷ reasoned fish 0 (hex "01 00000000 00000000 00000000")
+    ∷ reasoned fish 1 (hex "02 0c000000 03000000 05000000  03 00000000 00000000 01000000")
+    ∷ reasoned fish 2 (hex "02 1d000000 04000000 08000000")
+    ∷ notReasoned fish 3 0 53 0 0
+    ∷ notReasoned fish 1 25 31 0 26
+    ∷ notReasoned "" 0 0 53 0 0
+    ∷ notReasoned "05 A PIC X." 18446744073709551615 13 53 0 0
+    -- a refusal of the reader comes before 53
+    ∷ notReasoned "05 PIC X." 9 0 21 0 0
+    -- slack only where there is some: the third item has it, the fourth needs none, the second is not aligned
+    ∷ reasoned "05 A PIC X. 05 B PIC 9(4) COMP. 05 C PIC 9(4) COMP SYNC. 05 D PIC 9(4) COMP SYNC." 1 (why 2 3 1 1)
+    ∷ reasoned "05 A PIC X. 05 B PIC 9(4) COMP. 05 C PIC 9(4) COMP SYNC. 05 D PIC 9(4) COMP SYNC." 2
+    (why 2 15 1 3 ++ why 3 0 0 1)
+    ∷ reasoned "05 A PIC X. 05 B PIC 9(4) COMP. 05 C PIC 9(4) COMP SYNC. 05 D PIC 9(4) COMP SYNC." 3 (why 2 35 1 6)
+    -- groups in a group, each with its own reasons; the dropped root gives none
+    ∷ reasoned nests 1 (why 2 9 1 3)
+    ∷ reasoned nests 2 (why 1 0 0 0 ++ why 5 24 1 0 ++ why 2 9 1 3)
+    ∷ reasoned nests 3 (why 2 30 1 1 ++ why 5 24 1 0 ++ why 2 9 1 3)
+    ∷ reasoned nests 4 (why 1 0 0 0 ++ why 5 42 1 0 ++ why 2 30 1 1 ++ why 5 24 1 0 ++ why 2 9 1 3)
+    ∷ reasoned nests 5 (why 2 57 1 1 ++ why 3 0 0 1 ++ why 5 42 1 0 ++ why 2 30 1 1 ++ why 5 24 1 0 ++ why 2 9 1 3)
+    ∷ reasoned nests 6 (why 2 24 1 12)
+    -- a folded group, its base, its redefiner, the members of that, and an item after the redefiner
+    ∷ reasoned overlay 0 (why 1 0 0 0)
+    ∷ reasoned overlay 1 (why 1 0 0 0)
+    ∷ reasoned overlay 2 (why 4 3 1 0)
+    ∷ reasoned overlay 3 (why 1 0 0 0 ++ why 5 18 1 0 ++ why 4 3 1 0)
+    ∷ reasoned overlay 4 (why 2 36 1 1 ++ why 3 0 0 1 ++ why 5 18 1 0 ++ why 4 3 1 0)
+    ∷ reasoned overlay 5 (why 2 3 1 2)
+    -- a redefiner of a redefiner names that, by its own name; the cursor passes both
+    ∷ reasoned layers 1 (why 2 3 1 1)
+    ∷ reasoned layers 2 (why 2 3 1 1)
+    ∷ reasoned layers 3 (why 4 15 1 1)
+    ∷ reasoned layers 4 (why 4 30 1 1)
+    ∷ reasoned layers 5 (why 2 15 1 5)
+    -- the latest earlier sibling of that name
+    ∷ reasoned "05 A PIC X. 05 A PIC X(2). 05 B REDEFINES A PIC X(3). 05 A PIC X(4). 05 C REDEFINES A PIC X(5)." 3
+    (why 4 15 1 1)
+    ∷ reasoned "05 A PIC X. 05 A PIC X(2). 05 B REDEFINES A PIC X(3). 05 A PIC X(4). 05 C REDEFINES A PIC X(5)." 6
+    (why 4 57 1 3)
+    -- a group with a member of its own name: its members are inside it, its redefiner is not
+    ∷ reasoned homonym 1 (why 2 3 1 1)
+    ∷ reasoned homonym 2 (why 1 0 0 0 ++ why 5 15 1 0 ++ why 2 3 1 1)
+    ∷ reasoned homonym 3 (why 2 21 1 1 ++ why 5 15 1 0 ++ why 2 3 1 1)
+    ∷ reasoned homonym 4 (why 4 15 1 1)
+    ∷ reasoned homonym 5 (why 2 15 1 3)
+    -- a redefiner without a base, for the one of its name is a redefiner itself
+    ∷ reasoned "05 A PIC X. 05 B PIC X. 05 C REDEFINES B PIC X. 05 D REDEFINES C PIC X." 4 (why 4 27 1 1)
+    -- DEPENDING ON before an item reserves nothing
+    ∷ reasoned "05 N PIC 9(2). 05 T OCCURS 5 DEPENDING ON N PIC X(3). 05 Z PIC X. 05 Y PIC X." 1 (why 2 3 1 2)
+    ∷ reasoned "05 N PIC 9(2). 05 T OCCURS 5 DEPENDING ON N PIC X(3). 05 Z PIC X. 05 Y PIC X." 2 (why 2 18 1 2)
+    ∷ reasoned "05 N PIC 9(2). 05 T OCCURS 5 DEPENDING ON N PIC X(3). 05 Z PIC X. 05 Y PIC X." 3 (why 2 57 1 3)
+    -- an item without a name is named by start 0 and length 0, and is FILLER for a REDEFINES
+    ∷ reasoned nameless 1 (why 1 0 0 0 ++ why 5 0 0 0 ++ why 1 0 0 0)
+    ∷ reasoned nameless 2 (why 2 0 0 1)
+    ∷ reasoned nameless 4 (why 4 19 6 1)
+    ∷ reasoned nameless 5 (why 2 19 6 3)
+    ∷ reasoned nameless 7 (why 1 0 0 0 ++ why 5 0 0 0 ++ why 2 68 1 4)
+    -- the sum may pass 32 bits, though no reason does
+    ∷ reasoned "05 P PIC X(2) OCCURS 1000000000. 05 G OCCURS 0. 10 P PIC X(2) OCCURS 1000000000. 10 H OCCURS 0 TO 1 DEPENDING ON N. 15 P PIC X(2) OCCURS 1000000000. 15 Q PIC X." 5
+    (why 2 119 1 2000000000 ++ why 5 84 1 0 ++ why 2 51 1 2000000000 ++ why 5 36 1 0 ++ why 2 3 1 2000000000)
+    -- cards: names stand in the card text; 51 comes before 53
+    ∷ cards (reasoned "000010 05 TAG PIC X.\n000020* no\n000030 05 SIRE PIC 9(4) COMP SYNC." 1
+    (why 2 10 3 1 ++ why 3 0 0 1))
+    ∷ cards (notReasoned "000010 05 TAG PIC X." 1 0 53 0 0)
+    ∷ cards (notReasoned "000010 05 TAG PIC X." 0 12 31 0 13)
+    ∷ cards (notReasoned "      -" 0 12 51 6 0)
     -- values in quotes: neither a period nor `*>` counts inside a literal
     ∷ accepted "05 A PIC X VALUE 'St. 4'. 05 B PIC X." 2 false (column 0 1 Text ∷ column 1 1 Text ∷ [])
     ∷ accepted "05 A PIC X. 88 X VALUE 'a' 'b. c'. 05 B PIC X." 2 false (column 0 1 Text ∷ column 1 1 Text ∷ [])

@@ -12,11 +12,12 @@ use Rattle.definition.specs.Layout.{lay}
 use Rattle.definition.specs.Record.{recordLength, variable, endsFit, unfolded, layout}
 use Rattle.definition.specs.Listing.{entryBytes, entriesBytes, listing}
 use Rattle.definition.specs.Owner.{laid, ownerFrom, overlaid}
-use Rattle.definition.specs.Calls.{firstWide, textChecks, entryChecks, literalCheck, keptStatements, recordFields, entries, layoutListing, layoutDetails, pictureAnswer, pictureMask, ownerIn, byteOwner}
+use Rattle.definition.specs.Calls.{firstWide, textChecks, entryChecks, literalCheck, keptStatements, recordFields, entries, layoutListing, layoutDetails, pictureAnswer, pictureMask, ownerIn, byteOwner, entryReasons}
 use Rattle.definition.specs.Calls.{indicatorCheck, cardChecks, onCards}
 use Rattle.definition.specs.Cards.{viewFrom, firstOther}
 use Rattle.definition.specs.Ungrouped.{lasting, lastingAll, plainGroups}
 use Rattle.definition.specs.Details.{detailsIn, detailBytes, detailsBytes}
+use Rattle.definition.specs.Reasons.{latest, chains, chainAt, reasonsIn, reasonsBytes}
 
 unfoldable pub computing : Unit {0}
 unfolding
@@ -27,8 +28,9 @@ unfolding
     append searchBack find hasMember redefiners widest foldCheck foldedList foldedBelow
     lay recordLength variable endsFit unfolded layout entryBytes entriesBytes listing
     laid ownerFrom overlaid
-    detailsIn detailBytes detailsBytes
+    detailsIn detailBytes detailsBytes latest chains chainAt reasonsIn reasonsBytes
     firstWide textChecks entryChecks literalCheck keptStatements recordFields entries layoutListing layoutDetails pictureAnswer pictureMask ownerIn byteOwner
+    entryReasons
     viewFrom firstOther indicatorCheck cardChecks onCards
     lasting lastingAll plainGroups
 computing = tt

@@ -14,6 +14,7 @@ pub mod Listing
 pub mod Owner
 pub mod Search
 pub mod Details
+pub mod Reasons
 pub mod Cards
 pub mod Calls
 pub mod Ungrouped
@@ -21,3 +22,4 @@ pub mod Computing
 pub mod Catches
 pub mod Placed
 pub mod Demand
+pub mod Explained

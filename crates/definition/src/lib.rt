@@ -216,6 +216,14 @@ pub struct Entry {
     pub folded: bool,
 }
 
+// Why an item stands where it does: the reason's kind, 1 to 5, the name of the item that it names, or none, and the
+// bytes that it adds.
+pub struct Reason {
+    pub kind: u8,
+    pub name: Span,
+    pub adds: usize,
+}
+
 // What a byte of a record belongs to: a piece, that is one occurrence of the elementary item whose entry has that number,
 // with the piece's first byte in the record and the byte's place inside it; slack before the entry of that number; or
 // nothing.
@@ -244,10 +252,12 @@ pub enum PicAnswer {
     Refused(Refusal),
 }
 
-// What is written of a copybook's record: the layout listing, or the details of its entries.
+// What is written of a copybook's record: the layout listing, the details of its entries, or the reasons of the entry
+// of that number.
 pub enum Report {
     Listing,
     Details,
+    Reasons(usize),
 }
 
 // The answer of an entry that writes bytes: how many.

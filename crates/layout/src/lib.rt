@@ -8,7 +8,7 @@ ghost use Rattle.definition.specs.Layout.{content, slackFrom};
 ghost use Rattle.definition.specs.Calls.{pictureOf, checkOf};
 ghost use Rattle.definition.specs.Statement.{signOf};
 ghost use Rattle.definition.specs.Tree.{Forest.leaf};
-ghost use Rattle.redefines.specs.Targets.{offsetOf};
+ghost use Rattle.redefines.specs.Targets.{offsetOf, plainAfter};
 ghost use Rattle.redefines.specs.Prints.{Printed};
 ghost use Rattle.places.specs.Places.{entriesIn, Linked, rowsForest};
 ghost use Rattle.layout.specs.Outcomes.{placeRow, layItem, layTable};
@@ -31,6 +31,8 @@ use limits::Ending;
 use rows::AT;
 use rows::BASE;
 use rows::OFFSET;
+use rows::PLACERS;
+use rows::REDEFINES;
 use rows::ROW;
 
 // The first multiple of the width from the cursor on.
@@ -151,6 +153,30 @@ pub enum LaidList {
     Refused(Refusal),
 }
 
+// The latest sibling without REDEFINES from `last` back: that one, or the one that it names.
+fn plain_after(work: &[u32], last: usize) -> usize
+    requires { ⌜ (ROW * last ≤ length (now work)) × (last < 65536) ⌝ }
+    ensures { λ r. ⌜ (r ≡ plainAfter (now (work .entry)) last) × (r < 65536) ⌝ }
+{
+    if 0 < last {
+        let row = last - 1;
+        let redefines = rows::span_at(work[ROW * row + REDEFINES]);
+        if 0 < redefines.len {
+            return rows::wide(work[ROW * row + PLACERS]) / 65536;
+        }
+        return last;
+    }
+    0
+}
+
+// The siblings that may place an item, in one number.
+fn placers_of(work: &[u32], last: usize, target: usize) -> u32
+    requires { ⌜ (ROW * last ≤ length (now work)) × (last < 65536) × (target < 65536) ⌝ }
+    ensures { λ r. ⌜ r ≡ plainAfter (now (work .entry)) last * 65536 + target ⌝ }
+{
+    (plain_after(work, last) * 65536 + target) as u32
+}
+
 // The item of row i placed, after `below` rows below it: 28, then 29.
 fn place(
     text: &[u8],
@@ -161,7 +187,7 @@ fn place(
     cursor: usize,
     c: Pictured,
 ) -> ItemAnswer
-    requires { ⌜ (ROW * i + ROW ≤ length (now work)) × (last ≤ i) × (i < 4294967296) × (below < 4294967296) × (cursor ≤ largest) × (c .width ≤ largest) × Printed (now text) (now work) i ⌝ }
+    requires { ⌜ (ROW * i + ROW ≤ length (now work)) × (last ≤ i) × (i < 65536) × (below < 4294967296) × (cursor ≤ largest) × (c .width ≤ largest) × Printed (now text) (now work) i ⌝ }
     ensures { λ r. ⌜ itemOf r (now (work .exit)) ≡ placeRow (now (text .entry)) (now (work .entry)) i below last cursor c ⌝ }
 {
     let s = rows::statement_at(work, i);
@@ -175,7 +201,8 @@ fn place(
             match limits::entry_end(e) {
                 Ending::At(end) => {
                     let base = redefines::base_of(text, work, redefines, target);
-                    places::put_place(work, i, last, below, base, e);
+                    let placers = placers_of(work, last, target);
+                    places::put_place(work, i, last, below, base, placers, e);
                     return ItemAnswer::Done {
                         cursor: advanced(cursor, redefines, end),
                         end,

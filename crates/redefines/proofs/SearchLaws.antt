@@ -1,8 +1,8 @@
 -- The search for a name among the siblings from one back, row by row: it finds the row whose place the definition
 -- finds, and looks at as many siblings as that compares names; and the search for a base.
 -- Assumes nothing.
-use Prim.Native.Nat.{ℕ, zero, suc, _≤_, _<_}
-use mathlib.Core.Path.{_≡_, refl, sym, ap, subst, _∙_}
+use Prim.Native.Nat.{ℕ, zero, suc, _+_, _*_, _/_, _≤_, _<_}
+use mathlib.Core.Path.{_≡_, refl, sym, ap, ap₂, subst, _∙_}
 use mathlib.Core.Bool.{Bool, true, false}
 use mathlib.Core.List.{List, _∷_}
 use mathlib.Core.Logic.{⊎-elim}
@@ -14,11 +14,11 @@ use Rattle.definition.specs.Basic.{if_then_else_, given}
 use Rattle.definition.specs.Fold.{Place, Search, searchBack, find, sameName}
 use Rattle.definition.proofs.LayoutLaws.{search-none, search-hit, search-miss, find-none, find-hit, find-miss}
 use Rattle.definition.proofs.Lists.{order}
-use Rattle.rows.specs.Columns.{ROW, NAME, REDEFINES, OFFSET, BEFORE}
+use Rattle.rows.specs.Columns.{ROW, NAME, REDEFINES, OFFSET, BEFORE, PLACERS}
 use Rattle.rows.specs.Table.{cell, spanAt}
 use Rattle.redefines.specs.declared.SearchEnd.{SearchEnd}
 use Rattle.redefines.specs.Targets.{placeAt, leftOut, seenFrom, seenAt, isTarget, rowFrom, lookedFrom, offsetOf}
-use Rattle.redefines.specs.Targets.{searchOf, targetFrom, Named, baseFrom, baseAfter}
+use Rattle.redefines.specs.Targets.{searchOf, targetFrom, Named, baseFrom, baseAfter, plainAfter, placersAfter}
 
 pub if-most : (b : Bool) {x y n : ℕ} → x ≤ n → y ≤ n → (if b then x else y) ≤ n
 if-most true p q = p
@@ -227,29 +227,47 @@ module _ (t w : List ℕ) (target : Span) where
           no-base false = refl
       go false p b q back on = on
 
-  -- what is found from the sibling `last` back
+  -- what is found from the sibling `last` back, and the base that is
+  abbrev pub found : Bool → ℕ → ℕ
+  found bases last = rowFrom t target bases w last last
+
+  pub found-none : (bases : Bool) → found bases 0 ≡ 0
+  unfolding rowFrom
+  found-none bases = refl
+
+  pub found-step :
+      (bases : Bool) (k last : ℕ) →
+      cell w k BEFORE ≡ last →
+      last ≤ k →
+      found bases (suc k) ≡ (if isTarget t target bases w k then suc k else found bases last)
+  found-step bases k last e l =
+      row-here t w target bases k
+      ∙ ap (λ (x : ℕ). if isTarget t target bases w k then suc k else x)
+      (ap (rowFrom t target bases w k) e ∙ row-low t w target bases k last l)
+
   abbrev pub back : ℕ → ℕ
-  back last = baseFrom t target w last last
+  back last = found true last
 
   pub back-none : back 0 ≡ 0
-  unfolding rowFrom
-  back-none = refl
+  back-none = found-none true
 
-  pub back-step : (k last : ℕ) → cell w k BEFORE ≡ last → last ≤ k → back (suc k) ≡ (if isTarget t target true w k then suc k else back last)
-  back-step k last e l =
-      row-here t w target true k
-      ∙ ap (λ (x : ℕ). if isTarget t target true w k then suc k else x) (ap (baseFrom t target w k) e ∙ row-low t w target true k last l)
+  pub back-step :
+      (k last : ℕ) →
+      cell w k BEFORE ≡ last →
+      last ≤ k →
+      back (suc k) ≡ (if isTarget t target true w k then suc k else back last)
+  back-step = found-step true
 
 -- they are read from the rows before
-base-same :
-    (t : List ℕ) (target : Span) (w w′ : List ℕ) (n last : ℕ) →
+row-same :
+    (t : List ℕ) (target : Span) (bases : Bool) (w w′ : List ℕ) (n last : ℕ) →
     ((k c : ℕ) → k < n → c < ROW → cell w k c ≡ cell w′ k c) →
-    baseFrom t target w n last ≡ baseFrom t target w′ n last
+    rowFrom t target bases w n last ≡ rowFrom t target bases w′ n last
 unfolding rowFrom
-base-same t target w w′ zero last h = refl
-base-same t target w w′ (suc k) last h =
-    let back = base-same t target w w′ k (cell w k BEFORE) (λ j c l m. h j c (omega arith) m) in
-    let on = base-same t target w w′ k last (λ j c l m. h j c (omega arith) m) in
+row-same t target bases w w′ zero last h = refl
+row-same t target bases w w′ (suc k) last h =
+    let back = row-same t target bases w w′ k (cell w k BEFORE) (λ j c l m. h j c (omega arith) m) in
+    let on = row-same t target bases w w′ k last (λ j c l m. h j c (omega arith) m) in
     cc (h k NAME (omega arith) (lit< tt), h k REDEFINES (omega arith) (lit< tt), h k BEFORE (omega arith) (lit< tt), back, on)
 
 pub after-same :
@@ -259,4 +277,40 @@ pub after-same :
     baseAfter t w k last ≡ baseAfter t w′ k last
 after-same t w w′ k last e h =
     ap (λ (n : ℕ). if given (spanAt n) then baseFrom t (spanAt n) w last last else 0) e
-    ∙ ap (λ (n : ℕ). if given (spanAt (cell w′ k REDEFINES)) then n else 0) (base-same t (spanAt (cell w′ k REDEFINES)) w w′ last last h)
+    ∙ ap (λ (n : ℕ). if given (spanAt (cell w′ k REDEFINES)) then n else 0) (row-same t (spanAt (cell w′ k REDEFINES)) true w w′ last last h)
+
+-- ---------------------------------------------------------------- what places an item
+
+-- where the columns of row k and what is found from before it are the same
+pub placers-as :
+    (t w w′ : List ℕ) (k last : ℕ) →
+    cell w k REDEFINES ≡ cell w′ k REDEFINES →
+    plainAfter w last ≡ plainAfter w′ last →
+    ((target : Span) → rowFrom t target false w last last ≡ rowFrom t target false w′ last last) →
+    placersAfter t w k last ≡ placersAfter t w′ k last
+placers-as t w w′ k last e plain same =
+    ap₂ (λ (a b : ℕ). a * 65536 + b) plain
+    (ap (λ (n : ℕ). targetFrom t (spanAt n) w last) e
+    ∙ ap (λ (n : ℕ). if given (spanAt (cell w′ k REDEFINES)) then n else 0) (same (spanAt (cell w′ k REDEFINES))))
+
+pub plain-next :
+    (w w′ : List ℕ) (k : ℕ) →
+    cell w k REDEFINES ≡ cell w′ k REDEFINES →
+    cell w k PLACERS ≡ cell w′ k PLACERS →
+    plainAfter w (suc k) ≡ plainAfter w′ (suc k)
+plain-next w w′ k e p = ap₂ (λ (a b : ℕ). if given (spanAt a) then b / 65536 else suc k) e p
+
+plain-same :
+    (w w′ : List ℕ) (last : ℕ) →
+    ((j c : ℕ) → j < last → c < ROW → cell w j c ≡ cell w′ j c) →
+    plainAfter w last ≡ plainAfter w′ last
+plain-same w w′ zero h = refl
+plain-same w w′ (suc k) h = plain-next w w′ k (h k REDEFINES (omega arith) (lit< tt)) (h k PLACERS (omega arith) (lit< tt))
+
+pub placers-same :
+    (t w w′ : List ℕ) (k last : ℕ) →
+    cell w k REDEFINES ≡ cell w′ k REDEFINES →
+    ((j c : ℕ) → j < last → c < ROW → cell w j c ≡ cell w′ j c) →
+    placersAfter t w k last ≡ placersAfter t w′ k last
+placers-same t w w′ k last e h =
+    placers-as t w w′ k last e (plain-same w w′ last h) (λ target. row-same t target false w w′ last last h)

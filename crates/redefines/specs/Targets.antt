@@ -1,8 +1,8 @@
 -- Siblings in the rows, and the search among them that a REDEFINES makes, backward from the item: for its target, the
 -- latest earlier sibling of that name, with the count of names compared; and for its base, the latest of that name that
--- is no redefiner itself.
+-- is no redefiner itself. And what places an item.
 -- Assumes nothing.
-use Prim.Native.Nat.{ℕ, zero, suc, _≤_}
+use Prim.Native.Nat.{ℕ, zero, suc, _+_, _*_, _/_, _≤_}
 use mathlib.Core.Path.{_≡_}
 use mathlib.Core.Bool.{Bool, true, false, _&&_}
 use mathlib.Core.List.{List, [], _∷_}
@@ -11,7 +11,7 @@ use lib.Dec.{eqb}
 use Rattle.definition.specs.declared.Span.{Span}
 use Rattle.definition.specs.Basic.{if_then_else_, given}
 use Rattle.definition.specs.Fold.{sameName, Place, Search, searchBack}
-use Rattle.rows.specs.Columns.{NAME, REDEFINES, OFFSET, BEFORE}
+use Rattle.rows.specs.Columns.{NAME, REDEFINES, OFFSET, BEFORE, PLACERS}
 use Rattle.rows.specs.Table.{spanAt, cell}
 use Rattle.redefines.specs.declared.SearchEnd.{SearchEnd}
 
@@ -97,3 +97,14 @@ baseFrom text target w n last = rowFrom text target true w n last
 -- the base that row k redefines, after the sibling `last`: its row and 1, or 0 for none
 abbrev pub baseAfter : List ℕ → List ℕ → ℕ → ℕ → ℕ
 baseAfter text w k last = if given (spanAt (cell w k REDEFINES)) then baseFrom text (spanAt (cell w k REDEFINES)) w last last else 0
+
+-- ---------------------------------------------------------------- what places an item
+
+-- the latest sibling without REDEFINES from `last` back: that one, or the one that it names
+abbrev pub plainAfter : List ℕ → ℕ → ℕ
+plainAfter w zero = 0
+plainAfter w (suc k) = if given (spanAt (cell w k REDEFINES)) then cell w k PLACERS / 65536 else suc k
+
+-- the siblings that may place row k, after the sibling `last`, in one number
+abbrev pub placersAfter : List ℕ → List ℕ → ℕ → ℕ → ℕ
+placersAfter text w k last = plainAfter w last * 65536 + targetFrom text (spanAt (cell w k REDEFINES)) w last

@@ -52,9 +52,11 @@ pub const SLACK: usize = 15;
 
 pub const BASE: usize = 16;
 
-pub const NEXT: usize = 17;
+pub const PLACERS: usize = 17;
 
-pub const PRINT: usize = 18;
+pub const NEXT: usize = 18;
+
+pub const PRINT: usize = 19;
 
 // Work memory to zero.
 pub fn clear(work: &mut [u32])

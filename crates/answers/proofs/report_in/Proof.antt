@@ -6,9 +6,11 @@ use mathlib.Core.List.{List, []}
 use Prim.Native.Nat.{ℕ}
 use lib.ListN.{length}
 use Rattle.definition.specs.Basic.{Answer}
-use Rattle.definition.specs.Calls.{recordFields, afterWriting}
+use Rattle.definition.specs.declared.Report.{Report}
+use Rattle.definition.specs.Calls.{recordFields, report, afterWriting}
 use Rattle.record.specs.declared.RecordLaid.{RecordLaid}
 use Rattle.record.specs.Laying.{RecordIs}
+use Rattle.reasons.proofs.AnswerLaws.{laid-settled, laid-chained, reasons-laid}
 use Rattle.answers.proofs.CallLaws.{report-refused, listing-laid, details-laid, record-deep}
 use Rattle.answers.proofs.report_in.Statement.{statement}
 use Rattle.answers.proofs.report_in.Tie as tie
@@ -51,8 +53,30 @@ returns-2 c =
     ∙ ap (λ (y : Answer (List ℕ)). afterWriting y (a .out .now) [])
     (sym (details-laid (a .text .now) (length (a .work .now)) (length (a .out .now)) (laid x .0 .is) (c .before .before .before .before .before .before .enum-told2 .given .1)))
 
+write-reasons-requires : tie.Need-write-reasons-requires
+write-reasons-requires c κs =
+    let x = c .before .before .before .before .before .before .before in
+    let a =
+    x .before .before .before .before .before .before .before .before .before .before .before .before .before .args in
+    let l = laid x in
+    let n = length (a .work .now) in
+    record { table = l .1; settled = laid-settled n (l .0); chained = laid-chained n (l .0) }
+
 returns-3 : tie.Need-returns-3
 returns-3 c =
+    let told = c .before .before .before .before .before .before .before .what .given in
+    let x = c .before .before .before .before .before .before .before .before .before .before in
+    let a =
+    x .before .before .before .before .before .before .before .before .before .before .before .before .before .args in
+    let n = length (a .work .now) in
+    c .before .before .write-reasons .ensures
+    ∙ ap (λ (y : Answer (List ℕ)). afterWriting y (a .out .now) [])
+    (sym
+    (ap (λ (y : Report). report y (a .text .now) n (length (a .out .now))) (told .1)
+    ∙ reasons-laid n (laid x .0) (told .0 .0) (length (a .out .now))))
+
+returns-4 : tie.Need-returns-4
+returns-4 c =
     let a = c .before .before .before .before .before .before .before .before .before .before .before .before .before .before .args in
     let r = c .before .before .before .before .before .before .before .lay-record in
     let t = a .text .now in
@@ -79,6 +103,12 @@ report-in-spec =
     (λ c. search needs)
     returns-2
     (λ c. search needs)
+    write-reasons-requires
     (λ c. search needs)
     (λ c. search needs)
-    returns-3)
+    (λ c. search needs)
+    returns-3
+    (λ c. search needs)
+    (λ c. search needs)
+    (λ c. search needs)
+    returns-4)

@@ -1,7 +1,7 @@
-// The public entries: what a copybook's columns are, and which of them has a byte, in free text and on cards. Each
-// answers in full or with one refusal of document 01's table; a refusal changes no byte of the output, and work memory
-// is zero after every call. `proofs/Demand3` says what the answers of the listing and of the byte owner have to do with
-// each other.
+// The public entries: what a copybook's columns are, and which of them has a byte, in free text and on cards; and which
+// of them fit into a short record. Each answers in full or with one refusal of document 01's table; a refusal changes
+// no byte of the output, and work memory is zero after every call. `proofs/Demand3` says what the answers of the
+// listing and of the byte owner have to do with each other.
 ghost use Prim.Native.Nat.{ℕ};
 ghost use mathlib.Core.Path.{_≡_};
 ghost use mathlib.Core.List.{[]};
@@ -10,7 +10,9 @@ ghost use Rattle.definition.specs.Calls.{left, afterWriting, layoutListing, lay
 ghost use Rattle.entries.specs.Building.{Roomy};
 ghost use Rattle.record.specs.Laying.{Read};
 ghost use Rattle.definition.specs.Calls.{layoutCardsCall, detailsCardsCall, ownerCardsCall};
+ghost use Rattle.definition.specs.Calls.{extractAnswer, extractCall, extractAnswerOf};
 use definition::Check;
+use definition::ExtractAnswer;
 use definition::MOST_BYTES;
 use definition::OwnerAnswer;
 use definition::PicAnswer;
@@ -164,6 +166,60 @@ fn owner_of(text: &[u8], position: usize, work: &mut [u32]) -> OwnerAnswer
     }
 }
 
+// The extract of the record that was read into n rows, with a table for its entries.
+fn extract_in(
+    text: &[u8],
+    weights: &[u32],
+    limit: usize,
+    budget: usize,
+    work: &mut [u32],
+    n: usize,
+    entries: &mut [u32],
+) -> ExtractAnswer
+    requires { ⌜ Read (now text) (now work) n × Roomy (now entries) n ⌝ }
+    ensures { λ r. ⌜ extractAnswerOf r ≡ extractAnswer (now (text .entry)) (length (now (work .entry))) (now (weights .entry)) limit budget ⌝ }
+{
+    match record::lay_record(text, work, n, entries) {
+        RecordLaid::Record {
+            from,
+            to,
+            length,
+            count,
+            top,
+        } => {
+            return extract::extract_of(text, work, from, to, length, top, weights, limit, budget);
+        }
+        RecordLaid::Refused(r) => {
+            return ExtractAnswer::Refused(r);
+        }
+    }
+}
+
+// The same of a text, with work memory left as it comes.
+fn extract_of(
+    text: &[u8],
+    weights: &[u32],
+    limit: usize,
+    budget: usize,
+    work: &mut [u32],
+) -> ExtractAnswer
+    ensures { λ r. ⌜ extractAnswerOf r ≡ extractAnswer (now (text .entry)) (length (now (work .entry))) (now (weights .entry)) limit budget ⌝ }
+{
+    match record::read_rows(text, work) {
+        RowsRead::Rows(n) => {
+            if n <= FEW_ROWS {
+                let mut few = [0u32; FEW_ENTRIES];
+                return extract_in(text, weights, limit, budget, work, n, &mut few);
+            }
+            let mut all = [0u32; ENTRIES];
+            return extract_in(text, weights, limit, budget, work, n, &mut all);
+        }
+        RowsRead::Refused(r) => {
+            return ExtractAnswer::Refused(r);
+        }
+    }
+}
+
 // ---------------------------------------------------------------- the entries
 
 // The layout listing of a copybook: how many bytes were written. Refusals, in this order: 1 text over 65,535 bytes; 2 a
@@ -266,6 +322,29 @@ pub fn byte_owner_cards(cards: &[u8], position: usize, work: &mut [u32]) -> Owne
             return OwnerAnswer::Refused(r);
         }
     }
+}
+
+// An extract that fits: of the record's top-level items, each with a weight from 1 to 1,000 in the listing's order,
+// the heaviest choice whose reserved widths sum to at most the limit, among the first subsets, as many as the budget
+// says. Subsets are numbered in binary, the first item being the lowest bit. The answer is the number of the heaviest
+// fitting one, the earliest if equal, its weight, how many were looked at, and how far off it is at most: 0 if all
+// were, else what all items that fit alone weigh more; no choice there is outweighs it by more (`extracted` of
+// `definition`). Refusals: those of the layout listing but 31; 40 for a REDEFINES or DEPENDING ON, a dropped root's own
+// aside; 58 for more than 16 items, or another number of weights than of items; 59 for a weight outside its range; 60
+// for a budget of 0. Work memory is zero after every call.
+// The contract rules out a program that answers with the latest of equals, and one that looks at a subset too many.
+pub fn extract(
+    text: &[u8],
+    weights: &[u32],
+    limit: usize,
+    budget: usize,
+    work: &mut [u32],
+) -> ExtractAnswer
+    ensures { λ r. ⌜ left (extractAnswerOf r) [] (now (work .exit)) ≡ extractCall (now (text .entry)) (now (weights .entry)) limit budget (now (work .entry)) ⌝ }
+{
+    let found = extract_of(text, weights, limit, budget, work);
+    rows::clear(work);
+    found
 }
 
 // Kind, its details and width of one picture with a usage and a sign. Refusals, in this order: 1 over 65,535 bytes; 2 a byte over 127, at the first

@@ -22,3 +22,4 @@ pub mod Walk
 pub mod Told
 pub mod Demand3
 pub mod Occurrences
+pub mod ExtractLaws

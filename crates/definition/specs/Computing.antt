@@ -13,6 +13,8 @@ use Rattle.definition.specs.Owner.{laid, ownerFrom, overlaid}
 use Rattle.definition.specs.Calls.{firstWide, textChecks, entryChecks, literalCheck, keptStatements, recordFields, entries, layoutListing, layoutDetails, pictureAnswer, pictureMask, ownerIn, byteOwner}
 use Rattle.definition.specs.Calls.{indicatorCheck, cardChecks, onCards}
 use Rattle.definition.specs.Cards.{viewFrom, firstOther}
+use Rattle.definition.specs.Extract.{misweighed, chosen, upFrom, heaviest, alone}
+use Rattle.definition.specs.Calls.{extractOf, extractIn, extractAnswer}
 use Rattle.definition.specs.Details.{detailsIn, detailBytes, detailsBytes}
 
 unfoldable pub computing : Unit {0}
@@ -22,6 +24,7 @@ unfolding
     append find hasMember redefiners widest foldCheck foldedList foldedBelow lay recordLength variable endsFit unfolded layout entryBytes entriesBytes listing
     laid ownerFrom overlaid
     detailsIn detailBytes detailsBytes
+    misweighed chosen upFrom heaviest alone extractOf extractIn extractAnswer
     firstWide textChecks entryChecks literalCheck keptStatements recordFields entries layoutListing layoutDetails pictureAnswer pictureMask ownerIn byteOwner
     viewFrom firstOther indicatorCheck cardChecks onCards
 computing = tt

@@ -13,8 +13,10 @@ pub mod Owner
 pub mod Search
 pub mod Details
 pub mod Cards
+pub mod Extract
 pub mod Calls
 pub mod Computing
 pub mod Catches
 pub mod Placed
 pub mod Demand
+pub mod Extracted

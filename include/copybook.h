@@ -54,6 +54,7 @@ extern "C" {
 #define COPYBOOK_PICTURE_ANSWER 7
 #define COPYBOOK_MASK_ANSWER 2
 #define COPYBOOK_OWNER_ANSWER 4
+#define COPYBOOK_REASONS_ANSWER 2
 #define COPYBOOK_EXTRACT_ANSWER 4
 
 /* Numbers returned. COPYBOOK_REFUSALS says what each means and what to do, and docs/REFUSALS.md when it is given. */
@@ -105,6 +106,9 @@ enum copybook_number {
 
     /* cards, after 3 and before 50; the position is that of the byte in column 7 */
     COPYBOOK_INDICATOR = 51,
+
+    /* the reasons of an entry, before 31 */
+    COPYBOOK_PAST_LISTING = 53,
 
     /* the extract, after 40 */
     COPYBOOK_EXTRACT_ITEMS = 58,
@@ -166,6 +170,8 @@ enum copybook_number {
       "close it on its line by the mark that opens it; within it that mark is written twice") \
     R(COPYBOOK_INDICATOR, "a card's column 7 holds none of the four indicators", \
       "a blank marks code, * or / a comment, D a debugging line; a continued line (-) must be written as one") \
+    R(COPYBOOK_PAST_LISTING, "the entry's number is past the listing", \
+      "entries are numbered from 0 in the order of the layout, the record's own line not counted") \
     R(COPYBOOK_EXTRACT_ITEMS, "more than 16 top-level items, or another number of weights than of items", \
       "give one weight for each top-level item, in their order; of a longer record take a copybook of fewer items") \
     R(COPYBOOK_EXTRACT_WEIGHT, "a weight outside 1 to 1,000", \
@@ -267,6 +273,41 @@ uint32_t copybook_layout_cards(const uint8_t *cards, size_t n, uint32_t *work, s
 
 uint32_t copybook_details_cards(const uint8_t *cards, size_t n, uint32_t *work, size_t w, uint8_t *out, size_t m,
                                 uint64_t *answer, size_t k);
+
+/* Kinds of reasons: the first byte of each. */
+enum copybook_reason {
+    COPYBOOK_FIRST = 1,  /* first in its list */
+    COPYBOOK_AFTER = 2,  /* directly after the sibling named, the latest earlier one without REDEFINES */
+    COPYBOOK_ALIGNS = 3, /* so many slack bytes for alignment */
+    COPYBOOK_OVER = 4,   /* laid over the redefined item named */
+    COPYBOOK_INSIDE = 5  /* inside the group named */
+};
+
+/*
+ * Why an entry of the listing stands where it does, written to `out`: COPYBOOK_REASON bytes for each reason. Entries
+ * are numbered from 0 in the order of the listing, COPYBOOK_RECORD not counted. `work` and the answer are those of
+ * copybook_layout. Refusals: 1 to 3, 50, 10 to 14, 20 to 30, 53, 31.
+ *
+ * Numbers are little-endian: the reason's kind (1 byte); start and length of the named item's name in `text` (4 each, 0
+ * where no item is named, or one without a name); the bytes that it adds (4): 0 for COPYBOOK_FIRST and COPYBOOK_INSIDE,
+ * the sibling's offset and what it reserves for COPYBOOK_AFTER, the redefined item's offset for COPYBOOK_OVER.
+ *
+ * The item's placing reason (COPYBOOK_FIRST, COPYBOOK_AFTER or COPYBOOK_OVER) comes first, then COPYBOOK_ALIGNS if it
+ * has slack, then for each group outward COPYBOOK_INSIDE and the group's own reasons. A root that is dropped gives
+ * none; items are named as the copybook has them, and a group made by folding has its base's reasons. The bytes added
+ * up are the entry's first byte in the record; their sum may pass 32 bits, though none of them does.
+ *
+ * An item stands in at most 64 groups: an `out` of COPYBOOK_LONGEST_REASONS bytes is never too short.
+ */
+#define COPYBOOK_REASON 13
+#define COPYBOOK_LONGEST_REASONS ((2 + 64 * 2) * COPYBOOK_REASON)
+
+uint32_t copybook_reasons(const uint8_t *text, size_t n, uint64_t entry, uint32_t *work, size_t w, uint8_t *out,
+                          size_t m, uint64_t *answer, size_t k);
+
+/* The same for a copybook on cards. Refusal 51 comes after 3 and before 50. */
+uint32_t copybook_reasons_cards(const uint8_t *cards, size_t n, uint64_t entry, uint32_t *work, size_t w, uint8_t *out,
+                                size_t m, uint64_t *answer, size_t k);
 
 /*
  * Kind, its details and width of one picture, with a usage and a sign. To `answer`, 7 numbers:

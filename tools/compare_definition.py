@@ -10,7 +10,8 @@ computes its answer to each input: the bytes of the listing, read back into the 
 Each input must get the same list of numbers, or the same refusal, from both. Left out, and counted by number, are the inputs that the
 definition turns down with a refusal that docs/RULES.md adds to the Rust's; of these, the reason is checked as far as it shows (`due`).
 The Rust has no answer where a literal after VALUE holds a period that would end a statement, or `*>`, or is left open, nor where a
-picture has P, which holds a byte there: there the answer of layout_list.py, a reading of docs/RULES.md, stands in its place.
+picture has P, which holds a byte there, nor where a group names a usage or DISPLAY stands after another usage word:
+there the answer of layout_list.py, a reading of docs/RULES.md, stands in its place.
 The exit status is 1 if there is a difference, and 2 if there was no comparison. It needs rt and cargo, and no network.
 """
 
@@ -297,12 +298,12 @@ class Oracle:
 
 
 def plain(i):
-    """Whether the Rust has an answer, as far as literals and P go."""
+    """Whether the Rust has an answer, as far as literals, P and usages go."""
     if i.usage is not None:
         return not layout_list.has_scale(i.text)
     if len(i.text) > 65535 or max(i.text, default=0) > 127:
         return True
-    return reader_list.plain(i.text) and not layout_list.scaled(i.text)
+    return reader_list.plain(i.text) and reader_list.plain_usages(i.text) and not layout_list.scaled(i.text)
 
 
 def read(i):
@@ -458,7 +459,8 @@ def main():
                 if r.differs():
                     differences.append(r)
                 elif not plain(r.input):
-                    kinds[what, "left out, literals or P: " + ("accepted" if r.oracle[0] == 1 else f"refused {r.oracle[1]}")] += 1
+                    how = "accepted" if r.oracle[0] == 1 else f"refused {r.oracle[1]}"
+                    kinds[what, f"left out, literals, P or usages: {how}"] += 1
                 elif r.added():
                     kinds[what, f"left out, refused {r.added()}"] += 1
                 else:

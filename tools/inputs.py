@@ -12,6 +12,8 @@ Where each thing that a comparison must cover is made:
   repeated clauses, SEPARATE in odd places and after VALUE                      REPEATED, Maker.soup
   literals after VALUE: periods, `*>`, white space and other marks in them, doubled and open ones; marks before VALUE; VALUE as
     a name, a target, a picture                                                 QUOTED, Maker.quoted
+  usages on groups, on dropped roots, taken back by DISPLAY, with SYNC, over text and edited items; several usage words;
+    DISPLAY where no clause begins                                              USAGES, Maker.usages
   cards: sequence numbers, indicators, text behind column 72, words cut there, comments between words, short and empty lines,
     carriage returns                                                            CARDS, Maker.cards
   level 88, levels 0 255 256 +05 0005                                           LEVELS, levels
@@ -225,6 +227,65 @@ LARGE = """
 05 A PIC X. 05 B OCCURS 2147483647 DEPENDING ON N PIC X. 05 C REDEFINES B PIC X. 05 D PIC X.
 05 A OCCURS 2147483645 PIC X. 05 B PIC X. 05 C REDEFINES B OCCURS 2 DEPENDING ON N PIC X(2).
 05 A OCCURS 2147483646 PIC X. 05 B PIC X. 05 C REDEFINES B OCCURS 9 DEPENDING ON N PIC X(2).
+""".strip().split("\n")
+USAGES = """
+01 COUNTS COMP. 05 A PIC 9(4). 05 B PIC 9(9).
+01 R COMP.
+01 R COMP PIC 9(4).
+01 R COMP. 05 A PIC 9(4). 01 S PIC 9(4).
+01 R COMP. 05 A PIC 9(4). 01 S COMP-3. 05 B PIC 9(4). 01 T. 05 C PIC 9(4).
+01 R. 05 A PIC 9(4). 05 G COMP. 10 B PIC 9(4). 10 C PIC 9(5). 05 D PIC 9(4).
+01 R COMP. 05 G. 10 H. 15 A PIC 9(5).
+01 R COMP. 05 H COMP-3. 10 A PIC 9(5). 05 B PIC 9(5).
+01 R COMP. 05 G COMP-3. 10 H DISPLAY. 15 A PIC 9(5). 10 B PIC 9(5). 05 C PIC 9(5).
+01 R COMP-3. 05 G. 10 A PIC 9(5). 05 H COMP. 10 B PIC 9(5). 05 I. 10 C PIC 9(5).
+01 R COMP. 05 A PIC 9(5) COMP-3. 05 B PIC 9(5) DISPLAY. 05 C PIC 9(5).
+01 R COMP. 05 G USAGE IS DISPLAY. 10 A PIC 9(5). 05 B PIC 9(5).
+01 R DISPLAY. 05 G COMP. 10 A PIC 9(5). 05 B PIC 9(5).
+01 R COMP. 10 A PIC 9(5). 05 B PIC 9(5). 03 C PIC 9(5).
+10 A COMP. 05 B PIC 9(5). 07 C PIC 9(5). 03 D PIC 9(5).
+05 A PIC X(8). 05 B REDEFINES A COMP. 10 C PIC 9(4). 10 D PIC 9(9). 05 E PIC 9(4).
+05 A COMP. 10 C PIC 9(4). 05 B REDEFINES A. 10 D PIC 9(9). 05 E PIC 9(4).
+05 G COMP. 10 G PIC 9(4). 10 H PIC 9(9). 05 B REDEFINES G COMP-3. 10 C PIC 9(5). 05 E PIC 9(4).
+01 R COMP. 05 A PIC X. 05 B PIC 9(5) SYNC. 05 G. 10 C PIC X. 10 D PIC 9(4) SYNC.
+01 R COMP. 05 A PIC X. 05 B PIC 9(4) SYNC DISPLAY. 05 C PIC 9(10) SYNC OCCURS 0. 05 D PIC X.
+01 R COMP SYNC. 05 A PIC X. 05 B PIC 9(4).
+01 R COMP SYNC. 05 A PIC X. 05 G COMP-3 SYNC. 10 B PIC 9(4) SYNC. 05 C PIC 9(4) SYNC.
+01 R SIGN LEADING SEPARATE. 05 A PIC S9.
+01 R COMP SIGN LEADING SEPARATE. 05 A PIC S9. 05 B PIC S9 DISPLAY SIGN TRAILING SEPARATE.
+01 R COMP OCCURS 3. 05 A PIC 9(4) OCCURS 2. 05 G OCCURS 2. 10 B PIC X. 10 C PIC 9(9) SYNC.
+01 R COMP. 05 A PIC X(3). 05 B PIC ZZ9.99. 05 C PIC B(256)9. 05 D PIC 9P. 05 E PIC A.
+01 R COMP-3. 05 A PIC -ZZ9.99. 05 B PIC A. 05 C PIC $$$9 DISPLAY.
+01 R COMP. 05 C PIC B(256)9 DISPLAY.
+01 R COMP. 05 C PIC 9(32).
+01 R COMP. 05 A.
+01 R COMP. 05 A PIC X9.
+01 R COMP. 88 Y COMP-3. 05 A PIC 9(4). 88 N DISPLAY. 05 B PIC 9(4).
+01 R COMP. 05 A OCCURS 1073741823 PIC 9(4). 05 B PIC X.
+01 R COMP. 05 A OCCURS 1073741823 PIC 9(4). 05 B PIC XX.
+05 A COMP DISPLAY PIC 9(4).
+05 A DISPLAY PIC 9(4) COMP.
+05 A PIC 9(4) comp usage display.
+05 A COMP DISPLAY PIC 9(5) COMP-3.
+05 A DISPLAY DISPLAY PIC 9(5).
+05 A PIC 9(4) USAGE IS DISPLAY COMP USAGE IS display.
+05 A COMP PIC 9(4) OCCURS 2 DISPLAY.
+05 A COMP PIC 9(4) OCCURS 1 TO 2 DISPLAY.
+05 A COMP PIC 9(4) OCCURS 2 TIMES DISPLAY.
+05 A COMP PIC 9(4) OCCURS 1 TO 2 DEPENDING DISPLAY.
+05 A COMP PIC 9(4) OCCURS DISPLAY.
+05 DISPLAY COMP PIC 9(4). 05 B REDEFINES DISPLAY PIC 9(5).
+05 A COMP REDEFINES DISPLAY PIC 9(4).
+05 A COMP PIC S9(4) SIGN DISPLAY.
+05 A COMP PIC S9(4) SIGN IS DISPLAY.
+05 A COMP PIC S9(4) SYNC LEFT DISPLAY.
+05 A COMP PIC 9(4) VALUE 5 DISPLAY.
+05 A COMP PIC DISPLAY.
+05 A COMP PIC IS DISPLAY PIC 9(4).
+05 A COMP DISPLAYS PIC 9(4).
+05 A COMP DISPLAY-1 PIC 9(4).
+05 A COMP DISPLAY OCCURS X. 05 B PIC Q.
+05 A PIC 9 COMP. 10 B PIC 9(4). 05 C PIC 9(4).
 """.strip().split("\n")
 # ~ stands for a line's end
 QUOTED = """
@@ -497,9 +558,8 @@ class Maker:
         parts = []
         if not group and self.chance(0.97):
             parts.append([self.one(["PIC", "PIC", "PICTURE"])] + (["IS"] if self.chance(0.2) else []) + [self.word_picture()])
-        if self.chance(0.3):
-            usage = self.one(["COMP", "COMP", "COMP", "BINARY", "COMP-4", "COMPUTATIONAL-5", "COMP-3", "PACKED-DECIMAL", "DISPLAY", "COMP-1"])
-            parts.append(self.one([[], ["USAGE"], ["USAGE", "IS"]]) + [usage])
+        if self.chance(0.05 if group else 0.3):
+            parts.append(self.usage_words())
         if self.chance(0.3):
             parts.append([self.one(["SYNC", "SYNCHRONIZED"])] + self.one([[], [], ["LEFT"], ["RIGHT"]]))
         if self.chance(0.2):
@@ -514,6 +574,11 @@ class Maker:
         if self.chance(0.3):
             self.r.shuffle(parts)
         return [w for p in parts for w in p]
+
+    def usage_words(self):
+        usage = self.one(["COMP", "COMP", "COMP", "BINARY", "COMP-4", "COMPUTATIONAL-5", "COMP-3", "PACKED-DECIMAL",
+                          "DISPLAY", "COMP-1"])
+        return self.one([[], ["USAGE"], ["USAGE", "IS"]]) + [usage]
 
     def siblings(self, level, depth, left):
         """The statements of a sibling list, each a list of words; `left` holds how many may still be made."""
@@ -556,6 +621,44 @@ class Maker:
             text = text.rstrip() if self.chance(0.8) else text
             text += self.one([". ", ".\n", ".\n", ".\r\n", ".\t", ".*> C\n", ". *> C. D\n", " .\n", "\n.\n", ".\n\n* C\n", ".\x0c", "."])
         return "spread", text
+
+    def usages(self):
+        """Groups in groups, most with a usage, around members that name none, another one, DISPLAY or several."""
+        pictures = ["9(4)", "9(4)", "9(5)", "9(10)", "S9(4)", "S9(5)V99", "9P", "X", "X(3)", "ZZ9.99", "-9"]
+        others = [["SIGN", "LEADING", "SEPARATE"], ["SIGN", "DISPLAY"], ["VALUE", "COMP"], ["VALUE", "DISPLAY"]]
+
+        def parts(group, names):
+            out = [] if group else [["PIC", self.one(pictures + [self.word_picture()])]]
+            while self.chance((0.2 if len(out) > 1 else 0.6) if group else 0.25):
+                out.append(self.usage_words() if self.chance(0.7) else ["DISPLAY"])
+            if self.chance(0.3):
+                out.append(["SYNC"])
+            if self.chance(0.15):
+                out.append(["OCCURS", self.one(["0", "1", "2", "3"])])
+            if names and self.chance(0.12):
+                out.append(["REDEFINES", self.one(names)])
+            if self.chance(0.1):
+                out.append(self.one(others))
+            if self.chance(0.4):
+                self.r.shuffle(out)
+            return [self.cased(w) if w in KEYWORDS else w for p in out for w in p]
+
+        def rows(level, depth):
+            out, names = [], []
+            for k in range(self.r.randint(1, 3)):
+                name = self.one(["A", "B", "C", "DISPLAY"]) + self.one(["", str(k)])
+                group = depth > 0 and self.chance(0.6)
+                number = level if self.chance(0.95) else max(1, level - self.r.randint(1, 4))
+                out.append([f"{number:02}", name] + parts(group, names))
+                names.append(name)
+                if self.chance(0.05):
+                    out.append(["88", "Y", self.one(["COMP", "DISPLAY", "VALUE"])])
+                if group:
+                    out += rows(level + self.r.randint(1, 5), depth - 1)
+            return out
+
+        root = [["01", "R"] + parts(True, [])] if self.chance(0.6) else []
+        return "usages", self.joined(root + rows(5, self.one([1, 1, 2, 3, 4])))
 
     def soup(self):
         """Any words after a level."""
@@ -729,7 +832,8 @@ def generate(count, seed):
         m.r.shuffle(out)
         return out
 
-    copybooks = shuffled([("fold", FOLDS), ("repeated", REPEATED), ("root", ROOTS), ("order", ORDER), ("large", LARGE), ("good", GOOD), ("quoted", QUOTED), ("chains", chains())])
+    copybooks = shuffled([("fold", FOLDS), ("repeated", REPEATED), ("root", ROOTS), ("order", ORDER), ("large", LARGE),
+                          ("good", GOOD), ("quoted", QUOTED), ("usage", USAGES), ("chains", chains())])
     copybooks += shuffled([(f.__name__, f()) for f in (edges, at_every_place, bare_clauses, levels, counts)])
     pictures = [(*p, m.usage(), m.sign()) for p in shuffled([("written", PICTURES), ("spaced", SPACED), ("alone", alone())])]
     pictures += [("every", text, usage, sign) for text in EVERY for usage in range(3) for sign in range(5)]
@@ -746,7 +850,10 @@ def generate(count, seed):
         put(*row)
     written = len(inputs)
     while len(inputs) < count:
-        put(*(m.picture() if (len(inputs) - written) % 3 == 0 else m.quoted() if m.chance(0.1) else m.copybook()))
+        if (len(inputs) - written) % 3 == 0:
+            put(*m.picture())
+        else:
+            put(*(m.quoted() if m.chance(0.1) else m.usages() if m.chance(0.1) else m.copybook()))
     return list(inputs.values())
 
 

@@ -168,7 +168,7 @@ def laid(nodes, depth):
         elif s.picture is None:
             raise Refused(21, s.at)
         else:
-            kind, details, width = pictured(s.picture.text, s.usage, sign_of(s.sign), s.at)
+            kind, details, width = pictured(s.picture.text, s.held, sign_of(s.sign), s.at)
         offset = cursor
         if s.redefines:
             offset = offsets.get(s.redefines.text.upper())

@@ -52,6 +52,16 @@ class Library:
             fault = "the output is touched past the answer"
         return fault or ([0, number, *answer] if number else [1, written, *out[:written]])
 
+    def reasons(self, text, entry, room=ROOM):
+        """The reasons of an entry, with an output of so many bytes lent."""
+        ctypes.memset(self.out, FILL, ROOM)
+        lent = ctypes.c_uint64(entry), self.work, SIZE(WORK), self.out, SIZE(room)
+        number, answer, fault = self.call("copybook_reasons", text, *lent, count=2)
+        out, written = bytes(self.out), 0 if number else answer[0]
+        if out[written:] != bytes([FILL]) * (ROOM - written):
+            fault = "the output is touched past the answer"
+        return fault or ([0, number, *answer] if number else [1, written, *out[:written]])
+
     def owner(self, text, position):
         number, answer, fault = self.call("copybook_owner", text, ctypes.c_uint64(position), self.work, SIZE(WORK), count=4)
         if fault or number:

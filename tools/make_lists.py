@@ -11,10 +11,12 @@ with a fixed seed, so that the same lists are made each time:
 - crates/test_picture/data/document.txt: pictures with the answers of documents 01 and 02 that the Rust cannot give, written here by hand.
 - crates/test_reader/data/texts.txt: copybook texts with the answers of tools/reader_list.py, a reading by document 01. Where the Rust has
   an answer, the two are compared: its refusals 10 to 13, and where it accepts a copybook without REDEFINES, the names, the nesting, the
-  counts and the DEPENDING ON names. It has none where a literal holds a period that would end a statement, or `*>`, or is left open.
+  counts and the DEPENDING ON names. It has none where a literal holds a period that would end a statement, or `*>`,
+  or is left open; nor of the usage that holds where a group names one or DISPLAY stands after another usage word.
 - crates/test_layout/data/layouts1.txt to layouts4.txt: copybook texts with the answers of tools/layout_list.py, a layout by document 01. Each answer is compared
   with the Rust's: the listing, read back into the oracle's numbers, or the number of the refusal. Where the answer is a refusal that document
-  01 adds, the Rust's is held against the reason as far as it shows. Copybooks with P in a picture are not compared with the Rust.
+  01 adds, the Rust's is held against the reason as far as it shows. Copybooks with P in a picture, with a usage on a
+  group or with DISPLAY after another usage word are not compared with the Rust.
 - crates/test_layout/data/document.txt: the copybooks that documents 01 and 02 speak of, and their traps, with answers written here by hand.
 - crates/test_layout/data/cards.txt: copybooks on cards with the answers of tools/layout_list.py, which reads the code from its columns. The
   Rust has no cards.
@@ -265,7 +267,7 @@ def document():
 
 # ---------------------------------------------------------------- copybook texts
 
-TEXTS, QUOTED_TEXTS = 900, 100
+TEXTS, QUOTED_TEXTS, USAGE_TEXTS = 800, 100, 100
 # Literals at the limits: 50 before 14 and 10, and after 2; level 88 after 800 statements.
 LITERALS = ["1.\n" * 801 + "88 A VALUE '", "1.\n" * 800 + "88 A VALUE '1. '.\n88 B VALUE \"'. \"\n", "256. 88 A VALUE 'a. b' 'c", "05 A VALUE 'a. b'\x80"]
 NESTED = "".join(f"{k} G{k}. " for k in range(256))
@@ -291,6 +293,14 @@ def quoted_inputs():
     yield from itertools.chain(LITERALS, generator.QUOTED)
     while True:
         yield m.quoted()[1]
+
+
+def usage_inputs():
+    """Usages on groups and DISPLAY: what is written by hand, then random copybooks."""
+    m = generator.Maker(SEED)
+    yield from generator.USAGES
+    while True:
+        yield m.usages()[1]
 
 
 def rust_entries(answer):
@@ -358,6 +368,7 @@ def distinct(texts, count):
 
 def texts(oracle):
     inputs = distinct(text_inputs(), TEXTS) + distinct(quoted_inputs(), QUOTED_TEXTS)
+    inputs += distinct(usage_inputs(), USAGE_TEXTS)
     cases, asked = [], collections.Counter()
     for i, answer in zip(inputs, oracle.ask(inputs)):
         reading = reader_list.reading(i.text)
@@ -369,7 +380,7 @@ def texts(oracle):
 
 # ---------------------------------------------------------------- layouts
 
-LAYOUTS, LAYOUT_LISTS = 2700, 4
+LAYOUTS, USAGE_LAYOUTS, LAYOUT_LISTS = 2700, 200, 4
 # Groups in groups, each with a redefiner: around an item of a list of depth 64 stand 64 groups and 65 folds. Names that are all one make the groups
 # count as already folded.
 FOLDED_CHAINS = [" ".join(f"{k} {g(k)}." for k in range(1, n)) + f" {n} A PIC X. " + " ".join(f"{k} H REDEFINES {'A' if k == n else g(k)} PIC X(2)." for k in range(n, 1, -1))
@@ -394,7 +405,7 @@ def check_layout(i, made, answer):
     """How the Rust's answer stands to the one made here; ends the program where it says something else."""
     number = made[1] if made[0] == 0 else 0
     if not compare.plain(i):
-        how, same = "literals or P, without an answer of the Rust", True
+        how, same = "literals, P or usages, without an answer of the Rust", True
     elif number in compare.ADDED:
         how, same = f"added refusal {number}", compare.due(i, answer, number)
     elif number:
@@ -407,7 +418,7 @@ def check_layout(i, made, answer):
 
 
 def layouts(oracle):
-    inputs = distinct(layout_inputs(), LAYOUTS)
+    inputs = distinct(layout_inputs(), LAYOUTS) + distinct(usage_inputs(), USAGE_LAYOUTS)
     cases, kinds = [], collections.Counter()
     for i, answer in zip(inputs, oracle.ask(inputs)):
         made = layout_list.answer(i.text)
@@ -487,6 +498,11 @@ def layout_document():
     dots = "05 A PIC 9.9. 05 B.C PIC X."
     named = "05 VALUE PIC X. 05 B REDEFINES VALUE PIC X 'St. 4'. 05 C PIC X."
     root = "01 R OCCURS 9. 05 A PIC X."
+    tank = "01 TANK. 05 ID PIC X(3). 05 COUNTS COMP. 10 EGGS PIC 9(4). 10 FRY PIC S9(9). 05 AGE PIC 9(4)."
+    outer = ("01 R COMP. 05 A PIC 9(5). 05 G COMP-3. 10 B PIC 9(5). 10 C PIC 9(5) DISPLAY. "
+             "05 D DISPLAY. 10 E PIC 9(5). 05 F PIC 9(5).")
+    over = "05 A PIC X(8). 05 B REDEFINES A COMP. 10 C PIC 9(4). 05 D PIC 9(4)."
+    slack = "01 R COMP. 05 A PIC X. 05 B PIC 9(5) SYNC. 05 C PIC ZZ9.99. 05 D PIC 9(4) SYNC DISPLAY."
     cases = [
         (fish, listed(fish, 20, 0, 3, item("TAG", 0, 5, TEXT), item("SIRE", 6, 2, BINARY, 0), item("WT", 8, 4, DECIMAL, 4, 1, STORED_DISPLAY, 0, occurs=3))),
         # the catches that are not marked
@@ -530,6 +546,19 @@ def layout_document():
         ("05 VALUE 'St. 4'.", refused(10, 14)),
         ("05 A PIC X VALUE'St. 4'.", refused(10, 21)),
         (named, listed(named, 2, 0, 2, item("VALUE", 0, 1, GROUP, 2), item("VALUE", 0, 1, TEXT), item("B", 0, 1, TEXT), item("C", 1, 1, TEXT))),
+        # document 02, A.4: usage on the group
+        (tank, listed(tank, 13, 0, 3, item("ID", 0, 3, TEXT), item("COUNTS", 3, 6, GROUP, 2),
+                      item("EGGS", 0, 2, BINARY, 0), item("FRY", 2, 4, BINARY, 1), item("AGE", 9, 4, INT, 0, 0))),
+        (outer, listed(outer, 21, 0, 4, item("A", 0, 4, BINARY, 0), item("G", 4, 8, GROUP, 2),
+                       item("B", 0, 3, DECIMAL, 5, 0, STORED_COMP3, 1), item("C", 3, 5, INT, 0, 0),
+                       item("D", 12, 5, GROUP, 1), item("E", 0, 5, INT, 0, 0), item("F", 17, 4, BINARY, 0))),
+        (over, listed(over, 12, 0, 2, item("A", 0, 8, GROUP, 2), item("A", 0, 8, TEXT), item("B", 0, 2, GROUP, 1),
+                      item("C", 0, 2, BINARY, 0), item("D", 8, 4, INT, 0, 0))),
+        (slack, listed(slack, 16, 0, 4, item("A", 0, 1, TEXT), item("B", 4, 4, BINARY, 0), item("C", 8, 4, BINARY, 0),
+                       item("D", 12, 4, INT, 0, 0))),
+        one("05 A COMP PIC 9(4) USAGE IS DISPLAY.", 0, 4, INT, 0, 0),
+        one("05 A DISPLAY PIC 9(4) COMP.", 0, 2, BINARY, 0),
+        one("05 A COMP PIC 9(4) VALUE 1 DISPLAY.", 0, 2, BINARY, 0),
     ]
     if cases[0][1][1] != 129:
         sys.exit("the worked example has 129 bytes")

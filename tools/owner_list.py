@@ -36,7 +36,7 @@ def size(nodes):
 
 def pictured(s):
     """Whether an elementary item is binary, and its width."""
-    kind, _, width = layout_list.pictured(s.picture.text, s.usage, layout_list.sign_of(s.sign), s.at)
+    kind, _, width = layout_list.pictured(s.picture.text, s.held, layout_list.sign_of(s.sign), s.at)
     return kind == layout_list.BINARY, width
 
 
@@ -175,7 +175,7 @@ def printed(text, position=None):
         if mark == SLACK:
             return f"slack before {number} {paths[p]}"
         s = statements[number]
-        kind, _, width = layout_list.pictured(s.picture.text, s.usage, layout_list.sign_of(s.sign), s.at)
+        kind, _, width = layout_list.pictured(s.picture.text, s.held, layout_list.sign_of(s.sign), s.at)
         return f"entry {number} {paths[p]} {KINDS[kind]} {width}"
 
     if position is not None:
@@ -205,10 +205,15 @@ WRITTEN = """
 05 A PIC X. 05 B PIC S9(4) COMP-3 SYNC. 05 C PIC 9(4) SYNC. 05 D PIC X SYNC.
 01 R. 05 A PIC X(0). 05 G OCCURS 4. 10 B PIC X(0).
 05 FILLER PIC X. 05 FILLER OCCURS 2. 10 FILLER PIC X. 10 FILLER PIC 9(4) COMP SYNC.
+01 R COMP. 05 A PIC X. 05 B PIC 9(5) SYNC. 05 G OCCURS 2. 10 C PIC X. 10 D PIC 9(4) SYNC.
+01 R COMP. 05 A PIC X. 05 B PIC 9(4) SYNC DISPLAY. 05 G DISPLAY. 10 C PIC X. 10 D PIC 9(4) SYNC. 10 E PIC 9 SYNC COMP.
+05 G COMP. 10 A PIC X. 10 B PIC 9(9) SYNC OCCURS 0. 05 H. 10 A PIC X. 10 B PIC 9(9) SYNC.
 """.strip().split("\n") + ["", "* nothing\n", "88 A VALUE 1.", "05 A PIC X(0)."]
 ELEMENTARY = ["X", "X(2)", "X(5)", "X(0)", "A(3)", "9", "9(3)", "S9(4)V99", "ZZ9.9", "$$9", "9(3) COMP-3", "S9(5)V99 COMP-3", "S9(3) SIGN LEADING SEPARATE",
-              "9(4) COMP", "S9(9) COMP", "9(4) COMP SYNC", "9(4) COMP SYNC", "9(9) COMP SYNC", "S9(9) BINARY SYNCHRONIZED RIGHT", "9(18) COMP-5 SYNC LEFT", "X(3) SYNC"]
-ROOT_CLAUSES = ["", "", "", " OCCURS 9", " SYNC COMP PIC Q", " REDEFINES Q", " OCCURS 2 TO 3 DEPENDING ON N"]
+              "9(4) COMP", "S9(9) COMP", "9(4) COMP SYNC", "9(4) COMP SYNC", "9(9) COMP SYNC",
+              "S9(9) BINARY SYNCHRONIZED RIGHT", "9(18) COMP-5 SYNC LEFT", "X(3) SYNC",
+              "9(4) SYNC", "S9(9) SYNC", "9(4) SYNC DISPLAY"]
+ROOT_CLAUSES = ["", "", "", " COMP", " OCCURS 9", " SYNC COMP PIC Q", " REDEFINES Q", " OCCURS 2 TO 3 DEPENDING ON N"]
 HUGE = """
 05 A OCCURS 2147483647 PIC X.
 05 A PIC X(65535) OCCURS 32768.
@@ -236,7 +241,8 @@ class Maker:
 
     def item(self, level, depth):
         if depth < 4 and self.r.random() < 0.3:
-            return f"{level} {self.name()}{self.occurs()}. " + self.list(level + self.r.randint(1, 5), depth + 1)
+            usage = self.r.choice([""] * 5 + [" COMP", " COMP-3", " DISPLAY"])
+            return f"{level} {self.name()}{self.occurs()}{usage}. " + self.list(level + self.r.randint(1, 5), depth + 1)
         said = f"{level} {self.name()} PIC {self.r.choice(ELEMENTARY)}{self.occurs()}. "
         return said + ("88 YES VALUE 1. " if self.r.random() < 0.05 else "")
 
@@ -282,6 +288,8 @@ def features(text, record):
         if owner[0] == SLACK:
             s, repeated = numbered[owner[1]]
             yield "slack"
+            if not s.usage:
+                yield "slack by an inherited usage"
             if s.occurs == 0:
                 yield "slack before OCCURS 0"
             if repeated:
@@ -310,7 +318,8 @@ def records():
         cases.append([text, len(found), *itertools.chain(*found)])
         if len(cases) == RECORDS:
             break
-    for what in ("slack", "slack before OCCURS 0", "slack in a group that OCCURS", "OCCURS in OCCURS", "OCCURS 0", "FILLER", "empty record", "dropped root with clauses"):
+    for what in ("slack", "slack before OCCURS 0", "slack in a group that OCCURS", "slack by an inherited usage",
+                 "OCCURS in OCCURS", "OCCURS 0", "FILLER", "empty record", "dropped root with clauses"):
         if seen[what] < 4:
             sys.exit(f"{seen[what]} records have: {what}")
     print(f"{len(cases)} records of {total} bytes; " + ", ".join(f"{k}: {n}" for k, n in sorted(seen.items())))
@@ -319,7 +328,8 @@ def records():
 
 def asked():
     """Cases: the text, a position and the answer."""
-    written = [HUGE, generator.LARGE, generator.ROOTS, generator.ORDER, generator.FOLDS, generator.GOOD, generator.REPEATED, generator.QUOTED[::4]]
+    written = [HUGE, generator.LARGE, generator.ROOTS, generator.ORDER, generator.FOLDS, generator.GOOD,
+               generator.REPEATED, generator.QUOTED[::4], generator.USAGES[::2]]
     written.append(text for text in generator.edges() if len(text) < 100)
     cases, kinds = [], collections.Counter()
     for text in dict.fromkeys(itertools.chain(*written)):

@@ -1,14 +1,17 @@
 """A copybook's kept statements by docs/RULES.md, read by its words: Text, Statement and Levels, and where a call is turned down.
 
-It shares nothing with the crates: `reading(text)` is the answer that the reader has to give, as numbers. `0 NUMBER POSITION NEEDED` is a
-refusal. `1 COUNT` is followed by the statements, 16 numbers for each: level, position, parent (its row and 1, or 0), name; picture, usage, sign, sync, occurs
-mark and count, DEPENDING ON name, REDEFINES name. A name or a picture is its start and its length, both 0 if absent. Usage: 0 none said,
-1 COMP-3, 2 COMP. Sign: 0 none said, else 1, plus 1 for LEADING, plus 2 for SEPARATE.
+It shares nothing with the crates: `reading(text)` is the answer that the reader has to give, as numbers.
+`0 NUMBER POSITION NEEDED` is a refusal. `1 COUNT` is followed by the statements, 17 numbers for each: level, position,
+parent (its row and 1, or 0), name; picture, usage, sign, sync, occurs mark and count, DEPENDING ON name, REDEFINES
+name; the usage that holds. A name or a picture is its start and its length, both 0 if absent. Usage: 0 none said, 1
+COMP-3, 2 COMP, 3 DISPLAY; the one that holds is 0 DISPLAY, 1 COMP-3 or 2 COMP. Sign: 0 none said, else 1, plus 1 for
+LEADING, plus 2 for SEPARATE.
 
 A text of the class `Cards` is on cards with columns, and every position is one in the cards.
 
-`plain(text)` says whether the Rust has an answer, as far as its literals go: no literal after VALUE holds `*>` or a period that would end a
-statement, and none is left open.
+`plain(text)` says whether the Rust has an answer, as far as its literals go: no literal after VALUE holds `*>` or a
+period that would end a statement, and none is left open. `plain_usages(text)` says it as far as usages go: no group
+names one, and no DISPLAY stands after another usage word.
 """
 
 import collections
@@ -19,10 +22,14 @@ MOST_BYTES, MOST_STATEMENTS = 65535, 800
 
 COMP3 = ("COMP-3", "COMPUTATIONAL-3", "PACKED-DECIMAL")
 COMP = ("COMP", "COMPUTATIONAL", "COMP-4", "COMPUTATIONAL-4", "COMP-5", "COMPUTATIONAL-5", "BINARY")
+# The usages that a statement names, each with the one that holds for it; 0 is none.
+NAMED_COMP3, NAMED_COMP, NAMED_DISPLAY = 1, 2, 3
+HELD = {NAMED_DISPLAY: 0, NAMED_COMP3: 1, NAMED_COMP: 2}
 
 Word = collections.namedtuple("Word", "at text")
 Literal = collections.namedtuple("Literal", "text")
-Statement = collections.namedtuple("Statement", "level at depth parent name picture usage sign sync occurs depending redefines")
+Statement = collections.namedtuple(
+    "Statement", "level at depth parent name picture usage back sign sync occurs depending redefines held")
 
 
 class Refused(Exception):
@@ -138,11 +145,14 @@ def number(word, limit):
     return None
 
 
-def clauses(words):
-    """What the words after a statement's name say."""
+def unsaid():
+    return dict(picture=None, usage=0, back=False, sign=0, sync=0, occurs=None, depending=None, redefines=None)
+
+
+def clauses(words, said):
+    """What the words after a statement's name say, put into `said`."""
     at = words[0].at
     upper = [w.text.upper().decode("latin-1") for w in words]
-    said = dict(picture=None, usage=0, sign=0, sync=0, occurs=None, depending=None, redefines=None)
 
     def is_word(i, *keys):
         return i < len(words) and upper[i] in keys
@@ -184,10 +194,13 @@ def clauses(words):
             said["occurs"] = count
         elif key == "USAGE":
             i += is_word(i, "IS")
-        elif key in COMP3:
-            said["usage"] = 1
+        elif key in COMP3:  # Of several usage words in a statement the last holds.
+            said["usage"] = NAMED_COMP3
         elif key in COMP:
-            said["usage"] = 2
+            said["usage"] = NAMED_COMP
+        elif key == "DISPLAY":
+            said["back"] = said["back"] or said["usage"] in (NAMED_COMP3, NAMED_COMP)
+            said["usage"] = NAMED_DISPLAY
         elif key == "SIGN":
             i += is_word(i, "IS")
             # SEPARATE counts anywhere at or after the word following SIGN [IS].
@@ -204,6 +217,14 @@ def clauses(words):
 # ---------------------------------------------------------------- Levels, and the refusals in their order
 
 
+def held(s, kept):
+    """The usage that holds for a statement: its own, else that of the nearest group above it that names one; DISPLAY
+    where none does."""
+    while not s.usage and s.parent:
+        s = kept[s.parent - 1]
+    return HELD[s.usage or NAMED_DISPLAY]
+
+
 def kept_statements(text):
     if len(text) > MOST_BYTES:
         raise Refused(1, 0)
@@ -217,7 +238,7 @@ def kept_statements(text):
             raise Refused(10, words[0].at)
         if level == 88:  # Level 88 is skipped.
             continue
-        said = clauses(words)
+        said = clauses(words, unsaid())
         if len(kept) == MOST_STATEMENTS:  # The 801st kept statement, after its clauses.
             raise Refused(14, words[0].at)
         # A statement's parent is the nearest earlier open one with a smaller level.
@@ -225,9 +246,31 @@ def kept_statements(text):
             open_levels.pop()
         name = words[1] if len(words) > 1 else None  # Second word: name, whatever it says.
         parent = open_levels[-1][1] if open_levels else 0
-        kept.append(Statement(level, words[0].at, len(open_levels), parent, name, **said))
+        kept.append(Statement(level, words[0].at, len(open_levels), parent, name, **said, held=None))
         open_levels.append((level, len(kept)))
-    return kept
+    return [s._replace(held=held(s, kept)) for s in kept]
+
+
+def takes_back(words):
+    """Whether a DISPLAY stands after another usage word in a statement of these words, up to where it is refused."""
+    said = unsaid()
+    try:
+        clauses(words, said)
+    except Refused:
+        pass
+    return said["back"]
+
+
+def plain_usages(text):
+    """Whether no statement takes another usage back, those after a refusal included, and no group of the kept
+    statements names a usage."""
+    try:
+        if any(number(words[0], 256) != 88 and takes_back(words) for words in list(statements(text))):
+            return False
+        kept = kept_statements(text)
+    except Refused:
+        return True
+    return not any(s.parent and kept[s.parent - 1].usage for s in kept)
 
 
 def numbers(s):
@@ -235,7 +278,8 @@ def numbers(s):
         return [word.at, len(word.text)] if word else [0, 0]
 
     occurs = [0, 0] if s.occurs is None else [1, s.occurs]
-    return [s.level, s.at, s.parent, *span(s.name), *span(s.picture), s.usage, s.sign, s.sync, *occurs, *span(s.depending), *span(s.redefines)]
+    clauses = [*span(s.picture), s.usage, s.sign, s.sync, *occurs, *span(s.depending), *span(s.redefines)]
+    return [s.level, s.at, s.parent, *span(s.name), *clauses, s.held]
 
 
 def reading(text):

@@ -13,6 +13,7 @@ mod layout;
 mod machines;
 mod owner;
 mod picture;
+mod reasons;
 mod refusals;
 mod table;
 
@@ -33,7 +34,8 @@ pub struct Command {
     pub run: fn(&Arguments) -> Result<Status, Failure>,
 }
 
-const COMMANDS: &[Command] = &[layout::COMMAND, owner::COMMAND, extract::COMMAND, picture::COMMAND];
+const COMMANDS: &[Command] =
+    &[layout::COMMAND, owner::COMMAND, reasons::COMMAND, extract::COMMAND, picture::COMMAND];
 
 /// How a command ended that could be carried out.
 #[derive(Debug, Clone, Copy, PartialEq, Eq)]

@@ -4,10 +4,10 @@ use crate::facts::{self, Facts, Row};
 use std::fmt::Write as _;
 use std::io::{self, Write};
 
-/// The cells of a line.
-type Line = [String; 7];
+/// The cells of a line; the last one is empty unless it is asked for.
+type Line = [String; 8];
 
-const HEADS: [&str; 7] = ["line", "first", "last", "width", "item", "picture", "holds"];
+const HEADS: [&str; 8] = ["line", "first", "last", "width", "item", "picture", "holds", "why"];
 
 /// The columns of numbers stand to the right.
 const NUMBERS: usize = 4;
@@ -33,6 +33,18 @@ fn shown(word: &str) -> String {
     shown
 }
 
+/// Words with a byte that has no shape by its number.
+fn shown_whole(words: &str) -> String {
+    let mut shown = String::new();
+    for c in words.chars() {
+        match c.is_control() {
+            true => shown.extend(c.escape_default()),
+            false => shown.push(c),
+        }
+    }
+    shown
+}
+
 /// OCCURS, DEPENDING ON and REDEFINES, each with what comes before it.
 fn notes(row: &Row) -> String {
     let mut notes = String::new();
@@ -50,7 +62,7 @@ fn notes(row: &Row) -> String {
     notes
 }
 
-fn item(row: &Row, from: u64) -> Line {
+fn item(row: &Row, from: u64, why: Option<&String>) -> Line {
     let indent = " ".repeat(INDENT * row.entry.depth);
     let name = shown(row.name());
     let (line, item, holds) = if row.detail.folded {
@@ -61,7 +73,8 @@ fn item(row: &Row, from: u64) -> Line {
     };
     let last = row.last().map_or("-".into(), |last| (last + from).to_string());
     let picture = row.detail.picture.map_or(String::new(), |p| shown(&p));
-    [line, (row.detail.first + from).to_string(), last, row.entry.width.to_string(), item, picture, holds]
+    let why = why.map_or(String::new(), |why| shown_whole(why));
+    [line, (row.detail.first + from).to_string(), last, row.entry.width.to_string(), item, picture, holds, why]
 }
 
 /// The slack before an entry, at the depth where it is shown.
@@ -70,7 +83,8 @@ fn slack(row: &Row, depth: usize, from: u64) -> Line {
     let first = row.detail.first - bytes + from;
     let holds = format!("aligns {}", shown(row.name()));
     let item = format!("{}(slack)", " ".repeat(INDENT * depth));
-    [String::new(), first.to_string(), (first + bytes - 1).to_string(), bytes.to_string(), item, String::new(), holds]
+    let (none, last) = (String::new(), first + bytes - 1);
+    [none.clone(), first.to_string(), last.to_string(), bytes.to_string(), item, none.clone(), holds, none]
 }
 
 /// Whether the slack of an entry stands before the folded group that begins with it.
@@ -87,7 +101,7 @@ fn before_group(rows: &[Row], number: usize) -> bool {
     }
 }
 
-fn lines(facts: &Facts, from: u64) -> Vec<Line> {
+fn lines(facts: &Facts, from: u64, whys: &[String]) -> Vec<Line> {
     let rows = &facts.rows;
     let mut lines = Vec::new();
     for (number, row) in rows.iter().enumerate() {
@@ -96,12 +110,12 @@ fn lines(facts: &Facts, from: u64) -> Vec<Line> {
         } else if row.detail.slack > 0 && !(number > 0 && before_group(rows, number - 1)) {
             lines.push(slack(row, row.entry.depth, from));
         }
-        lines.push(item(row, from));
+        lines.push(item(row, from, whys.get(number)));
     }
     lines
 }
 
-fn write_line(line: [&str; 7], widths: &[usize; 7], out: &mut dyn Write) -> io::Result<()> {
+fn write_line(line: [&str; 8], widths: &[usize; 8], out: &mut dyn Write) -> io::Result<()> {
     let mut written = String::new();
     for (i, (cell, &width)) in line.iter().zip(widths).enumerate() {
         let _ = if i < NUMBERS { write!(written, "{cell:>width$}  ") } else { write!(written, "{cell:width$}  ") };
@@ -123,23 +137,24 @@ fn remarks(facts: &Facts) -> Vec<&'static str> {
     remarks
 }
 
-/// Bytes count from 0, or from 1.
-pub fn write(facts: &Facts, from: u64, out: &mut dyn Write) -> io::Result<()> {
+/// Bytes count from 0, or from 1. Without `whys`, which says why each entry stands where it does, that is left out.
+pub fn write(facts: &Facts, from: u64, whys: &[String], out: &mut dyn Write) -> io::Result<()> {
     let bytes = if facts.record_len == 1 { "byte" } else { "bytes" };
     let more = if facts.variable { " or more" } else { "" };
     writeln!(out, "record of {} {bytes}{more}; bytes count from {from}", facts.record_len)?;
-    let lines = lines(facts, from);
+    let lines = lines(facts, from, whys);
     if lines.is_empty() {
         return Ok(());
     }
-    let mut widths = HEADS.map(str::len);
+    let heads = HEADS.map(|head| if head == "why" && whys.is_empty() { "" } else { head });
+    let mut widths = heads.map(str::len);
     for line in &lines {
         for (width, cell) in widths.iter_mut().zip(line) {
             *width = (*width).max(cell.len());
         }
     }
     writeln!(out)?;
-    write_line(HEADS, &widths, out)?;
+    write_line(heads, &widths, out)?;
     for line in &lines {
         write_line(line.each_ref().map(String::as_str), &widths, out)?;
     }

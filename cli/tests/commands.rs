@@ -73,6 +73,9 @@ fn misuse_says_what_is_wrong() {
     fails(&["layout", "a.cpy", "b.cpy"], "b.cpy is a second");
     fails(&["owner", "a.cpy", "five"], "five is no position");
     fails(&["owner", "a.cpy", "5", "6"], "one FILE and one POSITION");
+    fails(&["layout", "--csv", "--why"], "--why is for the table alone");
+    fails(&["reasons"], "one ENTRY or NAME");
+    fails(&["reasons", "a.cpy", "5", "6"], "one ENTRY or NAME");
     fails(&["extract"], "a FILE, then a weight for each top-level item");
     fails(&["extract", "-", "5", "3", "9"], "--limit BYTES says how many bytes");
     fails(&["extract", "-", "5", "3", "9", "--limit", "-1"], "--limit -1 is no number");
@@ -294,4 +297,35 @@ fn carriage_returns_alone_end_no_line() {
     assert!(ran(&["owner", "--cards"], &returns).2.ends_with(SAID));
     assert_eq!(ran(&["layout", "--cards"], "000010 05 TAG PIC X.\r").2, "");
     assert_eq!(ran(&["layout", "--cards"], &CARDS.replace('\n', "\r\n")).2, "");
+}
+
+/// Why a column stands where it does: by number and by name, nested, and of every entry of a name.
+#[test]
+fn reasons() {
+    let sire = "SIRE starts at byte 6: directly after TAG, which ends at 5; 1 byte of slack, to a multiple of 2\n";
+    assert_eq!(ran(&["reasons", "1"], FISH), (0, sire.into(), String::new()));
+    assert_eq!(ran(&["reasons", "-", "sire"], FISH), (0, sire.into(), String::new()));
+    let nested = "05 A PIC X(3). 05 G. 10 B PIC X. 10 C PIC 9(9) COMP SYNC.";
+    let told = "C starts at byte 7: directly after B, which ends at 1; 3 bytes of slack, to a multiple of 4; \
+        4 bytes so far\n  \
+        inside G: directly after A, which ends at 3; 7 bytes so far\n";
+    assert_eq!(ran(&["reasons", "C"], nested).1, told);
+    let folded = "05 A PIC X. 05 B PIC X. 05 C REDEFINES B PIC X.";
+    let told = "entry 1: B starts at byte 1: directly after A, which ends at 1\n\
+        entry 2: B starts at byte 1: directly after A, which ends at 1\n";
+    assert_eq!(ran(&["reasons", "b"], folded).1, told);
+    assert_eq!(ran(&["reasons", "c"], folded).1, "C starts at byte 1: laid over B, at 1\n");
+    assert_eq!(ran(&["reasons", "3"], FISH).1, "refused 53 0\n");
+    let (status, out, err) = ran(&["reasons", "DAM"], FISH);
+    assert_eq!((status, out.as_str()), (1, ""));
+    assert_eq!(err, "(standard input): no entry is called DAM\n");
+}
+
+/// The table says why, where it is asked to.
+#[test]
+fn table_with_reasons() {
+    let (status, out, _) = ran(&["layout", "--why"], FISH);
+    assert_eq!(status, 0);
+    assert!(out.contains("why\n") && out.contains("directly after TAG, which ends at 5; 1 byte of slack"), "{out}");
+    assert!(!ran(&["layout", "--table"], FISH).1.contains("why"));
 }

@@ -91,15 +91,23 @@ def write(rng, item, depth, out):
         write(rng, child, depth + 1, out)
 
 
+# the columns of a card that have code, 8 to 72
+CARD = 65
+
+
 def code_lines(rng, lines):
     """The lines without their indents and remarks, cut between words so that they fit between column 8 and column 72."""
     for line in "".join(lines).splitlines():
         code = ""
         for word in words_of(without_note(line)):
-            # cobc does not take a line's end just before a picture
-            if len(code) + 1 + len(word) > rng.choice((30, 50)) and code.split()[-1].upper() not in ("PIC", "PICTURE", "IS"):
-                yield code
-                code = ""
+            # cobc does not take a line's end just before a picture: PIC [IS] goes with it
+            before = words_of(code)
+            kept = len(before)
+            while kept and before[kept - 1].upper() in ("PIC", "PICTURE", "IS"):
+                kept -= 1
+            if kept and len(code) + 1 + len(word) > (rng.choice((30, 50)) if kept == len(before) else CARD):
+                yield " ".join(before[:kept])
+                code = " ".join(before[kept:])
             code += " " * bool(code) + word
         yield code
 
@@ -124,7 +132,7 @@ def on_cards(rng, lines):
                 lambda: out.append(""),
                 lambda: out.append("0000"),
             ))()
-        room = 65 - len(code)
+        room = CARD - len(code)
         card(" " * (room if rng.random() < 0.3 else rng.randint(0, min(room, 20))) + code)
     return end.join(out) + rng.choice(("", end))
 
@@ -138,6 +146,7 @@ class Maker:
         self.rng = rng
         self.number = number
         self.names = 0
+        self.root_usage = ""                        # what the record's own statement says
 
     def chance(self, p):
         return self.rng.random() < p
@@ -459,6 +468,36 @@ def groups(m):
     return m.nested(PLAIN, 5, 0, 2, 5)
 
 
+def group_usages(m):
+    """Usages on groups and on the record; members name none, one of their own, or DISPLAY. Text, edited items and signs
+    stand under DISPLAY alone."""
+    def said(usage):
+        return {"DISPLAY": lambda: m.usage("DISPLAY"), "COMP": lambda: m.comp(1), "COMP-3": m.comp3}[usage]()
+
+    def member(usage, occurs):
+        item = m.elementary(("display", "display", "display", "comp", "comp3", "text", "edited", "sign"), occurs)
+        if usage != "DISPLAY" and item.kind in ("text", "edited", "sign") and "DISPLAY" not in item.clauses.upper():
+            item.clauses = f"{said('DISPLAY')} {item.clauses}"
+        return item
+
+    def members(depth, usage):
+        out = []
+        for _ in range(m.rng.randint(1, 4)):
+            occurs = m.rng.randint(1, 4) if m.chance(0.2) else None
+            if depth and m.chance(0.55):
+                own = m.rng.choice((None, None, "DISPLAY", "COMP", "COMP", "COMP-3", "COMP-3"))
+                out.append(m.group(members(depth - 1, own or usage), occurs))
+                if own:
+                    out[-1].clauses = f"{out[-1].clauses} {said(own)}".strip()
+            else:
+                out.append(member(usage, occurs))
+        return out
+
+    usage = m.rng.choice((None, None, "DISPLAY", "COMP", "COMP-3"))
+    m.root_usage = said(usage) if usage else ""
+    return members(4, usage or "DISPLAY")
+
+
 def tables(m):
     return m.nested(PLAIN, 4, 3, 2, 5)
 
@@ -552,7 +591,9 @@ def native(m):
 
 
 # A class of copybooks, how it is made, and its share. Those of AGREEING meet no departure.
-AGREEING = {"usages": (usages, 3), "signs": (signs, 2), "edited": (edited, 3), "scaled": (scaled, 3), "long": (long_numbers, 2), "groups": (groups, 2), "tables": (tables, 3), "redefines": (redefines, 3),
+AGREEING = {"usages": (usages, 3), "signs": (signs, 2), "edited": (edited, 3), "scaled": (scaled, 3),
+            "long": (long_numbers, 2), "groups": (groups, 2), "group-usages": (group_usages, 3),
+            "tables": (tables, 3), "redefines": (redefines, 3),
             "conditions": (conditions, 1), "literals": (literals, 2), "cards": (cards, 3), "sync": (sync, 3), "sync-aligned": (sync_aligned, 2), "mixed": (mixed, 3), "single": (None, 1)}
 DEPARTURES = {"depending": (depending, 2), "comp-5": (native, 1), "sync-in-groups": (sync_groups, 2), "sync-in-tables": (sync_tables, 2)}
 
@@ -567,10 +608,19 @@ def number_levels(rng, items, level):
 
 
 MOST_STATEMENTS = 800                               # more are 14
+MOST_BYTES = 65535                                  # more are 1
 
 
 def make(number, family, seed):
+    """A copybook that is not too long."""
     rng = random.Random(f"{seed} {number} {family}")
+    made = made_from(rng, number, family)
+    while len(made.text()) > MOST_BYTES:
+        made = made_from(rng, number, family)
+    return made
+
+
+def made_from(rng, number, family):
     m = Maker(rng, number)
     if family == "single":                          # one item that is the record, at level 1 or 77
         item = m.elementary(PLAIN, name=m.name())
@@ -584,10 +634,10 @@ def make(number, family, seed):
         for item, _ in walk(items):
             if item.name == "FILLER":
                 item.name = m.name()
-    root = len(items) == 1 or m.chance(0.8)
+    root = len(items) == 1 or bool(m.root_usage) or m.chance(0.8)
     if root:
         number_levels(rng, items, rng.choice((2, 3, 5, 5, 5, 10)))
-        items = [Item(m.name(), level=1, children=items)]
+        items = [Item(m.name(), m.root_usage, level=1, children=items)]
     else:
         number_levels(rng, items, rng.choice((2, 3, 5, 5)))
     return Copybook(number, family, items, root, rng.getrandbits(32))

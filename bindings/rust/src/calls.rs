@@ -43,6 +43,19 @@ pub fn details(form: Form, text: &[u8], work: &mut [u32], out: &mut [u8]) -> Res
     written(form, copybook_details, copybook_details_cards, text, work, out)
 }
 
+/// The number of bytes of an entry's reasons.
+pub fn reasons(form: Form, text: &[u8], entry: usize, work: &mut [u32], out: &mut [u8]) -> Result<usize, Refusal> {
+    let call = if form == Form::Cards { copybook_reasons_cards } else { copybook_reasons };
+    let (mut answer, entry, w, m) = ([0; 2], entry as u64, work.len(), out.len());
+    let (work, out) = (work.as_mut_ptr(), out.as_mut_ptr());
+    // SAFETY: slices, see above.
+    let number = unsafe { call(text.as_ptr(), text.len(), entry, work, w, out, m, answer.as_mut_ptr(), answer.len()) };
+    match number {
+        0 => Ok(answer[0] as usize),
+        _ => Err(Refusal::of_copybook(form, number, answer[0] as usize, answer[1] as usize, text)),
+    }
+}
+
 pub fn owner(form: Form, text: &[u8], position: usize, work: &mut [u32]) -> Result<Owner, Refusal> {
     let call = if form == Form::Cards { copybook_owner_cards } else { copybook_owner };
     let (mut answer, position, w) = ([0; 4], position as u64, work.len());

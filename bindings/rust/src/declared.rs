@@ -41,6 +41,28 @@ extern "C" {
         answer: *mut u64,
         k: usize,
     ) -> u32;
+    pub fn copybook_reasons(
+        text: *const u8,
+        n: usize,
+        number: u64,
+        work: *mut u32,
+        w: usize,
+        out: *mut u8,
+        m: usize,
+        answer: *mut u64,
+        k: usize,
+    ) -> u32;
+    pub fn copybook_reasons_cards(
+        cards: *const u8,
+        n: usize,
+        number: u64,
+        work: *mut u32,
+        w: usize,
+        out: *mut u8,
+        m: usize,
+        answer: *mut u64,
+        k: usize,
+    ) -> u32;
     pub fn copybook_picture(pic: *const u8, n: usize, usage: u8, sign: u8, answer: *mut u64, k: usize) -> u32;
     pub fn copybook_mask(
         pic: *const u8,

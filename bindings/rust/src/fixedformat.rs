@@ -9,7 +9,8 @@
 //! # Ok::<(), fixedformat_core::Error>(())
 //! ```
 //!
-//! and gets the same layouts from the proved library. The values are those that the original's `parse` gives: text is
+//! and gets the same layouts from the proved library, but for what docs/DIFFERENCES.md tells of the original: P holds
+//! no byte, and a group's usage holds for its members. The values are those that the original's `parse` gives: text is
 //! left-justified, trimmed and padded with blanks, binary is big-endian. What reads other specifications than copybooks
 //! is not here; the kinds that only those have are, so that a `match` over all kinds still compiles.
 

@@ -1,6 +1,7 @@
 //! How a copybook is written: as free text, or on cards with columns. The calls are the same for both.
 
-use crate::{calls, Details, Layout, Owner, Refusal, LONGEST_DETAILS, LONGEST_LISTING, WORK};
+use crate::{calls, Details, Layout, Owner, Reasons, Refusal};
+use crate::{LONGEST_DETAILS, LONGEST_LISTING, LONGEST_REASONS, WORK};
 use std::borrow::Cow;
 
 /// How a copybook is written.
@@ -38,6 +39,15 @@ impl Form {
     /// [`Form::layout`] and [`Form::details`], as many of these as that has entries.
     pub fn layout_and_details(self, text: &[u8]) -> Result<(Layout<'_, 'static>, Details<'_, 'static>), Refusal> {
         Ok((self.layout(text)?, self.details(text)?))
+    }
+
+    /// Why the entry of that number in the layout, from 0, stands where it does. Refusals: those of [`Form::layout`],
+    /// 53.
+    pub fn reasons(self, text: &[u8], entry: usize) -> Result<Reasons<'_, 'static>, Refusal> {
+        let (mut work, mut out) = (vec![0; WORK], vec![0; LONGEST_REASONS]);
+        let written = calls::reasons(self, text, entry, &mut work, &mut out)?;
+        out.truncate(written);
+        Ok(Reasons::new(text, Cow::Owned(out)))
     }
 
     /// Whose the byte at `position` of the record is. Refusals: those of [`Form::layout`], 40, 41.

@@ -1,7 +1,7 @@
 //! The calls over buffers that the caller lends. A refused call changes no byte of `out`, an accepted one none past
 //! what it wrote; `work` is zero after every call, whatever it held.
 
-use crate::{calls, Details, Extract, Form, Layout, Owner, Refusal, Usage};
+use crate::{calls, Details, Extract, Form, Layout, Owner, Reasons, Refusal, Usage};
 use std::borrow::Cow;
 
 /// As [`crate::layout()`], with the listing in `out`. Refusals: 1 to 3, 50, 10 to 14, 20 to 31; `work` needs
@@ -36,6 +36,29 @@ pub fn details_of<'t, 'o>(
 ) -> Result<Details<'t, 'o>, Refusal> {
     let written = calls::details(form, text, work, out)?;
     Ok(Details::new(text, Cow::Borrowed(&out[..written])))
+}
+
+/// As [`crate::reasons()`], with their bytes in `out`. Refusals: 1 to 3, 50, 10 to 14, 20 to 30, 53, 31; an `out` of
+/// [`crate::LONGEST_REASONS`] bytes is never too short.
+pub fn reasons<'t, 'o>(
+    text: &'t [u8],
+    entry: usize,
+    work: &mut [u32],
+    out: &'o mut [u8],
+) -> Result<Reasons<'t, 'o>, Refusal> {
+    reasons_of(Form::Free, text, entry, work, out)
+}
+
+/// The same for a copybook of this form; on cards 51 comes before 50.
+pub fn reasons_of<'t, 'o>(
+    form: Form,
+    text: &'t [u8],
+    entry: usize,
+    work: &mut [u32],
+    out: &'o mut [u8],
+) -> Result<Reasons<'t, 'o>, Refusal> {
+    let written = calls::reasons(form, text, entry, work, out)?;
+    Ok(Reasons::new(text, Cow::Borrowed(&out[..written])))
 }
 
 /// As [`crate::owner()`]. Refusals: 1 to 3, 50, 10 to 14, 20 to 30, 40, 41.

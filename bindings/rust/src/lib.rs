@@ -14,10 +14,11 @@
 //! # Ok::<(), copybook::Refusal>(())
 //! ```
 //!
-//! [`layout`], [`details`], [`owner`], [`extract`], [`picture`], [`mask`] and [`check_record_len`] are the calls. The
-//! first four take a copybook in free text; [`layout_cards`], [`details_cards`] and [`owner_cards`] take one on cards with
-//! columns, and a [`Form`] has them for either. A [`Reader`] keeps the buffers from call to call; with the functions of
-//! [`lent`] they are the caller's own. A [`Refusal`] has a number and a place; [`Refusal::told`] says it in words:
+//! [`layout`], [`details`], [`owner`], [`reasons`], [`extract`], [`picture`], [`mask`] and [`check_record_len`] are the
+//! calls. The first five take a copybook in free text; [`layout_cards`], [`details_cards`], [`owner_cards`] and
+//! [`reasons_cards`] take one on cards with columns, and a [`Form`] has them for either. A [`Reader`] keeps the buffers
+//! from call to call; with the functions of [`lent`] they are the caller's own. A [`Refusal`] has a number and a place;
+//! [`Refusal::told`] says it in words:
 //!
 //! ```
 //! let text = b"01 R.\n    05 TAG  PIC X(5).\n    05 YEAR REDEFINES TAGS PIC 9(4).\n";
@@ -39,6 +40,7 @@ mod form;
 mod kinds;
 mod layout;
 pub mod lent;
+mod reasons;
 mod refusal;
 mod statement;
 mod told;
@@ -49,6 +51,7 @@ pub use form::Form;
 use kinds::Facts;
 pub use kinds::{FieldKind, NumRepr, SignKind, Usage};
 pub use layout::{Entries, Entry, Layout};
+pub use reasons::{Reason, Reasons};
 pub use refusal::{line_and_column, Refusal, Row, REFUSALS};
 pub use told::Told;
 
@@ -61,6 +64,10 @@ pub const LONGEST_LISTING: usize = 10 + 800 * 2 * 49;
 /// The longest details: 47 bytes for each entry. There are at most 800 statements, and a group made by folding has two
 /// of them for itself: its base, and that one's first redefiner.
 pub const LONGEST_DETAILS: usize = (800 + 800 / 2) * details::DETAIL;
+
+/// The longest reasons: 13 bytes for each. An item has at most a placing reason and slack, and each of at most 64
+/// groups around it two reasons.
+pub const LONGEST_REASONS: usize = (2 + 64 * 2) * reasons::REASON;
 
 /// No extract is chosen from more items, and so there are no more subsets.
 pub const MOST_ITEMS: usize = 16;
@@ -142,6 +149,17 @@ pub fn owner_cards(cards: &[u8], position: usize) -> Result<Owner, Refusal> {
     Form::Cards.owner(cards, position)
 }
 
+/// Why the entry of that number in the layout, from 0, stands where it does: see [`Reasons`]. Refusals: 1, 2, 50, 10 to
+/// 30, 53.
+pub fn reasons(text: &[u8], entry: usize) -> Result<Reasons<'_, 'static>, Refusal> {
+    Form::Free.reasons(text, entry)
+}
+
+/// The reasons of an entry of a copybook on cards. Refusals: 1, 2, 51, 50, 10 to 30, 53.
+pub fn reasons_cards(cards: &[u8], entry: usize) -> Result<Reasons<'_, 'static>, Refusal> {
+    Form::Cards.reasons(cards, entry)
+}
+
 /// Of the top-level items, each with a weight from 1 to 1,000 in their order, the heaviest choice whose reserved widths
 /// sum to at most `limit` bytes, among the first `budget` subsets. Refusals: 1, 2, 50, 10 to 30, 40, 58, 59, 60.
 ///
@@ -181,6 +199,7 @@ pub struct Reader {
     work: Vec<u32>,
     listing: Vec<u8>,
     details: Vec<u8>,
+    reasons: Vec<u8>,
 }
 
 impl Reader {
@@ -191,7 +210,13 @@ impl Reader {
 
     /// The same for copybooks of this form.
     pub fn of(form: Form) -> Reader {
-        Reader { form, work: vec![0; WORK], listing: vec![0; LONGEST_LISTING], details: vec![0; LONGEST_DETAILS] }
+        Reader {
+            form,
+            work: vec![0; WORK],
+            listing: vec![0; LONGEST_LISTING],
+            details: vec![0; LONGEST_DETAILS],
+            reasons: vec![0; LONGEST_REASONS],
+        }
     }
 
     /// As [`layout()`]; the layout stands in the reader until the next call.
@@ -208,6 +233,11 @@ impl Reader {
     pub fn layout_and_details<'t>(&mut self, text: &'t [u8]) -> Result<(Layout<'t, '_>, Details<'t, '_>), Refusal> {
         let layout = lent::layout_of(self.form, text, &mut self.work, &mut self.listing)?;
         Ok((layout, lent::details_of(self.form, text, &mut self.work, &mut self.details)?))
+    }
+
+    /// As [`reasons()`]; they stand in the reader until the next call.
+    pub fn reasons<'t>(&mut self, text: &'t [u8], entry: usize) -> Result<Reasons<'t, '_>, Refusal> {
+        lent::reasons_of(self.form, text, entry, &mut self.work, &mut self.reasons)
     }
 
     /// As [`owner()`].

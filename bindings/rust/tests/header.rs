@@ -1,7 +1,7 @@
 //! include/copybook.h says what this crate says: the refusals and their words, the numbers of kinds, usages, signs and
 //! storages, lengths, and the version.
 
-use copybook::{FieldKind, NumRepr, SignKind, Usage, LONGEST_DETAILS, LONGEST_LISTING, REFUSALS, WORK};
+use copybook::{FieldKind, NumRepr, SignKind, Usage, LONGEST_DETAILS, LONGEST_LISTING, LONGEST_REASONS, REFUSALS, WORK};
 
 const HEADER: &str = include_str!("../../../include/copybook.h");
 
@@ -89,6 +89,9 @@ fn lengths() {
     assert!(HEADER.contains("#define COPYBOOK_DETAIL 47\n"));
     assert!(HEADER.contains("#define COPYBOOK_LONGEST_DETAILS ((800 + 800 / 2) * COPYBOOK_DETAIL)\n"));
     assert_eq!(LONGEST_DETAILS, (800 + 800 / 2) * 47);
+    assert!(HEADER.contains("#define COPYBOOK_REASON 13\n"));
+    assert!(HEADER.contains("#define COPYBOOK_LONGEST_REASONS ((2 + 64 * 2) * COPYBOOK_REASON)\n"));
+    assert_eq!(LONGEST_REASONS, (2 + 64 * 2) * 13);
 }
 
 #[test]

@@ -136,6 +136,28 @@ fn outline<'t>(found: &Layout<'t, '_>) -> Vec<(usize, &'t str, usize, usize)> {
     found.entries().map(|e| (e.depth, e.name.unwrap(), e.offset, e.width)).collect()
 }
 
+/// A member that names no usage has that of the nearest group above it that does, a dropped root included; a usage of
+/// its own holds, and DISPLAY takes the group's back.
+#[test]
+fn usages_on_groups() {
+    let text = b"01 R COMP. 05 A PIC 9(5). 05 G COMP-3. 10 B PIC 9(5). 10 C PIC 9(5) DISPLAY. 05 D PIC X.";
+    let found = layout(text).unwrap();
+    let places = [(0, "A", 0, 4), (0, "G", 4, 8), (1, "B", 0, 3), (1, "C", 3, 5), (0, "D", 12, 1)];
+    assert_eq!(outline(&found), places);
+    let kinds: Vec<_> = found.entries().map(|e| e.kind).collect();
+    let int = FieldKind::Int { signed: false, sign: SignKind::Unsigned };
+    let (precision, scale, repr, sign) = (5, 0, NumRepr::Comp3, SignKind::Embedded);
+    let packed = FieldKind::Decimal { precision, scale, repr, sign };
+    let binary = FieldKind::Binary { signed: false };
+    assert_eq!(kinds, [binary, FieldKind::Group { members: 2 }, packed, int, FieldKind::Text]);
+    // after the group its usage holds no more; alignment is by the usage that holds
+    let found = layout(b"05 G COMP. 10 A PIC X. 10 B PIC 9(5) SYNC. 05 C PIC 9(5) SYNC.").unwrap();
+    assert_eq!(outline(&found), [(0, "G", 0, 8), (1, "A", 0, 1), (1, "B", 4, 4), (0, "C", 8, 5)]);
+    // of several usage words the last holds
+    assert_eq!(only("05 A COMP PIC 9(4) USAGE IS DISPLAY."), (int, 4));
+    assert_eq!(only("05 A DISPLAY PIC 9(4) COMP."), (binary, 2));
+}
+
 /// A base and its redefiners are members of a group of the base's name, as wide as the widest of them.
 #[test]
 fn base_and_redefiner() {

@@ -220,6 +220,7 @@ fn every_number() {
         copybook::check_record_len(2, false, 1).unwrap_err(),
         refused(b"05 A PIC X VALUE 'open"),
         copybook::layout_cards(b"000100-").unwrap_err(),
+        copybook::reasons(b"05 A PIC X.", 1).unwrap_err(),
         copybook::extract(b"05 A PIC X.", &[], 1, 1).unwrap_err(),
         copybook::extract(b"05 A PIC X.", &[0], 1, 1).unwrap_err(),
         copybook::extract(b"05 A PIC X.", &[1], 1, 0).unwrap_err(),

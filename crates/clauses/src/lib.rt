@@ -1,7 +1,8 @@
 // The words of a statement after its name, one at a time: what each does to the clauses, and what is expected next.
 ghost use mathlib.Core.Path.{_≡_};
 ghost use Rattle.definition.specs.Basic.{uppers, absent, count};
-ghost use Rattle.definition.specs.Statement.{noClauses, withPicture, withUsage, withSign, withSync, withOccurs, withDepending, withRedefines};
+ghost use Rattle.definition.specs.Statement.{noClauses, withPicture, withUsage, withSign, withSync, withOccurs};
+ghost use Rattle.definition.specs.Statement.{withDepending, withRedefines, usageOf};
 ghost use Rattle.definition.specs.Statement.{counted as countedOf, begin as beginOf, onClause, onDepending, onTimes, onSign, clauseStep, separately as separatelyOf, separated as separatedOf, step as stepOf};
 ghost use Rattle.definition.specs.declared.Expect.the-variants.{IsPicture, To, OnName, UsageIs, SignIs, Side};
 use definition::Clauses;
@@ -134,6 +135,16 @@ pub fn no_clauses() -> Clauses
     }
 }
 
+// The usage that holds for a statement with this clause, where `outer` holds around it.
+pub fn usage_of(outer: Usage, u: UsageClause) -> Usage
+    ensures { λ r. ⌜ r ≡ usageOf outer u ⌝ }
+{
+    match u {
+        UsageClause::Absent => outer,
+        UsageClause::Given(v) => v,
+    }
+}
+
 // Where a clause begins.
 fn begin(k: Keyword, c: Clauses) -> Step
     ensures { λ r. ⌜ r ≡ beginOf k c ⌝ }
@@ -143,6 +154,7 @@ fn begin(k: Keyword, c: Clauses) -> Step
         Keyword::Redefines => Step::Go(Expect::Target, with_redefines(c, nowhere())),
         Keyword::Occurs => Step::Go(Expect::ACount, c),
         Keyword::Usage => Step::Go(Expect::UsageIs, c),
+        Keyword::Display => Step::Go(Expect::Clause, with_usage(c, Usage::Display)),
         Keyword::Comp3 => Step::Go(Expect::Clause, with_usage(c, Usage::Comp3)),
         Keyword::Comp => Step::Go(Expect::Clause, with_usage(c, Usage::Comp)),
         Keyword::Sign => Step::Go(

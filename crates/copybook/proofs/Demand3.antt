@@ -22,7 +22,8 @@ use Rattle.definition.specs.Calls.{ownerIn, byteOwner, indicatorCheck, cardChec
 use Rattle.definition.specs.Calls.{outputAfter}
 use Rattle.definition.specs.Fold.{Entries}
 use Rattle.definition.specs.Listing.{listing}
-use Rattle.definition.specs.Tree.{Forest, forest, fields}
+use Rattle.definition.specs.Tree.{Forest}
+use Rattle.definition.specs.Usages.{recordOf}
 use Rattle.definition.specs.Demand.{ownerOn}
 use Rattle.definition.proofs.Answers.{give-next, through, given-same}
 use Rattle.definition.proofs.CallsLaws.{called-as}
@@ -67,7 +68,7 @@ unfolding recordFields
 enough text n m f h room =
     through _ _ h λ _ e q.
     ap
-    (λ (a : Answer (Unit {0})). a >>= λ _. (keptStatements text >>= λ ss. give (fields (forest ss))))
+    (λ (a : Answer (Unit {0})). a >>= λ _. (keptStatements text >>= λ ss. give (recordOf ss)))
     (checked text n m e room)
     ∙ give-next tt _
     ∙ q

@@ -1,3 +1,1 @@
-pub mod CallLaws
-pub mod CardLaws
 pub mod Demand3

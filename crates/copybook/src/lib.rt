@@ -2,225 +2,21 @@
 // of them fit into a short record. Each answers in full or with one refusal of document 01's table; a refusal changes
 // no byte of the output, and work memory is zero after every call. `proofs/Demand3` says what the answers of the
 // listing and of the byte owner have to do with each other.
-ghost use Prim.Native.Nat.{ℕ};
 ghost use mathlib.Core.Path.{_≡_};
 ghost use mathlib.Core.List.{[]};
-ghost use lib.ListN.{length};
-ghost use Rattle.definition.specs.Calls.{left, afterWriting, layoutListing, layoutDetails, byteOwner, layoutCall, detailsCall, maskCall, pictureAnswer, ownerCall, recordCheck, checkOf, ownerAnswerOf, pictureOf, writingOf};
-ghost use Rattle.entries.specs.Building.{Roomy};
-ghost use Rattle.record.specs.Laying.{Read};
-ghost use Rattle.definition.specs.Calls.{layoutCardsCall, detailsCardsCall, ownerCardsCall};
-ghost use Rattle.definition.specs.Calls.{extractAnswer, extractCall, extractAnswerOf};
+ghost use Rattle.definition.specs.Calls.{left, layoutCall, detailsCall, reasonsCall, ownerCall};
+ghost use Rattle.definition.specs.Calls.{layoutCardsCall, detailsCardsCall, reasonsCardsCall, ownerCardsCall};
+ghost use Rattle.definition.specs.Calls.{extractCall, maskCall, pictureAnswer, recordCheck};
+ghost use Rattle.definition.specs.Calls.{checkOf, ownerAnswerOf, extractAnswerOf, pictureOf, writingOf};
 use definition::Check;
 use definition::ExtractAnswer;
-use definition::MOST_BYTES;
 use definition::OwnerAnswer;
 use definition::PicAnswer;
 use definition::Refusal;
+use definition::Report;
 use definition::SignClause;
 use definition::Usage;
 use definition::Writing;
-use record::ENTRIES;
-use record::FEW_ENTRIES;
-use record::FEW_ROWS;
-use record::RecordLaid;
-use tree::RowsRead;
-
-// ---------------------------------------------------------------- a record's answers, with a table of the right size
-
-// The listing of the record that was read into n rows, with a table for its entries.
-fn listing_in(
-    text: &[u8],
-    work: &mut [u32],
-    n: usize,
-    entries: &mut [u32],
-    out: &mut [u8],
-) -> Writing
-    requires { ⌜ Read (now text) (now work) n × Roomy (now entries) n ⌝ }
-    ensures { λ r. ⌜ left (writingOf r) (now (out .exit)) [] ≡ afterWriting (layoutListing (now (text .entry)) (length (now (work .entry))) (length (now (out .entry)))) (now (out .entry)) [] ⌝ }
-{
-    match record::lay_record(text, work, n, entries) {
-        RecordLaid::Record {
-            from,
-            to,
-            length,
-            count,
-            top,
-        } => {
-            return writer::write_listing(text, work, entries, from, to, length, count, top, out);
-        }
-        RecordLaid::Refused(r) => {
-            return Writing::Refused(r);
-        }
-    }
-}
-
-// The same of a text, with work memory left as it comes.
-fn listing_of(text: &[u8], work: &mut [u32], out: &mut [u8]) -> Writing
-    ensures { λ r. ⌜ left (writingOf r) (now (out .exit)) [] ≡ afterWriting (layoutListing (now (text .entry)) (length (now (work .entry))) (length (now (out .entry)))) (now (out .entry)) [] ⌝ }
-{
-    match record::read_rows(text, work) {
-        RowsRead::Rows(n) => {
-            if n <= FEW_ROWS {
-                let mut few = [0u32; FEW_ENTRIES];
-                return listing_in(text, work, n, &mut few, out);
-            }
-            let mut all = [0u32; ENTRIES];
-            return listing_in(text, work, n, &mut all, out);
-        }
-        RowsRead::Refused(r) => {
-            return Writing::Refused(r);
-        }
-    }
-}
-
-// The details of the record that was read into n rows, with a table for its entries.
-fn details_in(
-    text: &[u8],
-    work: &mut [u32],
-    n: usize,
-    entries: &mut [u32],
-    out: &mut [u8],
-) -> Writing
-    requires { ⌜ Read (now text) (now work) n × Roomy (now entries) n ⌝ }
-    ensures { λ r. ⌜ left (writingOf r) (now (out .exit)) [] ≡ afterWriting (layoutDetails (now (text .entry)) (length (now (work .entry))) (length (now (out .entry)))) (now (out .entry)) [] ⌝ }
-{
-    match record::lay_record(text, work, n, entries) {
-        RecordLaid::Record {
-            from,
-            to,
-            length,
-            count,
-            top,
-        } => {
-            return details::write_details(text, work, entries, from, to, count, out);
-        }
-        RecordLaid::Refused(r) => {
-            return Writing::Refused(r);
-        }
-    }
-}
-
-// The same of a text, with work memory left as it comes.
-fn details_of(text: &[u8], work: &mut [u32], out: &mut [u8]) -> Writing
-    ensures { λ r. ⌜ left (writingOf r) (now (out .exit)) [] ≡ afterWriting (layoutDetails (now (text .entry)) (length (now (work .entry))) (length (now (out .entry)))) (now (out .entry)) [] ⌝ }
-{
-    match record::read_rows(text, work) {
-        RowsRead::Rows(n) => {
-            if n <= FEW_ROWS {
-                let mut few = [0u32; FEW_ENTRIES];
-                return details_in(text, work, n, &mut few, out);
-            }
-            let mut all = [0u32; ENTRIES];
-            return details_in(text, work, n, &mut all, out);
-        }
-        RowsRead::Refused(r) => {
-            return Writing::Refused(r);
-        }
-    }
-}
-
-// The owner of a byte in the record that was read into n rows, with a table for its entries.
-fn owner_in(
-    text: &[u8],
-    position: usize,
-    work: &mut [u32],
-    n: usize,
-    entries: &mut [u32],
-) -> OwnerAnswer
-    requires { ⌜ Read (now text) (now work) n × Roomy (now entries) n ⌝ }
-    ensures { λ r. ⌜ ownerAnswerOf r ≡ byteOwner (now (text .entry)) (length (now (work .entry))) position ⌝ }
-{
-    match record::lay_record(text, work, n, entries) {
-        RecordLaid::Record {
-            from,
-            to,
-            length,
-            count,
-            top,
-        } => {
-            return owner::owner_of(text, work, from, to, length, position);
-        }
-        RecordLaid::Refused(r) => {
-            return OwnerAnswer::Refused(r);
-        }
-    }
-}
-
-// The same of a text, with work memory left as it comes.
-fn owner_of(text: &[u8], position: usize, work: &mut [u32]) -> OwnerAnswer
-    ensures { λ r. ⌜ ownerAnswerOf r ≡ byteOwner (now (text .entry)) (length (now (work .entry))) position ⌝ }
-{
-    match record::read_rows(text, work) {
-        RowsRead::Rows(n) => {
-            if n <= FEW_ROWS {
-                let mut few = [0u32; FEW_ENTRIES];
-                return owner_in(text, position, work, n, &mut few);
-            }
-            let mut all = [0u32; ENTRIES];
-            return owner_in(text, position, work, n, &mut all);
-        }
-        RowsRead::Refused(r) => {
-            return OwnerAnswer::Refused(r);
-        }
-    }
-}
-
-// The extract of the record that was read into n rows, with a table for its entries.
-fn extract_in(
-    text: &[u8],
-    weights: &[u32],
-    limit: usize,
-    budget: usize,
-    work: &mut [u32],
-    n: usize,
-    entries: &mut [u32],
-) -> ExtractAnswer
-    requires { ⌜ Read (now text) (now work) n × Roomy (now entries) n ⌝ }
-    ensures { λ r. ⌜ extractAnswerOf r ≡ extractAnswer (now (text .entry)) (length (now (work .entry))) (now (weights .entry)) limit budget ⌝ }
-{
-    match record::lay_record(text, work, n, entries) {
-        RecordLaid::Record {
-            from,
-            to,
-            length,
-            count,
-            top,
-        } => {
-            return extract::extract_of(text, work, from, to, length, top, weights, limit, budget);
-        }
-        RecordLaid::Refused(r) => {
-            return ExtractAnswer::Refused(r);
-        }
-    }
-}
-
-// The same of a text, with work memory left as it comes.
-fn extract_of(
-    text: &[u8],
-    weights: &[u32],
-    limit: usize,
-    budget: usize,
-    work: &mut [u32],
-) -> ExtractAnswer
-    ensures { λ r. ⌜ extractAnswerOf r ≡ extractAnswer (now (text .entry)) (length (now (work .entry))) (now (weights .entry)) limit budget ⌝ }
-{
-    match record::read_rows(text, work) {
-        RowsRead::Rows(n) => {
-            if n <= FEW_ROWS {
-                let mut few = [0u32; FEW_ENTRIES];
-                return extract_in(text, weights, limit, budget, work, n, &mut few);
-            }
-            let mut all = [0u32; ENTRIES];
-            return extract_in(text, weights, limit, budget, work, n, &mut all);
-        }
-        RowsRead::Refused(r) => {
-            return ExtractAnswer::Refused(r);
-        }
-    }
-}
-
-// ---------------------------------------------------------------- the entries
 
 // The layout listing of a copybook: how many bytes were written. Refusals, in this order: 1 text over 65,535 bytes; 2 a
 // byte over 127, at the first one; 3 work memory under 16,384 numbers; 50 a literal that its line does not close, at the
@@ -231,9 +27,7 @@ fn extract_of(
 pub fn layout_listing(text: &[u8], work: &mut [u32], out: &mut [u8]) -> Writing
     ensures { λ r. ⌜ left (writingOf r) (now (out .exit)) (now (work .exit)) ≡ layoutCall (now (text .entry)) (now (out .entry)) (now (work .entry)) ⌝ }
 {
-    let answer = listing_of(text, work, out);
-    rows::clear(work);
-    answer
+    answers::report(text, work, Report::Listing, out)
 }
 
 // The details of the listing's entries: 47 bytes for each, in the order of the listing, numbers little-endian. The
@@ -247,9 +41,7 @@ pub fn layout_listing(text: &[u8], work: &mut [u32], out: &mut [u8]) -> Writing
 pub fn layout_details(text: &[u8], work: &mut [u32], out: &mut [u8]) -> Writing
     ensures { λ r. ⌜ left (writingOf r) (now (out .exit)) (now (work .exit)) ≡ detailsCall (now (text .entry)) (now (out .entry)) (now (work .entry)) ⌝ }
 {
-    let written = details_of(text, work, out);
-    rows::clear(work);
-    written
+    answers::report(text, work, Report::Details, out)
 }
 
 // The owner of the byte at a position of the record: an occurrence of an elementary item, with its entry's number in the listing,
@@ -260,9 +52,23 @@ pub fn layout_details(text: &[u8], work: &mut [u32], out: &mut [u8]) -> Writing
 pub fn byte_owner(text: &[u8], position: usize, work: &mut [u32]) -> OwnerAnswer
     ensures { λ r. ⌜ left (ownerAnswerOf r) [] (now (work .exit)) ≡ ownerCall (now (text .entry)) position (now (work .entry)) ⌝ }
 {
-    let found = owner_of(text, position, work);
-    rows::clear(work);
-    found
+    answers::owner(text, position, work)
+}
+
+// The reasons of an entry's place, by its number in the listing, from 0: 13 bytes for each, numbers little-endian. Its
+// kind (1): 1 first in its list, 2 directly after the sibling named, 3 slack, 4 laid over the item named, 5 inside the
+// group named; start and length of that item's name (4 each, 0 if none or without a name); the bytes that it adds (4).
+// The item's placing reason comes first, then its slack, then for each group outward kind 5 and the group's own reasons;
+// a dropped root gives none, and a group made by folding has its base's reasons. Added up they are the entry's first
+// byte in the record. Refusals: those of the layout listing but 31, then 53 for a number past the listing, then 31, with
+// the length of the reasons. Answer, output and work memory are as in `layout_listing`.
+// The contract rules out a program that names the sibling directly before although it is a redefiner, and one that
+// stops at the first group.
+pub fn entry_reasons(text: &[u8], number: usize, work: &mut [u32], out: &mut [u8]) -> Writing
+    ensures { λ r. ⌜ left (writingOf r) (now (out .exit)) (now (work .exit))
+        ≡ reasonsCall (now (text .entry)) number (now (out .entry)) (now (work .entry)) ⌝ }
+{
+    answers::report(text, work, Report::Reasons(number), out)
 }
 
 // The layout listing of cards, a copybook in COBOL reference format: `layout_listing` of what the reader sees of them.
@@ -273,17 +79,7 @@ pub fn byte_owner(text: &[u8], position: usize, work: &mut [u32]) -> OwnerAnswer
 pub fn layout_cards(cards: &[u8], work: &mut [u32], out: &mut [u8]) -> Writing
     ensures { λ r. ⌜ left (writingOf r) (now (out .exit)) (now (work .exit)) ≡ layoutCardsCall (now (cards .entry)) (now (out .entry)) (now (work .entry)) ⌝ }
 {
-    let mut view = [32u8; MOST_BYTES];
-    match cards::read_cards(cards, work.len(), &mut view) {
-        Check::Passed => {
-            let n = cards.len();
-            return layout_listing(&view[0..n], work, out);
-        }
-        Check::Refused(r) => {
-            rows::clear(work);
-            return Writing::Refused(r);
-        }
-    }
+    answers::report_cards(cards, work, Report::Listing, out)
 }
 
 // The details of the entries of cards: `layout_details` of what the reader sees. Refusals as `layout_cards`; 31 has the
@@ -292,17 +88,17 @@ pub fn layout_cards(cards: &[u8], work: &mut [u32], out: &mut [u8]) -> Writing
 pub fn layout_details_cards(cards: &[u8], work: &mut [u32], out: &mut [u8]) -> Writing
     ensures { λ r. ⌜ left (writingOf r) (now (out .exit)) (now (work .exit)) ≡ detailsCardsCall (now (cards .entry)) (now (out .entry)) (now (work .entry)) ⌝ }
 {
-    let mut view = [32u8; MOST_BYTES];
-    match cards::read_cards(cards, work.len(), &mut view) {
-        Check::Passed => {
-            let n = cards.len();
-            return layout_details(&view[0..n], work, out);
-        }
-        Check::Refused(r) => {
-            rows::clear(work);
-            return Writing::Refused(r);
-        }
-    }
+    answers::report_cards(cards, work, Report::Details, out)
+}
+
+// The reasons of an entry of cards: `entry_reasons` of what the reader sees. Refusals: those of `layout_cards` but 31,
+// then 53, then 31.
+// The contract rules out a program that gives a name's place in the code alone, and one that looks for 53 before 51.
+pub fn entry_reasons_cards(cards: &[u8], number: usize, work: &mut [u32], out: &mut [u8]) -> Writing
+    ensures { λ r. ⌜ left (writingOf r) (now (out .exit)) (now (work .exit))
+        ≡ reasonsCardsCall (now (cards .entry)) number (now (out .entry)) (now (work .entry)) ⌝ }
+{
+    answers::report_cards(cards, work, Report::Reasons(number), out)
 }
 
 // The owner of a byte of the record that cards describe: `byte_owner` of what the reader sees. Refusals: those of
@@ -311,17 +107,7 @@ pub fn layout_details_cards(cards: &[u8], work: &mut [u32], out: &mut [u8]) -> W
 pub fn byte_owner_cards(cards: &[u8], position: usize, work: &mut [u32]) -> OwnerAnswer
     ensures { λ r. ⌜ left (ownerAnswerOf r) [] (now (work .exit)) ≡ ownerCardsCall (now (cards .entry)) position (now (work .entry)) ⌝ }
 {
-    let mut view = [32u8; MOST_BYTES];
-    match cards::read_cards(cards, work.len(), &mut view) {
-        Check::Passed => {
-            let n = cards.len();
-            return byte_owner(&view[0..n], position, work);
-        }
-        Check::Refused(r) => {
-            rows::clear(work);
-            return OwnerAnswer::Refused(r);
-        }
-    }
+    answers::owner_cards(cards, position, work)
 }
 
 // An extract that fits: of the record's top-level items, each with a weight from 1 to 1,000 in the listing's order,
@@ -340,11 +126,10 @@ pub fn extract(
     budget: usize,
     work: &mut [u32],
 ) -> ExtractAnswer
-    ensures { λ r. ⌜ left (extractAnswerOf r) [] (now (work .exit)) ≡ extractCall (now (text .entry)) (now (weights .entry)) limit budget (now (work .entry)) ⌝ }
+    ensures { λ r. ⌜ left (extractAnswerOf r) [] (now (work .exit))
+        ≡ extractCall (now (text .entry)) (now (weights .entry)) limit budget (now (work .entry)) ⌝ }
 {
-    let found = extract_of(text, weights, limit, budget, work);
-    rows::clear(work);
-    found
+    answers::extract(text, weights, limit, budget, work)
 }
 
 // Kind, its details and width of one picture with a usage and a sign. Refusals, in this order: 1 over 65,535 bytes; 2 a byte over 127, at the first

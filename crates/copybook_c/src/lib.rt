@@ -4,10 +4,10 @@ ghost use mathlib.Core.Path.{_≡_};
 ghost use mathlib.Core.Bool.{_||_};
 ghost use Rattle.definition.specs.Basic.{if_then_else_};
 ghost use Rattle.definition.specs.Calls.{layoutCall, detailsCall, pictureAnswer, maskCall, ownerCall, recordCheck};
-ghost use Rattle.definition.specs.Calls.{layoutCardsCall, detailsCardsCall, ownerCardsCall};
-ghost use Rattle.definition.specs.Calls.{extractCall};
+ghost use Rattle.definition.specs.Calls.{reasonsCall, layoutCardsCall, detailsCardsCall, ownerCardsCall};
+ghost use Rattle.definition.specs.Calls.{reasonsCardsCall, extractCall};
 ghost use Rattle.kinds.specs.Usages.{usageAt, signClauseAt};
-ghost use Rattle.numbers.specs.Numbers.{noUsage, noSign, marked};
+ghost use Rattle.numbers.specs.Numbers.{noUsage, noSign, flagged};
 ghost use Rattle.numbers.specs.Numbers.{returned, writingNumbers, pictureNumbers, ownerNumbers, answered};
 ghost use Rattle.numbers.specs.Numbers.{extractNumbers};
 use definition::Check;
@@ -50,6 +50,32 @@ pub extern "C" fn copybook_details(
     numbers::hand_on(w, answer)
 }
 
+// The reasons of an entry, by its number in the listing, as `copybook::entry_reasons` says. To `answer`, 2 numbers, as
+// `copybook_layout`.
+// The contract rules out the same two wrong calls as that of `copybook_layout`.
+#[no_mangle]
+pub extern "C" fn copybook_reasons(
+    text: &[u8],
+    number: u64,
+    work: &mut [u32],
+    out: &mut [u8],
+    answer: &mut [u64],
+) -> u32
+    ensures { λ r. ⌜ r
+        ≡ returned (reasonsCall (now (text .entry)) number (now (out .entry)) (now (work .entry)) .answer) ⌝ }
+    ensures { λ _. ⌜ now (answer .exit)
+        ≡ answered
+        (writingNumbers (reasonsCall (now (text .entry)) number (now (out .entry)) (now (work .entry)) .answer))
+        (now (answer .entry)) ⌝ }
+    ensures { λ _. ⌜ now (out .exit)
+        ≡ reasonsCall (now (text .entry)) number (now (out .entry)) (now (work .entry)) .output ⌝ }
+    ensures { λ _. ⌜ now (work .exit)
+        ≡ reasonsCall (now (text .entry)) number (now (out .entry)) (now (work .entry)) .work ⌝ }
+{
+    let w = copybook::entry_reasons(text, number as usize, work, out);
+    numbers::hand_on(w, answer)
+}
+
 // The layout listing of cards, as `copybook::layout_cards` says. To `answer`, 2 numbers, as `copybook_layout`.
 // The contract rules out the same two wrong calls as that of `copybook_layout`.
 #[no_mangle]
@@ -84,6 +110,32 @@ pub extern "C" fn copybook_details_cards(
     ensures { λ _. ⌜ now (work .exit) ≡ detailsCardsCall (now (cards .entry)) (now (out .entry)) (now (work .entry)) .work ⌝ }
 {
     let w = copybook::layout_details_cards(cards, work, out);
+    numbers::hand_on(w, answer)
+}
+
+// The reasons of an entry of cards, as `copybook::entry_reasons_cards` says. To `answer`, 2 numbers, as
+// `copybook_layout`.
+// The contract rules out the same two wrong calls as that of `copybook_layout`.
+#[no_mangle]
+pub extern "C" fn copybook_reasons_cards(
+    cards: &[u8],
+    number: u64,
+    work: &mut [u32],
+    out: &mut [u8],
+    answer: &mut [u64],
+) -> u32
+    ensures { λ r. ⌜ r
+        ≡ returned (reasonsCardsCall (now (cards .entry)) number (now (out .entry)) (now (work .entry)) .answer) ⌝ }
+    ensures { λ _. ⌜ now (answer .exit)
+        ≡ answered
+        (writingNumbers (reasonsCardsCall (now (cards .entry)) number (now (out .entry)) (now (work .entry)) .answer))
+        (now (answer .entry)) ⌝ }
+    ensures { λ _. ⌜ now (out .exit)
+        ≡ reasonsCardsCall (now (cards .entry)) number (now (out .entry)) (now (work .entry)) .output ⌝ }
+    ensures { λ _. ⌜ now (work .exit)
+        ≡ reasonsCardsCall (now (cards .entry)) number (now (out .entry)) (now (work .entry)) .work ⌝ }
+{
+    let w = copybook::entry_reasons_cards(cards, number as usize, work, out);
     numbers::hand_on(w, answer)
 }
 
@@ -184,7 +236,7 @@ pub extern "C" fn copybook_extract(
 // The contract rules out a call that checks a variable record, and one that takes the two lengths for each other.
 #[no_mangle]
 pub extern "C" fn copybook_check_record(record_len: u64, variable: u8, len: u64) -> u32
-    ensures { λ r. ⌜ r ≡ returned (recordCheck record_len (marked variable) len) ⌝ }
+    ensures { λ r. ⌜ r ≡ returned (recordCheck record_len (flagged variable) len) ⌝ }
 {
     match copybook::check_record_len(record_len as usize, variable != 0, len as usize) {
         Check::Passed => {

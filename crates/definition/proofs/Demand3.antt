@@ -14,7 +14,7 @@ use Rattle.definition.specs.declared.Span.{Span}
 use Rattle.definition.specs.declared.Owner.{Owner}
 use Rattle.definition.specs.Basic.{part, Answer, refuse, give, _>>=_, refused}
 use Rattle.definition.specs.Words.{statementWords}
-use Rattle.definition.specs.Tree.{Forest, forest}
+use Rattle.definition.specs.Tree.{Forest}
 use Rattle.definition.specs.Fold.{Entries}
 use Rattle.definition.specs.Record.{recordLength, layout}
 use Rattle.definition.specs.Cards.{Form, viewIn}
@@ -25,7 +25,7 @@ use Rattle.definition.specs.Search.{seek, Row, rows, walk}
 use Rattle.definition.specs.Demand.{Tells, Spot, told, spots, EachSpan, ownerOn, Demand, Kept}
 use Rattle.definition.proofs.Answers.{through, given-same, refused-through}
 use Rattle.definition.proofs.CallsLaws.{called-as}
-use Rattle.definition.proofs.SpanLaws.{ForestSpans, statements-spans, forest-spans, fields-spans, layout-spans}
+use Rattle.definition.proofs.SpanLaws.{ForestSpans, statements-spans, record-spans, layout-spans}
 use Rattle.definition.proofs.CardLaws.{view-words}
 use Rattle.definition.proofs.Pieces.{Found, found, owned-someone, join-cut}
 use Rattle.definition.proofs.Cover.{plain, layout-placed, placed-length}
@@ -129,8 +129,7 @@ module _ (form : Form) (text : List ℕ) (work : ℕ) (f : Forest) where
       through _ _ e λ _ _ h₃.
       let words = view-words form text in
       let kept = statements-spans SameIn refl (statementWords (viewIn form text)) (viewIn form text) 0 words h₃ in
-      subst (ForestSpans SameIn) (given-same h₂)
-      (fields-spans SameIn (forest ss) (forest-spans SameIn ss kept))
+      subst (ForestSpans SameIn) (given-same h₂) (record-spans SameIn ss kept)
 
   view-spans :
       (es : Entries) →

@@ -1,7 +1,7 @@
 -- One step of the search for a name, of folding, of laying a sibling list, and of the record.
 -- Assumes nothing.
 use Prim.Native.Nat.{ℕ, zero, suc, max, _≤_, _<_}
-use mathlib.Core.Path.{_≡_, refl}
+use mathlib.Core.Path.{_≡_, refl, ap}
 use mathlib.Core.Bool.{Bool, true, false, _||_}
 use mathlib.Core.List.{List, [], _∷_}
 use mathlib.Core.Option.{Option, none, some}
@@ -13,7 +13,10 @@ use Rattle.definition.specs.declared.Entry.{Entry}
 use Rattle.definition.specs.Limits.{largest}
 use Rattle.definition.specs.Basic.{given, Answer, give, _>>=_, refused, refuseIf}
 use Rattle.definition.specs.Tree.{Forest, leaf, item}
-use Rattle.definition.specs.Fold.{Entries, end, entry, append, total, entryEnd, sameName, sameSpelling, Place, placeOf, find, hasMember, rebased, redefiners, widest, withRedefiners, foldCheck, foldedList, foldedBelow, foldedAll}
+use Rattle.definition.specs.Fold.{Entries, end, entry, append, total, entryEnd}
+use Rattle.definition.specs.Fold.{sameName, sameSpelling, Place, placeOf, Search, oneMore, searchBack, find}
+use Rattle.definition.specs.Fold.{hasMember, rebased, redefiners, widest, withRedefiners, foldCheck}
+use Rattle.definition.specs.Fold.{foldedList, foldedBelow, foldedAll}
 use Rattle.definition.specs.Layout.{shallow, content, start, slackFrom, entryOf, tooLarge, advance, Laid, lay}
 use Rattle.definition.specs.Record.{recordLength, variable, endsFit}
 
@@ -21,18 +24,33 @@ module _ (text : List ℕ) where
   -- ---------------------------------------------------------------- names
 
   module _ (w : Span) where
+    pub search-none : searchBack text w [] ≡ record { found = none; compared = 0 }
+    unfolding searchBack
+    search-none = refl
+
     pub find-none : find text w [] ≡ none
     unfolding find
-    find-none = refl
+    find-none = ap (λ (s : Search). s .found) search-none
 
     module _ (p : Place) (ps : List Place) where
-      pub find-hit : sameName text w (p .name) ≡ true → find text w (p ∷ ps) ≡ some (p .offset)
-      unfolding find
-      find-hit h = rw (h, find)
+      -- a place of that name; one of another name
+      module _ (h : sameName text w (p .name) ≡ true) where
+        pub search-hit : searchBack text w (p ∷ ps) ≡ record { found = some (p .offset); compared = 1 }
+        unfolding searchBack
+        search-hit = rw (h, searchBack)
 
-      pub find-miss : sameName text w (p .name) ≡ false → find text w (p ∷ ps) ≡ find text w ps
-      unfolding find
-      find-miss h = rw (h, find)
+        pub find-hit : find text w (p ∷ ps) ≡ some (p .offset)
+        unfolding find
+        find-hit = ap (λ (s : Search). s .found) search-hit
+
+      module _ (h : sameName text w (p .name) ≡ false) where
+        pub search-miss : searchBack text w (p ∷ ps) ≡ oneMore (searchBack text w ps)
+        unfolding searchBack
+        search-miss = rw (h, searchBack)
+
+        pub find-miss : find text w (p ∷ ps) ≡ find text w ps
+        unfolding find
+        find-miss = ap (λ (s : Search). s .found) search-miss
 
     pub member-none : hasMember text w end ≡ false
     unfolding hasMember

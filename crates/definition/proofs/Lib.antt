@@ -9,7 +9,10 @@ pub mod SpanLaws
 pub mod CardLaws
 pub mod TreeLaws
 pub mod ParentLaws
+pub mod UsageLaws
+pub mod UngroupedLaws
 pub mod LayoutLaws
+pub mod DistanceLaws
 pub mod ListingLaws
 pub mod CallsLaws
 pub mod Pieces
@@ -22,4 +25,6 @@ pub mod Walk
 pub mod Told
 pub mod Demand3
 pub mod Occurrences
+pub mod Begins
+pub mod Why
 pub mod ExtractLaws

@@ -30,7 +30,9 @@ module _ (n : ℕ) where
 pub length-parents : (os : List Open) (k : ℕ) (ss : List Statement) → length (parents os k ss) ≡ length ss
 unfolding parents
 length-parents os k [] = refl
-length-parents os k (s ∷ ss) = ap suc (length-parents (opened (s .level) (suc k) ∷ stillOpen (s .level) os) (suc k) ss)
+length-parents os k (s ∷ ss) =
+    let outer = stillOpen (s .level) os in
+    ap suc (length-parents (opened (s .level) (suc k) (s .usage) ∷ outer) (suc k) ss)
 
 -- ---------------------------------------------------------------- open statements are few, and earlier
 
@@ -80,7 +82,7 @@ parents-under [] k [] = refl
 parents-under (o ∷ os) k [] = parents-under os k [] ∙ ap (λ (n : ℕ). under os n (forest [])) (let e : k ≡ k + 0 = omega arith in e)
 parents-under os k (s ∷ ss) =
     let outer = stillOpen (s .level) os in
-    ap (λ (ps : List ℕ). innermost outer ∷ ps) (parents-under (opened (s .level) (suc k) ∷ outer) (suc k) ss)
+    ap (λ (ps : List ℕ). innermost outer ∷ ps) (parents-under (opened (s .level) (suc k) (s .usage) ∷ outer) (suc k) ss)
     ∙ sym (under-item os k s (above (s .level) (forest ss)) (notAbove (s .level) (forest ss)))
 
 -- the open statements give the parents of the forest

@@ -17,11 +17,7 @@ use Rattle.definition.specs.Basic.{give}
 use Rattle.definition.specs.Words.{byteKind, next, completed, completedEnd, seen, saidNext, unlessOpen, tokens, tokensOf, firstOpen, sentences, statementWords}
 use Rattle.definition.specs.Unquoted.{bareTokens, bareWords, harmless, harmlessFrom, plainText}
 use Rattle.definition.specs.Calls.{literalCheck}
-use Rattle.definition.proofs.WordLaws.{never, closed-on}
-
-and-true : (a b : Bool) → (a && b) ≡ true → (a ≡ true) × (b ≡ true)
-and-true true b h = (refl, h)
-and-true false b h = never h
+use Rattle.definition.proofs.WordLaws.{and-both, never, closed-on}
 
 -- ---------------------------------------------------------------- the same words
 
@@ -51,7 +47,7 @@ unfolding tokens bareTokens harmlessFrom
 same-tokens [] text q m p h = rw (closed-on q Newline [] h) (append-nil (completedEnd m p))
 same-tokens (b ∷ bs) text q m p h =
     let k = byteKind b bs in
-    let s = and-true (harmless q k) (harmlessFrom text (saidNext text q m p b k) (next m p k) (p + 1) bs) h in
+    let s = and-both (harmless q k) (harmlessFrom text (saidNext text q m p b k) (next m p k) (p + 1) bs) h in
     let ih = same-tokens bs text (saidNext text q m p b k) (next m p k) (p + 1) (s .1) in
     rw (seen-same q k (s .0), none-open q k (tokens text (saidNext text q m p b k) (next m p k) (p + 1) bs) (s .0), ih)
 

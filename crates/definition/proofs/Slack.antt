@@ -13,7 +13,7 @@ use Rattle.definition.specs.declared.FieldKind.{FieldKind}
 use Rattle.definition.specs.declared.Pictured.{Pictured}
 use Rattle.definition.specs.declared.Statement.{Statement}
 use Rattle.definition.specs.Basic.{if_then_else_, part, Answer, refuse, give, _>>=_}
-use Rattle.definition.specs.Statement.{usageOf, signOf}
+use Rattle.definition.specs.Statement.{signOf}
 use Rattle.definition.specs.Picture.{pictured, isBinary, resolveSign, isEmbedded, isText, isMasked, allDigits, storedDigits, fraction, isSigned, storageWidth, numeric, kinded, symbols, picture}
 use Rattle.definition.specs.Owner.{orNone, storage}
 
@@ -58,8 +58,7 @@ answer-sized u c (give l) = kinded-sized u c l
 pub storage-sized : (text : List ℕ) (s : Statement) → Sized (storage text s)
 unfolding picture
 storage-sized text s =
-    let u = usageOf (s .clauses .usage) in
-    answer-sized u (signOf (s .clauses .sign)) (symbols (s .at) u (part text (s .clauses .picture)))
+    answer-sized (s .usage) (signOf (s .clauses .sign)) (symbols (s .at) (s .usage) (part text (s .clauses .picture)))
 
 pub and-true : (a b : Bool) → (a && b) ≡ true → b ≡ true
 and-true true b h = h

@@ -15,6 +15,7 @@ use Rattle.definition.specs.declared.Expect.the-variants.{Bound, Times, 
 use Rattle.definition.specs.declared.Expect.the-variants.{SignIs, SignWord, Side, Nothing}
 use Rattle.definition.specs.declared.Keyword.{Keyword}
 use Rattle.definition.specs.declared.SignWords.{SignWords}
+use Rattle.definition.specs.declared.Usage.{Usage}
 use Rattle.definition.specs.declared.Span.{Span}
 use Rattle.definition.specs.declared.Step.{Step}
 use Rattle.definition.specs.declared.Step.the-variants.{Go, Fail}
@@ -24,6 +25,7 @@ use Rattle.definition.specs.Limits.{mostStatements}
 use Rattle.definition.specs.Basic.{if_then_else_, absent, given, uppers, part, count, Answer, refuse, give, _>>=_}
 use Rattle.definition.specs.Basic.{refused, refuseIf}
 use Rattle.definition.specs.Tree.{Forest, leaf, item, above, notAbove, forest, fields}
+use Rattle.definition.specs.Usages.{inheriting, inherit, inherited, recordOf}
 use Rattle.definition.specs.Fold.{Entries, end, entry, append, entryEnd, sameName, Place, placeOf, find}
 use Rattle.definition.specs.Fold.{hasMember, rebased, redefiners, withRedefiners, foldedList, foldedBelow}
 use Rattle.definition.specs.Layout.{slackFrom, entryOf, advance, Laid, lay}
@@ -128,20 +130,34 @@ module _ (P : Span → Type 0) where
   notAbove-spans n (item s kids later) x =
       if-spans (ltb n (s .level)) (notAbove n later) (item s kids later) (notAbove-spans n later (x .2)) x
 
-  pub forest-spans : (ss : List Statement) → AllSpans ss → ForestSpans (forest ss)
+  forest-spans : (ss : List Statement) → AllSpans ss → ForestSpans (forest ss)
   unfolding forest
   forest-spans [] a = tt
   forest-spans (s ∷ ss) a =
       let ih = forest-spans ss (a .1) in
       (a .0, above-spans (s .level) (forest ss) ih, notAbove-spans (s .level) (forest ss) ih)
 
-  pub fields-spans : (f : Forest) → ForestSpans f → ForestSpans (fields f)
+  inherit-spans : (u : Usage) (f : Forest) → ForestSpans f → ForestSpans (inherit u f)
+  unfolding inherit
+  inherit-spans u leaf x = tt
+  inherit-spans u (item s kids later) x = (
+    record { name = x .0 .name; clauses = x .0 .clauses },
+    inherit-spans (inheriting u s .usage) kids (x .1),
+    inherit-spans u later (x .2),
+  )
+
+  fields-spans : (f : Forest) → ForestSpans f → ForestSpans (fields f)
   unfolding fields
   fields-spans leaf x = tt
   fields-spans (item s leaf leaf) x = x
   fields-spans (item s (item t kids later) leaf) x = x .1
   fields-spans (item s leaf (item t kids later)) x = x
   fields-spans (item s (item u us vs) (item t kids later)) x = x
+
+  -- of every span of the fields of the record
+  pub record-spans : (ss : List Statement) → AllSpans ss → ForestSpans (recordOf ss)
+  record-spans ss a =
+      fields-spans (inherited (forest ss)) (inherit-spans Usage.Display (forest ss) (forest-spans ss a))
 
   -- ---------------------------------------------------------------- the entries that are laid from it
 
@@ -202,6 +218,7 @@ module _ (P : Span → Type 0) where
       begin-spans Keyword.Redefines = record { picture = f .picture; depending = f .depending; redefines = nothing }
       begin-spans Keyword.Occurs = f
       begin-spans Keyword.Usage = f
+      begin-spans Keyword.Display = record { picture = f .picture; depending = f .depending; redefines = f .redefines }
       begin-spans Keyword.Comp3 = record { picture = f .picture; depending = f .depending; redefines = f .redefines }
       begin-spans Keyword.Comp = record { picture = f .picture; depending = f .depending; redefines = f .redefines }
       begin-spans Keyword.Sign = sign-spans f (SignWords.Said false false)

@@ -14,7 +14,8 @@ use Rattle.definition.specs.declared.Statement.{Statement}
 use Rattle.definition.specs.declared.Refusal.{Refusal}
 use Rattle.definition.specs.Limits.{mostStatements}
 use Rattle.definition.specs.Basic.{uppers, absent, part, number, Answer, refuse, give, _>>=_, refused}
-use Rattle.definition.specs.Statement.{noClauses, step, finish, clauses, named, statement, statements}
+use Rattle.definition.specs.Statement.{noClauses, step, finish, clauses, statementOf, named, statement}
+use Rattle.definition.specs.Statement.{statements}
 
 -- ---------------------------------------------------------------- clauses
 
@@ -35,7 +36,7 @@ module _ (text : List ℕ) (at : ℕ) (e : Expect) (c : Clauses) where
 -- ---------------------------------------------------------------- a statement
 
 module _ (text : List ℕ) (at level : ℕ) where
-  pub named-none : named text at level [] ≡ give (record { level = level; at = at; name = absent; clauses = noClauses })
+  pub named-none : named text at level [] ≡ give (statementOf level at absent noClauses)
   unfolding named
   named-none = refl
 
@@ -43,7 +44,7 @@ module _ (text : List ℕ) (at level : ℕ) where
     pub named-given :
         {c : Clauses} →
         clauses text at Expect.Clause noClauses ws ≡ give c →
-        named text at level (w ∷ ws) ≡ give (record { level = level; at = at; name = w; clauses = c })
+        named text at level (w ∷ ws) ≡ give (statementOf level at w c)
     unfolding named _>>=_
     named-given p = rw p
 

@@ -7,7 +7,7 @@ use mathlib.Core.List.{List, [], _∷_, _++_, map}
 use native.Mathlib.Omega.{arith}
 use lib.Dec.{eqb, leb}
 use lib.ListN.{length, getD, drop, drop-of-length-le}
-use borrow.Author.Tests.{eq-eqb, ne-eqb}
+use borrow.Author.Tests.{eqb-true, eq-eqb, ne-eqb}
 use Rattle.definition.specs.declared.Span.{Span}
 use Rattle.definition.specs.declared.ByteKind.{ByteKind}
 use Rattle.definition.specs.declared.ByteKind.the-variants.{Newline, Blank, Cut, Star, Period, Other}
@@ -22,12 +22,29 @@ use Rattle.definition.specs.Words.{cutHere, ends, byteKind, next, upTo, 
 use Rattle.definition.specs.Unquoted.{closed}
 use Rattle.definition.proofs.Lists.{drop-next}
 
+pub never {ℓ} : {A : Type ℓ} → false ≡ true → A
+never h = absurd (let z : _≡_ {A = ℕ} 0 1 = cc in omega arith)
+
+pub and-both : (a b : Bool) → (a && b) ≡ true → (a ≡ true) × (b ≡ true)
+and-both true b h = (refl, h)
+and-both false b h = never h
+
 -- ---------------------------------------------------------------- two words
 
 -- a list read as it stands
 pub map-itself : (l : List ℕ) → map (λ x. x) l ≡ l
 map-itself [] = refl
 map-itself (b ∷ l) = rw (map-itself l)
+
+-- words with the same bytes are equal
+pub same-equal : (a b : List ℕ) → same a b ≡ true → a ≡ b
+unfolding same
+same-equal [] [] h = refl
+same-equal [] (y ∷ ys) h = never h
+same-equal (x ∷ xs) [] h = never h
+same-equal (x ∷ xs) (y ∷ ys) h =
+    let both = and-both (eqb x y) (same xs ys) h in
+    λ i. eqb-true x y (both .0) i ∷ same-equal xs ys (both .1) i
 
 -- words of other lengths are other words
 pub same-long : (a b : List ℕ) → (length a ≡ length b → ⊥) → same a b ≡ false
@@ -141,9 +158,6 @@ module _ (t : List ℕ) (q : Said) (m : Mode) (i : ℕ) where
   tokens-end h = rw (drop-of-length-le t h)
 
 -- ---------------------------------------------------------------- literals
-
-pub never {ℓ} : {A : Type ℓ} → false ≡ true → A
-never h = absurd (let z : _≡_ {A = ℕ} 0 1 = cc in omega arith)
 
 -- where no literal is open every byte is what it is, and no end of a line leaves one open
 pub closed-seen : (q : Said) (k : ByteKind) → closed q ≡ true → seen q k ≡ k

@@ -1,6 +1,7 @@
--- The calls: the layout listing, its details and the byte owner, of free text and of cards; the extract, the picture
--- answer, the mask and the record check; each from what the caller hands in to what the call answers and leaves. Checks
--- run in the order of document 01's table, and then of document 02's; a line of a `do` is a check or a stage.
+-- The calls: the layout listing, its details, the reasons of an entry and the byte owner, of free text and of cards;
+-- the extract, the picture answer, the mask and the record check; each from what the caller hands in to what the call
+-- answers and leaves. Checks run in the order of document 01's table, and then of document 02's; a line of a `do` is a
+-- check or a stage.
 -- Assumes nothing.
 use Prim.Native.Nat.{ℕ, zero, suc, _+_}
 use mathlib.Core.Bool.{Bool, true, false, _&&_, _||_, not}
@@ -16,6 +17,7 @@ use Rattle.definition.specs.declared.Owner.{Owner}
 use Rattle.definition.specs.declared.PicAnswer.{PicAnswer}
 use Rattle.definition.specs.declared.Extract.{Extract}
 use Rattle.definition.specs.declared.ExtractAnswer.{ExtractAnswer}
+use Rattle.definition.specs.declared.Report.{Report}
 use Rattle.definition.specs.declared.Writing.{Writing}
 use Rattle.definition.specs.declared.OwnerAnswer.{OwnerAnswer}
 use Rattle.definition.specs.declared.Check.{Check}
@@ -24,13 +26,15 @@ use Rattle.definition.specs.Basic.{if_then_else_, Answer, refuse, give, 
 use Rattle.definition.specs.Words.{tokensOf, firstOpen, statementWords}
 use Rattle.definition.specs.Cards.{view, firstOther, Form, freeText, cardText}
 use Rattle.definition.specs.Statement.{statements}
-use Rattle.definition.specs.Tree.{Forest, forest, fields}
+use Rattle.definition.specs.Tree.{Forest}
+use Rattle.definition.specs.Usages.{recordOf}
 use Rattle.definition.specs.Picture.{picture, symbols, isMasked, mask}
 use Rattle.definition.specs.Fold.{Entries}
 use Rattle.definition.specs.Record.{recordLength, layout}
 use Rattle.definition.specs.Listing.{listing}
 use Rattle.definition.specs.Owner.{pieces, ownerOf, overlaid}
 use Rattle.definition.specs.Details.{entriesDetails}
+use Rattle.definition.specs.Reasons.{reasonsIn, reasonsBytes}
 use Rattle.definition.specs.Extract.{widths, items, misweighed, extract}
 
 -- ---------------------------------------------------------------- the reader
@@ -67,7 +71,7 @@ unfoldable pub recordFields : List ℕ → ℕ → Answer Forest
 recordFields text work = do
   _ ← entryChecks text work
   ss ← keptStatements text
-  give (fields (forest ss))
+  give (recordOf ss)
 
 -- its folded top list: the refusals so far are the reader's, and a copybook without one is accepted
 unfoldable pub entries : List ℕ → ℕ → Answer Entries
@@ -92,6 +96,19 @@ unfoldable pub layoutDetails : List ℕ → ℕ → ℕ → Answer (List ℕ)
 layoutDetails text work room = do
   es ← entries text work
   fitting room (entriesDetails es)
+
+-- the reasons of an entry by its number: 53 comes after all refusals of the reader but 31
+unfoldable pub entryReasons : List ℕ → ℕ → ℕ → ℕ → Answer (List ℕ)
+entryReasons text work number room = do
+  f ← recordFields text work
+  rs ← reasonsIn text f number
+  fitting room (reasonsBytes rs)
+
+-- what is written of a copybook's record
+abbrev pub report : Report → List ℕ → ℕ → ℕ → Answer (List ℕ)
+report Report.Listing text work room = layoutListing text work room
+report Report.Details text work room = layoutDetails text work room
+report (Report.Reasons number) text work room = entryReasons text work number room
 
 -- the picture answer
 unfoldable pub pictureAnswer : Usage → SignClause → List ℕ → Answer Pictured
@@ -200,15 +217,20 @@ cleared work = replicate (length work) 0
 abbrev pub afterWriting : Answer (List ℕ) → List ℕ → List ℕ → After ℕ
 afterWriting a out work = record { answer = written a; output = outputAfter a out; work = cleared work }
 
--- the layout listing of a copybook, with an output and work memory lent
-abbrev pub layoutCallIn : Form → List ℕ → List ℕ → List ℕ → After ℕ
-layoutCallIn form text out work =
-    afterWriting (called form (λ t. layoutListing t (length work) (length out)) text (length work)) out work
+-- a report of a copybook of this form, with an output and work memory lent
+abbrev pub reportCallIn : Form → Report → List ℕ → List ℕ → List ℕ → After ℕ
+reportCallIn form what text out work =
+    afterWriting (called form (λ t. report what t (length work) (length out)) text (length work)) out work
 
--- the details of its entries, with an output and work memory lent
+-- its layout listing, the details of its entries, and the reasons of one
+abbrev pub layoutCallIn : Form → List ℕ → List ℕ → List ℕ → After ℕ
+layoutCallIn form = reportCallIn form Report.Listing
+
 abbrev pub detailsCallIn : Form → List ℕ → List ℕ → List ℕ → After ℕ
-detailsCallIn form text out work =
-    afterWriting (called form (λ t. layoutDetails t (length work) (length out)) text (length work)) out work
+detailsCallIn form = reportCallIn form Report.Details
+
+abbrev pub reasonsCallIn : Form → List ℕ → ℕ → List ℕ → List ℕ → After ℕ
+reasonsCallIn form text number = reportCallIn form (Report.Reasons number) text
 
 -- the mask of a picture, with an output lent
 abbrev pub maskCall : Usage → List ℕ → List ℕ → After ℕ
@@ -224,7 +246,7 @@ abbrev pub extractCall : List ℕ → List ℕ → ℕ → ℕ → List ℕ → 
 extractCall text weights limit budget work =
     left (extractAnswer text (length work) weights limit budget) [] (cleared work)
 
--- these three for free text,
+-- these four for free text,
 abbrev pub layoutCall : List ℕ → List ℕ → List ℕ → After ℕ
 layoutCall = layoutCallIn freeText
 
@@ -233,6 +255,9 @@ detailsCall = detailsCallIn freeText
 
 abbrev pub ownerCall : List ℕ → ℕ → List ℕ → After Owner
 ownerCall = ownerCallIn freeText
+
+abbrev pub reasonsCall : List ℕ → ℕ → List ℕ → List ℕ → After ℕ
+reasonsCall = reasonsCallIn freeText
 
 -- and for cards
 abbrev pub layoutCardsCall : List ℕ → List ℕ → List ℕ → After ℕ
@@ -243,6 +268,9 @@ detailsCardsCall = detailsCallIn cardText
 
 abbrev pub ownerCardsCall : List ℕ → ℕ → List ℕ → After Owner
 ownerCardsCall = ownerCallIn cardText
+
+abbrev pub reasonsCardsCall : List ℕ → ℕ → List ℕ → List ℕ → After ℕ
+reasonsCardsCall = reasonsCallIn cardText
 
 -- ---------------------------------------------------------------- what the answers of the code mean
 

@@ -21,14 +21,16 @@ use Rattle.definition.specs.declared.Entry.{Entry}
 use Rattle.definition.specs.declared.Owner.{Owner}
 use Rattle.definition.specs.declared.Extract.{Extract}
 use Rattle.definition.specs.declared.Span.{Span}
-use Rattle.definition.specs.Basic.{if_then_else_, bytes, among, same, span, absent, le4, le8}
-use Rattle.definition.specs.Basic.{Answer, refuse, give}
-use Rattle.definition.specs.Fold.{Entries, end, entry}
+use Rattle.definition.specs.Basic.{if_then_else_, bytes, among, given, same, span, absent, le4, le8}
+use Rattle.definition.specs.Basic.{Answer, refuse, give, _>>=_}
+use Rattle.definition.specs.Tree.{Forest, leaf, item}
+use Rattle.definition.specs.Fold.{Entries, end, entry, Place, searchBack}
 use Rattle.definition.specs.Record.{recordLength, variable}
 use Rattle.definition.specs.Listing.{flag, spanBytes, kindByte, details, members#}
 use Rattle.definition.specs.Cards.{Form, freeText, cardText}
 use Rattle.definition.specs.Calls.{entries, layoutListing, layoutDetails, pictureAnswer, pictureMask, byteOwner}
-use Rattle.definition.specs.Calls.{extractAnswer, indicatorCheck, called}
+use Rattle.definition.specs.Calls.{recordFields, entryReasons, extractAnswer, indicatorCheck, called}
+use Rattle.definition.specs.Ungrouped.{plainUsages}
 use Rattle.definition.specs.Computing.{computing}
 
 -- ---------------------------------------------------------------- answers in numbers
@@ -90,6 +92,14 @@ abbrev pub widthsOf : List ℕ → List SignClause → List ℕ
 widthsOf bs [] = widthIn (pictureAnswer Usage.Comp3 SignClause.Absent bs) ++ widthIn (pictureAnswer Usage.Comp SignClause.Absent bs)
 widthsOf bs (c ∷ cs) = widthIn (pictureAnswer Usage.Display c bs) ++ widthsOf bs cs
 
+-- how many names each search for a target compares in a list, after the earlier siblings, the latest first
+abbrev pub comparedIn : List ℕ → List Place → Forest → List ℕ
+comparedIn text seen leaf = []
+comparedIn text seen (item s kids later) =
+    let more = comparedIn text (record { name = s .name; offset = 0 } ∷ seen) later in
+    let redefines = s .clauses .redefines in
+    if given redefines then searchBack text redefines seen .compared ∷ more else more
+
 -- the answer is such a value, or that refusal: number, position and needed length
 abbrev pub gives : {A : Type 0} → (A → Bool) → Answer A → Bool
 gives f (refuse r) = false
@@ -126,6 +136,12 @@ pub data Catch : Type 0 where
   owned : String → ℕ → Owner → Catch
   -- a copybook, a position, and the number of the refusal
   notOwned : String → ℕ → ℕ → Catch
+  -- a copybook, and how many names the searches for a target compare among the record's fields, in their order
+  searched : String → List ℕ → Catch
+  -- a copybook, the number of an entry, and the bytes of its reasons
+  reasoned : String → ℕ → List ℕ → Catch
+  -- a copybook, the number of an entry, the length of the lent output, and the refusal: number, position, needed length
+  notReasoned : String → ℕ → ℕ → ℕ → ℕ → ℕ → Catch
   -- a copybook, weights, a limit and a budget; the subset's number, its weight, how many were looked at, how far off
   extracts : String → List ℕ → ℕ → ℕ → List ℕ → Catch
   -- a copybook, weights, a limit and a budget, and the number of the refusal
@@ -136,6 +152,8 @@ pub data Catch : Type 0 where
   ending : String → List (List ℕ) → Catch
   -- of the bytes below 128, those that may follow six columns of a card
   indicators : String → Catch
+  -- a copybook, and whether it is one that group usages and DISPLAY leave as it was
+  asBefore : String → Bool → Catch
 
 -- a call for a copybook, with 16,384 numbers of work memory lent
 abbrev asked : {A : Type 0} → Form → (List ℕ → Answer A) → List ℕ → Answer A
@@ -172,6 +190,12 @@ rightIn form (masked text m) = gives (same (bytes m)) (pictureMask Usage.Display
 rightIn form (owned text p o) =
     gives (λ a. same (ownerShown a) (ownerShown o)) (asked form (λ t. byteOwner t 16384 p) (bytes text))
 rightIn form (notOwned text p n) = refuses n 0 0 (asked form (λ t. byteOwner t 16384 p) (bytes text))
+rightIn form (searched text counts) =
+    gives (same counts) (asked form (λ t. recordFields t 16384 >>= λ f. give (comparedIn t [] f)) (bytes text))
+rightIn form (reasoned text k l) =
+    gives (same l) (asked form (λ t. entryReasons t 16384 k (length l)) (bytes text))
+rightIn form (notReasoned text k room n p needed) =
+    refuses n p needed (asked form (λ t. entryReasons t 16384 k room) (bytes text))
 rightIn form (extracts text weights limit budget l) =
     gives (λ a. same (extractShown a) l) (extractAnswer (bytes text) 16384 weights limit budget)
 rightIn form (notExtracted text weights limit budget n) =
@@ -183,6 +207,7 @@ rightIn form (ending text cs) =
     && hasColumns cardText (bytes text ++ bytes "\n") cs
     && hasColumns cardText (bytes text ++ bytes "\r\n") cs
 rightIn form (indicators ok) = indicated ok 128
+rightIn form (asBefore text plain) = eqb (flag (plainUsages (bytes text))) (flag plain)
 
 abbrev pub right : Catch → Bool
 right row = rightIn freeText row
@@ -219,6 +244,14 @@ cardFish =
 abbrev pub tank : String
 tank = "05 A PIC X. 05 G OCCURS 2. 10 B PIC X. 10 C PIC 9(5) COMP SYNC. 05 D PIC X. 05 E OCCURS 0 PIC 9(9) COMP SYNC. 05 F PIC X."
 
+-- counts in a record of COMP: two aligned items, one of them in a group
+abbrev pub counts : String
+counts = "01 R COMP. 05 A PIC X. 05 B PIC 9(5) SYNC. 05 G. 10 C PIC X. 10 D PIC 9(4) SYNC."
+
+-- five digits, packed
+abbrev packed5 : FieldKind
+packed5 = Decimal 5 0 NumRepr.Comp3 SignKind.Embedded
+
 -- that many numbers, all the same
 abbrev many : ℕ → ℕ → List ℕ
 many zero w = []
@@ -241,6 +274,30 @@ fishDetails =
 abbrev pub facts : ℕ → ℕ → ℕ → Bool → ℕ → ℕ → ℕ → Span → Span → Span → List ℕ
 facts at level depth folded below first slack picture over depending =
     le4 at ++ (level ∷ depth ∷ flag folded ∷ le4 below) ++ le8 first ++ le4 slack ++ spanBytes picture ++ spanBytes over ++ spanBytes depending
+
+-- a group laid over an item, with an aligned item in it, and an item after both: A, folded with B, has entries 0 and 1
+abbrev pub overlay : String
+overlay = "05 A PIC X(2). 05 B REDEFINES a. 10 C PIC X. 10 D PIC 9(4) COMP SYNC. 05 E PIC X."
+
+-- groups in a group, under a root that is dropped
+abbrev pub nests : String
+nests = "01 R. 05 A PIC X(3). 05 G. 10 B PIC X. 10 H OCCURS 2. 15 C PIC X. 15 D PIC 9(4) COMP SYNC. 05 E PIC X."
+
+-- a redefiner of a redefiner, and an item after them
+abbrev pub layers : String
+layers = "05 A PIC X. 05 B PIC X(4). 05 C REDEFINES B PIC X(2). 05 D REDEFINES c PIC X(9). 05 E PIC X."
+
+-- a group with a member of its own name, redefined: it counts as already folded
+abbrev pub homonym : String
+homonym = "05 Z PIC X. 05 G. 10 G PIC X. 10 H PIC X. 05 B REDEFINES G PIC X(5). 05 C PIC X."
+
+-- items without a name beside FILLER
+abbrev pub nameless : String
+nameless = "05. 10 A PIC X. 05 FILLER PIC X(2). 05 B REDEFINES FILLER PIC X. 05 C PIC X. 05. 10 D PIC X."
+
+-- a reason's bytes: its kind, the start and length of the name, and what it adds
+abbrev pub why : ℕ → ℕ → ℕ → ℕ → List ℕ
+why kind start len adds = kind ∷ le4 start ++ le4 len ++ le4 adds
 
 pub table : List Catch
 table =
@@ -331,7 +388,22 @@ table =
     -- REDEFINES and DEPENDING ON
     ∷ accepted "05 A PIC X(2). 05 B REDEFINES A PIC X(5). 05 C PIC X." 5 false (column 0 5 Group ∷ column 0 2 Text ∷ column 0 5 Text ∷ column 2 1 Text ∷ [])
     ∷ turnedDown "05 A PIC X. 05 B PIC X. 05 B REDEFINES A PIC X. 05 C REDEFINES B PIC X." 30 48
+    -- 28 before 29
+    ∷ turnedDown "05 A PIC X. 05 B REDEFINES C OCCURS 2147483648 PIC X." 28 12
+    ∷ turnedDown "05 A PIC X. 05 B REDEFINES A OCCURS 2147483648 PIC X." 29 12
     ∷ accepted "05 N PIC 9(2). 05 T OCCURS 1 TO 5 DEPENDING ON N PIC X(3). 05 Z PIC X." 3 true (column 0 2 (Int false SignKind.Unsigned) ∷ column 2 3 Text ∷ column 2 1 Text ∷ [])
+    -- the search for a target ends at the first match back from the item: directly before, the third back, the later of
+    -- two, a redefiner; and it compares all earlier siblings, and no name in a group, where none has the name
+    ∷ searched "05 A PIC X. 05 B REDEFINES A PIC X." (1 ∷ [])
+    ∷ searched "05 A PIC X. 05 B PIC X. 05 C PIC X. 05 D REDEFINES A PIC X." (3 ∷ [])
+    ∷ searched "05 A PIC X. 05 a PIC X. 05 B PIC X. 05 C REDEFINES A PIC X." (2 ∷ [])
+    ∷ accepted "05 A PIC X. 05 a PIC X. 05 B PIC X. 05 C REDEFINES A PIC X." 3 false
+    (column 0 1 Text ∷ column 1 1 Group ∷ column 0 1 Text ∷ column 0 1 Text ∷ column 2 1 Text ∷ [])
+    ∷ searched "05 A PIC X. 05 B REDEFINES A PIC X. 05 C REDEFINES A PIC X. 05 D REDEFINES B PIC X." (1 ∷ 2 ∷ 2 ∷ [])
+    ∷ searched "05 A PIC X. 05 B PIC X. 05 C PIC X. 05 D PIC X. 05 E REDEFINES F PIC X." (4 ∷ [])
+    ∷ turnedDown "05 A PIC X. 05 B PIC X. 05 C PIC X. 05 D PIC X. 05 E REDEFINES F PIC X." 28 48
+    ∷ searched "05 A REDEFINES A PIC X." (0 ∷ [])
+    ∷ searched "05 G. 10 A PIC X. 10 B PIC X. 05 C REDEFINES A PIC X." (1 ∷ [])
     -- a group is not aligned because a member is SYNC
     ∷ accepted "05 A PIC X. 05 G. 10 B PIC 9(4) COMP SYNC." 3 false (column 0 1 Text ∷ column 1 2 Group ∷ column 0 2 (Binary false) ∷ [])
     -- the worked example
@@ -387,6 +459,73 @@ table =
     ++ facts 81 10 1 false 2 4000000000 0 absent absent (span 113 1)
     ++ facts 116 15 2 false 0 4000000000 0 (span 125 4) absent absent
     ++ facts 149 15 2 false 0 6000000000 0 (span 158 1) absent absent)
+    -- the reasons of FISH's three entries, byte by byte; 53 past them, before 31; 31 where they have no room
+    ∷ reasoned fish 0 (hex "01 00000000 00000000 00000000")
+    ∷ reasoned fish 1 (hex "02 0c000000 03000000 05000000  03 00000000 00000000 01000000")
+    ∷ reasoned fish 2 (hex "02 1d000000 04000000 08000000")
+    ∷ notReasoned fish 3 0 53 0 0
+    ∷ notReasoned fish 1 25 31 0 26
+    ∷ notReasoned "" 0 0 53 0 0
+    ∷ notReasoned "05 A PIC X." 18446744073709551615 13 53 0 0
+    -- a refusal of the reader comes before 53
+    ∷ notReasoned "05 PIC X." 9 0 21 0 0
+    -- slack only where there is some: the third item has it, the fourth needs none, the second is not aligned
+    ∷ reasoned "05 A PIC X. 05 B PIC 9(4) COMP. 05 C PIC 9(4) COMP SYNC. 05 D PIC 9(4) COMP SYNC." 1 (why 2 3 1 1)
+    ∷ reasoned "05 A PIC X. 05 B PIC 9(4) COMP. 05 C PIC 9(4) COMP SYNC. 05 D PIC 9(4) COMP SYNC." 2
+    (why 2 15 1 3 ++ why 3 0 0 1)
+    ∷ reasoned "05 A PIC X. 05 B PIC 9(4) COMP. 05 C PIC 9(4) COMP SYNC. 05 D PIC 9(4) COMP SYNC." 3 (why 2 35 1 6)
+    -- groups in a group, each with its own reasons; the dropped root gives none
+    ∷ reasoned nests 1 (why 2 9 1 3)
+    ∷ reasoned nests 2 (why 1 0 0 0 ++ why 5 24 1 0 ++ why 2 9 1 3)
+    ∷ reasoned nests 3 (why 2 30 1 1 ++ why 5 24 1 0 ++ why 2 9 1 3)
+    ∷ reasoned nests 4 (why 1 0 0 0 ++ why 5 42 1 0 ++ why 2 30 1 1 ++ why 5 24 1 0 ++ why 2 9 1 3)
+    ∷ reasoned nests 5 (why 2 57 1 1 ++ why 3 0 0 1 ++ why 5 42 1 0 ++ why 2 30 1 1 ++ why 5 24 1 0 ++ why 2 9 1 3)
+    ∷ reasoned nests 6 (why 2 24 1 12)
+    -- a folded group, its base, its redefiner, the members of that, and an item after the redefiner
+    ∷ reasoned overlay 0 (why 1 0 0 0)
+    ∷ reasoned overlay 1 (why 1 0 0 0)
+    ∷ reasoned overlay 2 (why 4 3 1 0)
+    ∷ reasoned overlay 3 (why 1 0 0 0 ++ why 5 18 1 0 ++ why 4 3 1 0)
+    ∷ reasoned overlay 4 (why 2 36 1 1 ++ why 3 0 0 1 ++ why 5 18 1 0 ++ why 4 3 1 0)
+    ∷ reasoned overlay 5 (why 2 3 1 2)
+    -- a redefiner of a redefiner names that, by its own name; the cursor passes both
+    ∷ reasoned layers 1 (why 2 3 1 1)
+    ∷ reasoned layers 2 (why 2 3 1 1)
+    ∷ reasoned layers 3 (why 4 15 1 1)
+    ∷ reasoned layers 4 (why 4 30 1 1)
+    ∷ reasoned layers 5 (why 2 15 1 5)
+    -- the latest earlier sibling of that name
+    ∷ reasoned "05 A PIC X. 05 A PIC X(2). 05 B REDEFINES A PIC X(3). 05 A PIC X(4). 05 C REDEFINES A PIC X(5)." 3
+    (why 4 15 1 1)
+    ∷ reasoned "05 A PIC X. 05 A PIC X(2). 05 B REDEFINES A PIC X(3). 05 A PIC X(4). 05 C REDEFINES A PIC X(5)." 6
+    (why 4 57 1 3)
+    -- a group with a member of its own name: its members are inside it, its redefiner is not
+    ∷ reasoned homonym 1 (why 2 3 1 1)
+    ∷ reasoned homonym 2 (why 1 0 0 0 ++ why 5 15 1 0 ++ why 2 3 1 1)
+    ∷ reasoned homonym 3 (why 2 21 1 1 ++ why 5 15 1 0 ++ why 2 3 1 1)
+    ∷ reasoned homonym 4 (why 4 15 1 1)
+    ∷ reasoned homonym 5 (why 2 15 1 3)
+    -- a redefiner without a base, for the one of its name is a redefiner itself
+    ∷ reasoned "05 A PIC X. 05 B PIC X. 05 C REDEFINES B PIC X. 05 D REDEFINES C PIC X." 4 (why 4 27 1 1)
+    -- DEPENDING ON before an item reserves nothing
+    ∷ reasoned "05 N PIC 9(2). 05 T OCCURS 5 DEPENDING ON N PIC X(3). 05 Z PIC X. 05 Y PIC X." 1 (why 2 3 1 2)
+    ∷ reasoned "05 N PIC 9(2). 05 T OCCURS 5 DEPENDING ON N PIC X(3). 05 Z PIC X. 05 Y PIC X." 2 (why 2 18 1 2)
+    ∷ reasoned "05 N PIC 9(2). 05 T OCCURS 5 DEPENDING ON N PIC X(3). 05 Z PIC X. 05 Y PIC X." 3 (why 2 57 1 3)
+    -- an item without a name is named by start 0 and length 0, and is FILLER for a REDEFINES
+    ∷ reasoned nameless 1 (why 1 0 0 0 ++ why 5 0 0 0 ++ why 1 0 0 0)
+    ∷ reasoned nameless 2 (why 2 0 0 1)
+    ∷ reasoned nameless 4 (why 4 19 6 1)
+    ∷ reasoned nameless 5 (why 2 19 6 3)
+    ∷ reasoned nameless 7 (why 1 0 0 0 ++ why 5 0 0 0 ++ why 2 68 1 4)
+    -- the sum may pass 32 bits, though no reason does
+    ∷ reasoned "05 P PIC X(2) OCCURS 1000000000. 05 G OCCURS 0. 10 P PIC X(2) OCCURS 1000000000. 10 H OCCURS 0 TO 1 DEPENDING ON N. 15 P PIC X(2) OCCURS 1000000000. 15 Q PIC X." 5
+    (why 2 119 1 2000000000 ++ why 5 84 1 0 ++ why 2 51 1 2000000000 ++ why 5 36 1 0 ++ why 2 3 1 2000000000)
+    -- cards: names stand in the card text; 51 comes before 53
+    ∷ cards (reasoned "000010 05 TAG PIC X.\n000020* no\n000030 05 SIRE PIC 9(4) COMP SYNC." 1
+    (why 2 10 3 1 ++ why 3 0 0 1))
+    ∷ cards (notReasoned "000010 05 TAG PIC X." 1 0 53 0 0)
+    ∷ cards (notReasoned "000010 05 TAG PIC X." 0 12 31 0 13)
+    ∷ cards (notReasoned "      -" 0 12 51 6 0)
     -- values in quotes: neither a period nor `*>` counts inside a literal
     ∷ accepted "05 A PIC X VALUE 'St. 4'. 05 B PIC X." 2 false (column 0 1 Text ∷ column 1 1 Text ∷ [])
     ∷ accepted "05 A PIC X. 88 X VALUE 'a' 'b. c'. 05 B PIC X." 2 false (column 0 1 Text ∷ column 1 1 Text ∷ [])
@@ -418,6 +557,69 @@ table =
     ∷ turnedDown "05 A PIC X VALUE 5 IT'S." 50 21
     ∷ turnedDown "X. 05 A PIC X VALUE 5. 88 Y VALUE '" 50 34
     ∷ turnedDown "05 A B VALUE '\u{80}" 2 14
+    -- a usage on the dropped root, on one root of two, on a middle group, through groups that name none
+    ∷ accepted "01 R COMP. 05 A PIC 9(4). 05 B PIC 9(9)." 6 false
+    (column 0 2 (Binary false) ∷ column 2 4 (Binary false) ∷ [])
+    ∷ accepted "01 R COMP. 05 A PIC 9(4). 01 S PIC 9(4)." 6 false
+    (column 0 2 Group ∷ column 0 2 (Binary false) ∷ column 2 4 (Int false SignKind.Unsigned) ∷ [])
+    ∷ accepted "01 R. 05 A PIC 9(4). 05 G COMP. 10 B PIC 9(4). 10 C PIC 9(5). 05 D PIC 9(4)." 14 false
+    (column 0 4 (Int false SignKind.Unsigned) ∷ column 4 6 Group ∷ column 0 2 (Binary false) ∷
+    column 2 4 (Binary false) ∷ column 10 4 (Int false SignKind.Unsigned) ∷ [])
+    ∷ accepted "01 R COMP. 05 G. 10 H. 15 A PIC 9(5)." 4 false
+    (column 0 4 Group ∷ column 0 4 Group ∷ column 0 4 (Binary false) ∷ [])
+    -- on two groups, one in the other: the nearer one holds, and the outer one again after it
+    ∷ accepted "01 R COMP. 05 H COMP-3. 10 A PIC 9(5). 05 B PIC 9(5)." 7 false
+    (column 0 3 Group ∷ column 0 3 packed5 ∷ column 3 4 (Binary false) ∷ [])
+    -- a member's own holds; DISPLAY on a member and on an inner group takes the outer one back
+    ∷ accepted "01 R COMP. 05 A PIC 9(5) COMP-3. 05 B PIC 9(5) DISPLAY. 05 C PIC 9(5)." 12 false
+    (column 0 3 packed5 ∷ column 3 5 (Int false SignKind.Unsigned) ∷ column 8 4 (Binary false) ∷ [])
+    ∷ accepted "01 R COMP. 05 G USAGE IS DISPLAY. 10 A PIC 9(5). 05 B PIC 9(5)." 9 false
+    (column 0 5 Group ∷ column 0 5 (Int false SignKind.Unsigned) ∷ column 5 4 (Binary false) ∷ [])
+    ∷ accepted "01 R DISPLAY. 05 G COMP. 10 A PIC 9(5). 05 B PIC 9(5)." 9 false
+    (column 0 4 Group ∷ column 0 4 (Binary false) ∷ column 4 5 (Int false SignKind.Unsigned) ∷ [])
+    -- on a redefining group
+    ∷ accepted "05 A PIC X(8). 05 B REDEFINES A COMP. 10 C PIC 9(4). 10 D PIC 9(9). 05 E PIC 9(4)." 12 false
+    (column 0 8 Group ∷ column 0 8 Text ∷ column 0 6 Group ∷ column 0 2 (Binary false) ∷ column 2 4 (Binary false) ∷
+    column 8 4 (Int false SignKind.Unsigned) ∷ [])
+    -- SYNC under an inherited COMP: slack, and its owner; SYNC and SIGN are not inherited
+    ∷ accepted counts 12 false
+    (column 0 1 Text ∷ column 4 4 (Binary false) ∷ column 8 4 Group ∷ column 0 1 Text ∷ column 2 2 (Binary false) ∷ [])
+    ∷ owned counts 1 (Owner.Slack 1)
+    ∷ owned counts 5 (Owner.Piece 1 4 1)
+    ∷ owned counts 9 (Owner.Slack 4)
+    ∷ owned counts 10 (Owner.Piece 4 10 0)
+    ∷ owned "01 R COMP. 05 A PIC X. 05 B PIC 9(4) SYNC DISPLAY." 1 (Owner.Piece 1 1 0)
+    ∷ accepted "01 R COMP SYNC. 05 A PIC X. 05 B PIC 9(4)." 3 false (column 0 1 Text ∷ column 1 2 (Binary false) ∷ [])
+    ∷ accepted "01 R SIGN LEADING SEPARATE. 05 A PIC S9." 1 false
+    (column 0 1 (Decimal 1 0 NumRepr.Zoned SignKind.Embedded) ∷ [])
+    -- text stays text, and an edited picture is a number under an inherited COMP; 27 counts a mask only under DISPLAY
+    ∷ accepted "01 R COMP. 05 A PIC X(3). 05 B PIC ZZ9.99. 05 C PIC B(256)9." 9 false
+    (column 0 3 Text ∷ column 3 4 (Binary false) ∷ column 7 2 (Binary false) ∷ [])
+    ∷ accepted "01 R COMP-3. 05 A PIC -ZZ9.99. 05 B PIC A." 4 false
+    (column 0 3 (Decimal 5 2 NumRepr.Comp3 SignKind.Embedded) ∷ column 3 1 Text ∷ [])
+    ∷ turnedDown "01 R COMP. 05 C PIC B(256)9 DISPLAY." 27 11
+    -- of several usage words the last holds
+    ∷ accepted "05 A COMP DISPLAY PIC 9(4)." 4 false (column 0 4 (Int false SignKind.Unsigned) ∷ [])
+    ∷ accepted "05 A DISPLAY PIC 9(4) COMP." 2 false (column 0 2 (Binary false) ∷ [])
+    ∷ accepted "05 A PIC 9(4) comp usage display." 4 false (column 0 4 (Int false SignKind.Unsigned) ∷ [])
+    ∷ accepted "05 A COMP DISPLAY PIC 9(5) COMP-3." 3 false (column 0 3 packed5 ∷ [])
+    -- DISPLAY names a usage where a clause may begin, and nowhere else
+    ∷ accepted "05 A COMP PIC 9(4) OCCURS 2 DISPLAY." 8 false (column 0 4 (Int false SignKind.Unsigned) ∷ [])
+    ∷ accepted "05 A COMP PIC 9(4) OCCURS 1 TO 2 DISPLAY." 8 false (column 0 4 (Int false SignKind.Unsigned) ∷ [])
+    ∷ accepted "05 A COMP PIC 9(4) OCCURS 2 TIMES DISPLAY." 8 false (column 0 4 (Int false SignKind.Unsigned) ∷ [])
+    ∷ accepted "05 DISPLAY COMP PIC 9(4)." 2 false (column 0 2 (Binary false) ∷ [])
+    ∷ accepted "05 A COMP PIC S9(4) SIGN DISPLAY." 2 false (column 0 2 (Binary true) ∷ [])
+    ∷ accepted "05 A COMP PIC 9(4) VALUE 5 DISPLAY." 2 false (column 0 2 (Binary false) ∷ [])
+    ∷ turnedDown "05 A COMP PIC DISPLAY." 25 0
+    -- the copybooks that stay as they were
+    ∷ asBefore "01 R. 05 A PIC 9 DISPLAY COMP. 05 B PIC 9 DISPLAY. 88 X COMP DISPLAY. 05 COMP PIC X VALUE DISPLAY." true
+    ∷ asBefore "05 A COMP PIC DISPLAY." true
+    ∷ asBefore "05 A COMP PIC 9 DISPLAY." false
+    ∷ asBefore "05 A COMP PIC 9 DISPLAY COMP." false
+    ∷ asBefore "01 R DISPLAY. 05 A PIC 9." false
+    ∷ asBefore "01 R. 05 G COMP. 10 A PIC X." false
+    -- cards, too
+    ∷ cards (accepted "000100 01 R COMP.\n000200     05 A PIC 9(4)." 2 false (column 0 2 (Binary false) ∷ []))
     -- cards: `000010 01 REC` is level 1, and as free text level 10 with the name 01; places are those in the card text
     ∷ cards (detailed "000010 01 REC PIC X." (facts 7 1 0 false 0 0 0 (span 18 1) absent absent))
     ∷ detailed "000010 01 REC PIC X." (facts 0 10 0 false 0 0 0 (span 18 1) absent absent)

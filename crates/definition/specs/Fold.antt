@@ -60,10 +60,26 @@ pub record Place : Type 0 where
 abbrev pub placeOf : Entry → Place
 placeOf e = record { name = e .name; offset = e .offset }
 
--- the offset of the first place of that name
+-- what a search for a name comes to: the offset of the place where it ended, if one has the name, and how many names it
+-- compared
+pub record Search : Type 0 where
+  pub found : Option ℕ
+  pub compared : ℕ
+
+abbrev pub oneMore : Search → Search
+oneMore s = record { found = s .found; compared = suc (s .compared) }
+
+-- the search for a name, backward from the item: it ends at the first match. The places are the earlier siblings, the
+-- latest first
+unfoldable pub searchBack : List ℕ → Span → List Place → Search
+searchBack text w [] = record { found = none; compared = 0 }
+searchBack text w (p ∷ ps) =
+    if sameName text w (p .name) then record { found = some (p .offset); compared = 1 }
+    else oneMore (searchBack text w ps)
+
+-- where it ended: the offset of the first place of that name
 unfoldable pub find : List ℕ → Span → List Place → Option ℕ
-find text w [] = none
-find text w (p ∷ ps) = if sameName text w (p .name) then some (p .offset) else find text w ps
+find text w ps = searchBack text w ps .found
 
 -- ---------------------------------------------------------------- fold
 

@@ -15,7 +15,7 @@ use Rattle.definition.specs.declared.Statement.{Statement}
 use Rattle.definition.specs.declared.Entry.{Entry}
 use Rattle.definition.specs.Limits.{deepest, largest}
 use Rattle.definition.specs.Basic.{if_then_else_, given, part, fewest, Answer, refuse, give, _>>=_, refused, refuseIf, orRefuse}
-use Rattle.definition.specs.Statement.{usageOf, signOf}
+use Rattle.definition.specs.Statement.{signOf}
 use Rattle.definition.specs.Tree.{Forest, leaf, item}
 use Rattle.definition.specs.Picture.{pictured, isBinary, picture}
 use Rattle.definition.specs.Fold.{Entries, end, entry, times, total, reserved, entryEnd, Place, placeOf, find, foldCheck}
@@ -27,7 +27,7 @@ shallow depth (item s kids later) = refuseIf (ltb deepest depth) 20 (s .at)
 
 -- kind and width by the picture
 abbrev pub elementary : List ℕ → Statement → Answer Pictured
-elementary text s = picture (s .at) (usageOf (s .clauses .usage)) (signOf (s .clauses .sign)) (part text (s .clauses .picture))
+elementary text s = picture (s .at) (s .usage) (signOf (s .clauses .sign)) (part text (s .clauses .picture))
 
 -- kind and width of an item: a group is as wide as its list, any other has a picture (21) that says so (22 to 27)
 abbrev pub content : List ℕ → Statement → Forest → ℕ → Answer Pictured

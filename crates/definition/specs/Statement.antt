@@ -1,6 +1,7 @@
 -- What the words of one statement say: `parse_stmt` of the Rust. The reader goes word by word, and expects something at each.
 -- First word: level, 0 to 255. Level 88 is skipped. Second word: name, whatever it says. Then clauses.
 -- The last OCCURS gives the count, the TO bound if present; an earlier DEPENDING ON name stays. VALUE ends the reading.
+-- Of several usage words the last holds.
 -- Departures from COBOL: words that begin no clause are passed over; a clause said again replaces the earlier one; a bare PIC or REDEFINES
 -- at the end takes an earlier one back; levels 66 and 77 are levels like any other.
 -- Assumes nothing.
@@ -48,6 +49,7 @@ spellings =
     ∷ spelt "REDEFINES" Keyword.Redefines
     ∷ spelt "OCCURS" Keyword.Occurs
     ∷ spelt "USAGE" Keyword.Usage
+    ∷ spelt "DISPLAY" Keyword.Display
     ∷ spelt "COMP-3" Keyword.Comp3
     ∷ spelt "COMPUTATIONAL-3" Keyword.Comp3
     ∷ spelt "PACKED-DECIMAL" Keyword.Comp3
@@ -119,6 +121,7 @@ begin Keyword.Picture c = Go IsPicture (withPicture absent c)
 begin Keyword.Redefines c = Go Target (withRedefines absent c)
 begin Keyword.Occurs c = Go ACount c
 begin Keyword.Usage c = Go UsageIs c
+begin Keyword.Display c = Go Clause (withUsage Usage.Display c)
 begin Keyword.Comp3 c = Go Clause (withUsage Usage.Comp3 c)
 begin Keyword.Comp c = Go Clause (withUsage Usage.Comp c)
 begin Keyword.Sign c = Go SignIs (withSign (SignWords.Said false false) c)
@@ -204,19 +207,24 @@ signOf (SignWords.Said false true) = SignClause.Given SignKind.TrailingSeparate
 signOf (SignWords.Said true false) = SignClause.Given SignKind.Embedded
 signOf (SignWords.Said false false) = SignClause.Given SignKind.Embedded
 
--- the usage of an item: DISPLAY where its statement names none. Departure from COBOL: a group's USAGE is not inherited
-abbrev pub usageOf : UsageClause → Usage
-usageOf UsageClause.Absent = Usage.Display
-usageOf (UsageClause.Given u) = u
+-- the usage that holds for a statement where `outer` holds around it: its own, else the outer one
+abbrev pub usageOf : Usage → UsageClause → Usage
+usageOf outer UsageClause.Absent = outer
+usageOf outer (UsageClause.Given u) = u
 
 -- ---------------------------------------------------------------- statements
 
+-- a statement by itself, where DISPLAY holds around it; `Usages` has what its groups name
+abbrev pub statementOf : ℕ → ℕ → Span → Clauses → Statement
+statementOf level at name c =
+    record { level = level; at = at; name = name; clauses = c; usage = usageOf Usage.Display (c .usage) }
+
 -- the words after the level: a name, or none, and clauses
 unfoldable pub named : List ℕ → ℕ → ℕ → List Span → Answer Statement
-named text at level [] = give (record { level = level; at = at; name = absent; clauses = noClauses })
+named text at level [] = give (statementOf level at absent noClauses)
 named text at level (w ∷ ws) = do
   c ← clauses text at Clause noClauses ws
-  give (record { level = level; at = at; name = w; clauses = c })
+  give (statementOf level at w c)
 
 -- a statement is kept, or skipped: an empty one, and one of level 88
 unfoldable pub statement : List ℕ → List Span → Answer (Option Statement)

@@ -7,6 +7,7 @@ use mathlib.Core.Bool.{Bool, true, false}
 use mathlib.Core.List.{List, [], _∷_, _++_}
 use lib.Dec.{ltb}
 use lib.ListN.{length}
+use Rattle.definition.specs.declared.Usage.{Usage}
 use Rattle.definition.specs.declared.Statement.{Statement}
 use Rattle.definition.specs.Basic.{if_then_else_}
 
@@ -38,13 +39,14 @@ unfoldable pub higher : ℕ → List Statement → ℕ
 higher n [] = 0
 higher n (s ∷ ss) = if ltb n (s .level) then suc (higher n ss) else 0
 
--- a statement that is open: its level, and its number in copybook order and 1
+-- a statement that is open: its level, its number in copybook order and 1, and the usage that holds for it
 pub record Open : Type 0 where
   pub level : ℕ
   pub number : ℕ
+  pub usage : Usage
 
-abbrev pub opened : ℕ → ℕ → Open
-opened level number = record { level = level; number = number }
+abbrev pub opened : ℕ → ℕ → Usage → Open
+opened level number usage = record { level = level; number = number; usage = usage }
 
 -- the open statements whose level is smaller than n, the innermost first
 unfoldable pub stillOpen : ℕ → List Open → List Open
@@ -59,7 +61,9 @@ innermost (o ∷ os) = o .number
 -- with a smaller level. Each closes those that are not smaller, and opens itself
 unfoldable pub parents : List Open → ℕ → List Statement → List ℕ
 parents os k [] = []
-parents os k (s ∷ ss) = let outer = stillOpen (s .level) os in innermost outer ∷ parents (opened (s .level) (suc k) ∷ outer) (suc k) ss
+parents os k (s ∷ ss) =
+    let outer = stillOpen (s .level) os in
+    innermost outer ∷ parents (opened (s .level) (suc k) (s .usage) ∷ outer) (suc k) ss
 
 -- the parent of each statement of a forest, in copybook order from statement k on, where p is that of the first list (`ParentLaws`, of the proofs,
 -- says that the open statements give the same)

@@ -106,15 +106,15 @@ ended text q (Stop ∷ ts) = ended text (Before 0) ts
 ended text q (Open p ∷ ts) = ended text q ts
 
 -- in a word
-abbrev pub inside : Mode → Bool
-inside Fresh = false
-inside Between = false
-inside Dropped = false
-inside (Within s) = true
+abbrev pub inWord : Mode → Bool
+inWord Fresh = false
+inWord Between = false
+inWord Dropped = false
+inWord (Within s) = true
 
 -- what is said after a byte b at position p, which mode m sees as k
 unfoldable pub saidNext : List ℕ → Said → Mode → ℕ → ℕ → ByteKind → Said
-saidNext text q m p b k = if inside (next m p k) then marked q p b else ended text q (completed m p k)
+saidNext text q m p b k = if inWord (next m p k) then marked q p b else ended text q (completed m p k)
 
 -- a literal must close on its own line: the line's end, or the text's, leaves it open, and then no tokens ts follow
 abbrev pub unlessOpen : Said → ByteKind → List Token → List Token

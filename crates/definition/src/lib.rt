@@ -156,6 +156,7 @@ pub enum Keyword {
     Redefines,
     Occurs,
     Usage,
+    Display,
     Comp3,
     Comp,
     Sign,
@@ -192,12 +193,14 @@ pub enum Step {
     Fail(u32),
 }
 
-// A kept statement; `at` is the first byte of its first word.
+// A kept statement; `at` is the first byte of its first word. `usage` is the usage that holds for it: its own, or else
+// that of the nearest group above it that names one; its clauses have the one that it names.
 pub struct Statement {
     pub level: u8,
     pub at: usize,
     pub name: Span,
     pub clauses: Clauses,
+    pub usage: Usage,
 }
 
 // An entry of the listing. `at` and `level` are its statement's; `over` is its REDEFINES as the statement has it, which
@@ -217,6 +220,14 @@ pub struct Entry {
     pub over: Span,
     pub slack: usize,
     pub folded: bool,
+}
+
+// Why an item stands where it does: the reason's kind, 1 to 5, the name of the item that it names, or none, and the
+// bytes that it adds.
+pub struct Reason {
+    pub kind: u8,
+    pub name: Span,
+    pub adds: usize,
 }
 
 // What a byte of a record belongs to: a piece, that is one occurrence of the elementary item whose entry has that number,
@@ -254,6 +265,14 @@ pub struct Refusal {
 pub enum PicAnswer {
     Accepted(Pictured),
     Refused(Refusal),
+}
+
+// What is written of a copybook's record: the layout listing, the details of its entries, or the reasons of the entry
+// of that number.
+pub enum Report {
+    Listing,
+    Details,
+    Reasons(usize),
 }
 
 // The answer of an entry that writes bytes: how many.

@@ -22,7 +22,7 @@ use Rattle.unions.proofs.FoldedLaws.{count-append, widest-append}
 use Rattle.table.specs.declared.Item.{Item}
 use Rattle.entries.specs.declared.Block.{Block}
 use Rattle.table.specs.Items.{itemCells, allCells}
-use Rattle.table.specs.Entered.{Shown, flatIn, ownOf, shownOf, shownAll, Sound, Rows}
+use Rattle.table.specs.Entered.{Shown, flatIn, ownOf, shownOf, shownAll, Sound, Rows, Inside}
 use Rattle.table.specs.Items.{ItemSmall}
 use Rattle.entries.specs.Building.{standsAs, block, within, TableRoom, Built, ownItem, unionItem, ItemOpen, ItemClosed}
 use Rattle.table.proofs.FlatLaws.{flat-append, flat-length, size-append, members-few}
@@ -122,6 +122,14 @@ rows-append : (w : List ℕ) (a b : List Item) → Rows w a → Rows w b → Row
 rows-append w [] b h k = k
 rows-append w (x ∷ a) b h k = (h .0, rows-append w a b (h .1) k)
 
+inside-append : (from to : ℕ) (a b : List Item) → Inside from to a → Inside from to b → Inside from to (a ++ b)
+inside-append from to [] b h k = k
+inside-append from to (x ∷ a) b h k = (h .0, h .1, inside-append from to a b (h .2) k)
+
+inside-wider : {from to : ℕ} (from′ to′ : ℕ) (a : List Item) → from′ ≤ from → to ≤ to′ → Inside from to a → Inside from′ to′ a
+inside-wider from′ to′ [] l m h = tt
+inside-wider from′ to′ (x ∷ a) l m h = (omega (arith, h .0), omega (arith, h .1), inside-wider from′ to′ a l m (h .2))
+
 pub shown-length : (w : List ℕ) (a : List Item) → length (shownAll w a) ≡ length a
 unfolding shownAll
 shown-length w [] = refl
@@ -129,27 +137,56 @@ shown-length w (x ∷ a) = ap suc (shown-length w a)
 
 -- ---------------------------------------------------------------- entries after others
 
-pub built-none : (w out : List ℕ) (b : Block) (d : ℕ) → b .widest ≤ largest → Built w out b d end b out
+pub built-none : {from to : ℕ} (w out : List ℕ) (b : Block) (d : ℕ) → b .widest ≤ largest → Built from to w out b d end b out
 unfolding shownAll flatIn allCells widest
-built-none w out b d h = record { items = []; rows = tt; is = refl; put = refl; next = omega arith; count = omega arith; most = omega arith; narrow = h }
+built-none w out b d h = record { items = []; rows = tt; inside = tt; is = refl; put = refl; next = omega arith; count = omega arith; most = omega arith; narrow = h }
 
-pub built-as : {w out : List ℕ} {b : Block} {d : ℕ} {es fs : Entries} {r : Block} {after : List ℕ} → es ≡ fs → Built w out b d fs r after → Built w out b d es r after
-built-as {w} {out} {b} {d} {es} {fs} {r} {after} e h = subst (λ (x : Entries). Built w out b d x r after) (sym e) h
+pub built-as :
+    {from to : ℕ} {w out : List ℕ} {b : Block} {d : ℕ} {es fs : Entries} {r : Block} {after : List ℕ} →
+    es ≡ fs →
+    Built from to w out b d fs r after →
+    Built from to w out b d es r after
+built-as {from} {to} {w} {out} {b} {d} {es} {fs} {r} {after} e h =
+    subst (λ (x : Entries). Built from to w out b d x r after) (sym e) h
+
+-- of rows that are among others
+pub built-wider :
+    (from′ to′ : ℕ) {from to : ℕ} {w out : List ℕ} {b : Block} {d : ℕ} {es : Entries} {r : Block} {after : List ℕ} →
+    from′ ≤ from →
+    to ≤ to′ →
+    Built from to w out b d es r after →
+    Built from′ to′ w out b d es r after
+built-wider from′ to′ l m h =
+    record {
+      items = h .items;
+      rows = h .rows;
+      inside = inside-wider from′ to′ (h .items) l m (h .inside);
+      is = h .is;
+      put = h .put;
+      next = h .next;
+      count = h .count;
+      most = h .most;
+      narrow = h .narrow;
+    }
 
 infixl 5 _then_
-module _ {w out : List ℕ} {b : Block} {d : ℕ} {es : Entries} {r : Block} {after : List ℕ} (p : Built w out b d es r after) where
+module _ {from to : ℕ} {w out : List ℕ} {b : Block} {d : ℕ} {es : Entries} {r : Block} {after : List ℕ} (p : Built from to w out b d es r after) where
   pub built-many : length (p .items) ≡ entries# es
   built-many = sym (shown-length w (p .items)) ∙ ap length (p .is) ∙ flat-length es d
 
   pub built-length : length after ≡ length out
   built-length = ap length (p .put) ∙ length-sets out (7 * b .next) (allCells (p .items))
 
-  pub _then_ : {fs : Entries} {r′ : Block} {after′ : List ℕ} → Built w after r d fs r′ after′ → Built w out b d (append es fs) r′ after′
+  pub _then_ :
+      {fs : Entries} {r′ : Block} {after′ : List ℕ} →
+      Built from to w after r d fs r′ after′ →
+      Built from to w out b d (append es fs) r′ after′
   _then_ {fs} {r′} {after′} q =
       let place : 7 * r .next ≡ 7 * b .next + length (allCells (p .items)) = omega (arith, p .next, built-many, cells-length (p .items)) in
       record {
         items = p .items ++ q .items;
         rows = rows-append w (p .items) (q .items) (p .rows) (q .rows);
+        inside = inside-append from to (p .items) (q .items) (p .inside) (q .inside);
         is = shown-append w (p .items) (q .items) ∙ ap₂ (λ (x y : List Shown). x ++ y) (p .is) (q .is) ∙ sym (flat-append es fs d);
         put =
             q .put
@@ -163,7 +200,7 @@ module _ {w out : List ℕ} {b : Block} {d : ℕ} {es : Entries} {r : Block} {af
       }
 
   -- room for the rest
-  pub room-rest : {n to : ℕ} (m : ℕ) → n ≡ entries# es + m → TableRoom out b d n to → TableRoom after r d m to
+  pub room-rest : {n last : ℕ} (m : ℕ) → n ≡ entries# es + m → TableRoom out b d n last → TableRoom after r d m last
   room-rest m e h =
       record {
         fits = omega (arith, h .fits, p .next, built-length);
@@ -186,8 +223,8 @@ pub room-within : {out : List ℕ} {b : Block} {d n to : ℕ} → TableRoom out 
 room-within h =
     record { fits = omega (arith, h .fits); small = omega (arith, h .small); deep = omega (arith, h .deep); few = omega arith; narrow = omega arith; rows = h .rows }
 
-module _ (b : Block) (d : ℕ) {w out : List ℕ} {ms : Entries} {inner : Block} {mid : List ℕ} (p : Built w out (within b) (d + 1) ms inner mid) where
-  pub room-open : {to : ℕ} (i : ℕ) → i < to → TableRoom out b d (suc (entries# ms + 0)) to → ItemOpen mid b inner d i
+module _ (b : Block) (d : ℕ) {from to : ℕ} {w out : List ℕ} {ms : Entries} {inner : Block} {mid : List ℕ} (p : Built from to w out (within b) (d + 1) ms inner mid) where
+  pub room-open : {last : ℕ} (i : ℕ) → i < last → TableRoom out b d (suc (entries# ms + 0)) last → ItemOpen mid b inner d i
   room-open i l h =
       record {
         fits = omega (arith, h .fits, built-length p);
@@ -209,12 +246,19 @@ module _ (b : Block) (d : ℕ) {w out : List ℕ} {ms : Entries} {inner : Block}
         ∙ ap (λ (l : List ℕ). sets l (7 * b .next) (itemCells x)) (p .put ∙ ap (λ (n : ℕ). sets out n (allCells (p .items))) place)
         ∙ sets-before (itemCells x) (allCells (p .items)) out (7 * b .next)
 
-    pub built-entry : {r : Block} {after : List ℕ} {n : ℕ} → n ≡ total e → ItemClosed mid b inner x n r after → Built w out b d (entry e ms end) r after
+    pub built-entry :
+        {r : Block} {after : List ℕ} {n : ℕ} →
+        from ≤ x .row →
+        x .row < to →
+        n ≡ total e →
+        ItemClosed mid b inner x n r after →
+        Built from to w out b d (entry e ms end) r after
     unfolding shownAll flatIn widest
-    built-entry {r} t c =
+    built-entry {r} low high t c =
         record {
           items = x ∷ p .items;
           rows = (f, p .rows);
+          inside = (low, high, p .inside);
           is = (λ k. s k ∷ p .is k) ∙ ap (λ (l : List Shown). record { own = e; members = members# ms; below = entries# ms; depth = d } ∷ l) (sym (append-nil (flatIn (d + 1) ms)));
           put = closed-put (c .put);
           next = omega (arith, c .next, p .next);
@@ -224,7 +268,7 @@ module _ (b : Block) (d : ℕ) {w out : List ℕ} {ms : Entries} {inner : Block}
         }
 
   -- row i by itself or as a member of a union, and a union
-  module _ (i : ℕ) where
+  module _ (i : ℕ) (low : from ≤ i) (high : i < to) where
     members-counted : inner .count ≡ members# ms
     members-counted = omega (arith, p .count)
 
@@ -249,13 +293,13 @@ module _ (b : Block) (d : ℕ) {w out : List ℕ} {ms : Entries} {inner : Block}
         SizedRow w i →
         (member : Bool) (start : ℕ) {r : Block} {after : List ℕ} →
         ItemClosed mid b inner (ownItem w i member start b inner d) (total (entryIn w i)) r after →
-        Built w out b d (entry (standsAs member start (entryIn w i)) ms end) r after
+        Built from to w out b d (entry (standsAs member start (entryIn w i)) ms end) r after
     built-own f member start c =
-        built-entry (standsAs member start (entryIn w i)) (ownItem w i member start b inner d) (sound-own f member start) (own-shown member start) (own-total member start) c
+        built-entry (standsAs member start (entryIn w i)) (ownItem w i member start b inner d) (sound-own f member start) (own-shown member start) low high (own-total member start) c
 
     pub built-union :
         ROW * i + ROW ≤ length w →
-        {r : Block} {after : List ℕ} → ItemClosed mid b inner (unionItem w i b inner d) (inner .widest) r after → Built w out b d (entry (union (entryIn w i) (widest ms)) ms end) r after
+        {r : Block} {after : List ℕ} → ItemClosed mid b inner (unionItem w i b inner d) (inner .widest) r after → Built from to w out b d (entry (union (entryIn w i) (widest ms)) ms end) r after
     built-union f c =
         let wide : inner .widest ≡ widest ms = omega (arith, p .most) in
         built-entry
@@ -263,5 +307,7 @@ module _ (b : Block) (d : ℕ) {w out : List ℕ} {ms : Entries} {inner : Block}
         (unionItem w i b inner d)
         (record { there = f; small = omega (arith, p .narrow) })
         (λ k. record { own = union (entryIn w i) (wide k); members = members-counted k; below = below-counted k; depth = d })
+        low
+        high
         (omega (arith, wide))
         c

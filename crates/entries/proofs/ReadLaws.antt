@@ -21,7 +21,7 @@ use Rattle.unions.proofs.ShownLaws.{entries-size}
 use Rattle.table.specs.declared.Item.{Item}
 use Rattle.entries.specs.declared.Block.{Block}
 use Rattle.table.specs.Items.{itemCells, allCells, itemAt, itemsFrom}
-use Rattle.table.specs.Entered.{Shown, flatIn, shownAll, Rows, Entered}
+use Rattle.table.specs.Entered.{Shown, flatIn, shownAll, Rows, Inside, Entered}
 use Rattle.table.specs.Entered.{listed}
 use Rattle.entries.specs.Building.{block, TableRoom, Built, Roomy}
 use Rattle.entries.proofs.BuildLaws.{built-many, built-length}
@@ -67,7 +67,7 @@ module _ (text w : List ℕ) (from to : ℕ) where
       record { fits = omega arith; small = omega arith; deep = omega arith; few = omega arith; narrow = omega arith; rows = h }
 
   pub entered :
-      {out : List ℕ} {r : Block} {after : List ℕ} → to ≤ mostStatements → Roomy out to → Built w out (block 0 0 0) 0 (listed text w from to) r after → Entered text w from to after (r .next)
+      {out : List ℕ} {r : Block} {after : List ℕ} → to ≤ mostStatements → Roomy out to → Built from to w out (block 0 0 0) 0 (listed text w from to) r after → Entered text w from to after (r .next)
   entered {out} {r} {after} h l p =
       let few = few-entries in
       let many : length (p .items) ≡ r .next = omega (arith, built-many p, p .next) in
@@ -76,6 +76,7 @@ module _ (text w : List ℕ) (from to : ℕ) where
       record {
         fits = omega (arith, p .next, built-length p);
         rows = subst (Rows w) (sym back) (p .rows);
+        inside = subst (Inside from to) (sym back) (p .inside);
         few = omega (arith, p .next);
         is = ap (shownAll w) back ∙ p .is;
       }

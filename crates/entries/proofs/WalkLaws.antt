@@ -26,7 +26,7 @@ use Rattle.entries.specs.declared.Block.{Block}
 use Rattle.table.specs.Entered.{listed}
 use Rattle.entries.specs.Building.{itemIn, redefined, unionIn, ownMember, TableRoom, Built}
 use Rattle.table.proofs.FlatLaws.{size-append}
-use Rattle.entries.proofs.BuildLaws.{built-none, built-as, _then_, room-rest, room-first, room-part}
+use Rattle.entries.proofs.BuildLaws.{built-none, built-as, built-wider, _then_, room-rest, room-first, room-part}
 
 -- ---------------------------------------------------------------- what a row comes to
 
@@ -107,11 +107,12 @@ module _ {es : Entries} (xs ys : Entries) (e : es ≡ append xs ys) {out : List 
   pub first-room : TableRoom out b d (entries# xs) to
   first-room = room-first (entries# xs) (entries# ys) sizes h
 
-  module _ {w : List ℕ} {r : Block} {after : List ℕ} (p : Built w out b d xs r after) where
+  module _ {low high : ℕ} {w : List ℕ} {r : Block} {after : List ℕ} (p : Built low high w out b d xs r after) where
     pub second-room : TableRoom after r d (entries# ys) to
     second-room = room-rest p (entries# ys) sizes h
 
-    pub both-built : {r′ : Block} {after′ : List ℕ} → Built w after r d ys r′ after′ → Built w out b d es r′ after′
+    pub both-built :
+        {r′ : Block} {after′ : List ℕ} → Built low high w after r d ys r′ after′ → Built low high w out b d es r′ after′
     both-built q = built-as e (p then q)
 
 pub room-as : {es fs : Entries} → es ≡ fs → {out : List ℕ} {b : Block} {d to : ℕ} → TableRoom out b d (entries# es) to → TableRoom out b d (entries# fs) to
@@ -124,14 +125,14 @@ pub record Listing (t w out₀ out : List ℕ) (from to : ℕ) (b₀ : Block) (d
   pub done : Entries
   pub along : Along t w from to i last done
   pub room : TableRoom out₀ b₀ d (entries# (listed t w from to)) to
-  pub built : Built w out₀ b₀ d done b out
+  pub built : Built from to w out₀ b₀ d done b out
 
 pub listing-starts :
     (t w out : List ℕ) (from to : ℕ) (b : Block) (d : ℕ) → Tree t w from to → TableRoom out b d (entries# (listed t w from to)) to → Listing t w out out from to b d from 0 b
 listing-starts t w out from to b d h f = record { done = end; along = along-starts t w from to h; room = f; built = built-none w out b d (f .narrow) }
 
 module _ {t w out₀ out : List ℕ} {from to : ℕ} {b₀ : Block} {d i last : ℕ} {b : Block} (inv : Listing t w out₀ out from to b₀ d i last b) where
-  pub listing-ends : to ≤ i → Built w out₀ b₀ d (listed t w from to) b out
+  pub listing-ends : to ≤ i → Built from to w out₀ b₀ d (listed t w from to) b out
   listing-ends h = built-as (walking-ends (inv .along .walk) h) (inv .built)
 
   module _ {j : ℕ} (h : ChildrenEnd w i to j) where
@@ -141,9 +142,17 @@ module _ {t w out₀ out : List ℕ} {from to : ℕ} {b₀ : Block} {d i last : 
         let rest = foldedRest t w j to (suc i) in
         first-room shown rest refl (second-room (inv .done) (append shown rest) (walking-here (inv .along .walk) h) (inv .room) (inv .built))
 
-    pub listing-on : {r : Block} {after : List ℕ} → Built w out b d (shownAt t w i j to last) r after → Listing t w out₀ after from to b₀ d j (i + 1) r
+    pub listing-on :
+        {r : Block} {after : List ℕ} →
+        Built i to w out b d (shownAt t w i j to last) r after →
+        Listing t w out₀ after from to b₀ d j (i + 1) r
     listing-on p =
-        record { done = append (inv .done) (shownAt t w i j to last); along = along-on (inv .along) h; room = inv .room; built = inv .built then p }
+        record {
+          done = append (inv .done) (shownAt t w i j to last);
+          along = along-on (inv .along) h;
+          room = inv .room;
+          built = inv .built then built-wider from to (inv .along .low) (omega arith) p;
+        }
 
 -- ---------------------------------------------------------------- the redefiners
 
@@ -153,7 +162,7 @@ pub record Redefining (t w out₀ out : List ℕ) (i j to : ℕ) (b₀ : Block) 
   pub following : Following t w i j to at k
   pub room : TableRoom out₀ b₀ d (entries# (redefined t w i j to)) to
   pub done : Entries
-  pub built : Built w out₀ b₀ d done b out
+  pub built : Built i to w out₀ b₀ d done b out
   pub same : redefined t w i j to ≡ append done (redefined t w i at to)
 
 pub redefining-starts :
@@ -172,7 +181,7 @@ chainLeft to zero = 0
 chainLeft to (suc row) = to - row
 
 module _ {t w out₀ out : List ℕ} {i j to : ℕ} {b₀ : Block} {d : ℕ} {b : Block} {k : ℕ} (inv : Redefining t w out₀ out i j to b₀ d b k) where
-  pub redefining-ends : k ≤ 0 → Built w out₀ b₀ d (redefined t w i j to) b out
+  pub redefining-ends : k ≤ 0 → Built i to w out₀ b₀ d (redefined t w i j to) b out
   unfolding foldedBelow
   redefining-ends h =
       built-as
@@ -211,17 +220,18 @@ module _ {t w out₀ out : List ℕ} {i j to : ℕ} {b₀ : Block} {d : ℕ} {b 
 
         pub redefining-on :
             {b′ : Block} {after : List ℕ} {k′ : ℕ} →
-            Built w out b d (itemIn t w (k - 1) m true start) b′ after →
+            Built (k - 1) m w out b d (itemIn t w (k - 1) m true start) b′ after →
             k′ ≡ cell w (k - 1) NEXT →
             Redefining t w out₀ after i j to b₀ d b′ k′
         redefining-on q e =
             let item = itemIn t w (k - 1) m true start in
+            let later : i ≤ k - 1 = omega (arith, inv .following .base .low, inv .following .low, redefining-next .low) in
             record {
               at = m;
               following = next-on (inv .following) redefining-next h e;
               room = inv .room;
               done = append (inv .done) item;
-              built = inv .built then q;
+              built = inv .built then built-wider i to later (h .high) q;
               same = inv .same ∙ ap (append (inv .done)) next-built ∙ sym (append-append (inv .done) item (redefined t w i m to));
             }
 

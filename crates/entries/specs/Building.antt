@@ -19,7 +19,7 @@ use Rattle.unions.specs.Shown.{listIn, redefinersIn}
 use Rattle.table.specs.declared.Item.{Item}
 use Rattle.entries.specs.declared.Block.{Block}
 use Rattle.table.specs.Items.{ITEM, UNION, itemCells, allCells}
-use Rattle.table.specs.Entered.{listed, flatIn, shownAll, Rows}
+use Rattle.table.specs.Entered.{listed, flatIn, shownAll, Rows, Inside}
 
 -- ---------------------------------------------------------------- what is built
 
@@ -63,10 +63,11 @@ pub record TableRoom (out : List ℕ) (b : Block) (depth n to : ℕ) : Type 0 wh
   pub narrow : b .widest ≤ largest
   pub rows : to ≤ mostStatements
 
--- the entries of the list es were put behind the block b
-pub record Built (w out : List ℕ) (b : Block) (depth : ℕ) (es : Entries) (r : Block) (after : List ℕ) : Type 0 where
+-- the entries of the list es, of rows from `from` up to `to`, were put behind the block b
+pub record Built (from to : ℕ) (w out : List ℕ) (b : Block) (depth : ℕ) (es : Entries) (r : Block) (after : List ℕ) : Type 0 where
   pub items : List Item
   pub rows : Rows w items
+  pub inside : Inside from to items
   pub is : shownAll w items ≡ flatIn depth es
   pub put : after ≡ sets out (ITEM * b .next) (allCells items)
   pub next : r .next ≡ b .next + entries# es

@@ -130,7 +130,7 @@ fn build_item(
     depth: usize,
 ) -> Block
     requires { ⌜ (i < j) × SizedRow (now work) i × Tree (now text) (now work) (i + 1) j × TableRoom (now entries) b depth (entries# (itemIn (now text) (now work) i j member start)) j ⌝ }
-    ensures { λ r. ⌜ Built (now (work .entry)) (now (entries .entry)) b depth (itemIn (now (text .entry)) (now (work .entry)) i j member start) r (now (entries .exit)) ⌝ }
+    ensures { λ r. ⌜ Built i j (now (work .entry)) (now (entries .entry)) b depth (itemIn (now (text .entry)) (now (work .entry)) i j member start) r (now (entries .exit)) ⌝ }
 {
     let at = b.next + 1;
     let inner = build_list(
@@ -161,7 +161,7 @@ fn build_redefiners(
     depth: usize,
 ) -> Block
     requires { ⌜ Base (now text) (now work) i j to × TableRoom (now entries) b depth (entries# (redefined (now text) (now work) i j to)) to ⌝ }
-    ensures { λ r. ⌜ Built (now (work .entry)) (now (entries .entry)) b depth (redefined (now (text .entry)) (now (work .entry)) i j to) r (now (entries .exit)) ⌝ }
+    ensures { λ r. ⌜ Built i to (now (work .entry)) (now (entries .entry)) b depth (redefined (now (text .entry)) (now (work .entry)) i j to) r (now (entries .exit)) ⌝ }
 {
     let start = rows::wide(work[ROW * i + OFFSET]);
     let mut r = b;
@@ -197,7 +197,7 @@ fn build_members(
     depth: usize,
 ) -> Block
     requires { ⌜ Base (now text) (now work) i j to × TableRoom (now entries) b depth (entries# (unionIn (now text) (now work) i j to)) to ⌝ }
-    ensures { λ r. ⌜ Built (now (work .entry)) (now (entries .entry)) b depth (unionIn (now (text .entry)) (now (work .entry)) i j to) r (now (entries .exit)) ⌝ }
+    ensures { λ r. ⌜ Built i to (now (work .entry)) (now (entries .entry)) b depth (unionIn (now (text .entry)) (now (work .entry)) i j to) r (now (entries .exit)) ⌝ }
 {
     if has_own(text, work, i, j, to) {
         let next = build_list(text, work, i + 1, j, entries, b, depth);
@@ -221,7 +221,7 @@ fn build_shown(
     depth: usize,
 ) -> Block
     requires { ⌜ Branch (now text) (now work) i j to × Known (now text) (now work) i last × TableRoom (now entries) b depth (entries# (shownAt (now text) (now work) i j to last)) to ⌝ }
-    ensures { λ r. ⌜ Built (now (work .entry)) (now (entries .entry)) b depth (shownAt (now (text .entry)) (now (work .entry)) i j to last) r (now (entries .exit)) ⌝ }
+    ensures { λ r. ⌜ Built i to (now (work .entry)) (now (entries .entry)) b depth (shownAt (now (text .entry)) (now (work .entry)) i j to last) r (now (entries .exit)) ⌝ }
 {
     match unions::standing_of(text, work, i, last) {
         Standing::Under => {
@@ -265,7 +265,7 @@ fn build_list(
     depth: usize,
 ) -> Block
     requires { ⌜ Tree (now text) (now work) from to × TableRoom (now entries) b depth (entries# (listed (now text) (now work) from to)) to ⌝ }
-    ensures { λ r. ⌜ Built (now (work .entry)) (now (entries .entry)) b depth (listed (now (text .entry)) (now (work .entry)) from to) r (now (entries .exit)) ⌝ }
+    ensures { λ r. ⌜ Built from to (now (work .entry)) (now (entries .entry)) b depth (listed (now (text .entry)) (now (work .entry)) from to) r (now (entries .exit)) ⌝ }
 {
     let mut r = b;
     let mut i = from;

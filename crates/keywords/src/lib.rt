@@ -71,6 +71,7 @@ fn with_letter(b: u8, word: &[u8]) -> Keyword
     match b {
         b'B' => pick(word, b"BINARY", Keyword::Comp, Keyword::Other),
         b'C' => with_c(word),
+        b'D' => pick(word, b"DISPLAY", Keyword::Display, Keyword::Other),
         b'O' => pick(word, b"OCCURS", Keyword::Occurs, Keyword::Other),
         b'P' => with_p(word),
         b'R' => pick(word, b"REDEFINES", Keyword::Redefines, Keyword::Other),

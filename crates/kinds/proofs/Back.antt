@@ -14,7 +14,7 @@ use Rattle.definition.specs.declared.SignWords.{SignWords}
 use Rattle.definition.specs.Listing.{flag, signByte, storageByte}
 use Rattle.kinds.specs.declared.KindNumbers.{KindNumbers}
 use Rattle.kinds.specs.Kinds.{signAt, storageAt, kindNumbers, numbersOf, kindOf, packed, unpacked, kindCode, kindAt, Bytes}
-use Rattle.kinds.specs.Usages.{usageCode, usageClauseAt, signCode, signWordsAt}
+use Rattle.kinds.specs.Usages.{usageByte, usageAt, usageCode, usageClauseAt, signCode, signWordsAt}
 
 pub flag-back : (b : Bool) → eqb (flag b) 1 ≡ b
 flag-back true = refl
@@ -102,17 +102,25 @@ kind-back k h = ap kindOf (unpacked-back (numbersOf k) (numbers-few k h)) ∙ nu
 
 -- ---------------------------------------------------------------- clauses
 
-pub usage-back : (u : UsageClause) → usageClauseAt (usageCode u) ≡ u
-usage-back UsageClause.Absent = refl
-usage-back (UsageClause.Given Usage.Display) = refl
-usage-back (UsageClause.Given Usage.Comp3) = refl
-usage-back (UsageClause.Given Usage.Comp) = refl
+pub usage-back : (u : Usage) → usageAt (usageByte u) ≡ u
+usage-back Usage.Display = refl
+usage-back Usage.Comp3 = refl
+usage-back Usage.Comp = refl
 
-pub usage-few : (u : UsageClause) → usageCode u < 8
-usage-few UsageClause.Absent = omega arith
-usage-few (UsageClause.Given Usage.Display) = omega arith
-usage-few (UsageClause.Given Usage.Comp3) = omega arith
-usage-few (UsageClause.Given Usage.Comp) = omega arith
+pub usage-few : (u : Usage) → usageByte u < 7
+usage-few Usage.Display = omega arith
+usage-few Usage.Comp3 = omega arith
+usage-few Usage.Comp = omega arith
+
+pub usage-clause-back : (u : UsageClause) → usageClauseAt (usageCode u) ≡ u
+usage-clause-back UsageClause.Absent = refl
+usage-clause-back (UsageClause.Given Usage.Display) = refl
+usage-clause-back (UsageClause.Given Usage.Comp3) = refl
+usage-clause-back (UsageClause.Given Usage.Comp) = refl
+
+pub usage-clause-few : (u : UsageClause) → usageCode u < 8
+usage-clause-few UsageClause.Absent = omega arith
+usage-clause-few (UsageClause.Given u) = omega (arith, usage-few u)
 
 pub sign-words-back : (s : SignWords) → signWordsAt (signCode s) ≡ s
 sign-words-back SignWords.Absent = refl

@@ -241,7 +241,7 @@ pub fn is_binary(k: FieldKind) -> bool
 // ---------------------------------------------------------------- usages and sign clauses
 
 // The number of a usage.
-fn usage_byte(u: Usage) -> u8
+pub fn usage_byte(u: Usage) -> u8
     ensures { λ r. ⌜ (r ≡ usageByte u) × (r ≤ 2) ⌝ }
 {
     match u {

@@ -19,7 +19,8 @@ use Rattle.definition.specs.Listing.{members#, entryBytes, entriesBytes}
 use Rattle.definition.specs.Search.{entries#}
 use Rattle.definition.proofs.LayoutLaws.{find-none, find-hit, find-miss, redefiners-none, redefiners-hit, redefiners-miss, redefiners-ends, redefiners-next, append-none, append-entry}
 use Rattle.definition.proofs.ListingLaws.{bytes-none, bytes-entry, details#, entry-length}
-use Rattle.names.proofs.SameLaws.{never, same-equal}
+use Rattle.definition.proofs.WordLaws.{same-equal}
+use Rattle.names.proofs.SameLaws.{never}
 use Rattle.layout.proofs.BareLaws.{list-base, list-alone, list-under}
 
 -- ---------------------------------------------------------------- equal names

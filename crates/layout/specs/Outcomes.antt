@@ -10,7 +10,7 @@ use Rattle.definition.specs.Fold.{end, entry, entryEnd}
 use Rattle.definition.specs.Layout.{advance, Laid, lay}
 use Rattle.rows.specs.Table.{statementAt}
 use Rattle.places.specs.Places.{putPlace, putPlaces, lastOf, rowsForest}
-use Rattle.redefines.specs.Targets.{seenAt, baseAfter}
+use Rattle.redefines.specs.Targets.{seenAt, baseAfter, placersAfter}
 use Rattle.layout.specs.Bare.{ItemLaid, placedEntry, bareItem}
 
 -- ---------------------------------------------------------------- a list laid in the table
@@ -53,7 +53,7 @@ layItem text w i j depth last cursor =
 -- the item of row i alone
 abbrev pub afterOwn : List ℕ → List ℕ → ℕ → ℕ → ℕ → ℕ → Answer Entry → ItemOutcome
 afterOwn text w i last below cursor (refuse r) = halted r
-afterOwn text w i last below cursor (give e) = placing (advance cursor e) (entryEnd e) (putPlace w i last below (baseAfter text w i last) e)
+afterOwn text w i last below cursor (give e) = placing (advance cursor e) (entryEnd e) (putPlace w i last below (baseAfter text w i last) (placersAfter text w i last) e)
 
 -- row i, its kind and width known and `below` rows below it laid, placed after the sibling `last`
 abbrev pub placeRow : List ℕ → List ℕ → ℕ → ℕ → ℕ → ℕ → Pictured → ItemOutcome

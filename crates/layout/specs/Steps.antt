@@ -46,7 +46,7 @@ listOf (LaidList.Refused r) w = stopped r
 -- the table has rows up to `to`, with the fingerprints of their names
 pub record Room (text w : List ℕ) (to : ℕ) : Type 0 where
   pub fits : ROW * to ≤ length w
-  pub small : to < 4294967296
+  pub small : to < 65536
   pub printed : Printed text w to
 
 -- 30 for one entry: a redefiner that starts before its base

@@ -6,9 +6,9 @@ ghost use Rattle.definition.specs.Limits.{deepest, largest};
 ghost use Rattle.definition.specs.Basic.{if_then_else_, given, fewest};
 ghost use Rattle.definition.specs.Layout.{content, slackFrom};
 ghost use Rattle.definition.specs.Calls.{pictureOf, checkOf};
-ghost use Rattle.definition.specs.Statement.{usageOf, signOf};
+ghost use Rattle.definition.specs.Statement.{signOf};
 ghost use Rattle.definition.specs.Tree.{Forest.leaf};
-ghost use Rattle.redefines.specs.Targets.{offsetOf};
+ghost use Rattle.redefines.specs.Targets.{offsetOf, plainAfter};
 ghost use Rattle.redefines.specs.Prints.{Printed};
 ghost use Rattle.places.specs.Places.{entriesIn, Linked, rowsForest};
 ghost use Rattle.layout.specs.Outcomes.{placeRow, layItem, layTable};
@@ -27,12 +27,12 @@ use definition::SignKind;
 use definition::SignWords;
 use definition::Span;
 use definition::Statement;
-use definition::Usage;
-use definition::UsageClause;
 use limits::Ending;
 use rows::AT;
 use rows::BASE;
 use rows::OFFSET;
+use rows::PLACERS;
+use rows::REDEFINES;
 use rows::ROW;
 
 // The first multiple of the width from the cursor on.
@@ -105,16 +105,6 @@ fn advanced(cursor: usize, redefines: Span, end: usize) -> usize
     end
 }
 
-// The usage that a statement means.
-fn usage_of(u: UsageClause) -> Usage
-    ensures { λ r. ⌜ r ≡ usageOf u ⌝ }
-{
-    match u {
-        UsageClause::Absent => Usage::Display,
-        UsageClause::Given(v) => v,
-    }
-}
-
 // The sign that a picture is read with.
 fn sign_of(s: SignWords) -> SignClause
     ensures { λ r. ⌜ r ≡ signOf s ⌝ }
@@ -140,14 +130,9 @@ fn elementary(text: &[u8], s: Statement) -> PicAnswer
     let clauses = s.clauses;
     let picture = clauses.picture;
     if 0 < picture.len {
-        let usage = clauses.usage;
+        let usage = s.usage;
         let sign = clauses.sign;
-        return picture::picture_at(
-            names::part_of(text, picture),
-            s.at,
-            usage_of(usage),
-            sign_of(sign),
-        );
+        return picture::picture_at(names::part_of(text, picture), s.at, usage, sign_of(sign));
     }
     PicAnswer::Refused(Refusal {
         number: 21,
@@ -168,6 +153,30 @@ pub enum LaidList {
     Refused(Refusal),
 }
 
+// The latest sibling without REDEFINES from `last` back: that one, or the one that it names.
+fn plain_after(work: &[u32], last: usize) -> usize
+    requires { ⌜ (ROW * last ≤ length (now work)) × (last < 65536) ⌝ }
+    ensures { λ r. ⌜ (r ≡ plainAfter (now (work .entry)) last) × (r < 65536) ⌝ }
+{
+    if 0 < last {
+        let row = last - 1;
+        let redefines = rows::span_at(work[ROW * row + REDEFINES]);
+        if 0 < redefines.len {
+            return rows::wide(work[ROW * row + PLACERS]) / 65536;
+        }
+        return last;
+    }
+    0
+}
+
+// The siblings that may place an item, in one number.
+fn placers_of(work: &[u32], last: usize, target: usize) -> u32
+    requires { ⌜ (ROW * last ≤ length (now work)) × (last < 65536) × (target < 65536) ⌝ }
+    ensures { λ r. ⌜ r ≡ plainAfter (now (work .entry)) last * 65536 + target ⌝ }
+{
+    (plain_after(work, last) * 65536 + target) as u32
+}
+
 // The item of row i placed, after `below` rows below it: 28, then 29.
 fn place(
     text: &[u8],
@@ -178,20 +187,22 @@ fn place(
     cursor: usize,
     c: Pictured,
 ) -> ItemAnswer
-    requires { ⌜ (ROW * i + ROW ≤ length (now work)) × (last ≤ i) × (i < 4294967296) × (below < 4294967296) × (cursor ≤ largest) × (c .width ≤ largest) × Printed (now text) (now work) i ⌝ }
+    requires { ⌜ (ROW * i + ROW ≤ length (now work)) × (last ≤ i) × (i < 65536) × (below < 4294967296) × (cursor ≤ largest) × (c .width ≤ largest) × Printed (now text) (now work) i ⌝ }
     ensures { λ r. ⌜ itemOf r (now (work .exit)) ≡ placeRow (now (text .entry)) (now (work .entry)) i below last cursor c ⌝ }
 {
     let s = rows::statement_at(work, i);
     let clauses = s.clauses;
     let redefines = clauses.redefines;
-    let target = redefines::target_of(text, work, redefines, last);
+    let found = redefines::target_of(text, work, redefines, last);
+    let target = found.row;
     match start_of(work, s, c, target, cursor) {
         Start::At(offset) => {
             let e = places::entry_of(s, c, offset, slack_from(cursor, s, offset));
             match limits::entry_end(e) {
                 Ending::At(end) => {
-                    let base = redefines::find_row(text, work, redefines, target, true);
-                    places::put_place(work, i, last, below, base, e);
+                    let base = redefines::base_of(text, work, redefines, target);
+                    let placers = placers_of(work, last, target);
+                    places::put_place(work, i, last, below, base, placers, e);
                     return ItemAnswer::Done {
                         cursor: advanced(cursor, redefines, end),
                         end,

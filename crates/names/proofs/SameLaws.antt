@@ -1,33 +1,19 @@
--- Laws of equal words: lists with the same bytes are equal, so they have the same fingerprint; lists in upper case, place by place.
+-- Laws of equal words: names with the same bytes have the same fingerprint; lists in upper case, place by place.
 -- Assumes nothing.
 use Prim.Native.Nat.{ℕ, zero, suc, _-_, _<_, _≤_}
 use mathlib.Core.Path.{_≡_, refl, sym, ap, _∙_}
-use mathlib.Core.Bool.{Bool, true, false, _&&_}
+use mathlib.Core.Bool.{Bool, true, false}
 use mathlib.Core.List.{List, [], _∷_}
 use native.Mathlib.Omega.{arith}
-use lib.Dec.{eqb}
 use lib.ListN.{length, getD}
-use borrow.Author.Tests.{eqb-true}
 use Rattle.definition.specs.declared.Span.{Span}
 use Rattle.definition.specs.Basic.{same, upper, uppers}
 use Rattle.definition.specs.Fold.{nameOf, sameName}
+use Rattle.definition.proofs.WordLaws.{same-equal}
 use Rattle.names.specs.Prints.{printOf, namePrint}
 
 pub never : {A : Type 0} → false ≡ true → A
 never e = absurd (let z : _≡_ {A = ℕ} 0 1 = cc in omega arith)
-
-and-both : (a b : Bool) → (a && b) ≡ true → (a ≡ true) × (b ≡ true)
-and-both true b h = (refl, h)
-and-both false b h = never h
-
-pub same-equal : (a b : List ℕ) → same a b ≡ true → a ≡ b
-unfolding same
-same-equal [] [] h = refl
-same-equal [] (y ∷ ys) h = never h
-same-equal (x ∷ xs) [] h = never h
-same-equal (x ∷ xs) (y ∷ ys) h =
-    let both = and-both (eqb x y) (same xs ys) h in
-    λ i. eqb-true x y (both .0) i ∷ same-equal xs ys (both .1) i
 
 -- lists that differ somehow have not the same bytes
 apart : (a b : List ℕ) → (a ≡ b → ⊥) → same a b ≡ false

@@ -24,8 +24,8 @@ abbrev pub noSign : ℕ → Bool
 noSign n = ltb 4 n
 
 -- a mark: 0 is no, any other number yes
-abbrev pub marked : ℕ → Bool
-marked n = not (eqb n 0)
+abbrev pub flagged : ℕ → Bool
+flagged n = not (eqb n 0)
 
 -- ---------------------------------------------------------------- what goes out
 

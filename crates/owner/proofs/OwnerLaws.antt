@@ -38,7 +38,7 @@ use Rattle.places.proofs.RowLaws.{stretch-cons, stretch-none}
 use Rattle.unions.proofs.ShownLaws.{entries-size}
 use Rattle.record.specs.Laying.{laidOf, Listed}
 use Rattle.unions.specs.Shown.{listIn, Marked, SizedRow, Measured}
-use Rattle.owner.specs.Walked.{overlays, rowAt, tableRows, Counted, Walkable}
+use Rattle.owner.specs.Walked.{overlays, rowAt, tableRows, BelowCounted, Walkable}
 
 -- ---------------------------------------------------------------- a REDEFINES or a DEPENDING ON
 
@@ -120,13 +120,13 @@ unfolding tableRows
 table-none w to k h = ap (tableRows w k) (let e : to - k ≡ 0 = omega arith in e)
 
 -- marked rows count the rows below them
-marked-counted : (t w : List ℕ) (f : Forest) (k last : ℕ) → Marked t w k last f → Counted w k f
+marked-counted : (t w : List ℕ) (f : Forest) (k last : ℕ) → Marked t w k last f → BelowCounted w k f
 marked-counted t w leaf k last m = tt
 marked-counted t w (item s kids later) k last m =
     (m .0 .row .below, marked-counted t w kids (suc k) 0 (m .1), marked-counted t w later (suc k + size kids) (suc k) (m .2))
 
 -- the rows of the listing are those of the table, where each counts the rows below it
-rows-table : (w : List ℕ) (f : Forest) (k : ℕ) → Counted w k f → rows (entriesIn w k f) ≡ tableRows w k (size f)
+rows-table : (w : List ℕ) (f : Forest) (k : ℕ) → BelowCounted w k f → rows (entriesIn w k f) ≡ tableRows w k (size f)
 unfolding rows entriesIn tableRows
 rows-table w leaf k c = refl
 rows-table w (item s kids later) k c =
@@ -136,7 +136,7 @@ rows-table w (item s kids later) k c =
     (λ i. own i ∷ (inner i ++ rest i)) ∙ ap (λ (l : List Row). rowAt w k ∷ l) (sym (table-append w (size kids) (size later) (suc k)))
 
 -- the rows below a row end where its list ends, or before
-rows-nested : (w : List ℕ) (f : Forest) (k : ℕ) → Counted w k f → (m : ℕ) → k ≤ m → m < k + size f → suc m + cell w m BELOW ≤ k + size f
+rows-nested : (w : List ℕ) (f : Forest) (k : ℕ) → BelowCounted w k f → (m : ℕ) → k ≤ m → m < k + size f → suc m + cell w m BELOW ≤ k + size f
 rows-nested w leaf k c m l u = absurd (omega arith)
 rows-nested w (item s kids later) k c m l u =
     let inner = rows-nested w kids (suc k) (c .1) m in

@@ -3,7 +3,7 @@
 -- Assumes nothing.
 use Prim.Native.Nat.{ℕ, zero, suc, _+_, _*_, _-_, _≤_, _<_}
 use mathlib.Core.Path.{_≡_, refl, sym, ap, ap₂, subst, _∙_}
-use mathlib.Core.Bool.{true, false}
+use mathlib.Core.Bool.{Bool, true, false, _&&_}
 use mathlib.Core.List.{List, [], _∷_}
 use native.Mathlib.Omega.{arith}
 use lib.Dec.{lit<}
@@ -21,15 +21,15 @@ use Rattle.definition.specs.Owner.{size}
 use Rattle.definition.specs.Search.{entries#}
 use Rattle.definition.proofs.Lists.{tested}
 use Rattle.kinds.specs.Kinds.{kindCode, kindAt, Bytes}
-use Rattle.rows.specs.Columns.{ROW, LEVEL, AT, NAME, PICTURE, DEPENDING, REDEFINES, SAID, LOW, HIGH, OFFSET, WIDTH, KIND, BEFORE, BELOW, SLACK, BASE, NEXT}
+use Rattle.rows.specs.Columns.{ROW, LEVEL, AT, NAME, PICTURE, DEPENDING, REDEFINES, SAID, LOW, HIGH, OFFSET, WIDTH, KIND, BEFORE, BELOW, SLACK, BASE, PLACERS, NEXT}
 use Rattle.rows.specs.Table.{cell, spanAt, statementAt, statementsFrom}
 use Rattle.rows.proofs.TableLaws.{statement-same, length-statements}
 use Rattle.places.specs.Places.{putPlaces, entryIn, rowsForest, entriesIn, RowLinked, Linked}
-use Rattle.redefines.specs.Targets.{isTarget, baseAfter}
+use Rattle.redefines.specs.Targets.{isTarget, baseAfter, plainAfter, placersAfter}
 use Rattle.places.specs.Children.{ChildrenEnd, Numbered}
 use Rattle.kinds.proofs.Back.{kind-back}
-use Rattle.places.proofs.PlaceLaws.{length-place, kept-place, before-place, after-place, membersPut, firstPut, length-places, kept-places, before-places, statement-places, first-offset, first-width, first-kind, first-last, first-below, first-slack, first-base}
-use Rattle.redefines.proofs.SearchLaws.{back, back-none, back-step, after-same}
+use Rattle.places.proofs.PlaceLaws.{length-place, kept-place, before-place, after-place, membersPut, firstPut, length-places, kept-places, before-places, statement-places, first-offset, first-width, first-kind, first-last, first-below, first-slack, first-base, first-placers}
+use Rattle.redefines.proofs.SearchLaws.{found, found-none, found-step, after-same, placers-as, plain-next, placers-same}
 use Rattle.places.proofs.RowLaws.{children-end, forest-split}
 
 -- ---------------------------------------------------------------- sizes
@@ -191,11 +191,12 @@ pub linked-same :
     (t w w′ : List ℕ) (f : Forest) (k last : ℕ) →
     last ≤ k →
     ((j c : ℕ) → k ≤ j → j < k + size f → c < NEXT → cell w j c ≡ cell w′ j c) →
-    ((target : Span) → back t w target last ≡ back t w′ target last) →
+    plainAfter w last ≡ plainAfter w′ last →
+    ((bases : Bool) (target : Span) → found t w target bases last ≡ found t w′ target bases last) →
     Linked t w k last f →
     Linked t w′ k last f
-linked-same t w w′ leaf k last l h same x = tt
-linked-same t w w′ (item s kids later) k last l h same x =
+linked-same t w w′ leaf k last l h plain same x = tt
+linked-same t w w′ (item s kids later) k last l h plain same x =
     let row : (c : ℕ) → c < NEXT → cell w k c ≡ cell w′ k c = λ c m. h k c (omega arith) (omega arith) m in
     let before : cell w′ k BEFORE ≡ last = sym (row BEFORE (lit< tt)) ∙ x .0 .before in
     let r = spanAt (cell w′ k REDEFINES) in (
@@ -205,16 +206,18 @@ linked-same t w w′ (item s kids later) k last l h same x =
         base =
             sym (row BASE (lit< tt))
             ∙ x .0 .base
-            ∙ ap (λ (n : ℕ). if given (spanAt n) then back t w (spanAt n) last else 0) (row REDEFINES (lit< tt))
-            ∙ ap (λ (n : ℕ). if given r then n else 0) (same r);
+            ∙ ap (λ (n : ℕ). if given (spanAt n) then found t w (spanAt n) true last else 0) (row REDEFINES (lit< tt))
+            ∙ ap (λ (n : ℕ). if given r then n else 0) (same true r);
+        placers = sym (row PLACERS (lit< tt)) ∙ x .0 .placers ∙ placers-as t w w′ k last (row REDEFINES (lit< tt)) plain (same false);
       },
-      linked-same t w w′ kids (suc k) 0 (omega arith) (λ j c p q m. h j c (omega arith) (omega arith) m) (λ target. back-none t w target ∙ sym (back-none t w′ target)) (x .1),
+      linked-same t w w′ kids (suc k) 0 (omega arith) (λ j c p q m. h j c (omega arith) (omega arith) m) refl (λ bases target. found-none t w target bases ∙ sym (found-none t w′ target bases)) (x .1),
       linked-same t w w′ later (suc k + size kids) (suc k) (omega arith) (λ j c p q m. h j c (omega arith) (omega arith) m)
-          (λ target.
-          back-step t w target k last (x .0 .before) l
-          ∙ ap₂ (λ (a b : ℕ). if (if given (spanAt a) then false else sameName t target (spanAt b)) then suc k else back t w target last) (row REDEFINES (lit< tt)) (row NAME (lit< tt))
-          ∙ ap (λ (n : ℕ). if isTarget t target true w′ k then suc k else n) (same target)
-          ∙ sym (back-step t w′ target k last before l))
+          (plain-next w w′ k (row REDEFINES (lit< tt)) (row PLACERS (lit< tt)))
+          (λ bases target.
+          found-step t w target bases k last (x .0 .before) l
+          ∙ ap₂ (λ (a b : ℕ). if (if bases && given (spanAt a) then false else sameName t target (spanAt b)) then suc k else found t w target bases last) (row REDEFINES (lit< tt)) (row NAME (lit< tt))
+          ∙ ap (λ (n : ℕ). if isTarget t target bases w′ k then suc k else n) (same bases target)
+          ∙ sym (found-step t w′ target bases k last before l))
           (x .2),
     )
 
@@ -240,15 +243,16 @@ places-held t (item s kids later) (entry e members more) w k last b o r fits =
     let m : entries# members ≡ size kids = of-size kids members (o .1) in
     let w₁ = membersPut t w k members in
     let base = baseAfter t w₁ k last in
+    let placers = placersAfter t w₁ k last in
     let w₂ = firstPut t w k last e members in
     let n = suc k + entries# members in
     let at : n ≡ suc k + size kids = omega (arith, m) in
     let w₃ = putPlaces t w₂ n (suc k) more in
     let room : ROW * k + ROW ≤ length w = omega arith in
     let l₁ : length w₁ ≡ length w = length-places t members w (suc k) 0 in
-    let l₂ : length w₂ ≡ length w = length-place w₁ k last (entries# members) base e ∙ l₁ in
+    let l₂ : length w₂ ≡ length w = length-place w₁ k last (entries# members) base placers e ∙ l₁ in
     let s₁ : (j : ℕ) → statementAt w₁ j ≡ statementAt w j = statement-places t members w (suc k) 0 in
-    let s₂ : (j : ℕ) → statementAt w j ≡ statementAt w₂ j = λ j. sym (statement-same w₂ j w₁ (λ c l. kept-place w₁ k last (entries# members) base e j c l) ∙ s₁ j) in
+    let s₂ : (j : ℕ) → statementAt w j ≡ statementAt w₂ j = λ j. sym (statement-same w₂ j w₁ (λ c l. kept-place w₁ k last (entries# members) base placers e j c l) ∙ s₁ j) in
     let s₃ : statementAt w₃ k ≡ s = statement-places t more w₂ n (suc k) k ∙ sym (s₂ k) ∙ r .0 in
     let own : entryIn w₃ k ≡ e =
     entry-held w₃ k s e (o .0) s₃ (first-offset t e members more w k last room) (first-width t e members more w k last room) (first-kind t e members more w k last room) (first-slack t e members more w k last room) in
@@ -256,11 +260,11 @@ places-held t (item s kids later) (entry e members more) w k last b o r fits =
     let rest = places-held t later more w₂ (suc k + size kids) (suc k) (omega arith) (o .2) (rows-same w w₂ s₂ (suc k + size kids) later (r .2)) (omega (arith, l₂)) in
     let rest′ : Held t w₃ (suc k + size kids) (suc k) later more = subst (λ (x : ℕ). Held t (putPlaces t w₂ x (suc k) more) (suc k + size kids) (suc k) later more) (sym at) rest in
     let low : (j c : ℕ) → j < k → c < ROW → cell w₁ j c ≡ cell w₃ j c =
-    λ j c l q. sym (before-places t more w₂ n (suc k) j c (omega arith) q ∙ before-place w₁ k last (entries# members) base e j c l q) in
+    λ j c l q. sym (before-places t more w₂ n (suc k) j c (omega arith) q ∙ before-place w₁ k last (entries# members) base placers e j c l q) in
     let kept : (j c : ℕ) → suc k ≤ j → j < suc k + size kids → c < ROW → cell w₁ j c ≡ cell w₃ j c =
-    λ j c l q c′. sym (before-places t more w₂ n (suc k) j c (omega arith) c′ ∙ after-place w₁ k last (entries# members) base e j c l) in
+    λ j c l q c′. sym (before-places t more w₂ n (suc k) j c (omega arith) c′ ∙ after-place w₁ k last (entries# members) base placers e j c l) in
     let redefines : cell w₁ k REDEFINES ≡ cell w₃ k REDEFINES =
-    sym (kept-places t more w₂ n (suc k) k REDEFINES (lit< tt) ∙ kept-place w₁ k last (entries# members) base e k REDEFINES (lit< tt)) in
+    sym (kept-places t more w₂ n (suc k) k REDEFINES (lit< tt) ∙ kept-place w₁ k last (entries# members) base placers e k REDEFINES (lit< tt)) in
     let members-held : entriesIn w₃ (suc k) kids ≡ members = sym (entries-same w₁ w₃ (suc k) kids (λ j c l q c′. kept j c l q (omega arith))) ∙ inner .entries in
     record {
       entries = λ i. entry (own i) (members-held i) (rest′ .entries i);
@@ -269,8 +273,9 @@ places-held t (item s kids later) (entry e members more) w k last b o r fits =
           before = first-last t e members more w k last room;
           below = first-below t e members more w k last room ∙ m;
           base = first-base t e members more w k last room ∙ after-same t w₁ w₃ k last redefines (λ j c l q. low j c (omega arith) q);
+          placers = first-placers t e members more w k last room ∙ placers-same t w₁ w₃ k last redefines (λ j c l q. low j c (omega arith) q);
         },
-        linked-same t w₁ w₃ kids (suc k) 0 (omega arith) (λ j c l q c′. kept j c l q (omega arith)) (λ target. back-none t w₁ target ∙ sym (back-none t w₃ target)) (inner .linked),
+        linked-same t w₁ w₃ kids (suc k) 0 (omega arith) (λ j c l q c′. kept j c l q (omega arith)) refl (λ bases target. found-none t w₁ target bases ∙ sym (found-none t w₃ target bases)) (inner .linked),
         rest′ .linked,
       );
     }

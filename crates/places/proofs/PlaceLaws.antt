@@ -16,52 +16,52 @@ use Rattle.definition.specs.Fold.{Entries, end, entry}
 use Rattle.definition.specs.Search.{entries#}
 use Rattle.definition.proofs.Lists.{order}
 use Rattle.kinds.specs.Kinds.{kindCode}
-use Rattle.rows.specs.Columns.{ROW, NAME, REDEFINES, OFFSET, WIDTH, KIND, BEFORE, BELOW, SLACK, BASE, NEXT, PRINT}
+use Rattle.rows.specs.Columns.{ROW, NAME, REDEFINES, OFFSET, WIDTH, KIND, BEFORE, BELOW, SLACK, BASE, PLACERS, NEXT, PRINT}
 use Rattle.rows.specs.Table.{cell, statementAt, statementsFrom}
 use Rattle.rows.proofs.TableLaws.{getD-below, getD-above, getD-in, statement-same}
 use Rattle.places.specs.Places.{placeCells, putPlace, putPlaces}
-use Rattle.redefines.specs.Targets.{baseAfter, placeAt, leftOut, seenFrom}
+use Rattle.redefines.specs.Targets.{baseAfter, placersAfter, placeAt, leftOut, seenFrom}
 use Rattle.redefines.specs.Prints.{Printed}
 use Rattle.redefines.proofs.PrintLaws.{printed-same}
 
 -- ---------------------------------------------------------------- one place
 
-module _ (w : List ℕ) (a last below base : ℕ) (e : Entry) where
-  pub length-place : length (putPlace w a last below base e) ≡ length w
+module _ (w : List ℕ) (a last below base placers : ℕ) (e : Entry) where
+  pub length-place : length (putPlace w a last below base placers e) ≡ length w
   unfolding putPlace
-  length-place = length-sets w (ROW * a + OFFSET) (placeCells e last below base)
+  length-place = length-sets w (ROW * a + OFFSET) (placeCells e last below base placers)
 
-  -- its seven columns
-  place-in : ROW * a + ROW ≤ length w → (c : ℕ) → c < 8 → cell (putPlace w a last below base e) a (OFFSET + c) ≡ getD (placeCells e last below base) c 0
+  -- its nine columns
+  place-in : ROW * a + ROW ≤ length w → (c : ℕ) → c < 9 → cell (putPlace w a last below base placers e) a (OFFSET + c) ≡ getD (placeCells e last below base placers) c 0
   unfolding putPlace
-  place-in h c l = getD-in (placeCells e last below base) w (ROW * a + OFFSET) c (ROW * a + (OFFSET + c)) (omega arith) l (omega arith)
+  place-in h c l = getD-in (placeCells e last below base placers) w (ROW * a + OFFSET) c (ROW * a + (OFFSET + c)) (omega arith) l (omega arith)
 
   -- the columns of the statements
-  pub kept-place : (k c : ℕ) → c < OFFSET → cell (putPlace w a last below base e) k c ≡ cell w k c
+  pub kept-place : (k c : ℕ) → c < OFFSET → cell (putPlace w a last below base placers e) k c ≡ cell w k c
   unfolding putPlace
   kept-place k c l =
       ⊎-elim
-      (λ (more : a < k). getD-above (placeCells e last below base) w (ROW * a + OFFSET) (ROW * k + c) (omega arith))
-      (λ (less : k ≤ a). getD-below (placeCells e last below base) w (ROW * a + OFFSET) (ROW * k + c) (omega arith))
+      (λ (more : a < k). getD-above (placeCells e last below base placers) w (ROW * a + OFFSET) (ROW * k + c) (omega arith))
+      (λ (less : k ≤ a). getD-below (placeCells e last below base placers) w (ROW * a + OFFSET) (ROW * k + c) (omega arith))
       (order a k)
 
   -- the column of the fingerprints
-  pub print-place : (k : ℕ) → cell (putPlace w a last below base e) k PRINT ≡ cell w k PRINT
+  pub print-place : (k : ℕ) → cell (putPlace w a last below base placers e) k PRINT ≡ cell w k PRINT
   unfolding putPlace
   print-place k =
       ⊎-elim
-      (λ (less : k < a). getD-below (placeCells e last below base) w (ROW * a + OFFSET) (ROW * k + PRINT) (omega arith))
-      (λ (more : a ≤ k). getD-above (placeCells e last below base) w (ROW * a + OFFSET) (ROW * k + PRINT) (omega arith))
+      (λ (less : k < a). getD-below (placeCells e last below base placers) w (ROW * a + OFFSET) (ROW * k + PRINT) (omega arith))
+      (λ (more : a ≤ k). getD-above (placeCells e last below base placers) w (ROW * a + OFFSET) (ROW * k + PRINT) (omega arith))
       (order k a)
 
   -- the rows before it, and after it
-  pub before-place : (k c : ℕ) → k < a → c < ROW → cell (putPlace w a last below base e) k c ≡ cell w k c
+  pub before-place : (k c : ℕ) → k < a → c < ROW → cell (putPlace w a last below base placers e) k c ≡ cell w k c
   unfolding putPlace
-  before-place k c h l = getD-below (placeCells e last below base) w (ROW * a + OFFSET) (ROW * k + c) (omega arith)
+  before-place k c h l = getD-below (placeCells e last below base placers) w (ROW * a + OFFSET) (ROW * k + c) (omega arith)
 
-  pub after-place : (k c : ℕ) → a < k → cell (putPlace w a last below base e) k c ≡ cell w k c
+  pub after-place : (k c : ℕ) → a < k → cell (putPlace w a last below base placers e) k c ≡ cell w k c
   unfolding putPlace
-  after-place k c h = getD-above (placeCells e last below base) w (ROW * a + OFFSET) (ROW * k + c) (omega arith)
+  after-place k c h = getD-above (placeCells e last below base placers) w (ROW * a + OFFSET) (ROW * k + c) (omega arith)
 
 -- ---------------------------------------------------------------- the places of a list
 
@@ -71,7 +71,9 @@ module _ (t : List ℕ) where
   membersPut w a members = putPlaces t w (suc a) 0 members
 
   abbrev pub firstPut : List ℕ → ℕ → ℕ → Entry → Entries → List ℕ
-  firstPut w a last e members = putPlace (membersPut w a members) a last (entries# members) (baseAfter t (membersPut w a members) a last) e
+  firstPut w a last e members =
+      let w₁ = membersPut w a members in
+      putPlace w₁ a last (entries# members) (baseAfter t w₁ a last) (placersAfter t w₁ a last) e
 
   pub length-places : (es : Entries) (w : List ℕ) (a last : ℕ) → length (putPlaces t w a last es) ≡ length w
   unfolding putPlaces
@@ -79,7 +81,7 @@ module _ (t : List ℕ) where
   length-places (entry e members later) w a last =
       let w₁ = membersPut w a members in
       length-places later (firstPut w a last e members) (suc a + entries# members) (suc a)
-      ∙ length-place w₁ a last (entries# members) (baseAfter t w₁ a last) e
+      ∙ length-place w₁ a last (entries# members) (baseAfter t w₁ a last) (placersAfter t w₁ a last) e
       ∙ length-places members w (suc a) 0
 
   -- every statement is as it was
@@ -89,7 +91,7 @@ module _ (t : List ℕ) where
   kept-places (entry e members later) w a last k c l =
       let w₁ = membersPut w a members in
       kept-places later (firstPut w a last e members) (suc a + entries# members) (suc a) k c l
-      ∙ kept-place w₁ a last (entries# members) (baseAfter t w₁ a last) e k c l
+      ∙ kept-place w₁ a last (entries# members) (baseAfter t w₁ a last) (placersAfter t w₁ a last) e k c l
       ∙ kept-places members w (suc a) 0 k c l
 
   -- and so is every fingerprint
@@ -99,7 +101,7 @@ module _ (t : List ℕ) where
   print-places (entry e members later) w a last k =
       let w₁ = membersPut w a members in
       print-places later (firstPut w a last e members) (suc a + entries# members) (suc a) k
-      ∙ print-place w₁ a last (entries# members) (baseAfter t w₁ a last) e k
+      ∙ print-place w₁ a last (entries# members) (baseAfter t w₁ a last) (placersAfter t w₁ a last) e k
       ∙ print-places members w (suc a) 0 k
 
   pub printed-places : (es : Entries) (w : List ℕ) (a last : ℕ) {n : ℕ} → Printed t w n → Printed t (putPlaces t w a last es) n
@@ -112,7 +114,7 @@ module _ (t : List ℕ) where
   before-places (entry e members later) w a last k c h l =
       let w₁ = membersPut w a members in
       before-places later (firstPut w a last e members) (suc a + entries# members) (suc a) k c (omega arith) l
-      ∙ before-place w₁ a last (entries# members) (baseAfter t w₁ a last) e k c h l
+      ∙ before-place w₁ a last (entries# members) (baseAfter t w₁ a last) (placersAfter t w₁ a last) e k c h l
       ∙ before-places members w (suc a) 0 k c (omega arith) l
 
   module _ (es : Entries) (w : List ℕ) (a last : ℕ) where
@@ -130,12 +132,16 @@ module _ (t : List ℕ) where
     whole = putPlaces t w a last (entry e members later)
 
     first-place :
-        (c : ℕ) → c < 8 → cell whole a (OFFSET + c) ≡ getD (placeCells e last (entries# members) (baseAfter t (membersPut w a members) a last)) c 0
+        (c : ℕ) →
+        c < 9 →
+        let w₁ = membersPut w a members in
+        cell whole a (OFFSET + c)
+        ≡ getD (placeCells e last (entries# members) (baseAfter t w₁ a last) (placersAfter t w₁ a last)) c 0
     unfolding putPlaces
     first-place c l =
         let w₁ = membersPut w a members in
         before-places later (firstPut w a last e members) (suc a + entries# members) (suc a) a (OFFSET + c) (omega arith) (omega arith)
-        ∙ place-in w₁ a last (entries# members) (baseAfter t w₁ a last) e (omega (arith, length-places members w (suc a) 0)) c l
+        ∙ place-in w₁ a last (entries# members) (baseAfter t w₁ a last) (placersAfter t w₁ a last) e (omega (arith, length-places members w (suc a) 0)) c l
 
     pub first-offset : cell whole a OFFSET ≡ e .offset
     first-offset = first-place 0 (lit< tt)
@@ -158,8 +164,11 @@ module _ (t : List ℕ) where
     pub first-base : cell whole a BASE ≡ baseAfter t (membersPut w a members) a last
     first-base = first-place 6 (lit< tt)
 
+    pub first-placers : cell whole a PLACERS ≡ placersAfter t (membersPut w a members) a last
+    first-placers = first-place 7 (lit< tt)
+
     pub first-next : cell whole a NEXT ≡ 0
-    first-next = first-place 7 (lit< tt)
+    first-next = first-place 8 (lit< tt)
 
   -- no row names a next one of its union
   pub places-next :
@@ -176,7 +185,7 @@ module _ (t : List ℕ) where
       let w₂ = firstPut w a last e members in
       let n = suc a + entries# members in
       let l₁ = length-places members w (suc a) 0 in
-      let l₂ = length-place w₁ a last (entries# members) (baseAfter t w₁ a last) e in
+      let l₂ = length-place w₁ a last (entries# members) (baseAfter t w₁ a last) (placersAfter t w₁ a last) e in
       let inner = places-next members w (suc a) 0 (omega arith) k in
       let rest = places-next later w₂ n (suc a) (omega (arith, l₁, l₂)) k in
       ⊎-elim
@@ -184,7 +193,7 @@ module _ (t : List ℕ) where
       ⊎-elim
       (λ (q : k < n).
       before-places later w₂ n (suc a) k NEXT q (lit< tt)
-      ∙ after-place w₁ a last (entries# members) (baseAfter t w₁ a last) e k NEXT p
+      ∙ after-place w₁ a last (entries# members) (baseAfter t w₁ a last) (placersAfter t w₁ a last) e k NEXT p
       ∙ inner p q)
       (λ (q : n ≤ k). rest q (omega arith))
       (order k n))

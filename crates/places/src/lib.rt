@@ -18,10 +18,18 @@ use rows::SLACK;
 use rows::WIDTH;
 
 // An item's place into row k: its offset, width and kind, the sibling before it, the rows below it, its slack, its base,
-// and no next row of its union.
-pub fn put_place(work: &mut [u32], k: usize, last: usize, below: usize, base: usize, e: Entry)
+// the siblings that may place it, and no next row of its union.
+pub fn put_place(
+    work: &mut [u32],
+    k: usize,
+    last: usize,
+    below: usize,
+    base: usize,
+    placers: u32,
+    e: Entry,
+)
     requires { ⌜ (ROW * k + ROW ≤ length (now work)) × (last < 4294967296) × (below < 4294967296) × (base < 4294967296) × (e .offset < 4294967296) × (e .width < 4294967296) × (e .slack < 4294967296) ⌝ }
-    ensures { λ _. ⌜ now (work .exit) ≡ putPlace (now (work .entry)) k last below base e ⌝ }
+    ensures { λ _. ⌜ now (work .exit) ≡ putPlace (now (work .entry)) k last below base placers e ⌝ }
 {
     let at = ROW * k + OFFSET;
     let kind = e.kind;
@@ -32,7 +40,8 @@ pub fn put_place(work: &mut [u32], k: usize, last: usize, below: usize, base: us
     work[at + 4] = below as u32;
     work[at + 5] = e.slack as u32;
     work[at + 6] = base as u32;
-    work[at + 7] = 0;
+    work[at + 7] = placers;
+    work[at + 8] = 0;
 }
 
 // The end of the children of row i, among the rows up to `to`.

@@ -12,7 +12,7 @@ use Rattle.definition.proofs.CallsLaws.{Passes}
 use Rattle.tree.proofs.ReadingLaws.{Stored}
 use Rattle.redefines.specs.Prints.{PrintsPut}
 use Rattle.record.specs.Laying.{fieldsOf, Read}
-use Rattle.record.proofs.LaidLaws.{reading-refused, rows-read, rows-room}
+use Rattle.record.proofs.LaidLaws.{reading-refused, rows-read, rows-under, rows-room}
 
 module _ (text : List ℕ) (n : ℕ) {c : Check} (p : checkOf c ≡ entryChecks text n) where
   -- refused by the checks
@@ -36,6 +36,7 @@ read-kept {text} {w} {w″ = w″} p s q =
     let long : length w″ ≡ length w = q .long ∙ s .long in
     record {
       are = ap (recordFields text) long ∙ fields-read text (length w) p ∙ rows-read s q;
+      under = rows-under s q;
       few = s .few;
       room = rows-room s q (p .room);
     }

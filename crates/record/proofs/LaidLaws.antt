@@ -6,7 +6,7 @@ use mathlib.Core.Bool.{false, _||_}
 use mathlib.Core.List.{List, [], _∷_}
 use mathlib.Core.Logic.{⊎-elim}
 use native.Mathlib.Omega.{arith}
-use lib.Dec.{ltb}
+use lib.Dec.{lit<, ltb}
 use lib.ListN.{length}
 use borrow.Author.Tests.{ltb-false}
 use Rattle.definition.specs.declared.Check.{Check}
@@ -15,15 +15,17 @@ use Rattle.definition.specs.declared.Entry.{Entry}
 use Rattle.definition.specs.Limits.{leastWork, mostStatements, largest}
 use Rattle.definition.specs.Basic.{Answer, refuse, give, _>>=_}
 use Rattle.definition.specs.declared.Statement.{Statement}
-use Rattle.definition.specs.Tree.{Forest, leaf, item, forest, fields}
+use Rattle.definition.specs.Tree.{Forest, leaf, item, forest, fields, parentsIn}
 use Rattle.definition.specs.Fold.{Entries, end, entry, times, total, entryEnd, Place, placeOf, foldCheck, foldedAll}
 use Rattle.definition.specs.Layout.{entryOf, tooLarge, advance, Laid, lay}
 use Rattle.definition.specs.Owner.{size}
 use Rattle.definition.proofs.Answers.{or-false, through, given-same}
 use Rattle.definition.proofs.Lists.{order}
 use Rattle.definition.specs.Calls.{keptStatements}
-use Rattle.rows.specs.Columns.{ROW, NEXT}
-use Rattle.rows.specs.Table.{cell, statementAt, statementsFrom}
+use Rattle.definition.specs.Usages.{recordOf, inheritAlong}
+use Rattle.definition.proofs.UsageLaws.{length-along, along-forest}
+use Rattle.rows.specs.Columns.{ROW, PARENT, OFFSET, NEXT}
+use Rattle.rows.specs.Table.{cell, statementAt, statementsFrom, parentsFrom}
 use Rattle.tree.proofs.ReadingLaws.{Stored}
 use Rattle.definition.specs.Calls.{checkOf, recordFields}
 use Rattle.definition.specs.Record.{recordLength, endsFit, unfolded}
@@ -34,16 +36,17 @@ use Rattle.layout.specs.Outcomes.{layTable}
 use Rattle.layout.specs.declared.LaidList.{LaidList}
 use Rattle.places.specs.Children.{ChildrenEnd}
 use Rattle.layout.specs.Steps.{listOf, Room}
-use Rattle.places.proofs.EntriesLaws.{size-stretch}
+use Rattle.places.proofs.EntriesLaws.{size-forest, size-stretch}
 use Rattle.layout.proofs.ListLaws.{bare-split, item-is}
 use Rattle.layout.proofs.LayLaws.{LaidRows, laid-rows, stopped-was}
 use Rattle.places.proofs.RowLaws.{children-end, forest-split, forest-empty}
-use Rattle.places.proofs.PlaceLaws.{length-places, statements-places, places-next}
+use Rattle.places.proofs.PlaceLaws.{length-places, kept-places, statements-places, places-next}
 use Rattle.unions.specs.Shown.{listIn}
 use Rattle.unions.specs.Marks.{UnionsLinked}
 use Rattle.unions.proofs.KeptLaws.{forest-kept, list-kept, prints-kept, Ready, marked-tree}
 use Rattle.record.specs.declared.RecordLaid.{RecordLaid}
-use Rattle.record.specs.Laying.{FieldsFrom, fieldsOf, Read, laidOf, Listed, RecordIs}
+use Rattle.record.proofs.ParentLaws.{under-parents, under-same}
+use Rattle.record.specs.Laying.{Under, FieldsFrom, fieldsOf, Read, laidOf, Listed, RecordIs}
 
 -- ---------------------------------------------------------------- no entry is too large
 
@@ -95,6 +98,9 @@ module _ (text w : List ℕ) (a b depth : ℕ) {width : ℕ} {w₁ : List ℕ} (
   pub same-fields : rowsForest w a b ≡ rowsForest w₁ a b
   same-fields = same-places ∙ ap (λ (x : List ℕ). rowsForest x a b) (n .put)
 
+  pub same-column : (k c : ℕ) → c < OFFSET → cell w₁ k c ≡ cell w k c
+  same-column k c l = subst (λ (x : List ℕ). cell x k c ≡ cell w k c) (n .put) (kept-places text (n .laid .entries) w a 0 k c l)
+
   pub laid-ready : Ready text w₁ a b
   laid-ready =
       let f = rowsForest w a b in
@@ -123,7 +129,12 @@ only-root w n h c =
 
 pub root-dropped : (w : List ℕ) (n : ℕ) {j : ℕ} → 2 ≤ n → ChildrenEnd w 0 n j → n ≤ j → FieldsFrom w n 1
 root-dropped w n {j} h c l =
-    record { low = omega arith; is = only-root w n (omega arith) (subst (ChildrenEnd w 0 n) (let e : j ≡ n = omega (arith, c .high) in e) c) }
+    let all = subst (ChildrenEnd w 0 n) (let e : j ≡ n = omega (arith, c .high) in e) c in
+    record {
+      low = omega arith;
+      is = only-root w n (omega arith) all;
+      under = λ u. subst (Under w 0 0) (forest-split w 0 n n all) u .1;
+    }
 
 -- of several roots none is
 pub roots-kept : (w : List ℕ) (n : ℕ) {j : ℕ} → ChildrenEnd w 0 n j → j < n → FieldsFrom w n 0
@@ -133,7 +144,7 @@ roots-kept w n {j} c l =
     let k = children-end w j n l in
     let later = forest-split w j n _ k in
     let both = whole ∙ ap (item (statementAt w 0) (rowsForest w 1 j)) later in
-    record { low = omega arith; is = ap fields both ∙ kept (rowsForest w 1 j) ∙ sym both }
+    record { low = omega arith; is = ap fields both ∙ kept (rowsForest w 1 j) ∙ sym both; under = λ u. u }
   where
     kept : {s t : Statement} (kids : Forest) {more rest : Forest} → fields (item s kids (item t more rest)) ≡ item s kids (item t more rest)
     kept leaf = refl
@@ -158,6 +169,7 @@ few-rows w n h =
           (λ (p : 0 < n). one-row w n h (children-end w 0 n p))
           (λ (p : n ≤ 0). ap fields (forest-empty w 0 n p) ∙ sym (forest-empty w 0 n p))
           (order 0 n);
+      under = λ u. u;
     }
 
 -- ---------------------------------------------------------------- the record
@@ -215,14 +227,18 @@ module _ (text w : List ℕ) (a b : ℕ) where
             a ≤ b →
             ROW * b ≤ length w →
             b ≤ mostStatements →
+            Under w a a (rowsForest w a b) →
             {l : ℕ} →
             l ≡ recordLength (foldedAll text (listIn w₂ a b)) →
             Listed text (give (rowsForest w a b)) w₂ a b l
         unfolding _>>=_
-        laid-listed f h fits few long =
+        laid-listed f h fits few under long =
             let ready = laid-ready text w a b 0 h fits n in
+            let forests = same-fields text w a b 0 h fits n ∙ forest-kept (m .kept) a b in
             record {
-              fields = ap give (same-fields text w a b 0 h fits n ∙ forest-kept (m .kept) a b);
+              fields = ap give forests;
+              low = h;
+              under = subst (Under w₂ a a) forests (under-same w w₂ (λ k. sym (m .kept .same k PARENT (lit< tt) ∙ same-column text w a b 0 h fits n k PARENT (lit< tt))) (rowsForest w a b) a a under);
               is = passed Check.Passed f;
               tree = marked-tree text a b h ready m;
               few = few;
@@ -234,16 +250,30 @@ module _ (text w : List ℕ) (a b : ℕ) where
 -- the text is refused
 pub reading-refused : (text : List ℕ) {r : Refusal} → keptStatements text ≡ refuse r → fieldsOf text ≡ refuse r
 unfolding fieldsOf _>>=_
-reading-refused text e = ap (λ (x : Answer (List Statement)). x >>= λ ss. give (fields (forest ss))) e
+reading-refused text e = ap (λ (x : Answer (List Statement)). x >>= λ ss. give (recordOf ss)) e
 
 -- its statements stand in n rows, whose names got their fingerprints
 module _ {text w w′ : List ℕ} {n : ℕ} (s : Stored text w w′ n) {w″ : List ℕ} (p : PrintsPut text w′ n w″) where
   pub rows-read : fieldsOf text ≡ give (fields (rowsForest w″ 0 n))
   unfolding fieldsOf _>>=_
   rows-read =
-      ap (λ (x : Answer (List Statement)). x >>= λ ss. give (fields (forest ss))) (s .are)
+      ap (λ (x : Answer (List Statement)). x >>= λ ss. give (recordOf ss)) (s .are)
+      ∙ ap (λ (x : Forest). give (fields x)) (sym (along-forest (s .kept)))
       ∙ ap (λ (ss : List Statement). give (fields (forest ss))) (sym (s .back) ∙ ap (statementsFrom w′ 0) (let e : n ≡ n - 0 = omega arith in e))
       ∙ ap (λ (x : Forest). give (fields x)) (forest-kept (prints-kept p) 0 n)
+
+  -- under their parents
+  pub rows-under : Under w″ 0 0 (rowsForest w″ 0 n)
+  rows-under =
+      let held = inheritAlong [] 0 (s .kept) in
+      let all : n - 0 ≡ n = omega arith in
+      let whole : rowsForest w″ 0 n ≡ forest held =
+      sym (forest-kept (prints-kept p) 0 n) ∙ ap forest (ap (statementsFrom w′ 0) all ∙ s .back) in
+      let many : n ≡ size (forest held) = s .many ∙ sym (length-along [] 0 (s .kept)) ∙ sym (size-forest held) in
+      let parents : parentsFrom w′ 0 n ≡ parentsIn 0 0 (forest held) =
+      s .under ∙ ap (parentsIn 0 0) (sym (along-forest (s .kept))) in
+      under-same w′ w″ (λ k. sym (p .same k PARENT (lit< tt))) (rowsForest w″ 0 n) 0 0
+      (subst (Under w′ 0 0) (sym whole) (under-parents w′ (forest held) 0 0 n many parents))
 
   -- and there is room to lay them
   pub rows-room : leastWork ≤ length w → Room text w″ n

@@ -1,2 +1,3 @@
+pub mod ParentLaws
 pub mod LaidLaws
 pub mod EntryLaws

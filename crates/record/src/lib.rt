@@ -9,7 +9,7 @@ ghost use Rattle.places.specs.Places.{rowsForest};
 ghost use Rattle.layout.specs.Steps.{Room};
 ghost use Rattle.rows.specs.Columns.{ROW};
 ghost use Rattle.entries.specs.Building.{Roomy};
-ghost use Rattle.record.specs.Laying.{FieldsFrom, RecordIs, Read, CopybookRows};
+ghost use Rattle.record.specs.Laying.{Under, FieldsFrom, RecordIs, Read, CopybookRows};
 use definition::Check;
 use definition::DEEPEST;
 use definition::Refusal;
@@ -84,7 +84,7 @@ pub fn lay_fields(
     from: usize,
     to: usize,
 ) -> RecordLaid
-    requires { ⌜ (from ≤ to) × Room (now text) (now work) to × (to ≤ mostStatements) × Roomy (now entries) to ⌝ }
+    requires { ⌜ (from ≤ to) × Room (now text) (now work) to × (to ≤ mostStatements) × Roomy (now entries) to × Under (now work) from from (rowsForest (now work) from to) ⌝ }
     ensures { λ r. ⌜ RecordIs (now (text .entry)) (give (rowsForest (now (work .entry)) from to)) r (now (work .exit)) (now (entries .exit)) ⌝ }
 {
     match layout::lay_list(text, work, from, to, DEEPEST) {

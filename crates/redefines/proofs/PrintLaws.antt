@@ -17,9 +17,9 @@ use Rattle.names.specs.Prints.{namePrint}
 use Rattle.names.proofs.SameLaws.{print-apart}
 use Rattle.rows.specs.Columns.{ROW, NAME, BEFORE, PRINT}
 use Rattle.rows.specs.Table.{cell, spanAt}
-use Rattle.redefines.specs.Targets.{leftOut, isTarget, rowFrom}
+use Rattle.redefines.specs.Targets.{leftOut, isTarget, rowFrom, lookedFrom}
 use Rattle.redefines.specs.Prints.{PrintedRow, Printed, PrintsPut, PassedBack}
-use Rattle.redefines.proofs.SearchLaws.{row-here}
+use Rattle.redefines.proofs.SearchLaws.{row-here, looked-here}
 
 -- ---------------------------------------------------------------- where they stand
 
@@ -75,24 +75,46 @@ module _ (t w : List ℕ) (target : Span) (bases : Bool) {print : ℕ} (e : prin
       by-test true q = refl
       by-test false q = q
 
+  -- what is found from `last` back is found from r back; the siblings looked at on the way are the rows between
+  pub record Passed (last r : ℕ) : Type 0 where
+    pub row : rowFrom t target bases w last last ≡ rowFrom t target bases w r r
+    pub looked : lookedFrom t target bases w last last + r ≡ last + lookedFrom t target bases w r r
+
   -- a run of such rows
   run :
       (d r : ℕ) →
       ((j : ℕ) → r ≤ j → j < r + d → (cell w j PRINT ≡ print → ⊥) × (cell w j BEFORE ≡ j)) →
       Printed t w (r + d) →
-      rowFrom t target bases w (r + d) (r + d) ≡ rowFrom t target bases w r r
-  run zero r h p = ap (λ (m : ℕ). rowFrom t target bases w m m) (let z : r + 0 ≡ r = omega arith in z)
+      Passed (r + d) r
+  run zero r h p =
+      let z : r + 0 ≡ r = omega arith in
+      record {
+        row = ap (λ (m : ℕ). rowFrom t target bases w m m) z;
+        looked = omega (arith, ap (λ (m : ℕ). lookedFrom t target bases w m m) z);
+      }
   run (suc d) r h p =
       let k = r + d in
       let other = h k (omega arith) (omega arith) in
-      ap (λ (m : ℕ). rowFrom t target bases w m m) (let z : r + suc d ≡ suc k = omega arith in z)
-      ∙ row-here t w target bases k
-      ∙ ap (λ (b : Bool). if b then suc k else rowFrom t target bases w k (cell w k BEFORE)) (not-target k (p .rows k (omega arith)) (other .0))
-      ∙ ap (rowFrom t target bases w k) (other .1)
-      ∙ run d r (λ j l m. h j l (omega arith)) (printed-less p (omega arith))
+      let no = not-target k (p .rows k (omega arith)) (other .0) in
+      let ih = run d r (λ j l m. h j l (omega arith)) (printed-less p (omega arith)) in
+      let z : r + suc d ≡ suc k = omega arith in
+      let one =
+      ap (λ (m : ℕ). lookedFrom t target bases w m m) z
+      ∙ looked-here t w target bases k
+      ∙ ap (λ (b : Bool). if b then 1 else suc (lookedFrom t target bases w k (cell w k BEFORE))) no
+      ∙ ap (λ (m : ℕ). suc (lookedFrom t target bases w k m)) (other .1) in
+      record {
+        row =
+            ap (λ (m : ℕ). rowFrom t target bases w m m) z
+            ∙ row-here t w target bases k
+            ∙ ap (λ (b : Bool). if b then suc k else rowFrom t target bases w k (cell w k BEFORE)) no
+            ∙ ap (rowFrom t target bases w k) (other .1)
+            ∙ ih .row;
+        looked = omega (arith, one, ih .looked);
+      }
 
-  pub passed-same : {last r : ℕ} → Printed t w last → PassedBack w print last r → rowFrom t target bases w last last ≡ rowFrom t target bases w r r
-  passed-same {last} {r} p b =
-      let z : last ≡ r + (last - r) = omega (arith, b .low) in
-      ap (λ (m : ℕ). rowFrom t target bases w m m) z
-      ∙ run (last - r) r (λ j l m. b .others j l (omega arith)) (printed-less p (omega arith))
+  pub passed : {last r : ℕ} → Printed t w last → PassedBack w print last r → Passed last r
+  passed {last} {r} p b =
+      let z : r + (last - r) ≡ last = omega (arith, b .low) in
+      let x = run (last - r) r (λ j l m. b .others j l (omega arith)) (printed-less p (omega arith)) in
+      subst (λ (m : ℕ). Passed m r) z x

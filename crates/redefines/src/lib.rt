@@ -1,9 +1,11 @@
-// The search that a REDEFINES makes among the earlier siblings in the rows: its target (28 is due where there is none), and its base. The fingerprints
-// of the names are put into the rows first, and names are compared only where those agree. Leans on `definition`, `names` and `rows`.
+// The search that a REDEFINES makes among the earlier siblings in the rows, backward from the item: for its target (28
+// is due where none has the name), with the count of names compared, and for its base. Fingerprints of the names are
+// put into the rows first: where they differ, the names do. Leans on `definition`, `names` and `rows`.
 ghost use mathlib.Core.Path.{_≡_};
 ghost use Prim.Native.Nat.{_+_, _*_, _≤_, _<_};
 ghost use lib.ListN.{length};
-ghost use Rattle.redefines.specs.Targets.{leftOut, isTarget, rowFrom, targetFrom};
+ghost use Rattle.redefines.specs.Targets.{leftOut, isTarget, Ended, seenAt, searchOf, targetSearch, targetFrom};
+ghost use Rattle.redefines.specs.Targets.{Named, baseFrom};
 ghost use Rattle.redefines.specs.Prints.{Printed, PrintedRow, PrintsPut, PassedBack};
 ghost use Rattle.names.specs.Prints.{namePrint};
 ghost use Rattle.rows.specs.Columns.{ROW};
@@ -74,37 +76,76 @@ fn pass_back(work: &[u32], last: usize, print: u32) -> usize
     at
 }
 
-// The latest sibling of that name from `last` back, or the latest base of that name: its row and 1, or 0 for none.
-pub fn find_row(text: &[u8], work: &[u32], target: Span, last: usize, bases: bool) -> usize
+// Where a search ended, as the row and 1, or 0 where nothing has the name; and how many names it compared.
+pub struct SearchEnd {
+    pub row: usize,
+    pub compared: usize,
+}
+
+// The latest sibling of that name from `last` back, or the latest base of that name.
+fn search_back(text: &[u8], work: &[u32], target: Span, last: usize, bases: bool) -> SearchEnd
     requires { ⌜ (ROW * last ≤ length (now work)) × Printed (now text) (now work) last ⌝ }
-    ensures { λ r. ⌜ (r ≡ rowFrom (now (text .entry)) target bases (now (work .entry)) last last) × (r ≤ last) ⌝ }
+    ensures { λ r. ⌜ Ended (now (text .entry)) target bases (now (work .entry)) last r ⌝ }
 {
-    if last == 0 {
-        return 0;
-    }
     let print = names::print_of(text, target);
     let mut k = pass_back(work, last, print);
+    // rows passed that are no siblings
+    let mut gaps = 0;
     while 0 < k {
         let row = k - 1;
+        let compared = last - row - gaps;
         if is_target(text, work, target, print, row, bases) {
-            return k;
+            return SearchEnd { row: k, compared };
         }
+        let before = rows::wide(work[ROW * row + BEFORE]);
+        if row < before {
+            return SearchEnd { row: 0, compared };
+        }
+        gaps += row - before;
+        k = pass_back(work, before, print);
+    }
+    SearchEnd {
+        row: 0,
+        compared: last - gaps,
+    }
+}
+
+// The sibling that a REDEFINES names, from `last` back; without one nothing is searched for.
+pub fn target_of(text: &[u8], work: &[u32], redefines: Span, last: usize) -> SearchEnd
+    requires { ⌜ (ROW * last ≤ length (now work)) × Printed (now text) (now work) last ⌝ }
+    ensures { λ r. ⌜ (searchOf (now (work .entry)) r
+        ≡ targetSearch (now (text .entry)) redefines (seenAt (now (work .entry)) last))
+        × (r .row ≡ targetFrom (now (text .entry)) redefines (now (work .entry)) last)
+        × (r .row ≤ last) ⌝ }
+{
+    if 0 < redefines.len {
+        return search_back(text, work, redefines, last, false);
+    }
+    SearchEnd {
+        row: 0,
+        compared: 0,
+    }
+}
+
+// The base of that name, where the search for the target ended at the row `target`: that row itself, or where it is a
+// redefiner, what a second search finds from there back. A row and 1, or 0 for none.
+pub fn base_of(text: &[u8], work: &[u32], redefines: Span, target: usize) -> usize
+    requires { ⌜ (ROW * target ≤ length (now work))
+        × Printed (now text) (now work) target
+        × Named (now text) redefines (now work) target ⌝ }
+    ensures { λ r. ⌜ (r ≡ baseFrom (now (text .entry)) redefines (now (work .entry)) target target) × (r ≤ target) ⌝ }
+{
+    if target == 0 {
+        return 0;
+    }
+    let row = target - 1;
+    if passed_over(work, row, true) {
         let before = rows::wide(work[ROW * row + BEFORE]);
         if row < before {
             return 0;
         }
-        k = pass_back(work, before, print);
+        let found = search_back(text, work, redefines, before, true);
+        return found.row;
     }
-    0
-}
-
-// The sibling that a REDEFINES names, from `last` back: its row and 1, or 0 for none.
-pub fn target_of(text: &[u8], work: &[u32], redefines: Span, last: usize) -> usize
-    requires { ⌜ (ROW * last ≤ length (now work)) × Printed (now text) (now work) last ⌝ }
-    ensures { λ r. ⌜ (r ≡ targetFrom (now (text .entry)) redefines (now (work .entry)) last) × (r ≤ last) ⌝ }
-{
-    if 0 < redefines.len {
-        return find_row(text, work, redefines, last, false);
-    }
-    0
+    target
 }

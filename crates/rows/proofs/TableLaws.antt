@@ -13,17 +13,20 @@ use lib.ListN.{length, getD, set, length-set}
 use lib.Seq.{sets, length-sets, getD-set-other, getD-set-same}
 use Rattle.definition.specs.declared.Span.{Span}
 use Rattle.definition.specs.declared.Occurs.{Occurs}
+use Rattle.definition.specs.declared.Usage.{Usage}
 use Rattle.definition.specs.declared.Clauses.{Clauses}
 use Rattle.definition.specs.declared.Statement.{Statement}
 use Rattle.definition.specs.Basic.{span}
 use Rattle.definition.specs.Listing.{flag}
 use Rattle.definition.specs.Statement.{clausesOf}
 use Rattle.definition.proofs.Lists.{order}
-use Rattle.kinds.specs.Usages.{usageCode, usageClauseAt, signCode, signWordsAt}
-use Rattle.kinds.proofs.Back.{flag-back, flag-few, usage-back, usage-few, sign-words-back, sign-words-few}
+use Rattle.kinds.specs.Usages.{usageAt, usageByte, usageCode, usageClauseAt, signCode, signWordsAt}
+use Rattle.kinds.proofs.Back.{flag-back, flag-few, usage-back, usage-few, usage-clause-back, usage-clause-few}
+use Rattle.kinds.proofs.Back.{sign-words-back, sign-words-few}
 use Rattle.rows.specs.Columns.{ROW, LEVEL, PARENT, AT, NAME, PICTURE, DEPENDING, REDEFINES, SAID, LOW, HIGH, OFFSET}
-use Rattle.rows.specs.Table.{spanCode, spanAt, markOf, countOf, occursAt, saidCode}
-use Rattle.rows.specs.Table.{Short, Storable, Storables, cells, putRow, putRows, cell, parentAt, clausesAt, statementAt, statementsFrom, parentsFrom}
+use Rattle.rows.specs.Table.{spanCode, spanAt, markOf, countOf, occursAt, levelCode, saidCode}
+use Rattle.rows.specs.Table.{Short, Storable, Storables, cells, putRow, putRows, cell, parentAt, usageIn}
+use Rattle.rows.specs.Table.{clausesAt, statementAt, statementsFrom, parentsFrom}
 
 -- ---------------------------------------------------------------- the parts, read back
 
@@ -41,23 +44,36 @@ mark-few : (o : Occurs) → markOf o < 2
 mark-few Occurs.Once = omega arith
 mark-few (Occurs.Times n) = omega arith
 
+-- a level that is a byte, and a usage
+module _ (level : ℕ) (u : Usage) (h : level < 256) where
+  level-back : levelCode level u % 256 ≡ level
+  level-back = omega arith
+
+  held-back : usageAt (levelCode level u / 256 % 8) ≡ u
+  held-back =
+      let d : levelCode level u / 256 ≡ usageByte u = omega arith in
+      let m : usageByte u % 8 ≡ usageByte u = mod-eq-of-lt (omega (arith, usage-few u)) in
+      ap (λ (n : ℕ). usageAt (n % 8)) d ∙ ap usageAt m ∙ usage-back u
+
 -- the parts of what is said
 module _ (c : Clauses) where
   said-usage : saidCode c % 8 ≡ usageCode (c .usage)
-  said-usage = omega (arith, usage-few (c .usage))
+  said-usage = omega (arith, usage-clause-few (c .usage))
 
   said-sign : saidCode c / 8 % 8 ≡ signCode (c .sign)
   said-sign =
-      let d : saidCode c / 8 ≡ signCode (c .sign) + 8 * (flag (c .sync) + 2 * markOf (c .occurs)) = omega (arith, usage-few (c .usage)) in
+      let d : saidCode c / 8 ≡ signCode (c .sign) + 8 * (flag (c .sync) + 2 * markOf (c .occurs)) =
+      omega (arith, usage-clause-few (c .usage)) in
       rw d (omega (arith, sign-words-few (c .sign)))
 
   said-sync : saidCode c / 64 % 2 ≡ flag (c .sync)
   said-sync =
-      let d : saidCode c / 64 ≡ flag (c .sync) + 2 * markOf (c .occurs) = omega (arith, usage-few (c .usage), sign-words-few (c .sign)) in
+      let d : saidCode c / 64 ≡ flag (c .sync) + 2 * markOf (c .occurs) =
+      omega (arith, usage-clause-few (c .usage), sign-words-few (c .sign)) in
       rw d (omega (arith, flag-few (c .sync)))
 
   said-mark : saidCode c / 128 ≡ markOf (c .occurs)
-  said-mark = omega (arith, usage-few (c .usage), sign-words-few (c .sign), flag-few (c .sync))
+  said-mark = omega (arith, usage-clause-few (c .usage), sign-words-few (c .sign), flag-few (c .sync))
 
 -- ---------------------------------------------------------------- a run of stores
 
@@ -101,6 +117,10 @@ module _ (w : List ℕ) (a parent : ℕ) (s : Statement) where
 
 -- ---------------------------------------------------------------- one row
 
+abbrev made : ℕ → ℕ → Span → Clauses → Usage → Statement
+made level at name clauses usage =
+    record { level = level; at = at; name = name; clauses = clauses; usage = usage }
+
 module _ (w : List ℕ) (k : ℕ) where
   -- a statement depends on its columns alone
   pub statement-same : (w′ : List ℕ) → ((c : ℕ) → c < OFFSET → cell w k c ≡ cell w′ k c) → statementAt w k ≡ statementAt w′ k
@@ -116,7 +136,9 @@ module _ (w : List ℕ) (k : ℕ) where
         let same : clausesAt w k ≡ clausesOf (c .picture) (c .usage) (c .sign) (c .sync) (c .occurs) (c .depending) (c .redefines) =
         cc (
           ap spanAt (h PICTURE (lit< tt)) ∙ span-back (c .picture) (b .picture),
-          ap (λ (n : ℕ). usageClauseAt (n % 8)) (h SAID (lit< tt)) ∙ ap usageClauseAt (said-usage c) ∙ usage-back (c .usage),
+          ap (λ (n : ℕ). usageClauseAt (n % 8)) (h SAID (lit< tt))
+              ∙ ap usageClauseAt (said-usage c)
+              ∙ usage-clause-back (c .usage),
           ap (λ (n : ℕ). signWordsAt (n / 8 % 8)) (h SAID (lit< tt)) ∙ ap signWordsAt (said-sign c) ∙ sign-words-back (c .sign),
           ap (λ (n : ℕ). eqb (n / 64 % 2) 1) (h SAID (lit< tt)) ∙ ap (λ (n : ℕ). eqb n 1) (said-sync c) ∙ flag-back (c .sync),
           ap (λ (n : ℕ). n / 128) (h SAID (lit< tt)) ∙ said-mark c,
@@ -128,26 +150,37 @@ module _ (w : List ℕ) (k : ℕ) where
         ) in
         same
 
+    usage-held : usageIn w k ≡ s .usage
+    usage-held =
+        ap (λ (n : ℕ). usageAt (n / 256 % 8)) (h LEVEL (lit< tt)) ∙ held-back (s .level) (s .usage) (fits .level)
+
     statement-held : statementAt w k ≡ s
     statement-held =
-        let same : statementAt w k ≡ record { level = s .level; at = s .at; name = s .name; clauses = s .clauses } =
+        let same : statementAt w k ≡ made (s .level) (s .at) (s .name) (s .clauses) (s .usage) =
         cc (
-          ap (λ (n : ℕ). n % 256) (h LEVEL (lit< tt)) ∙ mod-eq-of-lt (fits .level),
+          ap (λ (n : ℕ). n % 256) (h LEVEL (lit< tt)) ∙ level-back (s .level) (s .usage) (fits .level),
           h AT (lit< tt),
           ap spanAt (h NAME (lit< tt)) ∙ span-back (s .name) (fits .placed .name),
           clauses-held,
+          usage-held,
         ) in
         same
 
 module _ (w : List ℕ) (a parent : ℕ) (s : Statement) where
-  -- a stored statement is read back, and its parent
+  -- a stored statement is read back, its usage and its parent
   pub statement-put : ROW * a + ROW ≤ length w → Storable s → statementAt (putRow w a parent s) a ≡ s
   statement-put h fits = statement-held (putRow w a parent s) a parent s (cell-put w a parent s h) fits
+
+  pub usage-put : ROW * a + ROW ≤ length w → Storable s → usageIn (putRow w a parent s) a ≡ s .usage
+  usage-put h fits = usage-held (putRow w a parent s) a parent s (cell-put w a parent s h) fits
 
   pub parent-put : ROW * a + ROW ≤ length w → parentAt (putRow w a parent s) a ≡ parent
   parent-put h = cell-put w a parent s h PARENT (lit< tt)
 
   -- and the other rows are as before
+  pub usage-other : (k : ℕ) → (k ≡ a → ⊥) → usageIn (putRow w a parent s) k ≡ usageIn w k
+  usage-other k n = ap (λ (x : ℕ). usageAt (x / 256 % 8)) (cell-other w a parent s k n LEVEL (lit< tt))
+
   pub statement-other : (k : ℕ) → (k ≡ a → ⊥) → statementAt (putRow w a parent s) k ≡ statementAt w k
   statement-other k n = statement-same (putRow w a parent s) k w (λ c l. cell-other w a parent s k n c (omega arith))
 

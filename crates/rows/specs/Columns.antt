@@ -9,7 +9,8 @@ ROW = 20
 
 -- ---------------------------------------------------------------- the statement
 
--- its level; its parent, the row and 1, or 0 for none; the place of its first word; its name
+-- its level, and with it the usage that holds; its parent, the row and 1, or 0 for none; the place of its first word;
+-- its name
 abbrev pub LEVEL : ℕ
 LEVEL = 0
 
@@ -70,10 +71,15 @@ SLACK = 15
 abbrev pub BASE : ℕ
 BASE = 16
 
+-- the siblings that may place it, in one number: the latest earlier one without REDEFINES, 65,536 times, and the one
+-- that its REDEFINES names; each its row and 1, or 0 for none
+abbrev pub PLACERS : ℕ
+PLACERS = 17
+
 -- the next row of its union, a base's first redefiner or a redefiner's next one: its row and 1, or 0 for none
 abbrev pub NEXT : ℕ
-NEXT = 17
+NEXT = 18
 
 -- the fingerprint of its name
 abbrev pub PRINT : ℕ
-PRINT = 18
+PRINT = 19

@@ -9,13 +9,14 @@ use lib.ListN.{getD}
 use lib.Seq.{sets}
 use Rattle.definition.specs.declared.Span.{Span}
 use Rattle.definition.specs.declared.Occurs.{Occurs}
+use Rattle.definition.specs.declared.Usage.{Usage}
 use Rattle.definition.specs.declared.Clauses.{Clauses}
 use Rattle.definition.specs.declared.Statement.{Statement}
 use Rattle.definition.specs.Limits.{mostBytes}
 use Rattle.definition.specs.Basic.{if_then_else_, span}
 use Rattle.definition.specs.Listing.{flag}
 use Rattle.definition.specs.Statement.{clausesOf}
-use Rattle.kinds.specs.Usages.{usageCode, usageClauseAt, signCode, signWordsAt}
+use Rattle.kinds.specs.Usages.{usageByte, usageAt, usageCode, usageClauseAt, signCode, signWordsAt}
 use Rattle.rows.specs.Columns.{ROW, LEVEL, PARENT, AT, NAME, PICTURE, DEPENDING, REDEFINES, SAID, LOW, HIGH}
 
 -- ---------------------------------------------------------------- a number for each part
@@ -40,7 +41,11 @@ countOf (Occurs.Times n) = n
 abbrev pub occursAt : ℕ → ℕ → ℕ → Occurs
 occursAt mark low high = if eqb mark 0 then Occurs.Once else Occurs.Times (high * 4294967296 + low)
 
--- usage, sign, SYNC and whether OCCURS is said, as one number
+-- a level, and the usage that holds, as one number
+abbrev pub levelCode : ℕ → Usage → ℕ
+levelCode level u = level + 256 * usageByte u
+
+-- the usage that is named, sign, SYNC and whether OCCURS is said, as one number
 abbrev pub saidCode : Clauses → ℕ
 saidCode c = usageCode (c .usage) + 8 * (signCode (c .sign) + 8 * (flag (c .sync) + 2 * markOf (c .occurs)))
 
@@ -86,7 +91,7 @@ clauseCells c =
     ∷ []
 
 abbrev pub cells : ℕ → Statement → List ℕ
-cells parent s = s .level ∷ parent ∷ s .at ∷ spanCode (s .name) ∷ clauseCells (s .clauses)
+cells parent s = levelCode (s .level) (s .usage) ∷ parent ∷ s .at ∷ spanCode (s .name) ∷ clauseCells (s .clauses)
 
 -- w with a statement in row k
 unfoldable pub putRow : List ℕ → ℕ → ℕ → Statement → List ℕ
@@ -106,6 +111,10 @@ cell w k c = getD w (ROW * k + c) 0
 abbrev pub parentAt : List ℕ → ℕ → ℕ
 parentAt w k = cell w k PARENT
 
+-- the usage that holds for the statement in row k
+abbrev pub usageIn : List ℕ → ℕ → Usage
+usageIn w k = usageAt (cell w k LEVEL / 256 % 8)
+
 -- the OCCURS of the statement in row k
 abbrev pub occursIn : List ℕ → ℕ → Occurs
 occursIn w k = occursAt (cell w k SAID / 128) (cell w k LOW) (cell w k HIGH)
@@ -124,7 +133,14 @@ clausesAt w k =
 
 -- the statement in row k
 abbrev pub statementAt : List ℕ → ℕ → Statement
-statementAt w k = record { level = cell w k LEVEL % 256; at = cell w k AT; name = spanAt (cell w k NAME); clauses = clausesAt w k }
+statementAt w k =
+    record {
+      level = cell w k LEVEL % 256;
+      at = cell w k AT;
+      name = spanAt (cell w k NAME);
+      clauses = clausesAt w k;
+      usage = usageIn w k;
+    }
 
 -- n statements from row k on, and their parents
 unfoldable pub statementsFrom : List ℕ → ℕ → ℕ → List Statement

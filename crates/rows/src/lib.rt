@@ -6,12 +6,14 @@ ghost use lib.ListN.{length};
 ghost use lib.Seq.{sets};
 ghost use Rattle.definition.specs.Calls.{cleared};
 ghost use Rattle.rows.specs.Columns.{ROW};
-ghost use Rattle.rows.specs.Table.{spanCode, spanAt, markOf, countOf, occursAt, saidCode, occursIn};
+ghost use Rattle.rows.specs.Table.{spanCode, spanAt, markOf, countOf, occursAt, levelCode, saidCode};
+ghost use Rattle.rows.specs.Table.{usageIn, occursIn};
 ghost use Rattle.rows.specs.Table.{Short, Brief, Placed, clauseCells, putRow, clausesAt, statementAt};
 use definition::Clauses;
 use definition::Occurs;
 use definition::Span;
 use definition::Statement;
+use definition::Usage;
 
 // The columns of a row, as `specs/Columns` has them.
 pub const ROW: usize = 20;
@@ -50,9 +52,11 @@ pub const SLACK: usize = 15;
 
 pub const BASE: usize = 16;
 
-pub const NEXT: usize = 17;
+pub const PLACERS: usize = 17;
 
-pub const PRINT: usize = 18;
+pub const NEXT: usize = 18;
+
+pub const PRINT: usize = 19;
 
 // Work memory to zero.
 pub fn clear(work: &mut [u32])
@@ -131,7 +135,14 @@ fn put_four(work: &mut [u32], at: usize, a: u32, b: u32, c: u32, d: u32)
     work[at + 3] = d;
 }
 
-// Usage, sign, SYNC and whether OCCURS is said, as one number.
+// A level, and the usage that holds, as one number.
+fn level_code(level: u8, u: Usage) -> u32
+    ensures { λ r. ⌜ r ≡ levelCode level u ⌝ }
+{
+    kinds::wide(level) + 256 * kinds::wide(kinds::usage_byte(u))
+}
+
+// The usage that is named, sign, SYNC and whether OCCURS is said, as one number.
 fn said_code(c: Clauses) -> u32
     ensures { λ r. ⌜ r ≡ saidCode c ⌝ }
 {
@@ -172,15 +183,24 @@ pub fn put_row(work: &mut [u32], k: usize, parent: u32, s: Statement)
     let base = ROW * k;
     let name = s.name;
     let clauses = s.clauses;
+    let usage = s.usage;
     put_four(
         work,
         base,
-        s.level as u32,
+        level_code(s.level, usage),
         parent,
         s.at as u32,
         span_code(name),
     );
     put_clauses(work, base + 4, clauses);
+}
+
+// The usage that holds for the statement in row k.
+pub fn usage_in(work: &[u32], k: usize) -> Usage
+    requires { ⌜ ROW * k + ROW ≤ length (now work) ⌝ }
+    ensures { λ r. ⌜ r ≡ usageIn (now (work .entry)) k ⌝ }
+{
+    kinds::usage_at((work[ROW * k + LEVEL] / 256 % 8) as u8)
 }
 
 // The OCCURS of the statement in row k.
@@ -222,5 +242,6 @@ pub fn statement_at(work: &[u32], k: usize) -> Statement
         at: work[ROW * k + AT] as usize,
         name: span_at(work[ROW * k + NAME]),
         clauses: clauses_at(work, k),
+        usage: usage_in(work, k),
     }
 }

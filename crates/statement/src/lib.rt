@@ -4,7 +4,7 @@ ghost use mathlib.Core.List.{_∷_};
 ghost use Prim.Native.Nat.{_+_, _≤_, _<_};
 ghost use lib.ListN.{length};
 ghost use Rattle.definition.specs.Basic.{span, refused};
-ghost use Rattle.definition.specs.Statement.{finish as finishOf};
+ghost use Rattle.definition.specs.Statement.{finish as finishOf, statementOf};
 ghost use Rattle.definition.specs.declared.Token.the-variants.{Word};
 ghost use Rattle.tokens.specs.Tokens.{tokensAt};
 ghost use Rattle.statement.specs.Reading.{finishedOf, closing, ClausesAre, Ends, NamedAre, FirstStatement};
@@ -14,6 +14,7 @@ use definition::Refusal;
 use definition::Span;
 use definition::Statement;
 use definition::Step;
+use definition::Usage;
 use text::Level;
 use tokens::Next;
 use tokens::Stand;
@@ -144,6 +145,20 @@ fn skip_statement(text: &[u8], from: Stand) -> Stand
     }
 }
 
+// The statement of a level at a position, with a name and clauses, by itself.
+fn statement_of(level: u8, at: usize, name: Span, c: Clauses) -> Statement
+    ensures { λ r. ⌜ r ≡ statementOf level at name c ⌝ }
+{
+    let usage = c.usage;
+    Statement {
+        level: level,
+        at: at,
+        name: name,
+        clauses: c,
+        usage: clauses::usage_of(Usage::Display, usage),
+    }
+}
+
 // A statement of the words after its level, and where the reader stands after it, or a refusal.
 enum NamedRead {
     Done(Statement, Stand),
@@ -160,15 +175,15 @@ fn read_named(text: &[u8], at: usize, level: u8, from: Stand) -> NamedRead
             match read_clauses(text, at, next) {
                 ClausesRead::Done(c, after) => {
                     return NamedRead::Done(
-                        Statement {
-                            level: level,
-                            at: at,
-                            name: Span {
+                        statement_of(
+                            level,
+                            at,
+                            Span {
                                 start: start,
                                 len: len,
                             },
-                            clauses: c,
-                        },
+                            c,
+                        ),
                         after,
                     );
                 }
@@ -179,23 +194,13 @@ fn read_named(text: &[u8], at: usize, level: u8, from: Stand) -> NamedRead
         }
         Next::Stop { next } => {
             return NamedRead::Done(
-                Statement {
-                    level: level,
-                    at: at,
-                    name: clauses::nowhere(),
-                    clauses: clauses::no_clauses(),
-                },
+                statement_of(level, at, clauses::nowhere(), clauses::no_clauses()),
                 next,
             );
         }
         Next::End { next } => {
             return NamedRead::Done(
-                Statement {
-                    level: level,
-                    at: at,
-                    name: clauses::nowhere(),
-                    clauses: clauses::no_clauses(),
-                },
+                statement_of(level, at, clauses::nowhere(), clauses::no_clauses()),
                 next,
             );
         }

@@ -1,7 +1,7 @@
 -- What a table of entries says, by the rows that it names: the folded listing, one entry after the other. `ownOf` reads an
 -- entry back.
 -- Assumes nothing.
-use Prim.Native.Nat.{ℕ, zero, suc, _+_, _*_, max, _≤_}
+use Prim.Native.Nat.{ℕ, zero, suc, _+_, _*_, max, _≤_, _<_}
 use mathlib.Core.Path.{_≡_}
 use mathlib.Core.Bool.{Bool, true, false, _||_}
 use mathlib.Core.List.{List, [], _∷_, _++_}
@@ -87,6 +87,11 @@ abbrev pub Rows : List ℕ → List Item → Type 0
 Rows w [] = Unit {0}
 Rows w (x ∷ xs) = Sound w x × Rows w xs
 
+-- they name rows from `from` up to `to`
+abbrev pub Inside : ℕ → ℕ → List Item → Type 0
+Inside from to [] = Unit {0}
+Inside from to (x ∷ xs) = (from ≤ x .row) × (x .row < to) × Inside from to xs
+
 -- the folded list of the rows from `from` up to `to`
 abbrev pub listed : List ℕ → List ℕ → ℕ → ℕ → Entries
 listed text w from to = foldedAll text (listIn w from to)
@@ -95,5 +100,6 @@ listed text w from to = foldedAll text (listIn w from to)
 pub record Entered (text w : List ℕ) (from to : ℕ) (t : List ℕ) (n : ℕ) : Type 0 where
   pub fits : ITEM * n ≤ length t
   pub rows : Rows w (itemsFrom t 0 n)
+  pub inside : Inside from to (itemsFrom t 0 n)
   pub few : 2 * n ≤ 3 * to
   pub is : shownAll w (itemsFrom t 0 n) ≡ flatIn 0 (listed text w from to)

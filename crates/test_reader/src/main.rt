@@ -33,6 +33,15 @@ fn usage_number(u: UsageClause) -> u64 {
     }
 }
 
+// The usage that holds.
+fn held_number(u: Usage) -> u64 {
+    match u {
+        Usage::Display => 0,
+        Usage::Comp3 => 1,
+        Usage::Comp => 2,
+    }
+}
+
 fn sign_number(s: SignWords) -> u64 {
     match s {
         SignWords::Absent => 0,
@@ -112,11 +121,13 @@ fn row(list: &[u8], p: Reached, work: &[u32], k: usize) -> Reached
     let s = rows::statement_at(work, k);
     let name = s.name;
     let c = s.clauses;
+    let held = s.usage;
     let p = replay::byte(list, p, s.level);
     let p = replay::number(list, p, s.at as u64);
     let p = replay::number(list, p, wide(work[ROW * k + PARENT]));
     let p = span(list, p, name);
-    clauses(list, p, c)
+    let p = clauses(list, p, c);
+    replay::number(list, p, held_number(held))
 }
 
 // Goes on where the next words are the first n rows.
@@ -248,7 +259,7 @@ fn replay_long() -> Tally
     let t = replay::add_case(
         t,
         is_answered(
-            b"1 1 5 65531 0 65534 1 0 0 0 0 0 0 0 0 0 0 0.",
+            b"1 1 5 65531 0 65534 1 0 0 0 0 0 0 0 0 0 0 0 0.",
             &text[..65535],
         ),
     );

@@ -26,7 +26,7 @@ use Rattle.definition.proofs.Lists.{order}
 use Rattle.definition.proofs.WordLaws.{closed-on}
 use Rattle.tokens.specs.declared.Next.{Next}
 use Rattle.tokens.specs.declared.Stand.{Stand}
-use Rattle.tokens.specs.Tokens.{VALUE, markOf, lastMark, saidOf, saidAt, between, modeAt, tokensAt, FirstWord, FirstStop, FirstEnd, First, openCheck}
+use Rattle.tokens.specs.Tokens.{VALUE, openMark, lastMark, saidOf, saidAt, between, modeAt, tokensAt, FirstWord, FirstStop, FirstEnd, First, openCheck}
 
 -- ---------------------------------------------------------------- marks
 
@@ -46,7 +46,7 @@ module _ (t : List ℕ) (n a : ℕ) where
   pub said-before : n < VALUE → saidOf t n a ≡ Before n
   said-before h = rw (lt-ltb n 3 h)
 
-  pub said-literal : VALUE < n → saidOf t n a ≡ Literal (markOf n) (lastMark (markOf n) t a)
+  pub said-literal : VALUE < n → saidOf t n a ≡ Literal (openMark n) (lastMark (openMark n) t a)
   said-literal h = rw (le-ltb n 3 (omega arith), ne-eqb n 3 (λ (e : n ≡ 3). omega arith))
 
   -- up to VALUE no literal is open
@@ -119,7 +119,7 @@ module _ (t : List ℕ) (s : Stand) (e : firstOpen (tokensOf t) ≡ firstOpen (u
   opened : 3 < s .said → literalCheck t ≡ openCheck t s
   unfolding literalCheck firstOpen
   opened h =
-      let o : firstOpen (tokensOf t) ≡ some (lastMark (markOf (s .said)) t (s .at)) =
+      let o : firstOpen (tokensOf t) ≡ some (lastMark (openMark (s .said)) t (s .at)) =
       e ∙ ap (λ (q : Said). firstOpen (unlessOpen q Newline [])) (said-literal t (s .said) (s .at) h) in
       rw (o, lt-ltb 3 (s .said) h, literalCheck)
 

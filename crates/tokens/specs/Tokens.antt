@@ -29,8 +29,8 @@ abbrev pub IN_APOSTROPHES : ℕ
 IN_APOSTROPHES = 4
 
 -- the mark of a literal
-abbrev pub markOf : ℕ → ℕ
-markOf n = if eqb n IN_APOSTROPHES then 39 else 34
+abbrev pub openMark : ℕ → ℕ
+openMark n = if eqb n IN_APOSTROPHES then 39 else 34
 
 -- the last place before one that has a mark: there an open literal was opened
 unfoldable pub lastMark : ℕ → List ℕ → ℕ → ℕ
@@ -40,7 +40,7 @@ lastMark mark text (suc i) = if eqb (getD text i 0) mark then i else lastMark ma
 -- what a number says at a place: so many words, VALUE, or a literal that is open
 abbrev pub saidOf : List ℕ → ℕ → ℕ → Said
 saidOf text n at =
-    if ltb n VALUE then Before n else if eqb n VALUE then Value else Literal (markOf n) (lastMark (markOf n) text at)
+    if ltb n VALUE then Before n else if eqb n VALUE then Value else Literal (openMark n) (lastMark (openMark n) text at)
 
 -- ---------------------------------------------------------------- where a reader stands
 
@@ -74,12 +74,12 @@ tokensAt text s = tokensFrom text (saidAt text s) (modeAt s) (s .at)
 -- ---------------------------------------------------------------- words
 
 -- a byte b of a word after VALUE brings what is said from n to r
-pub record Marked (n b r : ℕ) : Type 0 where
+pub record MarkSeen (n b r : ℕ) : Type 0 where
   pub is : (text : List ℕ) (i : ℕ) → getD text i 0 ≡ b → saidOf text r (i + 1) ≡ marked (saidOf text n i) i b
   pub after : VALUE ≤ r
 
 -- what is said after a word w that comes after n words: the word may be VALUE
-pub record Counted (n : ℕ) (w : List ℕ) (r : ℕ) : Type 0 where
+pub record WordCounted (n : ℕ) (w : List ℕ) (r : ℕ) : Type 0 where
   pub is : (text : List ℕ) (at : ℕ) → saidOf text r at ≡ heard (Before n) w
 
 -- what is dropped from a place on ends at r, where no literal is open
@@ -147,7 +147,7 @@ AheadIs text at fresh (Ahead.End i) = AheadEnd text at fresh i
 pub record Skips (text : List ℕ) (at i : ℕ) : Type 0 where
   pub up : at ≤ i
   pub within : i ≤ length text
-  pub marks : (n : ℕ) → lastMark (markOf n) text at ≡ lastMark (markOf n) text i
+  pub marks : (n : ℕ) → lastMark (openMark n) text at ≡ lastMark (openMark n) text i
   pub rest : (m a : ℕ) → tokensFrom text (Literal m a) Between at ≡ tokensFrom text (Literal m a) Between i
 
 -- there a word begins at i,
@@ -213,4 +213,4 @@ First all text at (Next.End next) = FirstEnd all text at next
 
 -- 50 at the opening mark of a literal that is open where the tokens end
 abbrev pub openCheck : List ℕ → Stand → Answer (Unit {0})
-openCheck text s = if ltb VALUE (s .said) then refused 50 (lastMark (markOf (s .said)) text (s .at)) else give tt
+openCheck text s = if ltb VALUE (s .said) then refused 50 (lastMark (openMark (s .said)) text (s .at)) else give tt

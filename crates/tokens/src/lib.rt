@@ -9,8 +9,8 @@ ghost use Rattle.definition.specs.Calls.{literalCheck, checkOf};
 ghost use Rattle.definition.specs.declared.Said.the-variants.{Literal};
 ghost use Rattle.definition.specs.Words.{cutHere, ends, byteKind, isValue, seen};
 ghost use Rattle.definition.proofs.WordLaws.{goesIn, seenAt};
-ghost use Rattle.tokens.specs.Tokens.{VALUE, markOf, lastMark, saidOf, atStart, behind as behindOf, tokensAt};
-ghost use Rattle.tokens.specs.Tokens.{NextLine, Counted, PlainEnd, Marked, WordEnd, WordFrom, AheadIs, InsideIs};
+ghost use Rattle.tokens.specs.Tokens.{VALUE, openMark, lastMark, saidOf, atStart, behind as behindOf, tokensAt};
+ghost use Rattle.tokens.specs.Tokens.{NextLine, WordCounted, PlainEnd, MarkSeen, WordEnd, WordFrom, AheadIs, InsideIs};
 ghost use Rattle.tokens.specs.Tokens.{Looks, First, openCheck};
 use definition::ByteKind;
 use definition::Check;
@@ -157,7 +157,7 @@ fn is_value(word: &[u8]) -> bool
 // What is said after a word that comes after n words and before VALUE: the word may be VALUE if it is third or later.
 fn counted(n: usize, word: &[u8]) -> usize
     requires { ⌜ n < VALUE ⌝ }
-    ensures { λ r. ⌜ Counted n (now (word .entry)) r ⌝ }
+    ensures { λ r. ⌜ WordCounted n (now (word .entry)) r ⌝ }
 {
     if n < 2 {
         return n + 1;
@@ -188,7 +188,7 @@ fn word_end(text: &[u8], at: usize) -> usize
 
 // The mark of a literal.
 fn mark_of(said: usize) -> u8
-    ensures { λ r. ⌜ r ≡ markOf said ⌝ }
+    ensures { λ r. ⌜ r ≡ openMark said ⌝ }
 {
     if said == IN_APOSTROPHES {
         return APOSTROPHE;
@@ -199,7 +199,7 @@ fn mark_of(said: usize) -> u8
 // What is said after a byte of a word, after VALUE: a mark opens a literal, and the same mark closes it.
 fn marked(said: usize, b: u8) -> usize
     requires { ⌜ VALUE ≤ said ⌝ }
-    ensures { λ r. ⌜ Marked said b r ⌝ }
+    ensures { λ r. ⌜ MarkSeen said b r ⌝ }
 {
     if said == VALUE {
         if b == APOSTROPHE {

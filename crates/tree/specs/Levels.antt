@@ -3,21 +3,29 @@
 use Prim.Native.Nat.{ℕ, zero, suc, _+_, _-_, _*_, _≤_, _<_}
 use mathlib.Core.Path.{_≡_}
 use mathlib.Core.List.{List, [], _∷_}
+use lib.Dec.{ltb}
 use lib.ListN.{length, getD}
+use Rattle.definition.specs.declared.Usage.{Usage}
+use Rattle.definition.specs.Basic.{if_then_else_}
 use Rattle.definition.specs.Tree.{Open, opened, stillOpen, innermost}
 use Rattle.definition.proofs.ParentLaws.{Fit}
 use Rattle.rows.specs.Columns.{ROW, PARENT}
-use Rattle.rows.specs.Table.{cell}
+use Rattle.rows.specs.Table.{cell, usageIn}
 use Rattle.tree.specs.declared.OpenLevels.{OpenLevels}
 
--- the first n of these levels, from the last of them down, and their rows: `row`, and outward by the parents
+-- the first n of these levels, from the last of them down, with their rows, `row` and outward by the parents, and the
+-- usages that those hold
 unfoldable pub topDown : List ℕ → List ℕ → ℕ → ℕ → List Open
 topDown w ls zero row = []
-topDown w ls (suc n) row = opened (getD ls n 0) row ∷ topDown w ls n (cell w (row - 1) PARENT)
+topDown w ls (suc n) row = opened (getD ls n 0) row (usageIn w (row - 1)) ∷ topDown w ls n (cell w (row - 1) PARENT)
 
 -- the open statements, the innermost first
 abbrev pub stackOf : List ℕ → OpenLevels → List Open
 stackOf w o = topDown w (o .levels) (o .count) (o .row)
+
+-- the usage that holds around a statement whose parent is row - 1, or that has none
+abbrev pub usageAround : List ℕ → ℕ → Usage
+usageAround w row = if ltb 0 row then usageIn w (row - 1) else Usage.Display
 
 -- no statement is open
 pub record NoneOpen (o : OpenLevels) : Type 0 where
@@ -40,5 +48,7 @@ pub record Closed (w : List ℕ) (k : ℕ) (o : OpenLevels) (level : ℕ) (r : O
 
 -- r is o with this level opened, in row k
 pub record Opened (o : OpenLevels) (level k : ℕ) (r : OpenLevels) : Type 0 where
-  pub is : (w : List ℕ) → stackOf w r ≡ opened level (suc k) ∷ topDown w (o .levels) (o .count) (cell w k PARENT)
+  pub is :
+      (w : List ℕ) →
+      stackOf w r ≡ opened level (suc k) (usageIn w k) ∷ topDown w (o .levels) (o .count) (cell w k PARENT)
   pub few : r .count ≤ 256

@@ -13,16 +13,24 @@ use Rattle.definition.specs.Statement.{statements}
 use Rattle.definition.specs.Words.{statementWords}
 use Rattle.tokens.specs.Tokens.{openCheck}
 use Rattle.definition.specs.Tree.{Open, opened, stillOpen, innermost, parents}
+use Rattle.definition.specs.Usages.{inheriting, around, inheritAlong}
 use Rattle.tree.specs.declared.OpenLevels.{OpenLevels}
 use Rattle.tree.specs.declared.RowsRead.{RowsRead}
 use Rattle.tree.specs.declared.StatementsRead.{StatementsRead}
 use Rattle.tree.specs.Levels.{stackOf, Nested}
 use Rattle.rows.specs.Table.{Storable, Storables, putRow, putRows}
 
+-- what is open around a statement, and the statement as it stands there
+abbrev pub outerOf : List ℕ → OpenLevels → Statement → List Open
+outerOf w o s = stillOpen (s .level) (stackOf w o)
+
+abbrev pub heldOf : List ℕ → OpenLevels → Statement → Statement
+heldOf w o s = inheriting (around (outerOf w o s)) s
+
 -- a statement was stored in row k of w, which is then w′, and r are the levels that are open after it
 pub record Added (w : List ℕ) (k : ℕ) (o : OpenLevels) (s : Statement) (w′ : List ℕ) (r : OpenLevels) : Type 0 where
-  pub row : w′ ≡ putRow w k (innermost (stillOpen (s .level) (stackOf w o))) s
-  pub levels : stackOf w′ r ≡ opened (s .level) (suc k) ∷ stillOpen (s .level) (stackOf w o)
+  pub row : w′ ≡ putRow w k (innermost (outerOf w o s)) (heldOf w o s)
+  pub levels : stackOf w′ r ≡ opened (s .level) (suc k) (heldOf w o s .usage) ∷ outerOf w o s
   pub nested : Nested w′ (suc k) r
   pub storable : Storable s
 
@@ -31,10 +39,11 @@ pub data Outcome : Type 0 where
   stopped : Refusal → Outcome
   ready : ℕ → List ℕ → Outcome
 
--- what the kept statements of a text lead to from row n on, where these are open
+-- what the kept statements of a text lead to from row n on, where these are open: each with the usage that holds for it
 abbrev pub outcome : List ℕ → ℕ → List Open → Answer (List Statement) → Outcome
 outcome w n os (refuse r) = stopped r
-outcome w n os (give ss) = ready (n + length ss) (putRows w n (parents os n ss) ss)
+outcome w n os (give ss) =
+    let held = inheritAlong os n ss in ready (n + length ss) (putRows w n (parents os n held) held)
 
 -- what an answer says, with work memory as the call leaves it; after a refusal its contents are left open
 abbrev pub outcomeOf : RowsRead → List ℕ → Outcome

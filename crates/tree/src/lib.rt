@@ -1,16 +1,19 @@
-// A text read into rows of work memory: the open levels that give each statement its parent, and the reading.
+// A text read into rows of work memory: the open levels that give each statement its parent, the usage that it takes
+// from there, and the reading.
 ghost use mathlib.Core.Path.{_≡_};
 ghost use Prim.Native.Nat.{_+_, _*_, _-_, _≤_, _<_};
 ghost use lib.ListN.{length};
 ghost use Rattle.definition.specs.Limits.{mostBytes, leastWork, mostStatements};
 ghost use Rattle.rows.specs.Columns.{ROW, PARENT};
 ghost use Rattle.rows.specs.Table.{Placed, cell};
-ghost use Rattle.tree.specs.Levels.{NoneOpen, Nested, Closed, Opened};
+ghost use Rattle.definition.specs.Usages.{inheriting as inheritingOf};
+ghost use Rattle.tree.specs.Levels.{NoneOpen, Nested, Closed, Opened, usageAround};
 ghost use Rattle.tree.specs.Reading.{Added, StatementsAre, RowsAre};
 use definition::Check;
 use definition::MOST_STATEMENTS;
 use definition::Refusal;
 use definition::Statement;
+use definition::Usage;
 use rows::PARENT;
 use rows::ROW;
 use statement::StatementRead;
@@ -92,14 +95,43 @@ fn open(o: OpenLevels, level: u8, k: usize) -> OpenLevels
     }
 }
 
-// A statement into row k, under the innermost open one of a smaller level; its own is open then.
+// The usage that holds around a statement whose parent is row - 1, or that has none.
+fn usage_around(work: &[u32], row: usize) -> Usage
+    requires { ⌜ ROW * row ≤ length (now work) ⌝ }
+    ensures { λ r. ⌜ r ≡ usageAround (now (work .entry)) row ⌝ }
+{
+    if 0 < row {
+        return rows::usage_in(work, row - 1);
+    }
+    Usage::Display
+}
+
+// A statement with the usage that holds for it, where `outer` holds around it.
+fn inheriting(outer: Usage, s: Statement) -> Statement
+    ensures { λ r. ⌜ r ≡ inheritingOf outer s ⌝ }
+{
+    let name = s.name;
+    let said = s.clauses;
+    let usage = said.usage;
+    Statement {
+        level: s.level,
+        at: s.at,
+        name: name,
+        clauses: said,
+        usage: clauses::usage_of(outer, usage),
+    }
+}
+
+// A statement into row k, under the innermost open one of a smaller level, whose usage it takes where it names none;
+// its own level is open then.
 fn add_row(work: &mut [u32], k: usize, o: OpenLevels, s: Statement) -> OpenLevels
     requires { ⌜ (ROW * k + ROW ≤ length (now work)) × (k < mostStatements) × Nested (now work) k o × Placed s ⌝ }
     ensures { λ r. ⌜ Added (now (work .entry)) k o s (now (work .exit)) r ⌝ }
 {
     let level = s.level;
     let outer = close(work, o, level, k);
-    rows::put_row(work, k, outer.row as u32, s);
+    let around = usage_around(work, outer.row);
+    rows::put_row(work, k, outer.row as u32, inheriting(around, s));
     open(outer, level, k)
 }
 

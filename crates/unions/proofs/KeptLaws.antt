@@ -20,7 +20,7 @@ use Rattle.rows.specs.Table.{cell, statementsFrom}
 use Rattle.rows.proofs.TableLaws.{statement-same}
 use Rattle.places.specs.Places.{Linked, entriesIn, rowsForest}
 use Rattle.redefines.specs.Prints.{PrintsPut}
-use Rattle.redefines.proofs.SearchLaws.{back-none}
+use Rattle.redefines.proofs.SearchLaws.{found-none}
 use Rattle.places.proofs.EntriesLaws.{size-stretch, entry-same, entries-same, linked-same}
 use Rattle.unions.specs.Marks.{firstFrom, ColumnsKept, Unlinked, UnionsLinked}
 use Rattle.unions.specs.Shown.{unionOf, listIn, Sized, Tree}
@@ -42,7 +42,7 @@ module _ {w w′ : List ℕ} (h : ColumnsKept w w′) where
   linked-kept : (t : List ℕ) (a b : ℕ) → Linked t w a 0 (rowsForest w a b) → Linked t w′ a 0 (rowsForest w′ a b)
   linked-kept t a b x =
       subst (Linked t w′ a 0) (forest-kept a b)
-      (linked-same t w w′ (rowsForest w a b) a 0 (omega arith) (λ j c p q l. sym (h .same j c l)) (λ target. back-none t w target ∙ sym (back-none t w′ target)) x)
+      (linked-same t w w′ (rowsForest w a b) a 0 (omega arith) (λ j c p q l. sym (h .same j c l)) refl (λ bases target. found-none t w target bases ∙ sym (found-none t w′ target bases)) x)
 
   sized-kept : (a b : ℕ) → Sized w a b → Sized w′ a b
   sized-kept a b s =

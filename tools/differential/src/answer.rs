@@ -145,12 +145,13 @@ fn listing(text: &[u8], reading: &Reading, shapes: &[Shape], layout: Layout) -> 
 }
 
 /// What the product should say of a copybook: a listing; or a refusal, with what the Rust says; or one that is added,
-/// where the Rust has none such, with how the Rust did; or it accepts, where a literal or a P leaves the Rust no answer.
+/// where the Rust has none such, with how the Rust did; or it accepts, where literals, usages or a P leave the Rust
+/// without an answer.
 pub enum Expected {
     Listing(Listing),
     Refused(Refused, Error),
     Added(Refused, &'static str),
-    Accepted,
+    Accepted(&'static str),
 }
 
 /// 29 for a top-level end.
@@ -171,8 +172,8 @@ fn affordable_to_ask(text: &[u8], reading: &Reading) -> bool {
 }
 
 pub fn copybook(text: &[u8], reading: &Reading) -> Result<Expected, String> {
-    if !reading.plain || reading.has_scale(text) && !matches!(reading.top, Err(Refused(1..=14, _))) {
-        return Ok(reading.top.as_ref().map_or_else(|r| Expected::Added(*r, "has no answer"), |_| Expected::Accepted));
+    if let Some(how) = reading.no_answer(text) {
+        return Ok(reading.top.as_ref().map_or_else(|r| Expected::Added(*r, how), |_| Expected::Accepted(how)));
     }
     let original = if affordable_to_ask(text, reading) { asked(text, copybook::parse) } else { Original::NotAsked };
     let added = |r: Refused| matches!(r.0, 1 | 2 | 14 | 24 | 27 | 29 | 30);

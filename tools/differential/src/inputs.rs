@@ -301,7 +301,7 @@ impl Maker {
             let key = self.one(&["PIC", "PIC", "PICTURE", "PIC IS", "PICTURE IS"]);
             parts.push(format!("{key} {}", self.word_picture()));
         }
-        if self.chance(30) {
+        if self.chance(if group { 5 } else { 30 }) {
             let usage = self.one(&[
                 "COMP", "COMP", "COMP", "BINARY", "COMP-4", "COMPUTATIONAL-5", "COMP-3", "PACKED-DECIMAL", "DISPLAY",
                 "COMP-1",

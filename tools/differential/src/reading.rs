@@ -48,6 +48,8 @@ pub struct Statement {
     pub level: u64,
     pub name: Span,
     pub picture: Span,
+    /// The usage that it names, and the one that holds for it.
+    pub named: Option<Usage>,
     pub usage: Usage,
     pub sign: Option<Sign>,
     pub sync: bool,
@@ -73,9 +75,9 @@ pub struct Reading {
     /// The record's fields, and whether the only root was dropped.
     pub fields: Vec<usize>,
     pub dropped: bool,
-    /// Whether the Rust has an answer, as far as literals go: none holds `*>` or a period that would end a statement,
-    /// and none is left open.
-    pub plain: bool,
+    /// Why the Rust has no answer, as far as the words say: a literal holds `*>` or a period that would end a
+    /// statement, or is left open; or a statement takes another usage back by DISPLAY, or a group names a usage.
+    pub no_answer: Option<&'static str>,
     /// The folded top list, or why there is none. The last check, 29 for a top-level end, needs the widths of folds,
     /// and is made on the Rust's answer (`answer::copybook`).
     pub top: Answer<Vec<Shape>>,
@@ -212,8 +214,8 @@ fn count(word: &[u8]) -> Option<u128> {
 
 // ---------------------------------------------------------------- statements
 
-/// One statement from its words; nothing for a level 88.
-fn statement(text: &[u8], words: &[Span]) -> Answer<Option<Statement>> {
+/// One statement from its words; nothing for a level 88. `back` tells whether a DISPLAY stood after another usage word.
+fn statement(text: &[u8], words: &[Span], back: &mut bool) -> Answer<Option<Statement>> {
     let at = words[0].start;
     let level = number(words[0].of(text), 256).ok_or(Refused(10, at))? as u64;
     if level == 88 {
@@ -228,6 +230,7 @@ fn statement(text: &[u8], words: &[Span]) -> Answer<Option<Statement>> {
         level,
         name: word(1),
         picture: Span::default(),
+        named: None,
         usage: Usage::Display,
         sign: None,
         sync: false,
@@ -269,9 +272,13 @@ fn statement(text: &[u8], words: &[Span]) -> Answer<Option<Statement>> {
                 s.occurs = Some(n);
             }
             "USAGE" => i += usize::from(is(i, "IS")),
-            "COMP-3" | "COMPUTATIONAL-3" | "PACKED-DECIMAL" => s.usage = Usage::Comp3,
+            "DISPLAY" => {
+                *back |= matches!(s.named, Some(Usage::Comp | Usage::Comp3));
+                s.named = Some(Usage::Display);
+            }
+            "COMP-3" | "COMPUTATIONAL-3" | "PACKED-DECIMAL" => s.named = Some(Usage::Comp3),
             "COMP" | "COMPUTATIONAL" | "COMP-4" | "COMPUTATIONAL-4" | "COMP-5" | "COMPUTATIONAL-5" | "BINARY" => {
-                s.usage = Usage::Comp
+                s.named = Some(Usage::Comp)
             }
             "SIGN" => {
                 i += usize::from(is(i, "IS"));
@@ -294,24 +301,24 @@ fn statement(text: &[u8], words: &[Span]) -> Answer<Option<Statement>> {
     Ok(Some(s))
 }
 
-fn statements(text: &[u8], words: &[Vec<Span>]) -> (Vec<Statement>, Answer<()>) {
-    let mut kept = Vec::new();
+/// The kept statements, the first refusal if there is one, and whether any statement, those after a refusal included,
+/// takes another usage back.
+fn statements(text: &[u8], words: &[Vec<Span>]) -> (Vec<Statement>, Answer<()>, bool) {
+    let (mut kept, mut read, mut back) = (Vec::new(), Ok(()), false);
     for words in words {
-        match statement(text, words) {
-            Err(r) => return (kept, Err(r)),
+        match statement(text, words, &mut back) {
+            _ if read.is_err() => {}
+            Err(r) => read = Err(r),
             Ok(None) => {}
-            Ok(Some(s)) => {
-                if kept.len() == MOST_STATEMENTS {
-                    return (kept, Err(Refused(14, s.at)));
-                }
-                kept.push(s);
-            }
+            Ok(Some(s)) if kept.len() == MOST_STATEMENTS => read = Err(Refused(14, s.at)),
+            Ok(Some(s)) => kept.push(s),
         }
     }
-    (kept, Ok(()))
+    (kept, read, back)
 }
 
-/// The record's fields; each statement gets the list of those below it.
+/// The record's fields; each statement gets the list of those below it, and the usage that holds for it: its own, else
+/// what holds for its parent.
 fn fields(kept: &mut [Statement]) -> Vec<usize> {
     let mut roots = Vec::new();
     let mut open: Vec<usize> = Vec::new();
@@ -319,6 +326,8 @@ fn fields(kept: &mut [Statement]) -> Vec<usize> {
         while open.last().is_some_and(|&o| kept[o].level >= kept[k].level) {
             open.pop();
         }
+        let around = open.last().map_or(Usage::Display, |&parent| kept[parent].usage);
+        kept[k].usage = kept[k].named.unwrap_or(around);
         match open.last() {
             Some(&parent) => kept[parent].below.push(k),
             None => roots.push(k),
@@ -561,24 +570,30 @@ impl Laying<'_> {
 }
 
 pub fn read(text: &[u8]) -> Reading {
-    let refused = |statements, plain, r| Reading { statements, fields: Vec::new(), dropped: false, plain, top: Err(r) };
+    let refused = |statements, no_answer, r| {
+        let fields = Vec::new();
+        Reading { statements, fields, dropped: false, no_answer, top: Err(r) }
+    };
     if let Err(r) = text_checks(text) {
-        return refused(Vec::new(), true, r);
+        return refused(Vec::new(), None, r);
     }
     let (words, plain) = match statements_words(text) {
         Ok(found) => found,
-        Err(r) => return refused(Vec::new(), false, r),
+        Err(r) => return refused(Vec::new(), Some(LITERALS), r),
     };
-    let (mut kept, read) = statements(text, &words);
+    let (mut kept, read, back) = statements(text, &words);
+    let no_answer = if !plain { Some(LITERALS) } else { back.then_some(USAGES) };
     if let Err(r) = read {
-        return refused(kept, plain, r);
+        return refused(kept, no_answer, r);
     }
     let fields = fields(&mut kept);
+    let on_group = kept.iter().any(|s| s.named.is_some() && !s.below.is_empty());
+    let no_answer = no_answer.or(on_group.then_some(USAGES));
     let dropped = fields.first().is_some_and(|&k| k > 0);
     let laying = Laying { text, kept: &kept };
     let folded = laying.list(&fields, 0).and_then(|(items, _)| laying.fold(items));
     let top = folded.map(|items| items.into_iter().map(|i| i.shape).collect());
-    Reading { statements: kept, fields, dropped, plain, top }
+    Reading { statements: kept, fields, dropped, no_answer, top }
 }
 
 // ---------------------------------------------------------------- the owner rule
@@ -593,10 +608,17 @@ pub struct Laid {
 /// More are not laid.
 const MOST_LAID: usize = 20_000;
 
+/// What leaves the Rust without an answer.
+const LITERALS: &str = "has no answer: literals";
+const USAGES: &str = "has no answer: usages";
+const SCALES: &str = "has no answer: P";
+
 impl Reading {
-    /// An elementary item whose picture has a P.
-    pub fn has_scale(&self, text: &[u8]) -> bool {
-        self.statements.iter().any(|s| s.below.is_empty() && has_scale(s.picture.of(text)))
+    /// Why the Rust has no answer: its words, or an elementary item whose picture has a P.
+    pub fn no_answer(&self, text: &[u8]) -> Option<&'static str> {
+        let scaled = || self.statements.iter().any(|s| s.below.is_empty() && has_scale(s.picture.of(text)));
+        let laid = !matches!(self.top, Err(Refused(1..=14, _)));
+        self.no_answer.or_else(|| (laid && scaled()).then_some(SCALES))
     }
 
     /// A kept REDEFINES or DEPENDING ON, a dropped root's own aside.

@@ -14,7 +14,7 @@ use Rattle.unions.specs.Shown.{shownAt, Base}
 use Rattle.unions.proofs.WidthLaws.{branch-tree, branch-row, branch-base, along-numbered, along-known, along-branch}
 use Rattle.table.specs.Entered.{listed}
 use Rattle.entries.specs.Building.{itemIn, redefined, unionIn}
-use Rattle.entries.proofs.BuildLaws.{built-none, built-as, built-length, room-part, room-within, room-open, built-own, built-union}
+use Rattle.entries.proofs.BuildLaws.{built-none, built-as, built-wider, built-length, room-part, room-within, room-open, built-own, built-union}
 use Rattle.entries.proofs.WalkLaws.{shown-under, shown-alone, shown-base, shown-union, members-folded, members-based, first-room, second-room, both-built, room-as, Listing, listing-starts, listing-ends, listing-room, listing-on, Redefining, redefining-starts, chainLeft, redefining-ends, redefining-next, redefining-numbered, redefining-row, redefining-tree, redefining-room, redefining-on, redefining-falls}
 use borrow.Fn.Kinds.{In}
 use borrow.Fn.PlainCycle.{Measures, is, falls, and}
@@ -156,7 +156,7 @@ build-item-returns : (t : ℕ) → build-item-lts.Need-returns (build-item-calle
 build-item-returns t c =
     let s = c .before .before .before .before .before .before .before .before .before .before .before .before in
     let a = s .args in
-    built-own (a .b) (a .depth) (c .before .before .before .before .before .before .build-list .ensures) (a .i) (s .pre .1 .1) (a .member) (a .start) (c .before .before .close-item .ensures)
+    built-own (a .b) (a .depth) (built-wider (a .i) (a .j) (omega arith) (omega arith) (c .before .before .before .before .before .before .build-list .ensures)) (a .i) (omega arith) (s .pre .1 .0) (s .pre .1 .1) (a .member) (a .start) (c .before .before .close-item .ensures)
 
 abbrev build-list-Inv-loop : build-list-lts.InvT-loop
 build-list-Inv-loop text work from to entries₀ depth r₀ i₀ last₀ entries r i last =
@@ -214,7 +214,7 @@ build-members-returns : (t : ℕ) → build-members-lts.Need-returns (build-memb
 build-members-returns t c =
     let s = c .before .before .before .before .before .before .before .before .before .before .before .before .before in
     let a = s .args in
-    both-built (listed (a .text .now) (a .work .now) (a .i + 1) (a .j)) (redefined (a .text .now) (a .work .now) (a .i) (a .j) (a .to)) (members-folded (a .text .now) (a .work .now) (a .i) (a .j) (a .to) (c .before .before .before .before .before .before .before .before .before .has-own .ensures) (c .before .before .before .before .before .before .before .before .if1 .taken)) (s .pre .1 .1) (c .before .before .before .before .before .before .build-list .ensures) (c .before .before .build-redefiners .ensures)
+    both-built (listed (a .text .now) (a .work .now) (a .i + 1) (a .j)) (redefined (a .text .now) (a .work .now) (a .i) (a .j) (a .to)) (members-folded (a .text .now) (a .work .now) (a .i) (a .j) (a .to) (c .before .before .before .before .before .before .before .before .before .has-own .ensures) (c .before .before .before .before .before .before .before .before .if1 .taken)) (s .pre .1 .1) (built-wider (a .i) (a .to) (omega arith) (s .pre .1 .0 .high) (c .before .before .before .before .before .before .build-list .ensures)) (c .before .before .build-redefiners .ensures)
 
 build-members-build-item-requires : (t : ℕ) → build-members-lts.Need-build-item-requires (build-members-callees t) (build-members-at t) build-members.Post
 build-members-build-item-requires t c κs =
@@ -233,7 +233,7 @@ build-members-returns-2 : (t : ℕ) → build-members-lts.Need-returns-2 (build-
 build-members-returns-2 t c =
     let s = c .before .before .before .before .before .before .before .before .before .before .before .before .before .before .before in
     let a = s .args in
-    both-built (itemIn (a .text .now) (a .work .now) (a .i) (a .j) true (c .before .before .before .before .before .before .before .before .wide .result)) (redefined (a .text .now) (a .work .now) (a .i) (a .j) (a .to)) (members-based (a .text .now) (a .work .now) (a .i) (a .j) (a .to) (c .before .before .before .before .before .before .before .before .before .before .before .has-own .ensures) (c .before .before .before .before .before .before .before .before .before .before .if1 .left) (c .before .before .before .before .before .before .before .before .wide .ensures .0)) (s .pre .1 .1) (c .before .before .before .before .before .before .build-item .ensures) (c .before .before .build-redefiners2 .ensures)
+    both-built (itemIn (a .text .now) (a .work .now) (a .i) (a .j) true (c .before .before .before .before .before .before .before .before .wide .result)) (redefined (a .text .now) (a .work .now) (a .i) (a .j) (a .to)) (members-based (a .text .now) (a .work .now) (a .i) (a .j) (a .to) (c .before .before .before .before .before .before .before .before .before .before .before .has-own .ensures) (c .before .before .before .before .before .before .before .before .before .before .if1 .left) (c .before .before .before .before .before .before .before .before .wide .ensures .0)) (s .pre .1 .1) (built-wider (a .i) (a .to) (omega arith) (s .pre .1 .0 .high) (c .before .before .before .before .before .before .build-item .ensures)) (c .before .before .build-redefiners2 .ensures)
 
 abbrev build-redefiners-Inv-loop : build-redefiners-lts.InvT-loop
 build-redefiners-Inv-loop text work i j to entries₀ depth start r₀ k₀ entries r k =
@@ -306,7 +306,7 @@ build-shown-returns-2 : (t : ℕ) → build-shown-lts.Need-returns-2 (build-show
 build-shown-returns-2 t c =
     let s = c .before .before .before .before .before .before .before .before .before .before in
     let a = s .args in
-    built-as (shown-alone (a .text .now) (a .work .now) (a .i) (a .j) (a .to) (a .last) (c .before .before .before .before .before .before .standing-of .ensures) (c .before .before .before .before .enum-told2 .given .1)) (c .before .before .build-item .ensures)
+    built-as (shown-alone (a .text .now) (a .work .now) (a .i) (a .j) (a .to) (a .last) (c .before .before .before .before .before .before .standing-of .ensures) (c .before .before .before .before .enum-told2 .given .1)) (built-wider (a .i) (a .to) (omega arith) (s .pre .1 .0 .high) (c .before .before .build-item .ensures))
 
 -- a base, where row i is known to be one
 build-shown-based :
@@ -369,7 +369,7 @@ build-shown-returns-3 : (t : ℕ) → build-shown-lts.Need-returns-3 (build-show
 build-shown-returns-3 t c =
     let s = c .before .before .before .before .before .before .before .before .before .before .before .before .before .before .before .before .before in
     let a = s .args in
-    built-as (build-shown-unites t (c .before .before .before .before .before .before .before .before .before .before .before) (c .before .before .before .before .before .before .before .before .before .if1 .taken)) (built-union (a .b) (a .depth) (c .before .before .before .before .before .before .build-members .ensures) (a .i) (omega (arith, s .pre .1 .0 .low, s .pre .1 .0 .high, s .pre .1 .0 .fits)) (c .before .before .close-union .ensures))
+    built-as (build-shown-unites t (c .before .before .before .before .before .before .before .before .before .before .before) (c .before .before .before .before .before .before .before .before .before .if1 .taken)) (built-union (a .b) (a .depth) (c .before .before .before .before .before .before .build-members .ensures) (a .i) (omega arith) (omega (arith, s .pre .1 .0 .low, s .pre .1 .0 .high)) (omega (arith, s .pre .1 .0 .low, s .pre .1 .0 .high, s .pre .1 .0 .fits)) (c .before .before .close-union .ensures))
 
 build-shown-build-item-requires-2 : (t : ℕ) → build-shown-lts.Need-build-item-requires-2 (build-shown-callees t) (build-shown-at t) build-shown.Post
 build-shown-build-item-requires-2 t c κs =
@@ -379,7 +379,9 @@ build-shown-build-item-requires-2 t c κs =
 
 build-shown-returns-4 : (t : ℕ) → build-shown-lts.Need-returns-4 (build-shown-callees t) (build-shown-at t) build-shown.Post
 build-shown-returns-4 t c =
-    built-as (build-shown-stands t (c .before .before .before .before .before .before) (c .before .before .before .before .if1 .left)) (c .before .before .build-item2 .ensures)
+    let s = c .before .before .before .before .before .before .before .before .before .before .before .before in
+    let a = s .args in
+    built-as (build-shown-stands t (c .before .before .before .before .before .before) (c .before .before .before .before .if1 .left)) (built-wider (a .i) (a .to) (omega arith) (s .pre .1 .0 .high) (c .before .before .build-item2 .ensures))
 
 pub +build-item+build-list+build-members+build-redefiners+build-shown-spec :
     {M : Type 1} → statement M

@@ -26,49 +26,24 @@ Missed (l ∷ ls) b = Missed ls b × (b ≡ l → ⊥)
 
 -- none of those that have an arm, the last first: no spelling begins with it
 abbrev Rest : ℕ → Type 0
-Rest = Missed (86 ∷ 85 ∷ 83 ∷ 82 ∷ 80 ∷ 79 ∷ 67 ∷ 66 ∷ [])
+Rest = Missed (86 ∷ 85 ∷ 83 ∷ 82 ∷ 80 ∷ 79 ∷ 68 ∷ 67 ∷ 66 ∷ [])
 
 none : (b : ℕ) → Rest b → starting b spellings ≡ []
-none b m = rw (ne-eqb b 66 (m .0 .0 .0 .0 .0 .0 .0 .1), ne-eqb b 67 (m .0 .0 .0 .0 .0 .0 .1), ne-eqb b 79 (m .0 .0 .0 .0 .0 .1), ne-eqb b 80 (m .0 .0 .0 .0 .1), ne-eqb b 82 (m .0 .0 .0 .1), ne-eqb b 83 (m .0 .0 .1), ne-eqb b 85 (m .0 .1), ne-eqb b 86 (m .1))
+none b m =
+    rw (
+      ne-eqb b 66 (m .0 .0 .0 .0 .0 .0 .0 .0 .1),
+      ne-eqb b 67 (m .0 .0 .0 .0 .0 .0 .0 .1),
+      ne-eqb b 68 (m .0 .0 .0 .0 .0 .0 .1),
+      ne-eqb b 79 (m .0 .0 .0 .0 .0 .1),
+      ne-eqb b 80 (m .0 .0 .0 .0 .1),
+      ne-eqb b 82 (m .0 .0 .0 .1),
+      ne-eqb b 83 (m .0 .0 .1),
+      ne-eqb b 85 (m .0 .1),
+      ne-eqb b 86 (m .1),
+    )
 
 other : (u : List ℕ) (b : ℕ) → Rest b → Keyword.Other ≡ says u b
 other u b m = ap (λ ss. meaning u ss Keyword.Other) (sym (none b m))
-
-slice-aggregate-pick : tie.Need-slice-aggregate-pick
-slice-aggregate-pick c = search needs
-
-pick-requires : tie.Need-pick-requires
-pick-requires c κs = search needs
-
-with-c-requires : tie.Need-with-c-requires
-with-c-requires c κs = search needs
-
-slice-aggregate-pick-2 : tie.Need-slice-aggregate-pick-2
-slice-aggregate-pick-2 c = search needs
-
-pick-requires-2 : tie.Need-pick-requires-2
-pick-requires-2 c κs = search needs
-
-with-p-requires : tie.Need-with-p-requires
-with-p-requires c κs = search needs
-
-slice-aggregate-pick-3 : tie.Need-slice-aggregate-pick-3
-slice-aggregate-pick-3 c = search needs
-
-pick-requires-3 : tie.Need-pick-requires-3
-pick-requires-3 c κs = search needs
-
-with-s-requires : tie.Need-with-s-requires
-with-s-requires c κs = search needs
-
-slice-aggregate-pick-4 : tie.Need-slice-aggregate-pick-4
-slice-aggregate-pick-4 c = search needs
-
-pick-requires-4 : tie.Need-pick-requires-4
-pick-requires-4 c κs = search needs
-
-with-v-requires : tie.Need-with-v-requires
-with-v-requires c κs = search needs
 
 returns : tie.Need-returns
 returns c = arm _ (c .before .before .match .keys1) (c .pick .ensures)
@@ -80,39 +55,44 @@ returns-3 : tie.Need-returns-3
 returns-3 c = arm _ (c .before .before .match .keys3) (c .pick2 .ensures)
 
 returns-4 : tie.Need-returns-4
-returns-4 c = arm _ (c .before .match .keys4) (c .with-p .ensures)
+returns-4 c = arm _ (c .before .before .match .keys4) (c .pick3 .ensures)
 
 returns-5 : tie.Need-returns-5
-returns-5 c = arm _ (c .before .before .match .keys5) (c .pick3 .ensures)
+returns-5 c = arm _ (c .before .match .keys5) (c .with-p .ensures)
 
 returns-6 : tie.Need-returns-6
-returns-6 c = arm _ (c .before .match .keys6) (c .with-s .ensures)
+returns-6 c = arm _ (c .before .before .match .keys6) (c .pick4 .ensures)
 
 returns-7 : tie.Need-returns-7
-returns-7 c = arm _ (c .before .before .match .keys7) (c .pick4 .ensures)
+returns-7 c = arm _ (c .before .match .keys7) (c .with-s .ensures)
 
 returns-8 : tie.Need-returns-8
-returns-8 c = arm _ (c .before .match .keys8) (c .with-v .ensures)
+returns-8 c = arm _ (c .before .before .match .keys8) (c .pick5 .ensures)
 
 returns-9 : tie.Need-returns-9
-returns-9 c = other _ _ (c .match .rest)
+returns-9 c = arm _ (c .before .match .keys9) (c .with-v .ensures)
+
+returns-10 : tie.Need-returns-10
+returns-10 c = other _ _ (c .match .rest)
 
 pub with-letter-spec : {M : Type 1} → statement M
 with-letter-spec =
     tie.close
     (tie.spec
-    slice-aggregate-pick
-    pick-requires
-    with-c-requires
-    slice-aggregate-pick-2
-    pick-requires-2
-    with-p-requires
-    slice-aggregate-pick-3
-    pick-requires-3
-    with-s-requires
-    slice-aggregate-pick-4
-    pick-requires-4
-    with-v-requires
+    (λ c. search needs)
+    (λ c κs. search needs)
+    (λ c κs. search needs)
+    (λ c. search needs)
+    (λ c κs. search needs)
+    (λ c. search needs)
+    (λ c κs. search needs)
+    (λ c κs. search needs)
+    (λ c. search needs)
+    (λ c κs. search needs)
+    (λ c κs. search needs)
+    (λ c. search needs)
+    (λ c κs. search needs)
+    (λ c κs. search needs)
     returns
     returns-2
     returns-3
@@ -121,4 +101,5 @@ with-letter-spec =
     returns-6
     returns-7
     returns-8
-    returns-9)
+    returns-9
+    returns-10)

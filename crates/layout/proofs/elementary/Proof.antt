@@ -6,11 +6,10 @@ use mathlib.Core.Path.{_≡_, refl}
 use mathlib.Core.List.{List}
 use borrow.Author.Tests.{lt-ltb, le-ltb}
 use Rattle.definition.specs.declared.Statement.{Statement}
-use Rattle.definition.specs.declared.Usage.{Usage}
 use Rattle.definition.specs.declared.SignClause.{SignClause}
 use Rattle.definition.specs.declared.Pictured.{Pictured}
 use Rattle.definition.specs.Basic.{part, Answer, refused, _>>=_}
-use Rattle.definition.specs.Statement.{usageOf, signOf}
+use Rattle.definition.specs.Statement.{signOf}
 use Rattle.definition.specs.Tree.{leaf}
 use Rattle.definition.specs.Picture.{picture}
 use Rattle.definition.specs.Layout.{content}
@@ -20,14 +19,13 @@ use Rattle.layout.proofs.elementary.Tie as tie
 module _ (t : List ℕ) (s : Statement) where
   pictured :
       0 < s .clauses .picture .len →
-      {p : List ℕ} {u : Usage} {g : SignClause} {a : Answer Pictured} →
+      {p : List ℕ} {g : SignClause} {a : Answer Pictured} →
       p ≡ part t (s .clauses .picture) →
-      u ≡ usageOf (s .clauses .usage) →
       g ≡ signOf (s .clauses .sign) →
-      a ≡ picture (s .at) u g p →
+      a ≡ picture (s .at) (s .usage) g p →
       a ≡ content t s leaf 0
   unfolding _>>=_
-  pictured h ep eu eg e = rw (lt-ltb 0 (s .clauses .picture .len) h, ← ep, ← eu, ← eg) e
+  pictured h ep eg e = rw (lt-ltb 0 (s .clauses .picture .len) h, ← ep, ← eg) e
 
   missing : s .clauses .picture .len ≤ 0 → refused 21 (s .at) ≡ content t s leaf 0
   unfolding _>>=_
@@ -43,7 +41,6 @@ pub elementary-spec : {M : Type 1} → statement M
 elementary-spec =
     tie.close
     (tie.spec
-    (λ c κs. search needs)
     (λ c κs. search needs)
     (λ c κs. search needs)
     (λ c κs. search needs)

@@ -1,7 +1,7 @@
 -- `layout::place` meets its contract.
 -- Assumes nothing.
 use borrow.Author.Needs.{needs}
-use Prim.Native.Nat.{ℕ, _+_, _-_, _≤_, _<_}
+use Prim.Native.Nat.{ℕ, _+_, _*_, _-_, _≤_, _<_}
 use mathlib.Core.Bool.{Bool, true, false, _&&_}
 use mathlib.Core.Path.{_≡_, refl, sym, ap, _∙_}
 use mathlib.Core.List.{List}
@@ -19,7 +19,8 @@ use Rattle.rows.specs.Table.{statementAt}
 use Rattle.limits.specs.declared.Ending.{Ending}
 use Rattle.places.specs.Places.{putPlace}
 use Rattle.redefines.specs.Targets.{seenAt, rowFrom, offsetOf, targetFrom, baseFrom, baseAfter}
-use Rattle.redefines.proofs.SearchLaws.{row-found, base-on, back-none}
+use Rattle.redefines.specs.Targets.{plainAfter, placersAfter}
+use Rattle.redefines.proofs.SearchLaws.{row-found, target-named, base-on, back-none}
 use Rattle.redefines.proofs.PrintLaws.{printed-less}
 use Rattle.limits.specs.Ends.{endOf, endingOf}
 use Rattle.limits.proofs.EndLaws.{ends-at, ends-not}
@@ -93,6 +94,13 @@ module _ (t w : List ℕ) (i below last cursor : ℕ) (c : Pictured) {s : Statem
         go true = sym (base-on t w (s .clauses .redefines) last last)
         go false = back-none t w (s .clauses .redefines)
 
+    -- the siblings that may place it
+    placers : {p : ℕ} → p ≡ plainAfter w last * 65536 + k → p ≡ placersAfter t w i last
+    placers h =
+        h
+        ∙ ap (λ (n : ℕ). plainAfter w last * 65536 + n) pk
+        ∙ ap (λ (x : Statement). plainAfter w last * 65536 + targetFrom t (x .clauses .redefines) w last) ps
+
     module _ {o : Start} (po : startOf o ≡ startAt s c (offsetOf w k) cursor) where
       no-start : {r : Refusal} → o ≡ Start.Refused r → halted r ≡ placeRow t w i below last cursor c
       no-start e = in-row (placed-refused t s c (seenAt w last) cursor (sym (ap startOf e) ∙ po ∙ starts))
@@ -113,17 +121,18 @@ module _ (t w : List ℕ) (i below last cursor : ℕ) (c : Pictured) {s : Statem
           large px q = in-row (placed-large t s c (seenAt w last) cursor begins (sym (ap tooLarge made) ∙ ends-not d (sym (ap endingOf q) ∙ px)))
 
           fits :
-              {x : Ending} {n m b : ℕ} {w′ : List ℕ} →
+              {x : Ending} {n m b p : ℕ} {w′ : List ℕ} →
               endingOf x ≡ endOf d →
               x ≡ Ending.At n →
               b ≡ baseFrom t (s .clauses .redefines) w k k →
-              w′ ≡ putPlace w i last below b d →
+              p ≡ plainAfter w last * 65536 + k →
+              w′ ≡ putPlace w i last below b p d →
               m ≡ (if given (s .clauses .redefines) then cursor else n) →
               placing m n w′ ≡ placeRow t w i below last cursor c
-          fits px q pb pw pm =
+          fits px q pb pp pw pm =
               let z = ends-at d (sym (ap endingOf q) ∙ px) in
               let g = in-row (placed-fits t s c (seenAt w last) cursor begins (sym (ap tooLarge made) ∙ z .fits)) in
-              rw (pm, pw, based pb, ← z .is, made) g
+              rw (pm, pw, based pb, placers pp, ← z .is, made) g
 
 entry-end-requires : tie.Need-entry-end-requires
 entry-end-requires c κs = narrow (c .before .before .before .before .before .before .before .before .before .before .before .statement-at .result) (c .entry-of .ensures) (c .before .before .before .before .before .before .before .before .before .before .before .before .before .before .before .pre .5)
@@ -131,25 +140,37 @@ entry-end-requires c κs = narrow (c .before .before .before .before .before .be
 target-of-requires : tie.Need-target-of-requires
 target-of-requires c κs = let p = c .before .before .before .before .before .before .before .pre in (omega (arith, p .0, p .1), printed-less (p .6) (p .1))
 
-find-row-requires : tie.Need-find-row-requires
-find-row-requires c κs =
+base-of-requires : tie.Need-base-of-requires
+base-of-requires c κs =
     let p = c .before .before .before .before .before .before .before .before .before .before .before .before .before .before .before .before .before .before .before .before .pre in
-    let target = c .before .before .before .before .before .before .before .before .before .before .before .before .target-of .ensures .1 in
-    (omega (arith, target, p .0, p .1), printed-less (p .6) (omega (arith, target, p .1)))
+    let c6 = c .before .before .before .before .before .before in
+    let target = c6 .before .before .before .before .before .before .target-of .ensures in (
+      omega (arith, target .2, p .0, p .1),
+      printed-less (p .6) (omega (arith, target .2, p .1)),
+      target-named _ _ _ _ (target .1),
+    )
+
+placers-of-requires : tie.Need-placers-of-requires
+placers-of-requires c κs =
+    let p = c .before .before .before .before .before .before .before .before .before .before .before .before .before .before .before .before .before .before .before .before .before .before .pre in
+    let target = c .before .before .before .before .before .before .before .before .before .before .before .before .before .before .target-of .ensures .2 in
+    (omega (arith, p .0, p .1), omega (arith, p .1, p .2), omega (arith, target, p .1, p .2))
 
 put-place-requires : tie.Need-put-place-requires
 put-place-requires c κs =
-    let s = c .before .before .before .before .before .before .before .before .before .before .before .before .before .before .before .before .before .before .before .before .before .before in
+    let f = c .before .before in
+    let s = f .before .before .before .before .before .before .before .before .before .before .before .before .before .before .before .before .before .before .before .before .before .before in
     let p = s .pre in
-    let said = c .before .before .before .before .before .before .before .before .before .before .before .before .before .before .before .before .before .before .statement-at .result in
-    let slack = c .before .before .before .before .before .before .before .before in
-    let d = c .before .before .before .before .before .before .before .entry-of in
-    let ends = c .before .before .before .before .before .before .entry-end .ensures in
-    let end = c .before .before .before .before .end .given .1 in (
+    let said = f .before .before .before .before .before .before .before .before .before .before .before .before .before .before .before .before .before .before .statement-at .result in
+    let slack = f .before .before .before .before .before .before .before .before in
+    let d = f .before .before .before .before .before .before .before .entry-of in
+    let ends = f .before .before .before .before .before .before .entry-end .ensures in
+    let end = f .before .before .before .before .end .given .1 in
+    let target = slack .before .before .before .before .before .before .target-of .ensures in (
       p .0,
       omega (arith, p .1, p .2),
       p .3,
-      omega (arith, c .before .find-row .ensures .1, c .before .before .before .before .before .before .before .before .before .before .before .before .before .before .target-of .ensures .1, p .1, p .2),
+      omega (arith, f .before .base-of .ensures .1, target .2, p .1, p .2),
       near (d .result) ends end,
       slim said (d .ensures) (p .5),
       close said (d .ensures) (s .args .cursor) (slack .slack-from .ensures) ends end,
@@ -157,16 +178,19 @@ put-place-requires c κs =
 
 returns : tie.Need-returns
 returns c =
-    let a = c .before .before .before .before .before .before .before .before .before .before .before .before .before .before .before .before .before .before .before .before .before .before .before .before .before .before .args in
+    let a = c .before .before .before .before .before .before .before .before .before .before .before .before .before .before .before .before .before .before .before .before .before .before .before .before .before .before .before .before .args in
     let placed = c .before .before .before in
-    let found = placed .before .before in
+    let reached = placed .before .before in
+    let found = reached .before .before in
     let end = found .before .before .before in
     let made = end .before .before .before in
     let start = made .before .before .before in
     let target = start .before .before .before .before in
-    fits (a .text .now) (a .work .now) (a .i) (a .below) (a .last) (a .cursor) (a .c) (target .before .before .before .before .statement-at .ensures) (target .target-of .ensures .0)
+    let said = target .before .before .before .before .statement-at .ensures in
+    let row = target .target-of .ensures .1 in
+    fits (a .text .now) (a .work .now) (a .i) (a .below) (a .last) (a .cursor) (a .c) said row
     (start .before .before .start-of .ensures) (start .offset .given .1) (made .before .slack-from .ensures) (made .entry-of .ensures) (end .before .before .entry-end .ensures) (end .end .given .1)
-    (found .find-row .ensures .0) (placed .put-place .ensures) (c .advanced .ensures)
+    (found .base-of .ensures .0) (reached .placers-of .ensures) (placed .put-place .ensures) (c .advanced .ensures)
 
 returns-2 : tie.Need-returns-2
 returns-2 c = search large
@@ -186,7 +210,8 @@ place-spec =
     (λ c κs. search needs)
     entry-end-requires
     (λ c. search needs)
-    find-row-requires
+    base-of-requires
+    placers-of-requires
     put-place-requires
     (λ c κs. search needs)
     (λ c. search needs)

@@ -67,7 +67,7 @@ returns c =
     let x = z .before .before .before .before .before .before .before in
     let s = x .before .before .before .before .before .before .before .before .before in
     let a = s .args in
-    (laid-listed (a .text .now) (a .work .now) (a .from) (a .to) (inner x) (c .before .before .before .before .before .before .before .before .before .before .before .before .before .before .before .before .before .before .before .fold-check .ensures) (c .before .before .before .before .before .before .before .before .before .before .before .before .before .before .before .before .before .enum-told .given .1) (z .link-unions .ensures) (table-ends (made .0) (c .before .before .before .before .before .ends-fit .ensures)) (c .before .before .before .enum-told2 .given .1) (s .pre .0) (s .pre .1 .fits) (s .pre .2) (table-long (made .0) (c .record-length .ensures)), made .0, made .1)
+    (laid-listed (a .text .now) (a .work .now) (a .from) (a .to) (inner x) (c .before .before .before .before .before .before .before .before .before .before .before .before .before .before .before .before .before .before .before .fold-check .ensures) (c .before .before .before .before .before .before .before .before .before .before .before .before .before .before .before .before .before .enum-told .given .1) (z .link-unions .ensures) (table-ends (made .0) (c .before .before .before .before .before .ends-fit .ensures)) (c .before .before .before .enum-told2 .given .1) (s .pre .0) (s .pre .1 .fits) (s .pre .2) (s .pre .4) (table-long (made .0) (c .record-length .ensures)), made .0, made .1)
 
 same-length-3 : tie.Need-same-length-3
 same-length-3 c = c .before .before .before .before .before .before .before .before .before .before .before .before .before .link-unions .kept .0 ∙ c .before .before .before .before .before .before .before .before .before .before .before .before .before .before .before .before .before .before .before .before .before .before .before .before .lay-list .kept .1 .0

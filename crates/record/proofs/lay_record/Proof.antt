@@ -5,6 +5,12 @@ use Rattle.record.proofs.LaidLaws.{fields-laid}
 use Rattle.record.proofs.lay_record.Statement.{statement}
 use Rattle.record.proofs.lay_record.Tie as tie
 
+lay-fields-requires : tie.Need-lay-fields-requires
+lay-fields-requires c κs =
+    let p = c .before .before .before .before .before .before .before .pre in
+    let f = c .before .before .first-field .ensures in
+    (f .low, p .0 .room, p .0 .few, p .1, f .under (p .0 .under))
+
 returns : tie.Need-returns
 returns c =
     let l = c .before .before .before .before .lay-fields in
@@ -12,4 +18,4 @@ returns c =
 
 pub lay-record-spec : {M : Type 1} → statement M
 lay-record-spec =
-    tie.close (tie.spec (λ c κs. search needs) (λ c κs. search needs) (λ c. search needs) (λ c. search needs) returns)
+    tie.close (tie.spec (λ c κs. search needs) lay-fields-requires (λ c. search needs) (λ c. search needs) returns)

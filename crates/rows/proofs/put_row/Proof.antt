@@ -8,19 +8,20 @@ use native.Mathlib.Numerals.{towards-suc}
 use lib.Seq.{sets}
 use Rattle.definition.specs.declared.Statement.{Statement}
 use Rattle.rows.specs.Columns.{ROW, PICTURE}
-use Rattle.rows.specs.Table.{spanCode, clauseCells, putRow}
+use Rattle.rows.specs.Table.{spanCode, levelCode, clauseCells, putRow}
 use Rattle.rows.proofs.put_row.Statement.{statement}
 use Rattle.rows.proofs.put_row.Tie as tie
 
-module _ (w : List ℕ) {w₁ w₂ : List ℕ} (k parent : ℕ) (s : Statement) {n : ℕ} where
+module _ (w : List ℕ) {w₁ w₂ : List ℕ} (k parent : ℕ) (s : Statement) {l n : ℕ} where
   -- the first four columns, and those of the clauses
   one-run :
-      w₁ ≡ sets w (ROW * k) (s .level ∷ parent ∷ s .at ∷ n ∷ []) →
+      w₁ ≡ sets w (ROW * k) (l ∷ parent ∷ s .at ∷ n ∷ []) →
       w₂ ≡ sets w₁ (ROW * k + PICTURE) (clauseCells (s .clauses)) →
+      l ≡ levelCode (s .level) (s .usage) →
       n ≡ spanCode (s .name) →
       w₂ ≡ putRow w k parent s
   unfolding putRow
-  one-run e₁ e₂ en = rw (e₂, e₁, en) (simp towards-suc)
+  one-run e₁ e₂ el en = rw (e₂, e₁, el, en) (simp towards-suc)
 
 returns : tie.Need-returns
 returns c = search one-run

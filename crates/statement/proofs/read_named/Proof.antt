@@ -12,7 +12,7 @@ use Rattle.definition.specs.declared.Span.{Span}
 use Rattle.definition.specs.declared.Statement.{Statement}
 use Rattle.definition.specs.declared.Token.{Token}
 use Rattle.definition.specs.Basic.{span, absent}
-use Rattle.definition.specs.Statement.{noClauses, named}
+use Rattle.definition.specs.Statement.{noClauses, statementOf, named}
 use Rattle.definition.proofs.StatementLaws.{named-none, named-given, named-refused}
 use Rattle.definition.specs.Words.{firstWords}
 use Rattle.definition.proofs.WordLaws.{end-words}
@@ -29,25 +29,27 @@ use Rattle.statement.proofs.EndLaws.{reached-start, reached-word, ends-
 use Rattle.statement.proofs.read_named.Statement.{statement}
 use Rattle.statement.proofs.read_named.Tie as tie
 
--- the statement of a level at a position, with a name and clauses
-abbrev of : ℕ → ℕ → Span → Clauses → Statement
-of level at w c = record { level = level; at = at; name = w; clauses = c }
-
 -- the words after the level, where the tokens from the place on are known
 tokens-named : (t : List ℕ) (at level : ℕ) {ts us : List Token} → ts ≡ us → named t at level (firstWords ts) ≡ named t at level (firstWords us)
 tokens-named t at level p = ap (λ (vs : List Token). named t at level (firstWords vs)) p
 
 -- there are none
 bare :
-    {t : List ℕ} {at level : ℕ} {from n : Stand} {w : Span} {c : Clauses} →
+    {t : List ℕ} {at level : ℕ} {from n : Stand} {w : Span} {c : Clauses} {o : Statement} →
     at < length t →
     named t at level (wordsFrom t from) ≡ named t at level [] →
     w ≡ absent →
     c ≡ noClauses →
+    o ≡ statementOf level at w c →
     Ends t from n →
-    NamedAre t at level from (NamedRead.Done (of level at w c) n)
-bare {t} {at} {level} h p q q′ e =
-    rw (q, q′) (record { is = p ∙ named-none t at level; fits = record { begins = h; name = omega arith; clauses = none-spans (SpanInside t) (omega arith) }; ends = e })
+    NamedAre t at level from (NamedRead.Done o n)
+bare {t} {at} {level} h p q q′ o e =
+    rw (o, q, q′)
+    (record {
+      is = p ∙ named-none t at level;
+      fits = record { begins = h; name = omega arith; clauses = none-spans (SpanInside t) (omega arith) };
+      ends = e;
+    })
 
 module _ (t : List ℕ) (at level : ℕ) (from : Stand) (h : from .at ≤ length t) {r : Next} (f : First (tokensAt t from) t (from .at) r) where
   module _ {s l : ℕ} {n : Stand} (q : r ≡ Next.Word s l n) where
@@ -61,34 +63,53 @@ module _ (t : List ℕ) (at level : ℕ) (from : Stand) (h : from .at ≤ length
 
     module _ {y : ClausesRead} (g : ClausesAre t at n y) where
       -- its clauses are read, or refused
-      done : {c : Clauses} {m : Stand} → at < length t → y ≡ ClausesRead.Done c m → NamedAre t at level from (NamedRead.Done (of level at (span s l) c) m)
-      done {c} {m} b e =
+      done :
+          {c : Clauses} {m : Stand} {o : Statement} →
+          at < length t →
+          y ≡ ClausesRead.Done c m →
+          o ≡ statementOf level at (span s l) c →
+          NamedAre t at level from (NamedRead.Done o m)
+      done {c} {m} b e q′ =
           let d : ClausesDone t at n c m = rw e at g in
-          record {
+          rw q′
+          (record {
             is = tokens-named t at level (first .all-are) ∙ named-given t at level (span s l) (wordsFrom t n) (d .is);
             fits = record { begins = b; name = first .fits; clauses = d .fits };
             ends = ends-on (reached-word (reached-start h) f q) (d .ends);
-          }
+          })
 
       refused : {x : Refusal} → y ≡ ClausesRead.Refused x → NamedAre t at level from (NamedRead.Refused x)
       refused {x} e =
           let d : ClausesAre t at n (ClausesRead.Refused x) = rw e at g in
           tokens-named t at level (first .all-are) ∙ named-refused t at level (span s l) (wordsFrom t n) d
 
-  module _ {w : Span} {c : Clauses} (b : at < length t) (p : w ≡ absent) (p′ : c ≡ noClauses) where
-    -- the statement ends at its period, or with the text
-    stopped : {n : Stand} → r ≡ Next.Stop n → NamedAre t at level from (NamedRead.Done (of level at w c) n)
-    stopped q = bare b (tokens-named t at level (stop-first _ t (from .at) f q .all-are)) p p′ (ends-stop (reached-start h) f q)
+  module _
+      {w : Span} {c : Clauses} {o : Statement} (b : at < length t)
+      (p : w ≡ absent) (p′ : c ≡ noClauses) (k : o ≡ statementOf level at w c)
+    where
+      -- the statement ends at its period, or with the text
+      stopped : {n : Stand} → r ≡ Next.Stop n → NamedAre t at level from (NamedRead.Done o n)
+      stopped q =
+          let none = tokens-named t at level (stop-first _ t (from .at) f q .all-are) in
+          bare b none p p′ k (ends-stop (reached-start h) f q)
 
-    ended : {n : Stand} → r ≡ Next.End n → NamedAre t at level from (NamedRead.Done (of level at w c) n)
-    ended {n} q =
-        bare b (tokens-named t at level (end-first _ t (from .at) f q .opens) ∙ ap (named t at level) (end-words (saidAt t n))) p p′ (ends-text (reached-start h) f q)
+      ended : {n : Stand} → r ≡ Next.End n → NamedAre t at level from (NamedRead.Done o n)
+      ended {n} q =
+          let none = tokens-named t at level (end-first _ t (from .at) f q .opens) in
+          bare b (none ∙ ap (named t at level) (end-words (saidAt t n))) p p′ k (ends-text (reached-start h) f q)
 
 read-clauses-requires : tie.Need-read-clauses-requires
 read-clauses-requires c κs = search within
 
 returns : tie.Need-returns
-returns c = search done
+returns c =
+    let read = c .before .before .before .before in
+    let named = read .before .before in
+    let begun = named .before .before .before .before in
+    let a = begun .args in
+    done (a .text .now) (a .at) (a .level) (a .from) (begun .pre .1) (named .before .before .word-at .ensures)
+    (named .start .given .1) (read .read-clauses .ensures) (begun .pre .0) (c .before .before .c .given .1)
+    (c .statement-of .ensures)
 
 returns-2 : tie.Need-returns-2
 returns-2 c = search refused
@@ -107,14 +128,17 @@ read-named-spec =
     (λ c. search needs)
     read-clauses-requires
     (λ c. search needs)
+    (λ c κs. search needs)
     returns
     (λ c. search needs)
     returns-2
     (λ c. search needs)
     (λ c κs. search needs)
     (λ c κs. search needs)
+    (λ c κs. search needs)
     returns-3
     (λ c. search needs)
+    (λ c κs. search needs)
     (λ c κs. search needs)
     (λ c κs. search needs)
     returns-4)

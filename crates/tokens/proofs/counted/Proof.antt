@@ -8,21 +8,21 @@ use mathlib.Core.List.{List}
 use native.Mathlib.Omega.{arith}
 use borrow.Author.Tests.{lt-leb, le-leb}
 use Rattle.definition.specs.Words.{isValue}
-use Rattle.tokens.specs.Tokens.{Counted}
+use Rattle.tokens.specs.Tokens.{WordCounted}
 use Rattle.tokens.proofs.TokenLaws.{said-before}
 use Rattle.tokens.proofs.counted.Statement.{statement}
 use Rattle.tokens.proofs.counted.Tie as tie
 
 -- the word is first or second, or it is third or later and VALUE, or not
 module _ (w : List ℕ) (n : ℕ) where
-  early : n < 2 → Counted n w (n + 1)
+  early : n < 2 → WordCounted n w (n + 1)
   early h = record { is = λ t a. rw (lt-leb 2 n h) (said-before t (n + 1) a (omega arith)) }
 
   module _ {r : Bool} (h : 2 ≤ n) (p : r ≡ isValue w) where
-    value : r ≡ true → Counted n w 3
+    value : r ≡ true → WordCounted n w 3
     value y = record { is = λ t a. rw (le-leb 2 n h, ← p, y) }
 
-    other : n < 3 → r ≡ false → Counted n w n
+    other : n < 3 → r ≡ false → WordCounted n w n
     other l y = record { is = λ t a. rw (le-leb 2 n h, ← p, y) (said-before t n a l) }
 
 returns : tie.Need-returns

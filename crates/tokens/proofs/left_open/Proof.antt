@@ -7,12 +7,12 @@ use mathlib.Core.List.{List}
 use borrow.Author.Tests.{lt-ltb, le-ltb}
 use Rattle.definition.specs.Basic.{give, refused}
 use Rattle.tokens.specs.declared.Stand.{Stand}
-use Rattle.tokens.specs.Tokens.{markOf, lastMark, openCheck}
+use Rattle.tokens.specs.Tokens.{openMark, lastMark, openCheck}
 use Rattle.tokens.proofs.left_open.Statement.{statement}
 use Rattle.tokens.proofs.left_open.Tie as tie
 
 module _ (t : List ℕ) (s : Stand) where
-  opened : {m p : ℕ} → 3 < s .said → m ≡ markOf (s .said) → p ≡ lastMark m t (s .at) → refused 50 p ≡ openCheck t s
+  opened : {m p : ℕ} → 3 < s .said → m ≡ openMark (s .said) → p ≡ lastMark m t (s .at) → refused 50 p ≡ openCheck t s
   opened h e q = rw (lt-ltb 3 (s .said) h, q, e)
 
   shut : s .said ≤ 3 → give tt ≡ openCheck t s

@@ -17,7 +17,7 @@ use Rattle.definition.specs.Unquoted.{closed}
 use Rattle.definition.proofs.WordLaws.{closed-on, tokens-end}
 use Rattle.tokens.specs.declared.Ahead.{Ahead}
 use Rattle.tokens.specs.declared.Stand.{Stand}
-use Rattle.tokens.specs.Tokens.{VALUE, markOf, lastMark, saidOf, saidAt, between, tokensFrom, tokensAt, AheadIs, InsideIs, Looks}
+use Rattle.tokens.specs.Tokens.{VALUE, openMark, lastMark, saidOf, saidAt, between, tokensFrom, tokensAt, AheadIs, InsideIs, Looks}
 use Rattle.tokens.proofs.TokenLaws.{said-literal, said-closed, said-anywhere, mode-closed, mode-literal}
 use Rattle.tokens.proofs.look.Statement.{statement}
 use Rattle.tokens.proofs.look.Tie as tie
@@ -26,8 +26,8 @@ module _ (t : List ℕ) (s : Stand) where
   -- inside a literal
   module _ (h : VALUE < s .said) where
     -- the tokens from where the reader stands, and those from a place to which no mark was passed
-    literal : (i : ℕ) → lastMark (markOf (s .said)) t (s .at) ≡ lastMark (markOf (s .said)) t i → saidAt t s ≡ Literal (markOf (s .said)) (lastMark (markOf (s .said)) t i)
-    literal i e = said-literal t (s .said) (s .at) h ∙ ap (Literal (markOf (s .said))) e
+    literal : (i : ℕ) → lastMark (openMark (s .said)) t (s .at) ≡ lastMark (openMark (s .said)) t i → saidAt t s ≡ Literal (openMark (s .said)) (lastMark (openMark (s .said)) t i)
+    literal i e = said-literal t (s .said) (s .at) h ∙ ap (Literal (openMark (s .said))) e
 
     inside : (a : Ahead) → InsideIs t (s .at) a → Looks t s a
     inside (Ahead.Word i) g =

@@ -12,7 +12,7 @@ use Rattle.definition.specs.declared.Mode.the-variants.{Between}
 use Rattle.definition.specs.declared.Said.the-variants.{Literal}
 use Rattle.definition.specs.Basic.{if_then_else_, white}
 use Rattle.definition.proofs.WordLaws.{never, tokens-end, literal-newline, literal-blank, literal-word}
-use Rattle.tokens.specs.Tokens.{markOf, Skips, InsideWord, InsideEnd}
+use Rattle.tokens.specs.Tokens.{openMark, Skips, InsideWord, InsideEnd}
 use Rattle.tokens.proofs.TokenLaws.{mark-before}
 use Rattle.tokens.proofs.look_inside.Statement.{statement}
 use Rattle.tokens.proofs.look_inside.Tie as tie
@@ -22,8 +22,8 @@ not-white : (x : Bool) → white (if x then 39 else 34) ≡ false
 not-white true = refl
 not-white false = refl
 
-white-else : (b n : ℕ) → white b ≡ true → b ≡ markOf n → ⊥
-white-else b n w e = never (sym (let z : white (markOf n) ≡ true = rw e at w in not-white (eqb n 4)) ∙ (rw e at w))
+white-else : (b n : ℕ) → white b ≡ true → b ≡ openMark n → ⊥
+white-else b n w e = never (sym (let z : white (openMark n) ≡ true = rw e at w in not-white (eqb n 4)) ∙ (rw e at w))
 
 start : {t : List ℕ} {at : ℕ} → at ≤ length t → Skips t at at
 start h = record { up = omega arith; within = h; marks = λ n. refl; rest = λ m a. refl }
@@ -44,7 +44,7 @@ module _ {t : List ℕ} {at i : ℕ} (inv : Skips t at i) where
           record {
             up = omega (arith, inv .up);
             within = omega arith;
-            marks = λ k. inv .marks k ∙ sym (mark-before (markOf k) t i (white-else (getD t i 0) k (sym p ∙ y)));
+            marks = λ k. inv .marks k ∙ sym (mark-before (openMark k) t i (white-else (getD t i 0) k (sym p ∙ y)));
             rest = λ m a. inv .rest m a ∙ literal-blank t m a i h n (sym p ∙ y);
           }
 

@@ -10,7 +10,7 @@ use lib.ListN.{length, getD}
 use Rattle.definition.specs.declared.Mode.the-variants.{Within}
 use Rattle.definition.specs.Basic.{span, part}
 use Rattle.definition.proofs.WordLaws.{seenAt, goesIn, word-next, word-stop, word-last}
-use Rattle.tokens.specs.Tokens.{saidOf, tokensFrom, Marked, WordEnd}
+use Rattle.tokens.specs.Tokens.{saidOf, tokensFrom, MarkSeen, WordEnd}
 use Rattle.tokens.proofs.TokenLaws.{said-heard}
 use Rattle.tokens.proofs.marked_end.Statement.{statement}
 use Rattle.tokens.proofs.marked_end.Tie as tie
@@ -35,7 +35,7 @@ module _ {t : List ℕ} {at n i q : ℕ} (inv : Left t at n i q) where
       }
 
   module _ (h : i < length t) {r : Bool} (e : r ≡ goesIn (seenAt t (saidOf t q i) i)) where
-    next : {q′ : ℕ} → r ≡ true → Marked q (getD t i 0) q′ → Left t at n (i + 1) q′
+    next : {q′ : ℕ} → r ≡ true → MarkSeen q (getD t i 0) q′ → Left t at n (i + 1) q′
     next y g =
         record {
           up = omega arith;

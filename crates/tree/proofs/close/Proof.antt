@@ -9,7 +9,7 @@ use lib.ListN.{length, getD}
 use Rattle.definition.specs.Tree.{Open, opened, stillOpen, innermost}
 use Rattle.definition.proofs.ParentLaws.{open-none, open-smaller, open-closed, Fit, open-few, open-fit}
 use Rattle.rows.specs.Columns.{ROW, PARENT}
-use Rattle.rows.specs.Table.{cell}
+use Rattle.rows.specs.Table.{cell, usageIn}
 use Rattle.tree.specs.Levels.{topDown, Closed}
 use Rattle.tree.proofs.LevelLaws.{down-none, down-next, length-down}
 use Rattle.tree.proofs.close.Statement.{statement}
@@ -31,7 +31,13 @@ start b f t h = record { byte = b; few = f; there = t; whole = h; fit = h; withi
 
 module _ {w : List ℕ} {level k : ℕ} {levels : List ℕ} {n₀ row₀ n row : ℕ} (inv : Left w level k levels n₀ row₀ n row) where
   -- the innermost, and those around it
-  fit-next : 0 < n → Fit k (opened (getD levels (n - 1) 0) row ∷ topDown w levels (n - 1) (cell w (row - 1) PARENT))
+  abbrev first : Open
+  first = opened (getD levels (n - 1) 0) row (usageIn w (row - 1))
+
+  abbrev outer : List Open
+  outer = topDown w levels (n - 1) (cell w (row - 1) PARENT)
+
+  fit-next : 0 < n → Fit k (first ∷ outer)
   fit-next h = subst (Fit k) (down-next w levels n row h) (inv .fit)
 
   row-in : 0 < n → (0 < row) × (ROW * row ≤ length w)
@@ -48,7 +54,7 @@ module _ {w : List ℕ} {level k : ℕ} {levels : List ℕ} {n₀ row₀ n row :
         whole = inv .whole;
         fit = fit-next h .3;
         within = omega arith;
-        rest = inv .rest ∙ ap (stillOpen level) (down-next w levels n row h) ∙ open-closed level (opened (getD levels (n - 1) 0) row) (topDown w levels (n - 1) (cell w (row - 1) PARENT)) l;
+        rest = inv .rest ∙ ap (stillOpen level) (down-next w levels n row h) ∙ open-closed level first outer l;
       })
 
   -- the levels that are left all stay open
@@ -73,7 +79,7 @@ module _ {w : List ℕ} {level k : ℕ} {levels : List ℕ} {n₀ row₀ n row :
   found : 0 < n → getD levels (n - 1) 0 < level → Closed w k (record { levels = levels; count = n₀; row = row₀ }) level (record { levels = levels; count = n; row = row })
   found h l =
       let d = down-next w levels n row h in
-      all-stay row (d ∙ sym (open-smaller level (opened (getD levels (n - 1) 0) row) (topDown w levels (n - 1) (cell w (row - 1) PARENT)) l) ∙ ap (stillOpen level) (sym d))
+      all-stay row (d ∙ sym (open-smaller level first outer l) ∙ ap (stillOpen level) (sym d))
       (sym (ap innermost d)) (fit-next h .2)
 
   -- none is left

@@ -20,6 +20,7 @@ use Rattle.definition.specs.Words.{tokensOf, firstOpen, sentences, statementWor
 use Rattle.definition.proofs.ParentLaws.{Fit}
 use Rattle.definition.proofs.WordLaws.{end-sentences}
 use Rattle.definition.proofs.StatementLaws.{statements-none, statements-refused, statements-skipped, statements-full, statements-kept}
+use Rattle.definition.specs.Usages.{inheritAlong}
 use Rattle.tokens.specs.declared.Stand.{Stand}
 use Rattle.tokens.specs.Tokens.{atStart, saidAt, tokensAt}
 use Rattle.tokens.proofs.TokenLaws.{ends-open}
@@ -92,7 +93,7 @@ module _ {t w₀ w : List ℕ} {from : Stand} {n : ℕ} {o : OpenLevels} (inv : 
   module _ {r : StatementRead} (f : FirstStatement (tokensAt t from) t (from .at + 1) r) where
     -- no statement is left
     done : {next : Stand} → r ≡ End next → StatementsAre t w₀ (StatementsRead.Rows n next) w
-    unfolding putRows
+    unfolding putRows inheritAlong
     done {next} e =
         let g = end-read _ t (from .at + 1) f e in
         let p : rest t from n ≡ give [] = rw (g .ends, end-sentences (saidAt t next)) (statements-none t n) in
@@ -169,7 +170,7 @@ module _ {t w₀ w : List ℕ} {from : Stand} {n : ℕ} {o : OpenLevels} (inv : 
           let later = rest t next (n + 1) in
           let p : rest t from n ≡ (later >>= λ ss. give (s ∷ ss)) =
           rw (kept .followed .all-are, add-one n) (statements-kept t n _ _ (kept .is) l) in
-          let sized : length w′ ≡ length w = ap length (d .row) ∙ length-putRow w n _ s in
+          let sized : length w′ ≡ length w = ap length (d .row) ∙ length-putRow w n _ _ in
           record {
             within = kept .followed .within;
             short = inv .short;

@@ -1,6 +1,7 @@
 // What a call answers of a copybook's record, free text or cards: a report of its entries written to the output, the
-// owner of a byte, or an extract of its items. Every answer is made so: the text read into rows, a table for the entries
-// of as many, the record laid out, the answer, and work memory cleared. `copybook` has the public entries over these.
+// owner of a byte, or an extract of its items. Every answer is made so: the text read into rows, a table for the
+// entries of as many, the record laid out, the answer, and work memory cleared. `copybook` has the public entries over
+// these.
 // Leans on `record` for the reading and the laying, and on one crate for each answer.
 ghost use Prim.Native.Nat.{ℕ};
 ghost use mathlib.Core.Path.{_≡_};

@@ -223,9 +223,14 @@ pub extern "C" fn copybook_extract(
     work: &mut [u32],
     answer: &mut [u64],
 ) -> u32
-    ensures { λ r. ⌜ r ≡ returned (extractCall (now (text .entry)) (now (weights .entry)) limit budget (now (work .entry)) .answer) ⌝ }
-    ensures { λ _. ⌜ now (answer .exit) ≡ answered (extractNumbers (extractCall (now (text .entry)) (now (weights .entry)) limit budget (now (work .entry)) .answer)) (now (answer .entry)) ⌝ }
-    ensures { λ _. ⌜ now (work .exit) ≡ extractCall (now (text .entry)) (now (weights .entry)) limit budget (now (work .entry)) .work ⌝ }
+    ensures { λ r. ⌜ r
+        ≡ returned (extractCall (now (text .entry)) (now (weights .entry)) limit budget (now (work .entry)) .answer) ⌝ }
+    ensures { λ _. ⌜ now (answer .exit)
+        ≡ answered
+        (extractNumbers (extractCall (now (text .entry)) (now (weights .entry)) limit budget (now (work .entry)) .answer))
+        (now (answer .entry)) ⌝ }
+    ensures { λ _. ⌜ now (work .exit)
+        ≡ extractCall (now (text .entry)) (now (weights .entry)) limit budget (now (work .entry)) .work ⌝ }
 {
     let a = copybook::extract(text, weights, limit as usize, budget as usize, work);
     numbers::hand_on_extract(a, answer)

@@ -40,7 +40,8 @@ pub fn extract_of(
     budget: usize,
 ) -> ExtractAnswer
     requires { ⌜ Itemed (now text) (now work) from to length top ⌝ }
-    ensures { λ r. ⌜ extractAnswerOf r ≡ extractIn (now (text .entry)) (rowsForest (now (work .entry)) from to) (now (weights .entry)) limit budget ⌝ }
+    ensures { λ r. ⌜ extractAnswerOf r
+        ≡ extractIn (now (text .entry)) (rowsForest (now (work .entry)) from to) (now (weights .entry)) limit budget ⌝ }
 {
     let overlaid = owner::is_overlaid(work, from, to);
     if overlaid {

@@ -17,7 +17,8 @@ use Rattle.definition.specs.Calls.{After, left, writingOf, pictureOf, ownerAnsw
 use Rattle.definition.specs.Listing.{kindByte}
 use Rattle.kinds.specs.declared.KindNumbers.{KindNumbers}
 use Rattle.kinds.specs.Kinds.{numbersOf}
-use Rattle.numbers.specs.Numbers.{returned, writingNumbers, kindParts, pictureNumbers, ownerNumbers, extractNumbers, answered}
+use Rattle.numbers.specs.Numbers.{returned, writingNumbers, kindParts, pictureNumbers, ownerNumbers}
+use Rattle.numbers.specs.Numbers.{extractNumbers, answered}
 
 -- the answer of a call that writes bytes
 module _ {w : Writing} (l l′ : List ℕ) where

@@ -55,6 +55,7 @@ extern "C" {
 #define COPYBOOK_MASK_ANSWER 2
 #define COPYBOOK_OWNER_ANSWER 4
 #define COPYBOOK_REASONS_ANSWER 2
+#define COPYBOOK_EXTRACT_ANSWER 4
 
 /* Numbers returned. COPYBOOK_REFUSALS says what each means and what to do, and docs/REFUSALS.md when it is given. */
 enum copybook_number {
@@ -93,7 +94,7 @@ enum copybook_number {
     /* `out`; answer[1] says how long it must be */
     COPYBOOK_OUT_TOO_SHORT = 31,
 
-    /* the owner */
+    /* the owner; 40 is the extract's too */
     COPYBOOK_OVERLAID = 40,
     COPYBOOK_PAST_RECORD = 41,
 
@@ -108,6 +109,11 @@ enum copybook_number {
 
     /* the reasons of an entry, before 31 */
     COPYBOOK_PAST_LISTING = 53,
+
+    /* the extract, after 40 */
+    COPYBOOK_EXTRACT_ITEMS = 58,
+    COPYBOOK_EXTRACT_WEIGHT = 59,
+    COPYBOOK_EXTRACT_BUDGET = 60,
 
     COPYBOOK_NO_SUCH_NUMBER = 255 /* a usage or a sign that is none; nothing is touched */
 };
@@ -154,8 +160,8 @@ enum copybook_number {
       "two siblings share a name: give them names of their own") \
     R(COPYBOOK_OUT_TOO_SHORT, "the lent output is shorter than the answer; the needed length is answered", \
       "lend that many bytes and call again") \
-    R(COPYBOOK_OVERLAID, "the byte owner was asked of a copybook with a REDEFINES or a DEPENDING ON", \
-      "bytes of such a record have no single owner; read the layout") \
+    R(COPYBOOK_OVERLAID, "the byte owner or an extract was asked of a copybook with a REDEFINES or a DEPENDING ON", \
+      "items of such a record share bytes, or vary in length; read the layout") \
     R(COPYBOOK_PAST_RECORD, "the position is not below the record length", \
       "the layout's first line has the record length") \
     R(COPYBOOK_RECORD_TOO_SHORT, "a record is shorter than its layout, and not variable", \
@@ -165,7 +171,13 @@ enum copybook_number {
     R(COPYBOOK_INDICATOR, "a card's column 7 holds none of the four indicators", \
       "a blank marks code, * or / a comment, D a debugging line; a continued line (-) must be written as one") \
     R(COPYBOOK_PAST_LISTING, "the entry's number is past the listing", \
-      "entries are numbered from 0 in the order of the layout, the record's own line not counted")
+      "entries are numbered from 0 in the order of the layout, the record's own line not counted") \
+    R(COPYBOOK_EXTRACT_ITEMS, "more than 16 top-level items, or another number of weights than of items", \
+      "give one weight for each top-level item, in their order; of a longer record take a copybook of fewer items") \
+    R(COPYBOOK_EXTRACT_WEIGHT, "a weight outside 1 to 1,000", \
+      "weights count against each other alone: scale them into that range") \
+    R(COPYBOOK_EXTRACT_BUDGET, "a budget of 0", \
+      "let one subset be looked at, at least; 65,536 are all that there can be")
 
 /* Kinds: the first byte of each entry of a listing, and answer[0] of a picture. */
 enum copybook_kind {
@@ -330,6 +342,22 @@ uint32_t copybook_owner(const uint8_t *text, size_t n, uint64_t position, uint32
 /* The same for a copybook on cards. Refusals: 1 to 3, 51, 50, 10 to 14, 20 to 30, 40, 41. */
 uint32_t copybook_owner_cards(const uint8_t *cards, size_t n, uint64_t position, uint32_t *work, size_t w,
                               uint64_t *answer, size_t k);
+
+/*
+ * An extract that fits: of the top-level items of the copybook in free text, the heaviest choice whose reserved widths
+ * (width times OCCURS count) sum to at most `limit` bytes. `weights` has a weight from 1 to 1,000 for each of them, in
+ * the order of the listing; c is their number, at most COPYBOOK_MOST_ITEMS. Subsets of the items are numbered in
+ * binary, the first item being the lowest bit, and looked at from number 0 up, `budget` of them or all. To `answer`, 4
+ * numbers:
+ *     the number of the heaviest fitting subset among them, the earliest if equal; its weight; how many were looked at;
+ *     how far off it is at most: 0 if all were, else what all items that fit alone weigh more
+ * No choice there is outweighs the one found by more than that. `work` as for copybook_layout; `weights` is only read,
+ * and is aligned to 4 bytes. Refusals: 1 to 3, 50, 10 to 14, 20 to 30, 40, 58, 59, 60.
+ */
+#define COPYBOOK_MOST_ITEMS 16
+
+uint32_t copybook_extract(const uint8_t *text, size_t n, const uint32_t *weights, size_t c, uint64_t limit,
+                          uint64_t budget, uint32_t *work, size_t w, uint64_t *answer, size_t k);
 
 /*
  * Whether a record of `len` bytes is long enough for a layout of `record_len` bytes: COPYBOOK_OK, or

@@ -5,6 +5,7 @@
 //! output, words about it to standard error.
 
 mod arguments;
+mod extract;
 mod facts;
 mod files;
 mod forms;
@@ -33,7 +34,8 @@ pub struct Command {
     pub run: fn(&Arguments) -> Result<Status, Failure>,
 }
 
-const COMMANDS: &[Command] = &[layout::COMMAND, owner::COMMAND, reasons::COMMAND, picture::COMMAND];
+const COMMANDS: &[Command] =
+    &[layout::COMMAND, owner::COMMAND, reasons::COMMAND, extract::COMMAND, picture::COMMAND];
 
 /// How a command ended that could be carried out.
 #[derive(Debug, Clone, Copy, PartialEq, Eq)]

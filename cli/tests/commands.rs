@@ -76,6 +76,15 @@ fn misuse_says_what_is_wrong() {
     fails(&["layout", "--csv", "--why"], "--why is for the table alone");
     fails(&["reasons"], "one ENTRY or NAME");
     fails(&["reasons", "a.cpy", "5", "6"], "one ENTRY or NAME");
+    fails(&["extract"], "a FILE, then a weight for each top-level item");
+    fails(&["extract", "-", "5", "3", "9"], "--limit BYTES says how many bytes");
+    fails(&["extract", "-", "5", "3", "9", "--limit", "-1"], "--limit -1 is no number");
+    fails(&["extract", "-", "5", "3", "9", "--limit=19", "--budget=many"], "--budget many is no number");
+    fails(&["extract", "-", "5", "3", "nine", "--limit=19"], "nine is neither a WEIGHT nor NAME=WEIGHT");
+    fails(&["extract", "-", "TAG=5", "3", "9", "--limit=19"], "3 is neither a WEIGHT nor NAME=WEIGHT");
+    fails(&["extract", "-", "TAG=5", "SIRE=3", "--limit=19"], "no weight for WT");
+    fails(&["extract", "-", "TAG=5", "SIRE=3", "DAM=9", "--limit=19"], "no top-level item is called DAM");
+    fails(&["extract", "-", "TAG=5", "SIRE=3", "WT=9", "wt=1", "--limit=19"], "two weights for wt");
     fails(&["picture"], "one PICTURE");
     fails(&["picture", "X", "--usage"], "--usage needs a value");
     fails(&["picture", "X", "--usage", "comp-9"], "--usage is display, comp-3 or comp");
@@ -86,7 +95,7 @@ fn misuse_says_what_is_wrong() {
 fn help_is_an_answer() {
     let (status, all, err) = ran(&["help"], "");
     assert_eq!((status, err.as_str()), (0, ""));
-    for command in ["layout", "owner", "picture"] {
+    for command in ["layout", "owner", "extract", "picture"] {
         assert!(all.contains(&format!("\n  {command}")));
         let (status, help, err) = ran(&[command, "--help"], "");
         assert_eq!((status, err.as_str()), (0, ""));
@@ -99,6 +108,47 @@ fn help_is_an_answer() {
     let version = ran(&["--version"], "").1;
     let number = version.strip_prefix("copybook ").and_then(|v| v.strip_suffix('\n')).expect("a version");
     assert!(header.contains(&format!("#define COPYBOOK_VERSION \"{number}\"\n")), "{version}");
+}
+
+#[test]
+fn extracts_by_order_and_by_name() {
+    let all = ["extract", "-", "--limit", "14", "5", "3", "9"];
+    let (status, out, err) = ran(&all, FISH);
+    let expected = "\
+chosen 2 bytes 14 weight 12 off 0 looked 8 subset 6
+entry 1 SIRE first 6 width 2 weight 3
+entry 2 WT first 8 width 12 weight 9
+";
+    assert_eq!((status, out.as_str(), err.as_str()), (0, expected, ""));
+    assert_eq!(ran(&["extract", "--limit=14", "-", "wt=9", "Tag=5", "SIRE=3"], FISH).1, expected);
+    let (_, out, _) = ran(&["extract", "-", "--limit", "14", "--budget", "3", "5", "3", "9"], FISH);
+    assert_eq!(out, "chosen 1 bytes 5 weight 5 off 12 looked 3 subset 1\nentry 0 TAG first 0 width 5 weight 5\n");
+    // the members of a group are chosen with it; numbers are those of the layout
+    let book = "5 G. 10 A PIC X. 10 B PIC X. 5 FILLER PIC X. 5 T PIC X OCCURS 0.";
+    let (_, out, _) = ran(&["extract", "-", "--limit=2", "G=3", "FILLER=2", "T=1"], book);
+    let expected = "\
+chosen 2 bytes 2 weight 4 off 0 looked 8 subset 5
+entry 0 G first 0 width 2 weight 3
+entry 4 T first 3 width 0 weight 1
+";
+    assert_eq!(out, expected);
+    for (copybook, words, refused) in [
+        (FISH, &["5", "3"][..], "refused 58 0\n"),
+        (FISH, &["5", "3", "0"], "refused 59 0\n"),
+        (FISH, &["5", "3", "99999999999999999999"], "refused 59 0\n"),
+        (FISH, &["5", "3", "9", "--budget=0"], "refused 60 0\n"),
+        ("5 A PIC X. 5 B REDEFINES A PIC X.", &["C=1"], "refused 40 0\n"),
+        ("5 TAG PIC X9.", &["C=1"], "refused 26 0\n"),
+    ] {
+        let (status, out, err) = ran(&[&["extract", "-", "--limit=9"], words].concat(), copybook);
+        assert_eq!((status, out.as_str()), (1, refused), "{words:?}");
+        assert!(err.starts_with("(standard input)"), "{err}");
+    }
+    let twice = ran(&["extract", "-", "--limit=9", "A=1", "A=2"], "5 A PIC X. 5 A PIC X.");
+    assert_eq!((twice.0, twice.1.as_str()), (2, ""));
+    assert!(twice.2.contains("2 top-level items are called A: give the weights in the order of the items"));
+    let many: String = (0..17).map(|i| format!("5 I{i} PIC X. ")).collect();
+    assert_eq!(ran(&["extract", "-", "--limit=9", "I0=1"], &many).1, "refused 58 0\n");
 }
 
 #[test]

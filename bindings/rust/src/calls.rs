@@ -2,7 +2,7 @@
 //! aligned, and a `&mut` slice overlaps nothing else that is lent.
 
 use crate::declared::*;
-use crate::{Facts, FieldKind, Form, NumRepr, Owner, Picture, Refusal, SignKind, Usage};
+use crate::{Extract, Facts, FieldKind, Form, NumRepr, Owner, Picture, Refusal, SignKind, Usage};
 
 /// The number in a question for the sign of a SIGN clause, if there is one.
 fn sign_asked(sign: Option<SignKind>) -> u8 {
@@ -67,6 +67,36 @@ pub fn owner(form: Form, text: &[u8], position: usize, work: &mut [u32]) -> Resu
         (0, 0) => Ok(Owner::Piece { entry, first, place }),
         (0, _) => Ok(Owner::Slack { entry }),
         _ => Err(Refusal::of_copybook(form, number, case, entry, text)),
+    }
+}
+
+pub fn extract(
+    text: &[u8],
+    weights: &[u32],
+    limit: u64,
+    budget: u64,
+    work: &mut [u32],
+) -> Result<Extract, Refusal> {
+    let (mut answer, w) = ([0; 4], work.len());
+    // SAFETY: slices, see above.
+    let number = unsafe {
+        copybook_extract(
+            text.as_ptr(),
+            text.len(),
+            weights.as_ptr(),
+            weights.len(),
+            limit,
+            budget,
+            work.as_mut_ptr(),
+            w,
+            answer.as_mut_ptr(),
+            answer.len(),
+        )
+    };
+    let [subset, weight, examined, off] = answer;
+    match number {
+        0 => Ok(Extract { subset, weight, examined, off }),
+        _ => Err(Refusal::of_copybook(Form::Free, number, subset as usize, weight as usize, text)),
     }
 }
 

@@ -91,5 +91,17 @@ extern "C" {
         answer: *mut u64,
         k: usize,
     ) -> u32;
+    pub fn copybook_extract(
+        text: *const u8,
+        n: usize,
+        weights: *const u32,
+        c: usize,
+        limit: u64,
+        budget: u64,
+        work: *mut u32,
+        w: usize,
+        answer: *mut u64,
+        k: usize,
+    ) -> u32;
     pub fn copybook_check_record(record_len: u64, variable: u8, len: u64) -> u32;
 }

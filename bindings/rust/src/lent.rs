@@ -1,7 +1,7 @@
 //! The calls over buffers that the caller lends. A refused call changes no byte of `out`, an accepted one none past
 //! what it wrote; `work` is zero after every call, whatever it held.
 
-use crate::{calls, Details, Form, Layout, Owner, Reasons, Refusal, Usage};
+use crate::{calls, Details, Extract, Form, Layout, Owner, Reasons, Refusal, Usage};
 use std::borrow::Cow;
 
 /// As [`crate::layout()`], with the listing in `out`. Refusals: 1 to 3, 50, 10 to 14, 20 to 31; `work` needs
@@ -69,6 +69,17 @@ pub fn owner(text: &[u8], position: usize, work: &mut [u32]) -> Result<Owner, Re
 /// The same for a copybook of this form; on cards 51 comes before 50.
 pub fn owner_of(form: Form, text: &[u8], position: usize, work: &mut [u32]) -> Result<Owner, Refusal> {
     calls::owner(form, text, position, work)
+}
+
+/// As [`crate::extract()`]. Refusals: 1 to 3, 50, 10 to 14, 20 to 30, 40, 58, 59, 60.
+pub fn extract(
+    text: &[u8],
+    weights: &[u32],
+    limit: u64,
+    budget: u64,
+    work: &mut [u32],
+) -> Result<Extract, Refusal> {
+    calls::extract(text, weights, limit, budget, work)
 }
 
 /// As [`crate::mask()`], written to `out`. Refusals: 1, 2, 22 to 27, 31; an `out` of [`crate::LONGEST_MASK`] bytes is

@@ -14,10 +14,10 @@
 //! # Ok::<(), copybook::Refusal>(())
 //! ```
 //!
-//! [`layout`], [`details`], [`owner`], [`reasons`], [`picture`], [`mask`] and [`check_record_len`] are the calls. The
-//! first four take a copybook in free text; [`layout_cards`], [`details_cards`], [`owner_cards`] and [`reasons_cards`]
-//! take one on cards with columns, and a [`Form`] has them for either. A [`Reader`] keeps the buffers from call to
-//! call; with the functions of [`lent`] they are the caller's own. A [`Refusal`] has a number and a place;
+//! [`layout`], [`details`], [`owner`], [`reasons`], [`extract`], [`picture`], [`mask`] and [`check_record_len`] are the
+//! calls. The first five take a copybook in free text; [`layout_cards`], [`details_cards`], [`owner_cards`] and
+//! [`reasons_cards`] take one on cards with columns, and a [`Form`] has them for either. A [`Reader`] keeps the buffers
+//! from call to call; with the functions of [`lent`] they are the caller's own. A [`Refusal`] has a number and a place;
 //! [`Refusal::told`] says it in words:
 //!
 //! ```
@@ -69,6 +69,10 @@ pub const LONGEST_DETAILS: usize = (800 + 800 / 2) * details::DETAIL;
 /// groups around it two reasons.
 pub const LONGEST_REASONS: usize = (2 + 64 * 2) * reasons::REASON;
 
+/// No extract is chosen from more items, and so there are no more subsets.
+pub const MOST_ITEMS: usize = 16;
+pub const ALL_SUBSETS: u64 = 1 << MOST_ITEMS;
+
 /// The longest mask.
 pub const LONGEST_MASK: usize = 255;
 
@@ -87,6 +91,26 @@ pub enum Owner {
     Piece { entry: usize, first: usize, place: usize },
     /// Alignment before the item of that entry.
     Slack { entry: usize },
+}
+
+/// A choice of the top-level items that fits a limit.
+#[derive(Debug, Clone, Copy, PartialEq, Eq)]
+pub struct Extract {
+    /// The number of the subset, in binary: the first item is the lowest bit.
+    pub subset: u64,
+    /// What the chosen items weigh.
+    pub weight: u64,
+    /// How many subsets were looked at.
+    pub examined: u64,
+    /// By how much the best choice there is may outweigh this one at most: 0 if all subsets were looked at.
+    pub off: u64,
+}
+
+impl Extract {
+    /// Whether the top-level item of that number, from 0, is chosen.
+    pub fn has(&self, item: usize) -> bool {
+        item < MOST_ITEMS && self.subset >> item & 1 == 1
+    }
 }
 
 /// The layout of the copybook in `text`. Refusals: 1, 2, 50, 10 to 30.
@@ -134,6 +158,20 @@ pub fn reasons(text: &[u8], entry: usize) -> Result<Reasons<'_, 'static>, Refusa
 /// The reasons of an entry of a copybook on cards. Refusals: 1, 2, 51, 50, 10 to 30, 53.
 pub fn reasons_cards(cards: &[u8], entry: usize) -> Result<Reasons<'_, 'static>, Refusal> {
     Form::Cards.reasons(cards, entry)
+}
+
+/// Of the top-level items, each with a weight from 1 to 1,000 in their order, the heaviest choice whose reserved widths
+/// sum to at most `limit` bytes, among the first `budget` subsets. Refusals: 1, 2, 50, 10 to 30, 40, 58, 59, 60.
+///
+/// ```
+/// let text = b"01 FISH. 05 TAG PIC X(5). 05 SIRE PIC 9(4) COMP SYNC. 05 WT OCCURS 3 PIC 9(3)V9.";
+/// let chosen = copybook::extract(text, &[5, 3, 9], 14, copybook::ALL_SUBSETS)?;
+/// assert_eq!((chosen.has(0), chosen.has(1), chosen.has(2)), (false, true, true));
+/// assert_eq!((chosen.weight, chosen.examined, chosen.off), (12, 8, 0));
+/// # Ok::<(), copybook::Refusal>(())
+/// ```
+pub fn extract(text: &[u8], weights: &[u32], limit: u64, budget: u64) -> Result<Extract, Refusal> {
+    lent::extract(text, weights, limit, budget, &mut vec![0; WORK])
 }
 
 /// Kind and width of a picture, under a usage and with the sign that a SIGN clause gives, if there is one. Refusals: 1,

@@ -135,8 +135,8 @@ pub const REFUSALS: &[Row] = {
             "the lent output is shorter than the answer; the needed length is answered", "",
             "lend that many bytes and call again"),
         row(40, "overlaid", Nothing,
-            "the byte owner was asked of a copybook with a REDEFINES or a DEPENDING ON", "",
-            "bytes of such a record have no single owner; read the layout"),
+            "the byte owner or an extract was asked of a copybook with a REDEFINES or a DEPENDING ON", "",
+            "items of such a record share bytes, or vary in length; read the layout"),
         row(41, "past-record", Nothing,
             "the position is not below the record length", "",
             "the layout's first line has the record length"),
@@ -152,6 +152,15 @@ pub const REFUSALS: &[Row] = {
         row(53, "past-listing", Nothing,
             "the entry's number is past the listing", "",
             "entries are numbered from 0 in the order of the layout, the record's own line not counted"),
+        row(58, "extract-items", Nothing,
+            "more than 16 top-level items, or another number of weights than of items", "",
+            "give one weight for each top-level item, in their order; of a longer record take a copybook of fewer items"),
+        row(59, "extract-weight", Nothing,
+            "a weight outside 1 to 1,000", "",
+            "weights count against each other alone: scale them into that range"),
+        row(60, "extract-budget", Nothing,
+            "a budget of 0", "",
+            "let one subset be looked at, at least; 65,536 are all that there can be"),
     ]
 };
 

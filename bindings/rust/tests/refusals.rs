@@ -221,6 +221,9 @@ fn every_number() {
         refused(b"05 A PIC X VALUE 'open"),
         copybook::layout_cards(b"000100-").unwrap_err(),
         copybook::reasons(b"05 A PIC X.", 1).unwrap_err(),
+        copybook::extract(b"05 A PIC X.", &[], 1, 1).unwrap_err(),
+        copybook::extract(b"05 A PIC X.", &[0], 1, 1).unwrap_err(),
+        copybook::extract(b"05 A PIC X.", &[1], 1, 0).unwrap_err(),
     ];
     let expected: Vec<_> = REFUSALS.iter().map(|row| (row.number, row.name)).collect();
     assert_eq!(seen.map(|r| (r.number, r.name)).to_vec(), expected);

@@ -4,6 +4,7 @@ use Prim.Native.Nat.{ℕ, _≤_}
 use mathlib.Core.Path.{_≡_, refl, sym, _∙_, ap}
 use mathlib.Core.List.{List, []}
 use lib.ListN.{length, replicate}
+use Rattle.definition.specs.declared.ExtractAnswer.{ExtractAnswer}
 use Rattle.definition.specs.declared.OwnerAnswer.{OwnerAnswer}
 use Rattle.definition.specs.declared.Refusal.{Refusal}
 use Rattle.definition.specs.declared.Report.{Report}
@@ -11,6 +12,7 @@ use Rattle.definition.specs.declared.Writing.{Writing}
 use Rattle.definition.specs.Basic.{Answer, refuse, give, _>>=_, orRefuse}
 use Rattle.definition.specs.Calls.{left, recordFields, entries, fitting, layoutListing, layoutDetails, entryReasons}
 use Rattle.definition.specs.Calls.{report, byteOwner, cleared, afterWriting, ownerCall, ownerAnswerOf, writingOf}
+use Rattle.definition.specs.Calls.{extractAnswer, extractCall, extractAnswerOf}
 use Rattle.definition.specs.Fold.{Entries, foldedAll}
 use Rattle.definition.specs.Listing.{listing}
 use Rattle.definition.specs.Details.{entriesDetails, height}
@@ -134,3 +136,13 @@ pub owner-call :
     ownerAnswerOf x ≡ byteOwner text (length work) q →
     left (ownerAnswerOf x) [] w₂ ≡ ownerCall text q work
 owner-call text work w₁ zero kept q x h = rw (h, zero, kept)
+
+-- an extract, or a refusal
+pub extract-call :
+    (text weights work w₁ : List ℕ) {w₂ : List ℕ} →
+    w₂ ≡ cleared w₁ →
+    length w₁ ≡ length work →
+    (limit budget : ℕ) (x : ExtractAnswer) →
+    extractAnswerOf x ≡ extractAnswer text (length work) weights limit budget →
+    left (extractAnswerOf x) [] w₂ ≡ extractCall text weights limit budget work
+extract-call text weights work w₁ zero kept limit budget x h = rw (h, zero, kept)

@@ -1,6 +1,7 @@
-// What a call answers of a copybook's record, free text or cards: a report of its entries written to the output, or the
-// owner of a byte. Every answer is made so: the text read into rows, a table for the entries of as many, the record laid
-// out, the answer, and work memory cleared. `copybook` has the public entries over these.
+// What a call answers of a copybook's record, free text or cards: a report of its entries written to the output, the
+// owner of a byte, or an extract of its items. Every answer is made so: the text read into rows, a table for the
+// entries of as many, the record laid out, the answer, and work memory cleared. `copybook` has the public entries over
+// these.
 // Leans on `record` for the reading and the laying, and on one crate for each answer.
 ghost use Prim.Native.Nat.{ℕ};
 ghost use mathlib.Core.Path.{_≡_};
@@ -8,10 +9,12 @@ ghost use mathlib.Core.List.{[]};
 ghost use lib.ListN.{length};
 ghost use Rattle.definition.specs.Cards.{Form.freeText, Form.cardText};
 ghost use Rattle.definition.specs.Calls.{left, afterWriting, report as reportOf, byteOwner, reportCallIn, ownerCallIn};
-ghost use Rattle.definition.specs.Calls.{ownerAnswerOf, writingOf};
+ghost use Rattle.definition.specs.Calls.{extractAnswer, extractCall};
+ghost use Rattle.definition.specs.Calls.{ownerAnswerOf, extractAnswerOf, writingOf};
 ghost use Rattle.entries.specs.Building.{Roomy};
 ghost use Rattle.record.specs.Laying.{Read};
 use definition::Check;
+use definition::ExtractAnswer;
 use definition::MOST_BYTES;
 use definition::OwnerAnswer;
 use definition::Report;
@@ -195,4 +198,78 @@ pub fn owner_cards(cards: &[u8], position: usize, work: &mut [u32]) -> OwnerAnsw
             return OwnerAnswer::Refused(r);
         }
     }
+}
+
+// ---------------------------------------------------------------- extracts
+
+// The extract of the record that was read into n rows, with a table for its entries.
+fn extract_in(
+    text: &[u8],
+    weights: &[u32],
+    limit: usize,
+    budget: usize,
+    work: &mut [u32],
+    n: usize,
+    entries: &mut [u32],
+) -> ExtractAnswer
+    requires { ⌜ Read (now text) (now work) n × Roomy (now entries) n ⌝ }
+    ensures { λ r. ⌜ extractAnswerOf r
+        ≡ extractAnswer (now (text .entry)) (length (now (work .entry))) (now (weights .entry)) limit budget ⌝ }
+{
+    match record::lay_record(text, work, n, entries) {
+        RecordLaid::Record {
+            from,
+            to,
+            length,
+            count,
+            top,
+        } => {
+            return extract::extract_of(text, work, from, to, length, top, weights, limit, budget);
+        }
+        RecordLaid::Refused(r) => {
+            return ExtractAnswer::Refused(r);
+        }
+    }
+}
+
+// The same of a text, with work memory left as it comes.
+fn extract_of(
+    text: &[u8],
+    weights: &[u32],
+    limit: usize,
+    budget: usize,
+    work: &mut [u32],
+) -> ExtractAnswer
+    ensures { λ r. ⌜ extractAnswerOf r
+        ≡ extractAnswer (now (text .entry)) (length (now (work .entry))) (now (weights .entry)) limit budget ⌝ }
+{
+    match record::read_rows(text, work) {
+        RowsRead::Rows(n) => {
+            if n <= FEW_ROWS {
+                let mut few = [0u32; FEW_ENTRIES];
+                return extract_in(text, weights, limit, budget, work, n, &mut few);
+            }
+            let mut all = [0u32; ENTRIES];
+            return extract_in(text, weights, limit, budget, work, n, &mut all);
+        }
+        RowsRead::Refused(r) => {
+            return ExtractAnswer::Refused(r);
+        }
+    }
+}
+
+// The extract of the record that free text describes.
+pub fn extract(
+    text: &[u8],
+    weights: &[u32],
+    limit: usize,
+    budget: usize,
+    work: &mut [u32],
+) -> ExtractAnswer
+    ensures { λ r. ⌜ left (extractAnswerOf r) [] (now (work .exit))
+        ≡ extractCall (now (text .entry)) (now (weights .entry)) limit budget (now (work .entry)) ⌝ }
+{
+    let chosen = extract_of(text, weights, limit, budget, work);
+    rows::clear(work);
+    chosen
 }

@@ -1,14 +1,15 @@
-// The public entries: what a copybook's columns are, and which of them has a byte, in free text and on cards. Each
-// answers in full or with one refusal of document 01's table; a refusal changes no byte of the output, and work memory
-// is zero after every call. `proofs/Demand3` says what the answers of the listing and of the byte owner have to do with
-// each other.
+// The public entries: what a copybook's columns are, and which of them has a byte, in free text and on cards; and which
+// of them fit into a short record. Each answers in full or with one refusal of document 01's table; a refusal changes
+// no byte of the output, and work memory is zero after every call. `proofs/Demand3` says what the answers of the
+// listing and of the byte owner have to do with each other.
 ghost use mathlib.Core.Path.{_≡_};
 ghost use mathlib.Core.List.{[]};
 ghost use Rattle.definition.specs.Calls.{left, layoutCall, detailsCall, reasonsCall, ownerCall};
 ghost use Rattle.definition.specs.Calls.{layoutCardsCall, detailsCardsCall, reasonsCardsCall, ownerCardsCall};
-ghost use Rattle.definition.specs.Calls.{maskCall, pictureAnswer, recordCheck};
-ghost use Rattle.definition.specs.Calls.{checkOf, ownerAnswerOf, pictureOf, writingOf};
+ghost use Rattle.definition.specs.Calls.{extractCall, maskCall, pictureAnswer, recordCheck};
+ghost use Rattle.definition.specs.Calls.{checkOf, ownerAnswerOf, extractAnswerOf, pictureOf, writingOf};
 use definition::Check;
+use definition::ExtractAnswer;
 use definition::OwnerAnswer;
 use definition::PicAnswer;
 use definition::Refusal;
@@ -107,6 +108,28 @@ pub fn byte_owner_cards(cards: &[u8], position: usize, work: &mut [u32]) -> Owne
     ensures { λ r. ⌜ left (ownerAnswerOf r) [] (now (work .exit)) ≡ ownerCardsCall (now (cards .entry)) position (now (work .entry)) ⌝ }
 {
     answers::owner_cards(cards, position, work)
+}
+
+// An extract that fits: of the record's top-level items, each with a weight from 1 to 1,000 in the listing's order,
+// the heaviest choice whose reserved widths sum to at most the limit, among the first subsets, as many as the budget
+// says. Subsets are numbered in binary, the first item being the lowest bit. The answer is the number of the heaviest
+// fitting one, the earliest if equal, its weight, how many were looked at, and how far off it is at most: 0 if all
+// were, else what all items that fit alone weigh more; no choice there is outweighs it by more (`extracted` of
+// `definition`). Refusals: those of the layout listing but 31; 40 for a REDEFINES or DEPENDING ON, a dropped root's own
+// aside; 58 for more than 16 items, or another number of weights than of items; 59 for a weight outside its range; 60
+// for a budget of 0. Work memory is zero after every call.
+// The contract rules out a program that answers with the latest of equals, and one that looks at a subset too many.
+pub fn extract(
+    text: &[u8],
+    weights: &[u32],
+    limit: usize,
+    budget: usize,
+    work: &mut [u32],
+) -> ExtractAnswer
+    ensures { λ r. ⌜ left (extractAnswerOf r) [] (now (work .exit))
+        ≡ extractCall (now (text .entry)) (now (weights .entry)) limit budget (now (work .entry)) ⌝ }
+{
+    answers::extract(text, weights, limit, budget, work)
 }
 
 // Kind, its details and width of one picture with a usage and a sign. Refusals, in this order: 1 over 65,535 bytes; 2 a byte over 127, at the first

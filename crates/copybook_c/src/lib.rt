@@ -5,10 +5,11 @@ ghost use mathlib.Core.Bool.{_||_};
 ghost use Rattle.definition.specs.Basic.{if_then_else_};
 ghost use Rattle.definition.specs.Calls.{layoutCall, detailsCall, pictureAnswer, maskCall, ownerCall, recordCheck};
 ghost use Rattle.definition.specs.Calls.{reasonsCall, layoutCardsCall, detailsCardsCall, ownerCardsCall};
-ghost use Rattle.definition.specs.Calls.{reasonsCardsCall};
+ghost use Rattle.definition.specs.Calls.{reasonsCardsCall, extractCall};
 ghost use Rattle.kinds.specs.Usages.{usageAt, signClauseAt};
 ghost use Rattle.numbers.specs.Numbers.{noUsage, noSign, flagged};
 ghost use Rattle.numbers.specs.Numbers.{returned, writingNumbers, pictureNumbers, ownerNumbers, answered};
+ghost use Rattle.numbers.specs.Numbers.{extractNumbers};
 use definition::Check;
 
 // The layout listing of a copybook, as `copybook::layout_listing` says. To `answer`, 2 numbers: the bytes written, and 0; or position and
@@ -207,6 +208,32 @@ pub extern "C" fn copybook_owner_cards(
 {
     let o = copybook::byte_owner_cards(cards, position as usize, work);
     numbers::hand_on_owner(o, answer)
+}
+
+// An extract that fits, as `copybook::extract` says. To `answer`, 4 numbers: the subset's number, its weight, how many
+// were looked at, and how far off it is at most; or position, needed length and zeros.
+// The contract rules out a call that says how far off it is in place of the number looked at, and one that takes the
+// limit for the budget.
+#[no_mangle]
+pub extern "C" fn copybook_extract(
+    text: &[u8],
+    weights: &[u32],
+    limit: u64,
+    budget: u64,
+    work: &mut [u32],
+    answer: &mut [u64],
+) -> u32
+    ensures { λ r. ⌜ r
+        ≡ returned (extractCall (now (text .entry)) (now (weights .entry)) limit budget (now (work .entry)) .answer) ⌝ }
+    ensures { λ _. ⌜ now (answer .exit)
+        ≡ answered
+        (extractNumbers (extractCall (now (text .entry)) (now (weights .entry)) limit budget (now (work .entry)) .answer))
+        (now (answer .entry)) ⌝ }
+    ensures { λ _. ⌜ now (work .exit)
+        ≡ extractCall (now (text .entry)) (now (weights .entry)) limit budget (now (work .entry)) .work ⌝ }
+{
+    let a = copybook::extract(text, weights, limit as usize, budget as usize, work);
+    numbers::hand_on_extract(a, answer)
 }
 
 // Whether a record of `len` bytes is long enough for a layout of `record_len` bytes, as `copybook::check_record_len` says: 0, or 42. `variable` is 0

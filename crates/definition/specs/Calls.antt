@@ -1,12 +1,13 @@
 -- The calls: the layout listing, its details, the reasons of an entry and the byte owner, of free text and of cards;
--- the picture answer, the mask and the record check; each from what the caller hands in to what the call answers and
--- leaves. Checks run in the order of document 01's table; a line of a `do` is a check or a stage.
+-- the extract, the picture answer, the mask and the record check; each from what the caller hands in to what the call
+-- answers and leaves. Checks run in the order of document 01's table, and then of document 02's; a line of a `do` is a
+-- check or a stage.
 -- Assumes nothing.
 use Prim.Native.Nat.{ℕ, zero, suc, _+_}
-use mathlib.Core.Bool.{Bool, true, false, _&&_, not}
+use mathlib.Core.Bool.{Bool, true, false, _&&_, _||_, not}
 use mathlib.Core.List.{List, [], _∷_, _++_}
 use mathlib.Core.Option.{Option, none, some}
-use lib.Dec.{ltb}
+use lib.Dec.{eqb, ltb}
 use lib.ListN.{length, drop, replicate}
 use Rattle.definition.specs.declared.Statement.{Statement}
 use Rattle.definition.specs.declared.Usage.{Usage}
@@ -14,11 +15,13 @@ use Rattle.definition.specs.declared.SignClause.{SignClause}
 use Rattle.definition.specs.declared.Pictured.{Pictured}
 use Rattle.definition.specs.declared.Owner.{Owner}
 use Rattle.definition.specs.declared.PicAnswer.{PicAnswer}
+use Rattle.definition.specs.declared.Extract.{Extract}
+use Rattle.definition.specs.declared.ExtractAnswer.{ExtractAnswer}
 use Rattle.definition.specs.declared.Report.{Report}
 use Rattle.definition.specs.declared.Writing.{Writing}
 use Rattle.definition.specs.declared.OwnerAnswer.{OwnerAnswer}
 use Rattle.definition.specs.declared.Check.{Check}
-use Rattle.definition.specs.Limits.{mostBytes, leastWork}
+use Rattle.definition.specs.Limits.{mostBytes, leastWork, mostItems}
 use Rattle.definition.specs.Basic.{if_then_else_, Answer, refuse, give, _>>=_, refused, refuseIf}
 use Rattle.definition.specs.Words.{tokensOf, firstOpen, statementWords}
 use Rattle.definition.specs.Cards.{view, firstOther, Form, freeText, cardText}
@@ -32,6 +35,7 @@ use Rattle.definition.specs.Listing.{listing}
 use Rattle.definition.specs.Owner.{pieces, ownerOf, overlaid}
 use Rattle.definition.specs.Details.{entriesDetails}
 use Rattle.definition.specs.Reasons.{reasonsIn, reasonsBytes}
+use Rattle.definition.specs.Extract.{widths, items, misweighed, extract}
 
 -- ---------------------------------------------------------------- the reader
 
@@ -133,6 +137,28 @@ byteOwner text work position = do
   f ← recordFields text work
   ownerIn text f position
 
+-- an extract of items of these widths: 58 for more than 16 of them or another number of weights, 59 for a weight
+-- outside its range, 60 for a budget of 0
+unfoldable pub extractOf : List ℕ → List ℕ → ℕ → ℕ → Answer Extract
+extractOf bytes weights limit budget = do
+  _ ← refuseIf (ltb mostItems (length bytes) || not (eqb (length weights) (length bytes))) 58 0
+  _ ← refuseIf (misweighed weights) 59 0
+  _ ← refuseIf (eqb budget 0) 60 0
+  give (extract limit budget (items bytes weights))
+
+-- an extract of a record of these fields: 40 for a kept REDEFINES or DEPENDING ON
+unfoldable pub extractIn : List ℕ → Forest → List ℕ → ℕ → ℕ → Answer Extract
+extractIn text f weights limit budget = do
+  es ← layout text f
+  _ ← refuseIf (overlaid f) 40 0
+  extractOf (widths es) weights limit budget
+
+-- the extract
+unfoldable pub extractAnswer : List ℕ → ℕ → List ℕ → ℕ → ℕ → Answer Extract
+extractAnswer text work weights limit budget = do
+  f ← recordFields text work
+  extractIn text f weights limit budget
+
 -- the record check: 42 for a record of `len` bytes that is too short, only if not variable
 abbrev pub recordCheck : ℕ → Bool → ℕ → Answer (Unit {0})
 recordCheck recordLen isVariable len = refuseIf (not isVariable && ltb len recordLen) 42 0
@@ -215,6 +241,11 @@ abbrev pub ownerCallIn : Form → List ℕ → ℕ → List ℕ → After Owner
 ownerCallIn form text position work =
     left (called form (λ t. byteOwner t (length work) position) text (length work)) [] (cleared work)
 
+-- the extract, of free text, with work memory lent
+abbrev pub extractCall : List ℕ → List ℕ → ℕ → ℕ → List ℕ → After Extract
+extractCall text weights limit budget work =
+    left (extractAnswer text (length work) weights limit budget) [] (cleared work)
+
 -- these four for free text,
 abbrev pub layoutCall : List ℕ → List ℕ → List ℕ → After ℕ
 layoutCall = layoutCallIn freeText
@@ -255,6 +286,10 @@ abbrev pub ownerAnswerOf : OwnerAnswer → Answer Owner
 ownerAnswerOf (OwnerAnswer.Piece k first place) = give (Owner.Piece k first place)
 ownerAnswerOf (OwnerAnswer.Slack k) = give (Owner.Slack k)
 ownerAnswerOf (OwnerAnswer.Refused r) = refuse r
+
+abbrev pub extractAnswerOf : ExtractAnswer → Answer Extract
+extractAnswerOf (ExtractAnswer.Chosen a) = give a
+extractAnswerOf (ExtractAnswer.Refused r) = refuse r
 
 abbrev pub checkOf : Check → Answer (Unit {0})
 checkOf Check.Passed = give tt

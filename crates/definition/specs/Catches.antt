@@ -19,6 +19,7 @@ use Rattle.definition.specs.declared.FieldKind.the-variants.{Text, Int, 
 use Rattle.definition.specs.declared.Pictured.{Pictured}
 use Rattle.definition.specs.declared.Entry.{Entry}
 use Rattle.definition.specs.declared.Owner.{Owner}
+use Rattle.definition.specs.declared.Extract.{Extract}
 use Rattle.definition.specs.declared.Span.{Span}
 use Rattle.definition.specs.Basic.{if_then_else_, bytes, among, given, same, span, absent, le4, le8}
 use Rattle.definition.specs.Basic.{Answer, refuse, give, _>>=_}
@@ -28,7 +29,7 @@ use Rattle.definition.specs.Record.{recordLength, variable}
 use Rattle.definition.specs.Listing.{flag, spanBytes, kindByte, details, members#}
 use Rattle.definition.specs.Cards.{Form, freeText, cardText}
 use Rattle.definition.specs.Calls.{entries, layoutListing, layoutDetails, pictureAnswer, pictureMask, byteOwner}
-use Rattle.definition.specs.Calls.{recordFields, entryReasons, indicatorCheck, called}
+use Rattle.definition.specs.Calls.{recordFields, entryReasons, extractAnswer, indicatorCheck, called}
 use Rattle.definition.specs.Ungrouped.{plainUsages}
 use Rattle.definition.specs.Computing.{computing}
 
@@ -66,6 +67,10 @@ abbrev pub ownerShown : Owner → List ℕ
 ownerShown (Owner.Piece k first place) = 1 ∷ k ∷ first ∷ place ∷ []
 ownerShown (Owner.Slack k) = 2 ∷ k ∷ []
 ownerShown Owner.Unowned = 0 ∷ []
+
+-- an extract in numbers
+abbrev pub extractShown : Extract → List ℕ
+extractShown a = a .subset ∷ a .weight ∷ a .examined ∷ a .off ∷ []
 
 -- no sign, and each of the four
 abbrev pub everySign : List SignClause
@@ -137,6 +142,10 @@ pub data Catch : Type 0 where
   reasoned : String → ℕ → List ℕ → Catch
   -- a copybook, the number of an entry, the length of the lent output, and the refusal: number, position, needed length
   notReasoned : String → ℕ → ℕ → ℕ → ℕ → ℕ → Catch
+  -- a copybook, weights, a limit and a budget; the subset's number, its weight, how many were looked at, how far off
+  extracts : String → List ℕ → ℕ → ℕ → List ℕ → Catch
+  -- a copybook, weights, a limit and a budget, and the number of the refusal
+  notExtracted : String → List ℕ → ℕ → ℕ → ℕ → Catch
   -- a row of one of these kinds whose copybook is cards
   cards : Catch → Catch
   -- cards whose last line ends with the text, with a carriage return, with byte 10 or with both, and their columns
@@ -187,6 +196,10 @@ rightIn form (reasoned text k l) =
     gives (same l) (asked form (λ t. entryReasons t 16384 k (length l)) (bytes text))
 rightIn form (notReasoned text k room n p needed) =
     refuses n p needed (asked form (λ t. entryReasons t 16384 k room) (bytes text))
+rightIn form (extracts text weights limit budget l) =
+    gives (λ a. same (extractShown a) l) (extractAnswer (bytes text) 16384 weights limit budget)
+rightIn form (notExtracted text weights limit budget n) =
+    refuses n 0 0 (extractAnswer (bytes text) 16384 weights limit budget)
 rightIn form (cards row) = rightIn cardText row
 rightIn form (ending text cs) =
     hasColumns cardText (bytes text) cs
@@ -238,6 +251,17 @@ counts = "01 R COMP. 05 A PIC X. 05 B PIC 9(5) SYNC. 05 G. 10 C PIC X. 10 D PIC 
 -- five digits, packed
 abbrev packed5 : FieldKind
 packed5 = Decimal 5 0 NumRepr.Comp3 SignKind.Embedded
+
+-- that many numbers, all the same
+abbrev many : ℕ → ℕ → List ℕ
+many zero w = []
+many (suc n) w = w ∷ many n w
+
+-- 16 items at the top, of one byte each
+abbrev pub sixteen : String
+sixteen =
+    joined "5 A PIC X. 5 B PIC X. 5 C PIC X. 5 D PIC X. 5 E PIC X. 5 F PIC X. 5 G PIC X. 5 H PIC X. "
+    "5 I PIC X. 5 J PIC X. 5 K PIC X. 5 L PIC X. 5 M PIC X. 5 N PIC X. 5 O PIC X. 5 P. 10 Q PIC X."
 
 -- the details of FISH's three entries: slack stands before the second
 abbrev pub fishDetails : List ℕ
@@ -646,6 +670,55 @@ table =
     -- 2 comes before 51, and looks at ignored columns too
     ∷ cards (turnedDown "000100-\u{80}" 2 7)
     ∷ cards (turnedDown "000100*                                                                 \u{80}" 2 72)
+    -- an extract of FISH, whose items reserve 5, 2 and 12 bytes; the first item is the lowest bit, slack is not counted
+    ∷ extracts fish (5 ∷ 3 ∷ 9 ∷ []) 19 8 (7 ∷ 17 ∷ 8 ∷ 0 ∷ [])
+    ∷ extracts fish (5 ∷ 3 ∷ 9 ∷ []) 18 8 (5 ∷ 14 ∷ 8 ∷ 0 ∷ [])
+    ∷ extracts fish (5 ∷ 3 ∷ 9 ∷ []) 14 8 (6 ∷ 12 ∷ 8 ∷ 0 ∷ [])
+    -- the limit need not be met exactly
+    ∷ extracts fish (5 ∷ 3 ∷ 9 ∷ []) 13 8 (4 ∷ 9 ∷ 8 ∷ 0 ∷ [])
+    ∷ extracts fish (5 ∷ 3 ∷ 9 ∷ []) 1 8 (0 ∷ 0 ∷ 8 ∷ 0 ∷ [])
+    ∷ extracts fish (5 ∷ 3 ∷ 9 ∷ []) 18446744073709551615 8 (7 ∷ 17 ∷ 8 ∷ 0 ∷ [])
+    -- the earliest if equal
+    ∷ extracts fish (4 ∷ 5 ∷ 9 ∷ []) 13 8 (3 ∷ 9 ∷ 8 ∷ 0 ∷ [])
+    -- the number looked at is the smaller of the budget and all subsets, and with all looked at it is off by 0
+    ∷ extracts fish (5 ∷ 3 ∷ 9 ∷ []) 19 7 (5 ∷ 14 ∷ 7 ∷ 3 ∷ [])
+    ∷ extracts fish (5 ∷ 3 ∷ 9 ∷ []) 14 7 (6 ∷ 12 ∷ 7 ∷ 5 ∷ [])
+    ∷ extracts fish (5 ∷ 3 ∷ 9 ∷ []) 14 9 (6 ∷ 12 ∷ 8 ∷ 0 ∷ [])
+    ∷ extracts fish (5 ∷ 3 ∷ 9 ∷ []) 14 1 (0 ∷ 0 ∷ 1 ∷ 17 ∷ [])
+    -- it is off by what all items that fit alone weigh more, whether they fit together or not
+    ∷ extracts fish (5 ∷ 3 ∷ 9 ∷ []) 12 3 (1 ∷ 5 ∷ 3 ∷ 12 ∷ [])
+    ∷ extracts fish (5 ∷ 3 ∷ 9 ∷ []) 11 3 (1 ∷ 5 ∷ 3 ∷ 3 ∷ [])
+    ∷ extracts fish (5 ∷ 3 ∷ 9 ∷ []) 5 3 (1 ∷ 5 ∷ 3 ∷ 3 ∷ [])
+    ∷ extracts fish (5 ∷ 3 ∷ 9 ∷ []) 4 3 (2 ∷ 3 ∷ 3 ∷ 0 ∷ [])
+    -- a group reserves its width for each occurrence; an item that stands 0 times reserves nothing
+    ∷ extracts tank (1 ∷ 9 ∷ 2 ∷ 4 ∷ 1 ∷ []) 16 32 (10 ∷ 13 ∷ 32 ∷ 0 ∷ [])
+    ∷ extracts tank (1 ∷ 9 ∷ 2 ∷ 4 ∷ 1 ∷ []) 15 32 (29 ∷ 8 ∷ 32 ∷ 0 ∷ [])
+    ∷ extracts tank (1 ∷ 9 ∷ 2 ∷ 4 ∷ 1 ∷ []) 0 32 (8 ∷ 4 ∷ 32 ∷ 0 ∷ [])
+    -- without items there is one subset, the empty one
+    ∷ extracts "" [] 0 1 (0 ∷ 0 ∷ 1 ∷ 0 ∷ [])
+    -- up to 16 items, however many are below them, and weights from 1 to 1,000
+    ∷ extracts sixteen (many 16 1000) 16 2 (1 ∷ 1000 ∷ 2 ∷ 15000 ∷ [])
+    ∷ extracts sixteen (many 16 1) 0 5 (0 ∷ 0 ∷ 5 ∷ 0 ∷ [])
+    -- the reader's refusals, then 40, a dropped root's own clauses aside,
+    ∷ notExtracted "05 A PIC X9. 05 B REDEFINES A PIC X." [] 9 0 26
+    ∷ notExtracted "05 A PIC X. 05 B REDEFINES A PIC X." [] 9 0 40
+    ∷ notExtracted "05 A PIC X. 05 B. 10 C OCCURS 2 DEPENDING ON A PIC X." [] 9 0 40
+    ∷ extracts "01 R REDEFINES X OCCURS 2 DEPENDING ON N. 05 A PIC X." (7 ∷ []) 1 2 (1 ∷ 7 ∷ 2 ∷ 0 ∷ [])
+    -- 58 for more than 16 items or another number of weights than of items,
+    ∷ notExtracted (joined sixteen " 5 R PIC X.") (many 17 1) 9 9 58
+    ∷ notExtracted (joined sixteen " 5 R PIC X.") (many 16 0) 9 0 58
+    ∷ notExtracted fish (5 ∷ 3 ∷ []) 19 8 58
+    ∷ notExtracted fish (5 ∷ 3 ∷ 9 ∷ 1 ∷ []) 19 8 58
+    ∷ notExtracted fish (0 ∷ 0 ∷ []) 19 0 58
+    ∷ notExtracted "" (1 ∷ []) 0 1 58
+    -- 59 for a weight outside its range,
+    ∷ notExtracted fish (0 ∷ 3 ∷ 9 ∷ []) 19 8 59
+    ∷ notExtracted fish (5 ∷ 3 ∷ 1001 ∷ []) 19 8 59
+    ∷ notExtracted fish (5 ∷ 0 ∷ 9 ∷ []) 19 0 59
+    ∷ extracts fish (1 ∷ 1000 ∷ 1 ∷ []) 7 8 (3 ∷ 1001 ∷ 8 ∷ 0 ∷ [])
+    -- and 60 for a budget of 0
+    ∷ notExtracted fish (5 ∷ 3 ∷ 9 ∷ []) 19 0 60
+    ∷ notExtracted "" [] 0 0 60
     ∷ []
 
 -- every row of the table is right

@@ -16,6 +16,8 @@ use Rattle.definition.specs.Calls.{firstWide, textChecks, entryChecks, l
 use Rattle.definition.specs.Calls.{indicatorCheck, cardChecks, onCards}
 use Rattle.definition.specs.Cards.{viewFrom, firstOther}
 use Rattle.definition.specs.Ungrouped.{lasting, lastingAll, plainGroups}
+use Rattle.definition.specs.Extract.{misweighed, chosen, upFrom, heaviest, alone}
+use Rattle.definition.specs.Calls.{extractOf, extractIn, extractAnswer}
 use Rattle.definition.specs.Details.{detailsIn, detailBytes, detailsBytes}
 use Rattle.definition.specs.Reasons.{latest, chains, chainAt, reasonsIn, reasonsBytes}
 
@@ -29,6 +31,7 @@ unfolding
     lay recordLength variable endsFit unfolded layout entryBytes entriesBytes listing
     laid ownerFrom overlaid
     detailsIn detailBytes detailsBytes latest chains chainAt reasonsIn reasonsBytes
+    misweighed chosen upFrom heaviest alone extractOf extractIn extractAnswer
     firstWide textChecks entryChecks literalCheck keptStatements recordFields entries layoutListing layoutDetails pictureAnswer pictureMask ownerIn byteOwner
     entryReasons
     viewFrom firstOther indicatorCheck cardChecks onCards

@@ -16,6 +16,7 @@ pub mod Search
 pub mod Details
 pub mod Reasons
 pub mod Cards
+pub mod Extract
 pub mod Calls
 pub mod Ungrouped
 pub mod Computing
@@ -23,3 +24,4 @@ pub mod Catches
 pub mod Placed
 pub mod Demand
 pub mod Explained
+pub mod Extracted

@@ -33,3 +33,14 @@ longestMask = 255
 -- no count, aligned cursor, size or end is larger (29)
 abbrev pub largest : ℕ
 largest = 2147483647
+
+-- an extract is chosen from no more items (58)
+abbrev pub mostItems : ℕ
+mostItems = 16
+
+-- no weight is smaller, and none larger (59)
+abbrev pub leastWeight : ℕ
+leastWeight = 1
+
+abbrev pub mostWeight : ℕ
+mostWeight = 1000

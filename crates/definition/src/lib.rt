@@ -20,6 +20,12 @@ pub const LARGEST: usize = 2147483647;
 
 pub const LARGEST_COUNT: u64 = 2147483647;
 
+pub const MOST_ITEMS: usize = 16;
+
+pub const LEAST_WEIGHT: u32 = 1;
+
+pub const MOST_WEIGHT: u32 = 1000;
+
 pub struct Span {
     pub start: usize,
     pub len: usize,
@@ -239,6 +245,15 @@ pub enum Owner {
     Unowned,
 }
 
+// A choice among the top-level items: the number of the subset, its weight, how many subsets were looked at, and by how
+// much the best choice there is may outweigh it at most.
+pub struct Extract {
+    pub subset: usize,
+    pub weight: usize,
+    pub examined: usize,
+    pub off: usize,
+}
+
 // Why a call is turned down: document 01's number, a position, and the length that the output should have had.
 pub struct Refusal {
     pub number: u32,
@@ -276,6 +291,12 @@ pub enum OwnerAnswer {
     Slack {
         entry: usize,
     },
+    Refused(Refusal),
+}
+
+// The answer of the extract.
+pub enum ExtractAnswer {
+    Chosen(Extract),
     Refused(Refusal),
 }
 

@@ -10,12 +10,15 @@ use Rattle.definition.specs.declared.Pictured.{Pictured}
 use Rattle.definition.specs.declared.PicAnswer.{PicAnswer}
 use Rattle.definition.specs.declared.Owner.{Owner}
 use Rattle.definition.specs.declared.OwnerAnswer.{OwnerAnswer}
+use Rattle.definition.specs.declared.Extract.{Extract}
+use Rattle.definition.specs.declared.ExtractAnswer.{ExtractAnswer}
 use Rattle.definition.specs.Basic.{Answer}
-use Rattle.definition.specs.Calls.{After, left, writingOf, pictureOf, ownerAnswerOf, checkOf}
+use Rattle.definition.specs.Calls.{After, left, writingOf, pictureOf, ownerAnswerOf, extractAnswerOf, checkOf}
 use Rattle.definition.specs.Listing.{kindByte}
 use Rattle.kinds.specs.declared.KindNumbers.{KindNumbers}
 use Rattle.kinds.specs.Kinds.{numbersOf}
-use Rattle.numbers.specs.Numbers.{returned, writingNumbers, kindParts, pictureNumbers, ownerNumbers, answered}
+use Rattle.numbers.specs.Numbers.{returned, writingNumbers, kindParts, pictureNumbers, ownerNumbers}
+use Rattle.numbers.specs.Numbers.{extractNumbers, answered}
 
 -- the answer of a call that writes bytes
 module _ {w : Writing} (l l′ : List ℕ) where
@@ -78,6 +81,33 @@ pub owner-handed :
 owner-handed after a out work r l l′ e p =
     let s = ap (λ (x : After Owner). x .answer) e in
     (p .0 ∙ ap returned s, (p .1 ∙ ap (λ (x : Answer Owner). answered (ownerNumbers x) l) s, ap (λ (x : After Owner). x .work) e))
+
+-- an extract
+module _ {a : ExtractAnswer} (l l′ : List ℕ) where
+  pub extracted :
+      {x : Extract} →
+      a ≡ ExtractAnswer.Chosen x →
+      l′ ≡ answered (x .subset ∷ x .weight ∷ x .examined ∷ x .off ∷ []) l →
+      (0 ≡ returned (extractAnswerOf a)) × (l′ ≡ answered (extractNumbers (extractAnswerOf a)) l)
+  extracted e q = rw (e, q) (refl, refl)
+
+  pub not-extracted :
+      {r : Refusal} →
+      a ≡ ExtractAnswer.Refused r →
+      l′ ≡ answered (r .position ∷ r .needed ∷ 0 ∷ 0 ∷ []) l →
+      (r .number ≡ returned (extractAnswerOf a)) × (l′ ≡ answered (extractNumbers (extractAnswerOf a)) l)
+  not-extracted e q = rw (e, q) (refl, refl)
+
+pub extract-handed :
+    (after : After Extract) (a : Answer Extract) (out work : List ℕ) (r : ℕ) (l l′ : List ℕ) →
+    left a out work ≡ after →
+    (r ≡ returned a) × (l′ ≡ answered (extractNumbers a) l) →
+    (r ≡ returned (after .answer)) × ((l′ ≡ answered (extractNumbers (after .answer)) l) × (work ≡ after .work))
+extract-handed after a out work r l l′ e p =
+    let s = ap (λ (x : After Extract). x .answer) e in (
+      p .0 ∙ ap returned s,
+      (p .1 ∙ ap (λ (x : Answer Extract). answered (extractNumbers x) l) s, ap (λ (x : After Extract). x .work) e),
+    )
 
 -- what an entry leaves, and what was handed on of its answer
 pub handed :

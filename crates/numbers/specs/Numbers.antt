@@ -8,6 +8,7 @@ use lib.Dec.{eqb, ltb}
 use lib.ListN.{length, drop}
 use Rattle.definition.specs.declared.Pictured.{Pictured}
 use Rattle.definition.specs.declared.Owner.{Owner}
+use Rattle.definition.specs.declared.Extract.{Extract}
 use Rattle.definition.specs.Basic.{if_then_else_, Answer, refuse, give}
 use Rattle.definition.specs.Listing.{kindByte}
 use Rattle.kinds.specs.declared.KindNumbers.{KindNumbers}
@@ -54,6 +55,12 @@ ownerNumbers (refuse r) = r .position ∷ r .needed ∷ 0 ∷ 0 ∷ []
 ownerNumbers (give (Owner.Piece entry first place)) = 0 ∷ entry ∷ first ∷ place ∷ []
 ownerNumbers (give (Owner.Slack entry)) = 1 ∷ entry ∷ 0 ∷ 0 ∷ []
 ownerNumbers (give Owner.Unowned) = 0 ∷ 0 ∷ 0 ∷ 0 ∷ []
+
+-- the four numbers of an extract: the subset's number, its weight, how many were looked at and how far off it is at
+-- most; or position and needed length
+abbrev pub extractNumbers : Answer Extract → List ℕ
+extractNumbers (refuse r) = r .position ∷ r .needed ∷ 0 ∷ 0 ∷ []
+extractNumbers (give a) = a .subset ∷ a .weight ∷ a .examined ∷ a .off ∷ []
 
 -- the lent `answer` after a call that writes these numbers to it
 unfoldable pub answered : List ℕ → List ℕ → List ℕ

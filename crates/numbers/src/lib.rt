@@ -2,8 +2,10 @@
 // (`specs/Numbers`). Leans on `definition` and `kinds`.
 ghost use mathlib.Core.Path.{_≡_};
 ghost use mathlib.Core.List.{[], _∷_};
-ghost use Rattle.definition.specs.Calls.{pictureOf, writingOf, ownerAnswerOf};
+ghost use Rattle.definition.specs.Calls.{pictureOf, writingOf, ownerAnswerOf, extractAnswerOf};
 ghost use Rattle.numbers.specs.Numbers.{noUsage, returned, writingNumbers, kindParts, pictureNumbers, ownerNumbers, answered};
+ghost use Rattle.numbers.specs.Numbers.{extractNumbers};
+use definition::ExtractAnswer;
 use definition::OwnerAnswer;
 use definition::PicAnswer;
 use definition::Writing;
@@ -131,6 +133,29 @@ pub fn hand_on_owner(o: OwnerAnswer, answer: &mut [u64]) -> u32
             return 0;
         }
         OwnerAnswer::Refused(r) => {
+            put_four(answer, r.position as u64, r.needed as u64, 0, 0);
+            return r.number;
+        }
+    }
+}
+
+// Hands on an extract.
+pub fn hand_on_extract(a: ExtractAnswer, answer: &mut [u64]) -> u32
+    ensures { λ r. ⌜ r ≡ returned (extractAnswerOf a) ⌝ }
+    ensures { λ _. ⌜ now (answer .exit) ≡ answered (extractNumbers (extractAnswerOf a)) (now (answer .entry)) ⌝ }
+{
+    match a {
+        ExtractAnswer::Chosen(x) => {
+            put_four(
+                answer,
+                x.subset as u64,
+                x.weight as u64,
+                x.examined as u64,
+                x.off as u64,
+            );
+            return 0;
+        }
+        ExtractAnswer::Refused(r) => {
             put_four(answer, r.position as u64, r.needed as u64, 0, 0);
             return r.number;
         }

@@ -324,7 +324,7 @@ listed-walkable {text} {w = w} {from} {to} l =
 
 module _ {text w : List ℕ} {from to length : ℕ} (l : Listed text (give (rowsForest w from to)) w from to length) where
   -- the record's layout
-  laid-out : layout text (rowsForest w from to) ≡ give (foldedAll text (listIn w from to))
+  pub laid-out : layout text (rowsForest w from to) ≡ give (foldedAll text (listIn w from to))
   unfolding _>>=_
   laid-out =
       layout-is text (rowsForest w from to)

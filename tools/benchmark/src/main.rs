@@ -10,7 +10,8 @@ mod inputs;
 
 use fixedformat_core::{copybook, numbers};
 use inputs::{Shape, OWNED, SHAPES, SIZES};
-use product::{fixedformat, lent, Form, SignKind, Usage, LONGEST_LISTING, LONGEST_MASK, WORK};
+use product::{fixedformat, lent, Form, SignKind, Usage};
+use product::{ALL_SUBSETS, LONGEST_LISTING, LONGEST_MASK, MOST_ITEMS, WORK};
 use std::hint::black_box;
 
 const ROUNDS: usize = 15;
@@ -279,6 +280,40 @@ fn owners() {
     }
 }
 
+// ---------------------------------------------------------------- the extract
+
+/// 16 items of so many bytes.
+fn sixteen(width: impl Fn(usize) -> usize) -> String {
+    (0..MOST_ITEMS).map(|i| format!("05 I{i} PIC X({}).\n", width(i))).collect()
+}
+
+/// Microseconds to look at so many subsets of 16 items, where about a part of their bytes may be chosen.
+fn extracted(text: &str, quarters: usize, budget: u64) -> f64 {
+    let mut lent = Buffers::new();
+    let weights: Vec<u32> = (0..MOST_ITEMS as u32).map(|i| i * 389 % 1000 + 1).collect();
+    let limit = (lent.layout(text).record_len() * quarters / 4) as u64;
+    let [time] = best([&mut || {
+        let chosen = lent::extract(black_box(text.as_bytes()), &weights, limit, budget, &mut lent.work);
+        black_box(chosen.unwrap_or_else(|r| panic!("{r}")));
+    }]);
+    time
+}
+
+fn extracts() {
+    println!("\n## The extract, of 16 items\n");
+    println!("| Widths | Limit | 1 subset, µs | 65,536 subsets, µs | A subset, ns |");
+    println!("|---|---|---|---|---|");
+    let widths: [(&str, &dyn Fn(usize) -> usize); 2] = [("alike", &|_| 10), ("different", &|i| i * 37 % 61 + 1)];
+    for (name, width) in widths {
+        for quarters in 1..=4 {
+            let text = sixteen(width);
+            let (one, all) = (extracted(&text, quarters, 1), extracted(&text, quarters, ALL_SUBSETS));
+            let each = (all - one) * 1e3 / (ALL_SUBSETS - 1) as f64;
+            println!("| {name} | {quarters}/4 of the record | {one:.2} | {all:.1} | {each:.2} |");
+        }
+    }
+}
+
 fn main() {
     let all = listings();
     drop_ins(&all);
@@ -287,4 +322,5 @@ fn main() {
     cards();
     pictures();
     owners();
+    extracts();
 }

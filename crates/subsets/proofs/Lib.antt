@@ -1,0 +1,3 @@
+pub mod SumLaws
+pub mod SearchLaws
+pub mod AnswerLaws

@@ -18,6 +18,7 @@ use Rattle.definition.specs.Cards.{viewFrom, firstOther}
 use Rattle.definition.specs.Ungrouped.{lasting, lastingAll, plainGroups}
 use Rattle.definition.specs.Details.{detailsIn, detailBytes, detailsBytes}
 use Rattle.definition.specs.Reasons.{latest, chains, chainAt, reasonsIn, reasonsBytes}
+use Rattle.definition.specs.Key.{namedIn, keyIn, allAgree, keysIn, sum, copybooks, setKey}
 
 unfoldable pub computing : Unit {0}
 unfolding
@@ -31,6 +32,7 @@ unfolding
     detailsIn detailBytes detailsBytes latest chains chainAt reasonsIn reasonsBytes
     firstWide textChecks entryChecks literalCheck keptStatements recordFields entries layoutListing layoutDetails pictureAnswer pictureMask ownerIn byteOwner
     entryReasons
+    namedIn keyIn allAgree keysIn sum copybooks setKey
     viewFrom firstOther indicatorCheck cardChecks onCards
     lasting lastingAll plainGroups
 computing = tt

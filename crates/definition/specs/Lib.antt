@@ -17,6 +17,7 @@ pub mod Details
 pub mod Reasons
 pub mod Cards
 pub mod Calls
+pub mod Key
 pub mod Ungrouped
 pub mod Computing
 pub mod Catches

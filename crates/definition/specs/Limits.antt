@@ -33,3 +33,10 @@ longestMask = 255
 -- no count, aligned cursor, size or end is larger (29)
 abbrev pub largest : ℕ
 largest = 2147483647
+
+-- a set has no fewer copybooks, and no more (56)
+abbrev pub fewestInSet : ℕ
+fewestInSet = 2
+
+abbrev pub mostInSet : ℕ
+mostInSet = 16

@@ -20,6 +20,10 @@ pub const LARGEST: usize = 2147483647;
 
 pub const LARGEST_COUNT: u64 = 2147483647;
 
+pub const FEWEST_IN_SET: usize = 2;
+
+pub const MOST_IN_SET: usize = 16;
+
 pub struct Span {
     pub start: usize,
     pub len: usize,
@@ -276,6 +280,12 @@ pub enum OwnerAnswer {
     Slack {
         entry: usize,
     },
+    Refused(Refusal),
+}
+
+// The answer of a key for a set of copybooks.
+pub enum KeyAnswer {
+    Key { offset: usize, width: usize },
     Refused(Refusal),
 }
 

@@ -27,3 +27,4 @@ pub mod Demand3
 pub mod Occurrences
 pub mod Begins
 pub mod Why
+pub mod KeyLaws

@@ -8,6 +8,7 @@ mod arguments;
 mod facts;
 mod files;
 mod forms;
+mod key;
 mod layout;
 mod machines;
 mod owner;
@@ -33,7 +34,7 @@ pub struct Command {
     pub run: fn(&Arguments) -> Result<Status, Failure>,
 }
 
-const COMMANDS: &[Command] = &[layout::COMMAND, owner::COMMAND, reasons::COMMAND, picture::COMMAND];
+const COMMANDS: &[Command] = &[layout::COMMAND, owner::COMMAND, reasons::COMMAND, key::COMMAND, picture::COMMAND];
 
 /// How a command ended that could be carried out.
 #[derive(Debug, Clone, Copy, PartialEq, Eq)]

@@ -152,6 +152,12 @@ pub const REFUSALS: &[Row] = {
         row(53, "past-listing", Nothing,
             "the entry's number is past the listing", "",
             "entries are numbered from 0 in the order of the layout, the record's own line not counted"),
+        row(56, "no-set", Nothing,
+            "there are not 2 to 16 copybooks, or their stated lengths do not add up to the bytes lent", "",
+            "a key is for 2 to 16 copybooks: lend all of their bytes, and state the length of each"),
+        row(57, "no-key", Nothing,
+            "the copybooks have no common key of that name", "",
+            "each needs one top-level item of that name, no group, without OCCURS or REDEFINES, all in one place"),
     ]
 };
 

@@ -55,6 +55,11 @@ ownerNumbers (give (Owner.Piece entry first place)) = 0 ∷ entry ∷ first ∷ 
 ownerNumbers (give (Owner.Slack entry)) = 1 ∷ entry ∷ 0 ∷ 0 ∷ []
 ownerNumbers (give Owner.Unowned) = 0 ∷ 0 ∷ 0 ∷ 0 ∷ []
 
+-- the two numbers of a key: offset and width; or position and needed length
+abbrev pub keyNumbers : Answer (ℕ × ℕ) → List ℕ
+keyNumbers (refuse r) = r .position ∷ r .needed ∷ []
+keyNumbers (give k) = k .0 ∷ k .1 ∷ []
+
 -- the lent `answer` after a call that writes these numbers to it
 unfoldable pub answered : List ℕ → List ℕ → List ℕ
 answered numbers answer = if ltb (length answer) (length numbers) then answer else numbers ++ drop (length numbers) answer

@@ -1,0 +1,2 @@
+pub mod SoughtLaws
+pub mod KindLaws

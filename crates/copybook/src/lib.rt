@@ -59,10 +59,10 @@ pub fn byte_owner(text: &[u8], position: usize, work: &mut [u32]) -> OwnerAnswer
 // The reasons of an entry's place, by its number in the listing, from 0: 13 bytes for each, numbers little-endian. Its
 // kind (1): 1 first in its list, 2 directly after the sibling named, 3 slack, 4 laid over the item named, 5 inside the
 // group named; start and length of that item's name (4 each, 0 if none or without a name); the bytes that it adds (4).
-// The item's placing reason comes first, then its slack, then for each group outward kind 5 and the group's own reasons;
-// a dropped root gives none, and a group made by folding has its base's reasons. Added up they are the entry's first
-// byte in the record. Refusals: those of the layout listing but 31, then 53 for a number past the listing, then 31, with
-// the length of the reasons. Answer, output and work memory are as in `layout_listing`.
+// The item's placing reason comes first, then its slack, then for each group outward kind 5 and the group's own
+// reasons; a dropped root gives none, and a group made by folding has its base's reasons. Added up they are the entry's
+// first byte in the record. Refusals: those of the layout listing but 31, then 53 for a number past the listing, then
+// 31, with the length of the reasons. Answer, output and work memory are as in `layout_listing`.
 // The contract rules out a program that names the sibling directly before although it is a redefiner, and one that
 // stops at the first group.
 pub fn entry_reasons(text: &[u8], number: usize, work: &mut [u32], out: &mut [u8]) -> Writing

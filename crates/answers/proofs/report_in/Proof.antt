@@ -55,23 +55,25 @@ returns-2 c =
 
 write-reasons-requires : tie.Need-write-reasons-requires
 write-reasons-requires c κs =
-    let x = c .before .before .before .before .before .before in
-    let a = x .before .before .before .before .before .before .before .before .before .before .before .before .before .args in
+    let x = c .before .before .before .before .before .before .before in
+    let a =
+    x .before .before .before .before .before .before .before .before .before .before .before .before .before .args in
     let l = laid x in
     let n = length (a .work .now) in
     record { table = l .1; settled = laid-settled n (l .0); chained = laid-chained n (l .0) }
 
 returns-3 : tie.Need-returns-3
 returns-3 c =
-    let x = c .before .before .before .before .before .before .before .before .before in
-    let a = x .before .before .before .before .before .before .before .before .before .before .before .before .before .args in
-    let told = c .before .before .before .before .before .before .number .given in
+    let told = c .before .before .before .before .before .before .before .what .given in
+    let x = c .before .before .before .before .before .before .before .before .before .before in
+    let a =
+    x .before .before .before .before .before .before .before .before .before .before .before .before .before .args in
     let n = length (a .work .now) in
     c .before .before .write-reasons .ensures
     ∙ ap (λ (y : Answer (List ℕ)). afterWriting y (a .out .now) [])
     (sym
     (ap (λ (y : Report). report y (a .text .now) n (length (a .out .now))) (told .1)
-    ∙ reasons-laid n (laid x .0) (told .0) (length (a .out .now))))
+    ∙ reasons-laid n (laid x .0) (told .0 .0) (length (a .out .now))))
 
 returns-4 : tie.Need-returns-4
 returns-4 c =

@@ -19,7 +19,9 @@ same-length c = search needs
 
 returns : tie.Need-returns
 returns c =
-    c .before .before .before .before .before .before .before .before .before .before .put-byte .ensures and c .before .before .before .before .before .before .put-span .ensures and c .before .before .put4 .ensures
+    let span = c .before .before .before .before .before .before in
+    let byte = span .before .before .before .before in
+    byte .put-byte .ensures and span .put-span .ensures and c .before .before .put4 .ensures
 
 pub put-reason-spec : {M : Type 1} → statement M
 put-reason-spec =

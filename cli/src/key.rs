@@ -123,12 +123,14 @@ fn no_key(refused: &NoKey, sources: &[Source], name: &[u8]) -> Result<Status, Fa
     if let Some(number) = refused.copybook {
         return refusals::not_laid_out(&refused.refusal, &sources[number]);
     }
-    files::write(|out| writeln!(out, "refused {} {}", refused.refusal.number, refused.refusal.position))?;
-    let faults = if refused.refusal.number == NO_KEY { faults(sources, name) } else { Vec::new() };
-    for line in faults {
-        eprintln!("{line}");
+    let refusal = refused.refusal;
+    files::write(|out| writeln!(out, "refused {} {}", refusal.number, refusal.position))?;
+    let mut lines = if refusal.number == NO_KEY { faults(sources, name) } else { Vec::new() };
+    if lines.is_empty() {
+        let names: Vec<&str> = sources.iter().map(|source| source.name.as_str()).collect();
+        lines.push(format!("{}: {}", names.join(", "), refusal.found()));
     }
-    eprintln!("copybook key: {}\n    {}", refused.refusal.found(), refused.refusal.advice());
+    eprintln!("{}\n    {}", lines.join("\n"), refusal.advice());
     Ok(Status::Refused)
 }
 

@@ -150,9 +150,9 @@ pub fn hand_on_key(a: KeyAnswer, answer: &mut [u64]) -> u32
             put_two(answer, offset as u64, width as u64);
             return 0;
         }
-        KeyAnswer::Refused(r) => {
-            put_two(answer, r.position as u64, r.needed as u64);
-            return r.number;
+        KeyAnswer::Refused(why) => {
+            put_two(answer, why.position as u64, why.needed as u64);
+            return why.number;
         }
     }
 }

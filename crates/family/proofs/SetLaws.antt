@@ -1,15 +1,15 @@
 -- A set of copybooks, one after the other: where each stands in the bytes lent, and how the later ones agree with the
 -- first.
 -- Assumes nothing.
-use Prim.Native.Nat.{ℕ, zero, suc, _+_, _-_, _≤_, _<_}
+use Prim.Native.Nat.{ℕ, _+_, _-_, _≤_, _<_}
 use mathlib.Core.Path.{_≡_, refl, sym, _∙_, ap, subst}
 use mathlib.Core.Bool.{Bool, true, false, _&&_, not}
 use mathlib.Core.List.{List, [], _∷_}
 use mathlib.Core.Option.{Option, none, some}
 use native.Mathlib.Omega.{arith}
-use native.Mathlib.Nat.{sub-zero}
 use lib.Dec.{eqb, leb}
 use lib.ListN.{length, getD, take, drop, drop-of-length-le}
+use lib.Seq.{drop-drop}
 use borrow.Author.Tests.{eq-eqb, ne-eqb, eqb-true, le-leb, lt-leb, leb-true}
 use Rattle.definition.specs.declared.Refusal.{Refusal}
 use Rattle.definition.specs.declared.KeyAnswer.{KeyAnswer}
@@ -57,13 +57,6 @@ module _ (n : ℕ) (name : List ℕ) (a : Option Key) (agreed : Bool) (text : Li
   next-refused e = let same = rw e at h in rw (← same)
 
 -- ---------------------------------------------------------------- the bytes lent
-
-drop-drop : (n m : ℕ) (l : List ℕ) → drop n (drop m l) ≡ drop (m + n) l
-drop-drop n zero l = ap (λ (k : ℕ). drop k l) (let e : n ≡ 0 + n = omega arith in e)
-drop-drop zero (suc m) [] = refl
-drop-drop (suc n) (suc m) [] = refl
-drop-drop n (suc m) (x ∷ l) =
-    drop-drop n m l ∙ ap (λ (k : ℕ). drop k (x ∷ l)) (let e : suc (m + n) ≡ suc m + n = omega arith in e)
 
 module _ (lengths : List ℕ) (i : ℕ) (h : i < length lengths) where
   sum-next : sum (drop i lengths) ≡ getD lengths i 0 + sum (drop (i + 1) lengths)
@@ -156,9 +149,6 @@ module _ {texts lengths : List ℕ} {n : ℕ} {name : List ℕ} {first : Sought}
 
     pub next-part : Part texts end at (at + getD lengths i 0)
     next-part = record { first-in = inv .end-in; low = omega arith; high = next-fits }
-
-    this : List ℕ
-    this = take (getD lengths i 0) (drop at texts)
 
     -- what is asked of the rest, after the next copybook
     goes-on :
@@ -307,7 +297,7 @@ module _ (n : ℕ) (name : List ℕ) where
   unfolding allAgreed keysIn allAgree _>>=_
   all-agreed a [] true = refl
   all-agreed a [] false = refl
-  all-agreed a (text ∷ texts) b = by-first (keyIn n name text)
+  all-agreed a (text ∷ texts) b = let ih = all-agreed a texts in by-first (keyIn n name text) ih
     where
       by-rest :
           (k : Option Key) (y : Answer (List (Option Key))) →
@@ -318,10 +308,11 @@ module _ (n : ℕ) (name : List ℕ) where
 
       by-first :
           (x : Answer (Option Key)) →
+          ((c : Bool) → allAgreed n name a c texts ≡ (keysIn n name texts >>= λ ks. give (c && allAgree a ks))) →
           ((x >>= λ k. give (b && agree a k)) >>= λ so. allAgreed n name a so texts)
           ≡ ((x >>= λ k. keysIn n name texts >>= λ ks. give (k ∷ ks)) >>= λ ks. give (b && allAgree a ks))
-      by-first (refuse r) = refl
-      by-first (give k) = all-agreed a texts (b && agree a k) ∙ by-rest k (keysIn n name texts)
+      by-first (refuse r) ih = refl
+      by-first (give k) ih = ih (b && agree a k) ∙ by-rest k (keysIn n name texts)
 
   -- the place of what was found in the first, where all agree
   place-of :
@@ -381,7 +372,7 @@ module _ (n : ℕ) (name : List ℕ) where
           (y >>= λ ks. give (true && allAgree (foundKey first-text s) ks)) ≡ refuse r →
           refuse r ≡ ((y >>= λ ks. give (foundKey first-text s ∷ ks)) >>= λ ks. placeOf ks)
       unfolding _>>=_
-      refused-others (refuse q) h = ap refuse (sym (let e : q ≡ _ = cc in e))
+      refused-others (refuse q) {r} h = ap refuse (let e : r ≡ q = cc in e)
       refused-others (give ks) h = absurd (let z : _≡_ {A = ℕ} 0 1 = cc in omega arith)
 
       given-others :
@@ -421,11 +412,26 @@ module _ (texts lengths name : List ℕ) (n : ℕ) {r : Bool} (e : r ≡ isSet l
       keyAnswerOf z ≡ keysGiven n name lengths texts →
       keyAnswerOf z ≡ setKey texts lengths name n
   unfolding setKey _>>=_
-  set-key y p = rw (← e, y) p
+  set-key y p =
+      p
+      ∙ sym
+        (ap
+        (λ (b : Bool).
+        refuseIf (not b) 56 0 >>= λ _.
+        keysIn n name (copybooks lengths texts) >>= λ ks.
+        orRefuse 57 0 (common ks) >>= λ k. give (k .offset, k .width))
+        (sym e ∙ y))
 
   pub no-set : r ≡ false → refused 56 0 ≡ setKey texts lengths name n
   unfolding setKey _>>=_
-  no-set y = rw (← e, y)
+  no-set y =
+      sym
+      (ap
+      (λ (b : Bool).
+      refuseIf (not b) 56 0 >>= λ _.
+      keysIn n name (copybooks lengths texts) >>= λ ks.
+      orRefuse 57 0 (common ks) >>= λ k. give (k .offset, k .width))
+      (sym e ∙ y))
 
 pub key-call :
     (texts lengths name work w₁ : List ℕ) {w₂ : List ℕ} →

@@ -89,10 +89,10 @@ pub enum Agreed {
     Refused(Refusal),
 }
 
-// Reads the copybook from `at` up to `end`. The first one ends at `first_end`; `agreed` says whether those between agree.
+// Reads the copybook from `at` up to `end`. The first one ends at `head`; `agreed` says whether those between agree.
 fn next_agrees(
     texts: &[u8],
-    first_end: usize,
+    head: usize,
     first: Sought,
     at: usize,
     end: usize,
@@ -100,17 +100,17 @@ fn next_agrees(
     work: &mut [u32],
     agreed: bool,
 ) -> Agreed
-    requires { ⌜ Part (now texts) first_end at end ⌝ }
+    requires { ⌜ Part (now texts) head at end ⌝ }
     ensures { λ r. ⌜ agreedOf r
         ≡ nextAgrees (length (now (work .entry))) (now (name .entry))
-        (foundKey (take first_end (now (texts .entry))) first) «agreed»
+        (foundKey (take head (now (texts .entry))) first) «agreed»
         (take (end - at) (drop at (now (texts .entry)))) ⌝ }
 {
     match key_of(&texts[at..end], work, name) {
         KeyRead::Read(found) => {
             if agreed {
                 return Agreed::So(key::agree_in(
-                    &texts[0..first_end],
+                    &texts[0..head],
                     first,
                     &texts[at..end],
                     found,
@@ -137,13 +137,13 @@ fn later_agree(
         ≡ laterOf (length (now (work .entry))) (now (name .entry)) first (now (lengths .entry))
         (now (texts .entry)) ⌝ }
 {
-    let first_end = lengths[0] as usize;
-    let mut at = first_end;
+    let head = lengths[0] as usize;
+    let mut at = head;
     let mut agreed = true;
     let mut i = 1;
     while i < lengths.len() {
         let end = at + lengths[i] as usize;
-        match next_agrees(texts, first_end, first, at, end, name, work, agreed) {
+        match next_agrees(texts, head, first, at, end, name, work, agreed) {
             Agreed::So(so) => {
                 agreed = so;
             }

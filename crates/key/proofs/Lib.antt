@@ -1,2 +1,2 @@
-pub mod SoughtLaws
 pub mod KindLaws
+pub mod SoughtLaws

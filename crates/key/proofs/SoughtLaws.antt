@@ -4,7 +4,7 @@
 use Prim.Native.Nat.{ℕ, _+_, _*_, _-_, _≤_, _<_}
 use mathlib.Core.Path.{_≡_, refl, sym, _∙_, ap, ap₂}
 use mathlib.Core.Bool.{Bool, true, false, _||_}
-use mathlib.Core.List.{List, [], _∷_, _++_}
+use mathlib.Core.List.{List, [], _∷_, _++_, append-assoc}
 use mathlib.Core.Option.{Option, none, some}
 use native.Mathlib.Omega.{arith}
 use lib.Dec.{eqb}
@@ -76,15 +76,20 @@ module _ (text name : List ℕ) where
   below-top end d v s l = ap (λ (b : Bool). soughtIn text name b s l) (sym (or-none v))
   below-top (entry e ms later) d v s l =
       let deep : eqb (d + 1) 0 ≡ false = ne-eqb (d + 1) 0 (λ z. omega arith) in
-      rw (deep, append-parts (flatIn (d + 1 + 1) ms) (flatIn (d + 1) later) l)
-      (below-top ms (d + 1) (v || given (e .depending)) s (flatIn (d + 1) later ++ l)
+      ap
+      (λ (b : Bool).
+      soughtIn text name (v || given (e .depending))
+      (if b then (if isNamed text name e then met s (named e v) else s) else s)
+      ((flatIn (d + 1 + 1) ms ++ flatIn (d + 1) later) ++ l))
+      deep
+      ∙ ap
+        (soughtIn text name (v || given (e .depending)) s)
+        (append-assoc (flatIn (d + 1 + 1) ms) (flatIn (d + 1) later) l)
+      ∙ below-top ms (d + 1) (v || given (e .depending)) s (flatIn (d + 1) later ++ l)
       ∙ below-top later d ((v || given (e .depending)) || variable ms) s l
-      ∙ ap (λ (b : Bool). soughtIn text name b s l)
-        (or-assoc v (given (e .depending)) (variable ms) (variable later)))
-    where
-      append-parts : (a b c : List Shown) → ((a ++ b) ++ c) ≡ (a ++ (b ++ c))
-      append-parts [] b c = refl
-      append-parts (x ∷ a) b c = ap (λ (r : List Shown). x ∷ r) (append-parts a b c)
+      ∙ ap
+        (λ (b : Bool). soughtIn text name b s l)
+        (or-assoc v (given (e .depending)) (variable ms) (variable later))
 
   -- the search over the listing meets the entries of the name at the top
   at-top :

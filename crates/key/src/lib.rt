@@ -63,23 +63,7 @@ fn is_once(occurs: Occurs) -> bool
 fn is_group(k: FieldKind) -> bool
     ensures { λ r. ⌜ r ≡ isGroup k ⌝ }
 {
-    match k {
-        FieldKind::Text => false,
-        FieldKind::Int { signed, sign } => false,
-        FieldKind::Binary { signed } => false,
-        FieldKind::Decimal {
-            precision,
-            scale,
-            repr,
-            sign,
-        } => false,
-        FieldKind::Edited {
-            precision,
-            scale,
-            signed,
-        } => false,
-        FieldKind::Group => true,
-    }
+    kinds::kind_byte(k) == 6
 }
 
 // Whether an entry may be a key: no DEPENDING ON before it, no OCCURS, no REDEFINES, and no group.
@@ -89,12 +73,14 @@ fn may_be_key(e: Entry, behind: bool) -> bool
     if behind {
         return false;
     }
-    if is_once(e.occurs) {
+    let occurs = e.occurs;
+    if is_once(occurs) {
         let redefines = e.redefines;
         if 0 < redefines.len {
             return false;
         }
-        if is_group(e.kind) {
+        let kind = e.kind;
+        if is_group(kind) {
             return false;
         }
         return true;
@@ -127,7 +113,7 @@ fn met_entry(e: Entry, behind: bool, found: Sought) -> Sought
             }
             return Sought::Spoilt;
         }
-        Sought::One(_) => {
+        Sought::One(c) => {
             return Sought::Spoilt;
         }
         Sought::Spoilt => {
@@ -235,7 +221,7 @@ fn edited_mask(text: &[u8], picture: Span, out: &mut [u8]) -> usize
         Writing::Written(n) => {
             return n;
         }
-        Writing::Refused(_) => {
+        Writing::Refused(r) => {
             return 0;
         }
     }
@@ -266,19 +252,23 @@ fn key_mask(text: &[u8], kind: FieldKind, picture: Span, out: &mut [u8]) -> usiz
 }
 
 // Whether two keys, each in its text, have the same mask.
-fn same_masks(text_a: &[u8], a: KeyColumn, text_b: &[u8], b: KeyColumn) -> bool
-    ensures { λ r. ⌜ r ≡ same (keyAt (now (text_a .entry)) a .mask) (keyAt (now (text_b .entry)) b .mask) ⌝ }
+fn same_masks(first: &[u8], a: KeyColumn, second: &[u8], b: KeyColumn) -> bool
+    ensures { λ r. ⌜ r ≡ same (keyAt (now (first .entry)) a .mask) (keyAt (now (second .entry)) b .mask) ⌝ }
 {
+    let kind = a.kind;
+    let picture = a.picture;
     let mut x = [0u8; LONGEST_MASK];
-    let m = key_mask(text_a, a.kind, a.picture, &mut x);
+    let m = key_mask(first, kind, picture, &mut x);
+    let other = b.kind;
+    let other_picture = b.picture;
     let mut y = [0u8; LONGEST_MASK];
-    let n = key_mask(text_b, b.kind, b.picture, &mut y);
+    let n = key_mask(second, other, other_picture, &mut y);
     text::same_spelling(&x[0..m], &y[0..n])
 }
 
 // Whether two keys, each in its text, agree in offset, width, kind and kind details.
-fn same_keys(text_a: &[u8], a: KeyColumn, text_b: &[u8], b: KeyColumn) -> bool
-    ensures { λ r. ⌜ r ≡ sameKey (keyAt (now (text_a .entry)) a) (keyAt (now (text_b .entry)) b) ⌝ }
+fn same_keys(first: &[u8], a: KeyColumn, second: &[u8], b: KeyColumn) -> bool
+    ensures { λ r. ⌜ r ≡ sameKey (keyAt (now (first .entry)) a) (keyAt (now (second .entry)) b) ⌝ }
 {
     if a.offset != b.offset {
         return false;
@@ -286,15 +276,17 @@ fn same_keys(text_a: &[u8], a: KeyColumn, text_b: &[u8], b: KeyColumn) -> bool
     if a.width != b.width {
         return false;
     }
-    if same_kind(a.kind, b.kind) {
-        return same_masks(text_a, a, text_b, b);
+    let kind = a.kind;
+    let other = b.kind;
+    if same_kind(kind, other) {
+        return same_masks(first, a, second, b);
     }
     false
 }
 
 // Whether both searches have found a key, and these agree.
-pub fn agree_in(text_a: &[u8], a: Sought, text_b: &[u8], b: Sought) -> bool
-    ensures { λ r. ⌜ r ≡ agree (foundKey (now (text_a .entry)) a) (foundKey (now (text_b .entry)) b) ⌝ }
+pub fn agree_in(first: &[u8], a: Sought, second: &[u8], b: Sought) -> bool
+    ensures { λ r. ⌜ r ≡ agree (foundKey (now (first .entry)) a) (foundKey (now (second .entry)) b) ⌝ }
 {
     match a {
         Sought::Nothing => {
@@ -305,7 +297,7 @@ pub fn agree_in(text_a: &[u8], a: Sought, text_b: &[u8], b: Sought) -> bool
                 return false;
             }
             Sought::One(y) => {
-                return same_keys(text_a, x, text_b, y);
+                return same_keys(first, x, second, y);
             }
             Sought::Spoilt => {
                 return false;

@@ -6,6 +6,7 @@ use mathlib.Core.Path.{_≡_, refl, sym, _∙_, ap, subst}
 use mathlib.Core.Bool.{Bool, true, false, _&&_, not}
 use mathlib.Core.List.{List, [], _∷_}
 use mathlib.Core.Option.{Option, none, some}
+use native.Mathlib.Nat.{sub-zero}
 use native.Mathlib.Omega.{arith}
 use lib.Dec.{eqb, leb}
 use lib.ListN.{length, getD, take, drop, drop-of-length-le}
@@ -30,7 +31,7 @@ use Rattle.family.specs.Sets.{keysGiven}
 
 -- ---------------------------------------------------------------- one more copybook
 
-module _ (n : ℕ) (name : List ℕ) (a : Option Key) (agreed : Bool) (text : List ℕ) {x : KeyRead}
+module _ (n : ℕ) (name : List ℕ) (a : Option Key) (agreed : Bool) (text : List ℕ) (x : KeyRead)
     (h : readKey text x ≡ keyIn n name text) where
   next-read : {s : Sought} → x ≡ KeyRead.Read s → nextAgrees n name a agreed text ≡ give (agreed && agree a (foundKey text s))
   unfolding _>>=_
@@ -178,7 +179,7 @@ module _ {texts lengths : List ℕ} {n : ℕ} {name : List ℕ} {first : Sought}
           (copybooks (drop (i + 1) lengths) (drop (at + getD lengths i 0) texts)))
           (let e : getD lengths i 0 ≡ at + getD lengths i 0 - at = omega arith in e)
 
-    module _ {x : Agreed}
+    module _ (x : Agreed)
         (q : agreedOf x
         ≡ nextAgrees (length w) name (foundKey (take end texts) first) agreed
         (take (at + getD lengths i 0 - at) (drop at texts))) where
@@ -290,6 +291,23 @@ module _ (n : ℕ) (name : List ℕ) where
   and-assoc true b c = refl
   and-assoc false b c = refl
 
+  -- what was read of the first copybook
+  module _ (texts lengths : List ℕ) (x : KeyRead)
+      (h : readKey (take (getD lengths 0 0 - 0) (drop 0 texts)) x
+      ≡ keyIn n name (take (getD lengths 0 0 - 0) (drop 0 texts))) where
+    the-first : readKey (take (getD lengths 0 0) texts) x ≡ keyIn n name (take (getD lengths 0 0) texts)
+    the-first =
+        subst (λ (m : ℕ). readKey (take m texts) x ≡ keyIn n name (take m texts)) (sub-zero (getD lengths 0 0)) h
+
+    pub first-read :
+        {s : Sought} →
+        x ≡ KeyRead.Read s →
+        keyIn n name (take (getD lengths 0 0) texts) ≡ give (foundKey (take (getD lengths 0 0) texts) s)
+    first-read e = sym the-first ∙ ap (readKey (take (getD lengths 0 0) texts)) e
+
+    pub first-unread : {r : Refusal} → x ≡ KeyRead.Refused r → keyIn n name (take (getD lengths 0 0) texts) ≡ refuse r
+    first-unread e = sym the-first ∙ ap (readKey (take (getD lengths 0 0) texts)) e
+
   -- those that agree one by one agree all
   all-agreed :
       (a : Option Key) (texts : List (List ℕ)) (b : Bool) →
@@ -387,14 +405,14 @@ module _ (n : ℕ) (name : List ℕ) where
           (place-of first-text s ks
           ∙ ap (λ (t : Bool). if t then placed s else refused 57 0) (given-same h))
 
-      module _ {x : Agreed} (q : agreedOf x ≡ laterOf n name s lengths texts) where
+      module _ (x : Agreed) (q : agreedOf x ≡ laterOf n name s lengths texts) where
         pub set-answered :
             {b : Bool} →
             x ≡ Agreed.So b →
-            {z : KeyAnswer} →
+            (z : KeyAnswer) →
             keyAnswerOf z ≡ (if b then placed s else refused 57 0) →
             keyAnswerOf z ≡ keysGiven n name lengths texts
-        set-answered {b} e p =
+        set-answered {b} e z p =
             p
             ∙ given-others (keysIn n name others) (sym later-all ∙ sym q ∙ ap agreedOf e)
             ∙ sym after-first
@@ -408,11 +426,11 @@ module _ (n : ℕ) (name : List ℕ) where
 module _ (texts lengths name : List ℕ) (n : ℕ) {r : Bool} (e : r ≡ isSet lengths texts) where
   pub set-key :
       r ≡ true →
-      {z : KeyAnswer} →
+      (z : KeyAnswer) →
       keyAnswerOf z ≡ keysGiven n name lengths texts →
       keyAnswerOf z ≡ setKey texts lengths name n
   unfolding setKey _>>=_
-  set-key y p =
+  set-key y z p =
       p
       ∙ sym
         (ap

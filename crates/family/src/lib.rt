@@ -173,7 +173,10 @@ fn adds_up(lengths: &[u64], n: usize) -> bool
         left = left - len;
         i += 1;
     }
-    left == 0
+    if left == 0 {
+        return true;
+    }
+    false
 }
 
 // Whether it is a set: 2 to 16 copybooks, whose lengths add up to the bytes lent.

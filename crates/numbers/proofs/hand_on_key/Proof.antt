@@ -15,7 +15,7 @@ same-length : tie.Need-same-length
 same-length c = search needs
 
 returns : tie.Need-returns
-returns c = key-found _ _ (c .before .before .before .before .before .offset .given .1) (c .before .before .put-two .ensures)
+returns c = key-found _ _ (c .before .before .before .before .before .a .given .1) (c .before .before .put-two .ensures)
 
 enum-known-a-2 : tie.Need-enum-known-a-2
 enum-known-a-2 c = search needs
@@ -27,7 +27,7 @@ same-length-2 : tie.Need-same-length-2
 same-length-2 c = search needs
 
 returns-2 : tie.Need-returns-2
-returns-2 c = no-key _ _ (c .before .before .before .before .before .why .given .1) (c .before .before .put-two2 .ensures)
+returns-2 c = no-key _ _ (c .before .before .before .before .before .a2 .given .1) (c .before .before .put-two2 .ensures)
 
 pub hand-on-key-spec : {M : Type 1} → statement M
 hand-on-key-spec =

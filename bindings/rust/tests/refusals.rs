@@ -221,6 +221,8 @@ fn every_number() {
         refused(b"05 A PIC X VALUE 'open"),
         copybook::layout_cards(b"000100-").unwrap_err(),
         copybook::reasons(b"05 A PIC X.", 1).unwrap_err(),
+        copybook::key(b"K", &[]).unwrap_err().refusal,
+        copybook::key(b"K", &[b"", b""]).unwrap_err().refusal,
     ];
     let expected: Vec<_> = REFUSALS.iter().map(|row| (row.number, row.name)).collect();
     assert_eq!(seen.map(|r| (r.number, r.name)).to_vec(), expected);

@@ -19,7 +19,7 @@
  *
  * Buffers. A slice is handed over as a pointer and the number of its elements. What is proved holds if
  *   - the pointer is good for that many elements during the call, and aligned for its type (4 bytes for `work`, 8 for
- *     `answer`);
+ *     `lengths` and `answer`);
  *   - `work`, `out` and `answer` overlap neither each other nor the text, and nothing else writes to a buffer while the
  *     call runs.
  * None of this is checked, and the kit's guides say nothing more of pointers that come from C. Every access is proved
@@ -56,6 +56,7 @@ extern "C" {
 #define COPYBOOK_OWNER_ANSWER 4
 #define COPYBOOK_REASONS_ANSWER 2
 #define COPYBOOK_EXTRACT_ANSWER 4
+#define COPYBOOK_KEY_ANSWER 2
 
 /* Numbers returned. COPYBOOK_REFUSALS says what each means and what to do, and docs/REFUSALS.md when it is given. */
 enum copybook_number {
@@ -109,6 +110,10 @@ enum copybook_number {
 
     /* the reasons of an entry, before 31 */
     COPYBOOK_PAST_LISTING = 53,
+
+    /* a key: 56 before any reading, 57 after it */
+    COPYBOOK_NO_SET = 56,
+    COPYBOOK_NO_KEY = 57,
 
     /* the extract, after 40 */
     COPYBOOK_EXTRACT_ITEMS = 58,
@@ -172,6 +177,10 @@ enum copybook_number {
       "a blank marks code, * or / a comment, D a debugging line; a continued line (-) must be written as one") \
     R(COPYBOOK_PAST_LISTING, "the entry's number is past the listing", \
       "entries are numbered from 0 in the order of the layout, the record's own line not counted") \
+    R(COPYBOOK_NO_SET, "there are not 2 to 16 copybooks, or their stated lengths do not add up to the bytes lent", \
+      "a key is for 2 to 16 copybooks: lend all of their bytes, and state the length of each") \
+    R(COPYBOOK_NO_KEY, "the copybooks have no common key of that name", \
+      "each needs one top-level item of that name, no group, without OCCURS or REDEFINES, all in one place") \
     R(COPYBOOK_EXTRACT_ITEMS, "more than 16 top-level items, or another number of weights than of items", \
       "give one weight for each top-level item, in their order; of a longer record take a copybook of fewer items") \
     R(COPYBOOK_EXTRACT_WEIGHT, "a weight outside 1 to 1,000", \
@@ -308,6 +317,22 @@ uint32_t copybook_reasons(const uint8_t *text, size_t n, uint64_t entry, uint32_
 /* The same for a copybook on cards. Refusal 51 comes after 3 and before 50. */
 uint32_t copybook_reasons_cards(const uint8_t *cards, size_t n, uint64_t entry, uint32_t *work, size_t w, uint8_t *out,
                                 size_t m, uint64_t *answer, size_t k);
+
+/*
+ * One key for a family of records: the column of the `l` bytes of `name` in a set of `c` copybooks in free text, 2 to
+ * 16, which stand one after the other in the `n` bytes of `texts`; `lengths` says how many bytes each has. To `answer`,
+ * 2 numbers: the key's offset and its width, in the records of all of them.
+ *
+ * Each copybook has exactly one entry of that name at the top of its listing, letter case aside (an absent name means
+ * FILLER). It is no group and has neither OCCURS nor REDEFINES, and no entry before it in the listing, at any depth,
+ * has a DEPENDING ON. All agree in offset, width, kind and what the listing says of the kind, but for the place of an
+ * edited item's picture: its mask is compared. The name is only compared, and may be any bytes.
+ *
+ * `work` as for copybook_layout. Refusals: 56; then 1 to 3, 50, 10 to 14 and 20 to 30 of the first copybook that has
+ * one, the position counted in that copybook; then 57.
+ */
+uint32_t copybook_key(const uint8_t *texts, size_t n, const uint64_t *lengths, size_t c, const uint8_t *name, size_t l,
+                      uint32_t *work, size_t w, uint64_t *answer, size_t k);
 
 /*
  * Kind, its details and width of one picture, with a usage and a sign. To `answer`, 7 numbers:

@@ -62,6 +62,13 @@ class Library:
             fault = "the output is touched past the answer"
         return fault or ([0, number, *answer] if number else [1, written, *out[:written]])
 
+    def key(self, texts, lengths, name):
+        """The key of copybooks that stand one after the other."""
+        stated = (ctypes.c_uint64 * len(lengths))(*lengths)
+        lent = stated, SIZE(len(lengths)), bytes(name), SIZE(len(name)), self.work, SIZE(WORK)
+        number, answer, fault = self.call("copybook_key", texts, *lent, count=2)
+        return fault or ([0, number, *answer] if number else [1, *answer])
+
     def owner(self, text, position):
         number, answer, fault = self.call("copybook_owner", text, ctypes.c_uint64(position), self.work, SIZE(WORK), count=4)
         if fault or number:

@@ -9,6 +9,7 @@ mod extract;
 mod facts;
 mod files;
 mod forms;
+mod key;
 mod layout;
 mod machines;
 mod owner;
@@ -35,7 +36,7 @@ pub struct Command {
 }
 
 const COMMANDS: &[Command] =
-    &[layout::COMMAND, owner::COMMAND, reasons::COMMAND, extract::COMMAND, picture::COMMAND];
+    &[layout::COMMAND, owner::COMMAND, reasons::COMMAND, extract::COMMAND, key::COMMAND, picture::COMMAND];
 
 /// How a command ended that could be carried out.
 #[derive(Debug, Clone, Copy, PartialEq, Eq)]

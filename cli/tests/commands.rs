@@ -85,6 +85,9 @@ fn misuse_says_what_is_wrong() {
     fails(&["extract", "-", "TAG=5", "SIRE=3", "--limit=19"], "no weight for WT");
     fails(&["extract", "-", "TAG=5", "SIRE=3", "DAM=9", "--limit=19"], "no top-level item is called DAM");
     fails(&["extract", "-", "TAG=5", "SIRE=3", "WT=9", "wt=1", "--limit=19"], "two weights for wt");
+    fails(&["key"], "a NAME and the FILEs");
+    fails(&["key", "--cards", "K"], "there is no option --cards");
+    fails(&["key", "K", "none.cpy"], "none.cpy: there is no such file");
     fails(&["picture"], "one PICTURE");
     fails(&["picture", "X", "--usage"], "--usage needs a value");
     fails(&["picture", "X", "--usage", "comp-9"], "--usage is display, comp-3 or comp");
@@ -328,4 +331,58 @@ fn table_with_reasons() {
     assert_eq!(status, 0);
     assert!(out.contains("why\n") && out.contains("directly after TAG, which ends at 5; 1 byte of slack"), "{out}");
     assert!(!ran(&["layout", "--table"], FISH).1.contains("why"));
+}
+
+/// The key of a set; else which file is to blame, and why.
+#[test]
+fn keys() {
+    let folder = Folder::new("keys");
+    let said = |second: &str| {
+        let first = folder.file("a.cpy", b"05 A PIC X. 05 K PIC Z99.");
+        let second = folder.file("b.cpy", second.as_bytes());
+        let (status, out, err) = ran(&["key", "k", &first, &second], "");
+        let line = err.lines().next().unwrap_or("").rsplit('/').next().unwrap().to_owned();
+        (status, out, line.replace(&first, "a.cpy"))
+    };
+    let answered = |offset: usize, width: usize| (0, format!("offset {offset}\nwidth {width}\n"), String::new());
+    assert_eq!(said("05 B PIC 9.\n05 K PIC Z9(2)."), answered(1, 3));
+    let blames = |second: &str, words: &str| {
+        let (status, out, line) = said(second);
+        assert_eq!((status, out.as_str()), (1, "refused 57 0\n"));
+        assert!(line.starts_with(&format!("b.cpy: {words}")), "{line}");
+    };
+    blames("05 B PIC X.", "no item is called k");
+    blames("05 G. 10 K PIC X. 05 H PIC X.", "k stands in a group, and not at the top");
+    blames("05 K PIC X. 05 k PIC X.", "2 items at the top are called k");
+    blames("05 K. 10 B PIC X. 05 H PIC X.", "k is a group");
+    blames("05 K PIC X OCCURS 2.", "k has an OCCURS");
+    blames("05 B PIC X. 05 C REDEFINES B PIC X. 05 K REDEFINES C PIC X.", "k has a REDEFINES");
+    blames("05 G. 10 T PIC X OCCURS 2 DEPENDING ON N. 05 K PIC X.", "k stands behind T, which has a DEPENDING ON");
+    let (status, out, err) = ran(&["key", "K", "-"], "05 K PIC X.");
+    assert_eq!((status, out.as_str()), (1, "refused 56 0\n"));
+    assert!(err.starts_with("(standard input): there are not 2 to 16 copybooks"), "{err}");
+    // a copybook that is refused is told as by layout, with its own name
+    let (status, out, line) = said("05 B PIC X.\n 05 K PIC Q.");
+    assert_eq!((status, out.as_str()), (1, "refused 25 13\n"));
+    assert_eq!(line, "b.cpy:2:2: Q in the picture of K is no symbol of a picture");
+}
+
+/// In what the key of another file differs.
+#[test]
+fn keys_that_differ() {
+    let folder = Folder::new("differ");
+    let blames = |second: &str, words: &str| {
+        let first = folder.file("a.cpy", b"05 A PIC X. 05 K PIC Z99.");
+        let second = folder.file("b.cpy", second.as_bytes());
+        let (status, out, err) = ran(&["key", "K", &first, &second], "");
+        assert_eq!((status, out.as_str()), (1, "refused 57 0\n"));
+        assert!(err.starts_with(&format!("{second}: {words} in {first}")), "{err}");
+    };
+    blames("05 K PIC Z99.", "it starts at byte 0, and at 1");
+    blames("05 A PIC X. 05 K PIC X.", "it is 1 byte wide, and 3");
+    blames("05 A PIC X. 05 K PIC ZZ9.", "its mask is ZZ9, and Z99");
+    let first = folder.file("a.cpy", b"05 K PIC 9(4).");
+    let second = folder.file("b.cpy", b"05 K PIC X(4).");
+    let err = ran(&["key", "K", &first, &second], "").2;
+    assert!(err.starts_with(&format!("{second}: it holds: text; and in {first}: display, 4 digits\n")), "{err}");
 }

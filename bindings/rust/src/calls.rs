@@ -2,7 +2,7 @@
 //! aligned, and a `&mut` slice overlaps nothing else that is lent.
 
 use crate::declared::*;
-use crate::{Extract, Facts, FieldKind, Form, NumRepr, Owner, Picture, Refusal, SignKind, Usage};
+use crate::{Extract, Facts, FieldKind, Form, Key, NumRepr, Owner, Picture, Refusal, SignKind, Usage};
 
 /// The number in a question for the sign of a SIGN clause, if there is one.
 fn sign_asked(sign: Option<SignKind>) -> u8 {
@@ -97,6 +97,21 @@ pub fn extract(
     match number {
         0 => Ok(Extract { subset, weight, examined, off }),
         _ => Err(Refusal::of_copybook(Form::Free, number, subset as usize, weight as usize, text)),
+    }
+}
+
+/// The key of a set of copybooks, or the number of the refusal.
+pub fn key(texts: &[u8], lengths: &[u64], name: &[u8], work: &mut [u32]) -> Result<Key, u32> {
+    let (mut answer, w) = ([0; 2], work.len());
+    let (work, lent, stated) = (work.as_mut_ptr(), (texts.as_ptr(), texts.len()), (lengths.as_ptr(), lengths.len()));
+    // SAFETY: slices, see above.
+    let number = unsafe {
+        let (answer, k) = (answer.as_mut_ptr(), answer.len());
+        copybook_key(lent.0, lent.1, stated.0, stated.1, name.as_ptr(), name.len(), work, w, answer, k)
+    };
+    match number {
+        0 => Ok(Key { offset: answer[0] as usize, width: answer[1] as usize }),
+        _ => Err(number),
     }
 }
 

@@ -63,6 +63,18 @@ extern "C" {
         answer: *mut u64,
         k: usize,
     ) -> u32;
+    pub fn copybook_key(
+        texts: *const u8,
+        n: usize,
+        lengths: *const u64,
+        c: usize,
+        name: *const u8,
+        l: usize,
+        work: *mut u32,
+        w: usize,
+        answer: *mut u64,
+        k: usize,
+    ) -> u32;
     pub fn copybook_picture(pic: *const u8, n: usize, usage: u8, sign: u8, answer: *mut u64, k: usize) -> u32;
     pub fn copybook_mask(
         pic: *const u8,

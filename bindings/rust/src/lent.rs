@@ -1,7 +1,8 @@
 //! The calls over buffers that the caller lends. A refused call changes no byte of `out`, an accepted one none past
 //! what it wrote; `work` is zero after every call, whatever it held.
 
-use crate::{calls, Details, Extract, Form, Layout, Owner, Reasons, Refusal, Usage};
+use crate::key::key_of;
+use crate::{calls, Details, Extract, Form, Key, Layout, NoKey, Owner, Reasons, Refusal, Usage};
 use std::borrow::Cow;
 
 /// As [`crate::layout()`], with the listing in `out`. Refusals: 1 to 3, 50, 10 to 14, 20 to 31; `work` needs
@@ -80,6 +81,12 @@ pub fn extract(
     work: &mut [u32],
 ) -> Result<Extract, Refusal> {
     calls::extract(text, weights, limit, budget, work)
+}
+
+/// As [`crate::key()`], of copybooks that stand one after the other in `texts`; `lengths` says how many bytes each has.
+/// Refusals: 56, where they do not add up to `texts` too; 1 to 3, 50, 10 to 14, 20 to 30; 57.
+pub fn key(texts: &[u8], lengths: &[u64], name: &[u8], work: &mut [u32]) -> Result<Key, NoKey> {
+    key_of(texts, lengths, name, work)
 }
 
 /// As [`crate::mask()`], written to `out`. Refusals: 1, 2, 22 to 27, 31; an `out` of [`crate::LONGEST_MASK`] bytes is

@@ -14,8 +14,9 @@
 //! # Ok::<(), copybook::Refusal>(())
 //! ```
 //!
-//! [`layout`], [`details`], [`owner`], [`reasons`], [`extract`], [`picture`], [`mask`] and [`check_record_len`] are the
-//! calls. The first five take a copybook in free text; [`layout_cards`], [`details_cards`], [`owner_cards`] and
+//! [`layout`], [`details`], [`owner`], [`reasons`], [`extract`], [`key`], [`picture`], [`mask`] and
+//! [`check_record_len`] are the calls. The first five take a copybook in free text; [`layout_cards`],
+//! [`details_cards`], [`owner_cards`] and
 //! [`reasons_cards`] take one on cards with columns, and a [`Form`] has them for either. A [`Reader`] keeps the buffers
 //! from call to call; with the functions of [`lent`] they are the caller's own. A [`Refusal`] has a number and a place;
 //! [`Refusal::told`] says it in words:
@@ -37,6 +38,7 @@ mod declared;
 mod details;
 pub mod fixedformat;
 mod form;
+mod key;
 mod kinds;
 mod layout;
 pub mod lent;
@@ -48,6 +50,7 @@ mod told;
 pub use bytes::Word;
 pub use details::{Detail, Details};
 pub use form::Form;
+pub use key::{Key, NoKey};
 use kinds::Facts;
 pub use kinds::{FieldKind, NumRepr, SignKind, Usage};
 pub use layout::{Entries, Entry, Layout};
@@ -172,6 +175,14 @@ pub fn reasons_cards(cards: &[u8], entry: usize) -> Result<Reasons<'_, 'static>,
 /// ```
 pub fn extract(text: &[u8], weights: &[u32], limit: u64, budget: u64) -> Result<Extract, Refusal> {
     lent::extract(text, weights, limit, budget, &mut vec![0; WORK])
+}
+
+/// Where the key of that name stands in the records of a set of 2 to 16 copybooks in free text: each has exactly one
+/// entry of the name at the top of its layout, letter case aside, which is no group, has neither OCCURS nor REDEFINES,
+/// and stands behind no DEPENDING ON, and all agree in offset, width, kind and kind details, an edited one in its mask.
+/// Refusals: 56; 1, 2, 50, 10 to 30 of the first copybook that is refused; 57.
+pub fn key(name: &[u8], copybooks: &[&[u8]]) -> Result<Key, NoKey> {
+    key::key_in(name, copybooks)
 }
 
 /// Kind and width of a picture, under a usage and with the sign that a SIGN clause gives, if there is one. Refusals: 1,

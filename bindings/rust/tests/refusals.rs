@@ -221,6 +221,8 @@ fn every_number() {
         refused(b"05 A PIC X VALUE 'open"),
         copybook::layout_cards(b"000100-").unwrap_err(),
         copybook::reasons(b"05 A PIC X.", 1).unwrap_err(),
+        copybook::key(b"K", &[]).unwrap_err().refusal,
+        copybook::key(b"K", &[b"", b""]).unwrap_err().refusal,
         copybook::extract(b"05 A PIC X.", &[], 1, 1).unwrap_err(),
         copybook::extract(b"05 A PIC X.", &[0], 1, 1).unwrap_err(),
         copybook::extract(b"05 A PIC X.", &[1], 1, 0).unwrap_err(),

@@ -8,8 +8,10 @@ ghost use Rattle.definition.specs.Calls.{left, layoutCall, detailsCall, reasons
 ghost use Rattle.definition.specs.Calls.{layoutCardsCall, detailsCardsCall, reasonsCardsCall, ownerCardsCall};
 ghost use Rattle.definition.specs.Calls.{extractCall, maskCall, pictureAnswer, recordCheck};
 ghost use Rattle.definition.specs.Calls.{checkOf, ownerAnswerOf, extractAnswerOf, pictureOf, writingOf};
+ghost use Rattle.definition.specs.Key.{keyCall, keyAnswerOf};
 use definition::Check;
 use definition::ExtractAnswer;
+use definition::KeyAnswer;
 use definition::OwnerAnswer;
 use definition::PicAnswer;
 use definition::Refusal;
@@ -132,6 +134,23 @@ pub fn extract(
     answers::extract(text, weights, limit, budget, work)
 }
 
+// One key for a family of records: the offset and width of the column of that name in a set of 2 to 16 copybooks, free
+// text each, whose bytes stand one after the other in `texts`; `lengths` says how many each has. Each copybook has
+// exactly one entry of the name at the top of its folded listing, case aside, an absent name being FILLER; it is no
+// group and has neither OCCURS nor REDEFINES, no DEPENDING ON stands before it in the listing, at any depth, and all
+// agree in offset, width, kind and kind details, an edited one in its mask. Refusals: 56, before any reading, for a set
+// of another size, or whose lengths, added up, are not those bytes; then the reader's (1 to 3, 50, 10 to 14, 20 to 30)
+// of the first copybook that is refused, its position counted in that copybook; then 57 where there is no such key. 56
+// and 57 are at 0. The name is only compared. Work memory is zero after every call.
+// The contract rules out a program that takes the first of two entries of the name, and one that says 57 before it has
+// read the last copybook.
+pub fn set_key(texts: &[u8], lengths: &[u64], name: &[u8], work: &mut [u32]) -> KeyAnswer
+    ensures { λ r. ⌜ left (keyAnswerOf r) [] (now (work .exit))
+        ≡ keyCall (now (texts .entry)) (now (lengths .entry)) (now (name .entry)) (now (work .entry)) ⌝ }
+{
+    family::set_key(texts, lengths, name, work)
+}
+
 // Kind, its details and width of one picture with a usage and a sign. Refusals, in this order: 1 over 65,535 bytes; 2 a byte over 127, at the first
 // one; then symbol by symbol 22 no `)`, 23 no repeat count, 24 over 65,535 symbols; then 25 no symbol, 26 text mixed with a digit or editing, 27 over
 // 31 digits, P included, or an edited DISPLAY mask over 255; at 0 except 2.
@@ -156,14 +175,7 @@ pub fn parse_pic(pic: &[u8], usage: Usage, sign: SignClause) -> PicAnswer
 pub fn mask(pic: &[u8], usage: Usage, out: &mut [u8]) -> Writing
     ensures { λ r. ⌜ left (writingOf r) (now (out .exit)) [] ≡ maskCall usage (now (pic .entry)) (now (out .entry)) ⌝ }
 {
-    match text::text_checks(pic) {
-        Check::Passed => {
-            return mask::mask_of(pic, usage, out);
-        }
-        Check::Refused(r) => {
-            return Writing::Refused(r);
-        }
-    }
+    mask::picture_mask(pic, usage, out)
 }
 
 // Whether a record of `len` bytes is long enough for a layout of `record_len` bytes: 42, at 0, where it is shorter and the record

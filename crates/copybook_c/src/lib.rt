@@ -6,10 +6,11 @@ ghost use Rattle.definition.specs.Basic.{if_then_else_};
 ghost use Rattle.definition.specs.Calls.{layoutCall, detailsCall, pictureAnswer, maskCall, ownerCall, recordCheck};
 ghost use Rattle.definition.specs.Calls.{reasonsCall, layoutCardsCall, detailsCardsCall, ownerCardsCall};
 ghost use Rattle.definition.specs.Calls.{reasonsCardsCall, extractCall};
+ghost use Rattle.definition.specs.Key.{keyCall};
 ghost use Rattle.kinds.specs.Usages.{usageAt, signClauseAt};
 ghost use Rattle.numbers.specs.Numbers.{noUsage, noSign, flagged};
 ghost use Rattle.numbers.specs.Numbers.{returned, writingNumbers, pictureNumbers, ownerNumbers, answered};
-ghost use Rattle.numbers.specs.Numbers.{extractNumbers};
+ghost use Rattle.numbers.specs.Numbers.{extractNumbers, keyNumbers};
 use definition::Check;
 
 // The layout listing of a copybook, as `copybook::layout_listing` says. To `answer`, 2 numbers: the bytes written, and 0; or position and
@@ -137,6 +138,30 @@ pub extern "C" fn copybook_reasons_cards(
 {
     let w = copybook::entry_reasons_cards(cards, number as usize, work, out);
     numbers::hand_on(w, answer)
+}
+
+// The key of a set of copybooks, as `copybook::set_key` says. To `answer`, 2 numbers: its offset and its width; or
+// position and needed length.
+// The contract rules out a call that puts the width before the offset, and one that writes to an `answer` of one number.
+#[no_mangle]
+pub extern "C" fn copybook_key(
+    texts: &[u8],
+    lengths: &[u64],
+    name: &[u8],
+    work: &mut [u32],
+    answer: &mut [u64],
+) -> u32
+    ensures { λ r. ⌜ r
+        ≡ returned (keyCall (now (texts .entry)) (now (lengths .entry)) (now (name .entry)) (now (work .entry)) .answer) ⌝ }
+    ensures { λ _. ⌜ now (answer .exit)
+        ≡ answered
+        (keyNumbers (keyCall (now (texts .entry)) (now (lengths .entry)) (now (name .entry)) (now (work .entry)) .answer))
+        (now (answer .entry)) ⌝ }
+    ensures { λ _. ⌜ now (work .exit)
+        ≡ keyCall (now (texts .entry)) (now (lengths .entry)) (now (name .entry)) (now (work .entry)) .work ⌝ }
+{
+    let key = copybook::set_key(texts, lengths, name, work);
+    numbers::hand_on_key(key, answer)
 }
 
 // Kind, its details and width of a picture with a usage and a sign, as `copybook::parse_pic` says. To `answer`, 7 numbers: kind, width, signed,

@@ -28,3 +28,4 @@ pub mod Occurrences
 pub mod Begins
 pub mod Why
 pub mod ExtractLaws
+pub mod KeyLaws

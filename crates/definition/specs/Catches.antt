@@ -30,6 +30,7 @@ use Rattle.definition.specs.Listing.{flag, spanBytes, kindByte, details,
 use Rattle.definition.specs.Cards.{Form, freeText, cardText}
 use Rattle.definition.specs.Calls.{entries, layoutListing, layoutDetails, pictureAnswer, pictureMask, byteOwner}
 use Rattle.definition.specs.Calls.{recordFields, entryReasons, extractAnswer, indicatorCheck, called}
+use Rattle.definition.specs.Key.{setKey}
 use Rattle.definition.specs.Ungrouped.{plainUsages}
 use Rattle.definition.specs.Computing.{computing}
 
@@ -146,6 +147,12 @@ pub data Catch : Type 0 where
   extracts : String → List ℕ → ℕ → ℕ → List ℕ → Catch
   -- a copybook, weights, a limit and a budget, and the number of the refusal
   notExtracted : String → List ℕ → ℕ → ℕ → ℕ → Catch
+  -- a name, a set of copybooks, and the offset and width of their key
+  keyed : String → List String → ℕ → ℕ → Catch
+  -- a name, a set of copybooks, and the number and position of the refusal
+  notKeyed : String → List String → ℕ → ℕ → Catch
+  -- bytes, the stated lengths of copybooks, the length of the lent work memory, and the refusal of a key K in them
+  notASet : String → List ℕ → ℕ → ℕ → ℕ → Catch
   -- a row of one of these kinds whose copybook is cards
   cards : Catch → Catch
   -- cards whose last line ends with the text, with a carriage return, with byte 10 or with both, and their columns
@@ -158,6 +165,15 @@ pub data Catch : Type 0 where
 -- a call for a copybook, with 16,384 numbers of work memory lent
 abbrev asked : {A : Type 0} → Form → (List ℕ → Answer A) → List ℕ → Answer A
 asked form call text = called form call text 16384
+
+-- copybooks one after the other, and their lengths
+abbrev oneAfterOther : List String → List ℕ
+oneAfterOther [] = []
+oneAfterOther (s ∷ ss) = bytes s ++ oneAfterOther ss
+
+abbrev lengthsOf : List String → List ℕ
+lengthsOf [] = []
+lengthsOf (s ∷ ss) = length (bytes s) ∷ lengthsOf ss
 
 -- its columns are these
 abbrev hasColumns : Form → List ℕ → List (List ℕ) → Bool
@@ -200,6 +216,12 @@ rightIn form (extracts text weights limit budget l) =
     gives (λ a. same (extractShown a) l) (extractAnswer (bytes text) 16384 weights limit budget)
 rightIn form (notExtracted text weights limit budget n) =
     refuses n 0 0 (extractAnswer (bytes text) 16384 weights limit budget)
+rightIn form (keyed name texts offset width) =
+    gives (λ k. eqb (k .0) offset && eqb (k .1) width)
+    (setKey (oneAfterOther texts) (lengthsOf texts) (bytes name) 16384)
+rightIn form (notKeyed name texts n p) =
+    refuses n p 0 (setKey (oneAfterOther texts) (lengthsOf texts) (bytes name) 16384)
+rightIn form (notASet texts lengths work n p) = refuses n p 0 (setKey (bytes texts) lengths (bytes "K") work)
 rightIn form (cards row) = rightIn cardText row
 rightIn form (ending text cs) =
     hasColumns cardText (bytes text) cs
@@ -298,6 +320,14 @@ nameless = "05. 10 A PIC X. 05 FILLER PIC X(2). 05 B REDEFINES FILLER PIC X. 05 
 -- a reason's bytes: its kind, the start and length of the name, and what it adds
 abbrev pub why : ℕ → ℕ → ℕ → ℕ → List ℕ
 why kind start len adds = kind ∷ le4 start ++ le4 len ++ le4 adds
+
+-- n times the same copybook, and a pair of copybooks
+abbrev copies : ℕ → String → List String
+copies zero s = []
+copies (suc n) s = s ∷ copies n s
+
+abbrev pair : String → String → List String
+pair s t = s ∷ t ∷ []
 
 pub table : List Catch
 table =
@@ -620,6 +650,67 @@ table =
     ∷ asBefore "01 R. 05 G COMP. 10 A PIC X." false
     -- cards, too
     ∷ cards (accepted "000100 01 R COMP.\n000200     05 A PIC 9(4)." 2 false (column 0 2 (Binary false) ∷ []))
+    -- one key for a family: sets of 2 to 16 whose lengths add up, however large, before any reading
+    ∷ keyed "Tag" (pair "01 FISH. 05 TAG PIC X(5). 05 WT PIC 9." "05 tag PIC XXXXX.") 0 5
+    ∷ keyed "K" (copies 2 "05 A PIC X(3). 05 K PIC X(2).") 3 2
+    ∷ keyed "K" (copies 16 "05 K PIC X.") 0 1
+    ∷ notKeyed "K" [] 56 0
+    ∷ notKeyed "K" (copies 1 "05 K PIC X.") 56 0
+    ∷ notKeyed "K" (copies 17 "05 K PIC X.") 56 0
+    ∷ notASet "05 K PIC X.05 K PIC X." (11 ∷ 10 ∷ []) 16384 56 0
+    ∷ notASet "05 K PIC X.05 K PIC X." (11 ∷ 12 ∷ []) 16384 56 0
+    ∷ notASet "05 K PIC X.05 K PIC X." (18446744073709551615 ∷ 23 ∷ []) 16384 56 0
+    ∷ notASet "\u{80}" (1 ∷ []) 16384 56 0
+    ∷ notASet "\u{80}" (1 ∷ 1 ∷ []) 0 56 0
+    ∷ notASet "05 K PIC X.\u{80}" (11 ∷ 1 ∷ []) 16384 2 0
+    ∷ notASet "05 K PIC X.05 K PIC X." (11 ∷ 11 ∷ []) 16383 3 0
+    ∷ notASet "05 K PIC X." (11 ∷ 0 ∷ []) 16384 57 0
+    -- the first refusal of a reader, its position counted in that copybook; 57 after all are read
+    ∷ notKeyed "K" (pair "05 K PIC X." " 05 K PIC Q.") 25 1
+    ∷ notKeyed "K" (pair "05 L PIC X." "05 K PIC Q.") 25 0
+    ∷ notKeyed "K" (pair "05 K." "05 K PIC Q.") 21 0
+    -- exactly one entry of the name at the top, case aside; one in a group is none
+    ∷ notKeyed "K" (pair "05 K PIC X." "05 L PIC X.") 57 0
+    ∷ notKeyed "K" (copies 2 "05 K PIC X. 05 k PIC X.") 57 0
+    ∷ notKeyed "K" (copies 2 "01 R. 05 G. 10 K PIC X.") 57 0
+    ∷ keyed "K" (pair "01 R. 05 K PIC X. 05 G. 10 K PIC X." "01 K PIC X.") 0 1
+    ∷ notKeyed "K" (copies 2 "01 R. 05 K PIC X. 01 S PIC X.") 57 0
+    ∷ keyed "filler" (copies 2 "05 FILLER PIC X.") 0 1
+    ∷ notKeyed "FILLER" (copies 2 "05 FILLER PIC X. 05. 10 A PIC X.") 57 0
+    ∷ notKeyed "" (copies 2 "05 FILLER PIC X.") 57 0
+    ∷ notKeyed "\u{80}" (copies 2 "05 K PIC X.") 57 0
+    -- a group, one made by folding included, and an entry with OCCURS or REDEFINES are no key
+    ∷ notKeyed "K" (copies 2 "05 K. 10 A PIC X.") 57 0
+    ∷ notKeyed "K" (copies 2 "05 K PIC X. 05 B REDEFINES K PIC X.") 57 0
+    ∷ notKeyed "B" (copies 2 "05 K PIC X. 05 B REDEFINES K PIC X.") 57 0
+    ∷ notKeyed "K" (copies 2 "05 K PIC X OCCURS 1.") 57 0
+    ∷ notKeyed "K" (copies 2 "05 K PIC X OCCURS 0.") 57 0
+    ∷ notKeyed "K" (copies 2 "01 R. 05 A PIC X. 05 B REDEFINES A PIC X. 05 K REDEFINES B PIC X.") 57 0
+    -- nor one behind a DEPENDING ON in the listing, at any depth; one that folding lost does not count
+    ∷ notKeyed "K" (copies 2 "05 T PIC X OCCURS 2 DEPENDING ON N. 05 K PIC X.") 57 0
+    ∷ notKeyed "K" (copies 2 "05 G. 10 T PIC X OCCURS 2 DEPENDING ON N. 05 A PIC X. 05 K PIC X.") 57 0
+    ∷ keyed "K" (copies 2 "05 K PIC X. 05 T PIC X OCCURS 2 DEPENDING ON N.") 0 1
+    ∷ notKeyed "K" (copies 2 "05 T PIC X OCCURS 2 DEPENDING ON N. 05 B REDEFINES T PIC X. 05 K PIC X.") 57 0
+    ∷ keyed "K" (copies 2 "05 G OCCURS 2 DEPENDING ON N. 10 G PIC X. 05 B REDEFINES G PIC X. 05 K PIC X.") 0 1
+    -- all agree in offset, width, kind and kind details
+    ∷ notKeyed "K" (pair "05 K PIC X." "05 A PIC X. 05 K PIC X.") 57 0
+    ∷ notKeyed "K" (pair "05 K PIC X." "05 K PIC XX.") 57 0
+    ∷ notKeyed "K" (pair "05 K PIC X." "05 K PIC 9.") 57 0
+    ∷ notKeyed "K" ("05 K PIC X." ∷ "05 K PIC 9." ∷ "05 K PIC X." ∷ []) 57 0
+    ∷ notKeyed "K" (pair "05 K PIC S9 SIGN LEADING SEPARATE." "05 K PIC S9 SIGN TRAILING SEPARATE.") 57 0
+    ∷ notKeyed "K" (pair "05 K PIC S9 SIGN LEADING SEPARATE." "05 K PIC 99.") 57 0
+    ∷ notKeyed "K" (pair "05 K PIC 9 COMP." "05 K PIC S9 COMP.") 57 0
+    ∷ keyed "K" (pair "05 K PIC 9 COMP." "05 K PIC 9(4) COMP.") 0 2
+    ∷ notKeyed "K" (pair "05 K PIC 9(4) COMP-3." "05 K PIC 9(5) COMP-3.") 57 0
+    ∷ notKeyed "K" (pair "05 K PIC 99V9." "05 K PIC 9V99.") 57 0
+    ∷ notKeyed "K" (pair "05 K PIC S9V9." "05 K PIC 9V9.") 57 0
+    ∷ notKeyed "K" (pair "05 K PIC 9V9." "05 K PIC 9V9 COMP-3.") 57 0
+    -- an edited key by its mask and not by its place in the text
+    ∷ keyed "K" (pair "05 K PIC ZZ9." "01 REC. 05 K PIC z(2)9.") 0 3
+    ∷ notKeyed "K" (pair "05 K PIC ZZ9." "05 K PIC Z99.") 57 0
+    ∷ notKeyed "K" (pair "05 K PIC ZZ9P." "05 K PIC ZPZ9.") 57 0
+    ∷ notKeyed "K" (pair "05 K PIC ZVZ." "05 K PIC ZZ.") 57 0
+    ∷ keyed "K" (pair "05 K PIC ZZ9 COMP." "05 K PIC 9 COMP.") 0 2
     -- cards: `000010 01 REC` is level 1, and as free text level 10 with the name 01; places are those in the card text
     ∷ cards (detailed "000010 01 REC PIC X." (facts 7 1 0 false 0 0 0 (span 18 1) absent absent))
     ∷ detailed "000010 01 REC PIC X." (facts 0 10 0 false 0 0 0 (span 18 1) absent absent)

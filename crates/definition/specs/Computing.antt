@@ -20,6 +20,7 @@ use Rattle.definition.specs.Extract.{misweighed, chosen, upFrom, heavies
 use Rattle.definition.specs.Calls.{extractOf, extractIn, extractAnswer}
 use Rattle.definition.specs.Details.{detailsIn, detailBytes, detailsBytes}
 use Rattle.definition.specs.Reasons.{latest, chains, chainAt, reasonsIn, reasonsBytes}
+use Rattle.definition.specs.Key.{namedIn, keyIn, allAgree, keysIn, sum, copybooks, setKey}
 
 unfoldable pub computing : Unit {0}
 unfolding
@@ -34,6 +35,7 @@ unfolding
     misweighed chosen upFrom heaviest alone extractOf extractIn extractAnswer
     firstWide textChecks entryChecks literalCheck keptStatements recordFields entries layoutListing layoutDetails pictureAnswer pictureMask ownerIn byteOwner
     entryReasons
+    namedIn keyIn allAgree keysIn sum copybooks setKey
     viewFrom firstOther indicatorCheck cardChecks onCards
     lasting lastingAll plainGroups
 computing = tt

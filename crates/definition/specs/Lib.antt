@@ -18,6 +18,7 @@ pub mod Reasons
 pub mod Cards
 pub mod Extract
 pub mod Calls
+pub mod Key
 pub mod Ungrouped
 pub mod Computing
 pub mod Catches

@@ -44,3 +44,10 @@ leastWeight = 1
 
 abbrev pub mostWeight : ℕ
 mostWeight = 1000
+
+-- a set has no fewer copybooks, and no more (56)
+abbrev pub fewestInSet : ℕ
+fewestInSet = 2
+
+abbrev pub mostInSet : ℕ
+mostInSet = 16

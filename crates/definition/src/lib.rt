@@ -26,6 +26,10 @@ pub const LEAST_WEIGHT: u32 = 1;
 
 pub const MOST_WEIGHT: u32 = 1000;
 
+pub const FEWEST_IN_SET: usize = 2;
+
+pub const MOST_IN_SET: usize = 16;
+
 pub struct Span {
     pub start: usize,
     pub len: usize,
@@ -297,6 +301,12 @@ pub enum OwnerAnswer {
 // The answer of the extract.
 pub enum ExtractAnswer {
     Chosen(Extract),
+    Refused(Refusal),
+}
+
+// The answer of a key for a set of copybooks.
+pub enum KeyAnswer {
+    Key { offset: usize, width: usize },
     Refused(Refusal),
 }
 

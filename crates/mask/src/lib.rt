@@ -5,8 +5,9 @@ ghost use mathlib.Core.List.{[]};
 ghost use lib.ListN.{length, replicate};
 ghost use lib.Seq.{sets};
 ghost use Rattle.definition.specs.Picture.{expand, mask as maskOf};
-ghost use Rattle.definition.specs.Calls.{afterWriting, writingOf};
+ghost use Rattle.definition.specs.Calls.{left, afterWriting, maskCall, writingOf};
 ghost use Rattle.mask.specs.Masks.{hidden, MaskRoom, put, Wrote, maskIn, maskAfter};
+use definition::Check;
 use definition::Refusal;
 use definition::Usage;
 use definition::Writing;
@@ -94,6 +95,20 @@ pub fn mask_of(pic: &[u8], usage: Usage, out: &mut [u8]) -> Writing
             return Writing::Written(0);
         }
         Shaped::Refused(r) => {
+            return Writing::Refused(r);
+        }
+    }
+}
+
+// The mask of any picture: its text is checked first.
+pub fn picture_mask(pic: &[u8], usage: Usage, out: &mut [u8]) -> Writing
+    ensures { λ r. ⌜ left (writingOf r) (now (out .exit)) [] ≡ maskCall usage (now (pic .entry)) (now (out .entry)) ⌝ }
+{
+    match text::text_checks(pic) {
+        Check::Passed => {
+            return mask_of(pic, usage, out);
+        }
+        Check::Refused(r) => {
             return Writing::Refused(r);
         }
     }

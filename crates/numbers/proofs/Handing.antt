@@ -12,13 +12,15 @@ use Rattle.definition.specs.declared.Owner.{Owner}
 use Rattle.definition.specs.declared.OwnerAnswer.{OwnerAnswer}
 use Rattle.definition.specs.declared.Extract.{Extract}
 use Rattle.definition.specs.declared.ExtractAnswer.{ExtractAnswer}
+use Rattle.definition.specs.declared.KeyAnswer.{KeyAnswer}
 use Rattle.definition.specs.Basic.{Answer}
 use Rattle.definition.specs.Calls.{After, left, writingOf, pictureOf, ownerAnswerOf, extractAnswerOf, checkOf}
+use Rattle.definition.specs.Key.{keyAnswerOf}
 use Rattle.definition.specs.Listing.{kindByte}
 use Rattle.kinds.specs.declared.KindNumbers.{KindNumbers}
 use Rattle.kinds.specs.Kinds.{numbersOf}
 use Rattle.numbers.specs.Numbers.{returned, writingNumbers, kindParts, pictureNumbers, ownerNumbers}
-use Rattle.numbers.specs.Numbers.{extractNumbers, answered}
+use Rattle.numbers.specs.Numbers.{extractNumbers, keyNumbers, answered}
 
 -- the answer of a call that writes bytes
 module _ {w : Writing} (l l′ : List ℕ) where
@@ -108,6 +110,32 @@ extract-handed after a out work r l l′ e p =
       p .0 ∙ ap returned s,
       (p .1 ∙ ap (λ (x : Answer Extract). answered (extractNumbers x) l) s, ap (λ (x : After Extract). x .work) e),
     )
+
+-- the answer to a set of copybooks
+module _ {a : KeyAnswer} (l l′ : List ℕ) where
+  pub key-found :
+      {offset width : ℕ} →
+      a ≡ KeyAnswer.Key offset width →
+      l′ ≡ answered (offset ∷ width ∷ []) l →
+      (0 ≡ returned (keyAnswerOf a)) × (l′ ≡ answered (keyNumbers (keyAnswerOf a)) l)
+  key-found e q = rw (e, q) (refl, refl)
+
+  pub no-key :
+      {r : Refusal} →
+      a ≡ KeyAnswer.Refused r →
+      l′ ≡ answered (r .position ∷ r .needed ∷ []) l →
+      (r .number ≡ returned (keyAnswerOf a)) × (l′ ≡ answered (keyNumbers (keyAnswerOf a)) l)
+  no-key e q = rw (e, q) (refl, refl)
+
+pub key-handed :
+    (after : After (ℕ × ℕ)) (a : Answer (ℕ × ℕ)) (out work : List ℕ) (r : ℕ) (l l′ : List ℕ) →
+    left a out work ≡ after →
+    (r ≡ returned a) × (l′ ≡ answered (keyNumbers a) l) →
+    (r ≡ returned (after .answer)) × ((l′ ≡ answered (keyNumbers (after .answer)) l) × (work ≡ after .work))
+key-handed after a out work r l l′ e p =
+    let s = ap (λ (x : After (ℕ × ℕ)). x .answer) e in
+    (p .0 ∙ ap returned s,
+    (p .1 ∙ ap (λ (x : Answer (ℕ × ℕ)). answered (keyNumbers x) l) s, ap (λ (x : After (ℕ × ℕ)). x .work) e))
 
 -- what an entry leaves, and what was handed on of its answer
 pub handed :

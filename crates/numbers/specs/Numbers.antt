@@ -62,6 +62,11 @@ abbrev pub extractNumbers : Answer Extract → List ℕ
 extractNumbers (refuse r) = r .position ∷ r .needed ∷ 0 ∷ 0 ∷ []
 extractNumbers (give a) = a .subset ∷ a .weight ∷ a .examined ∷ a .off ∷ []
 
+-- the two numbers of a key: offset and width; or position and needed length
+abbrev pub keyNumbers : Answer (ℕ × ℕ) → List ℕ
+keyNumbers (refuse r) = r .position ∷ r .needed ∷ []
+keyNumbers (give k) = k .0 ∷ k .1 ∷ []
+
 -- the lent `answer` after a call that writes these numbers to it
 unfoldable pub answered : List ℕ → List ℕ → List ℕ
 answered numbers answer = if ltb (length answer) (length numbers) then answer else numbers ++ drop (length numbers) answer

@@ -3,9 +3,11 @@
 ghost use mathlib.Core.Path.{_≡_};
 ghost use mathlib.Core.List.{[], _∷_};
 ghost use Rattle.definition.specs.Calls.{pictureOf, writingOf, ownerAnswerOf, extractAnswerOf};
-ghost use Rattle.numbers.specs.Numbers.{noUsage, returned, writingNumbers, kindParts, pictureNumbers, ownerNumbers, answered};
-ghost use Rattle.numbers.specs.Numbers.{extractNumbers};
+ghost use Rattle.definition.specs.Key.{keyAnswerOf};
+ghost use Rattle.numbers.specs.Numbers.{noUsage, returned, writingNumbers, kindParts, pictureNumbers, ownerNumbers};
+ghost use Rattle.numbers.specs.Numbers.{extractNumbers, keyNumbers, answered};
 use definition::ExtractAnswer;
+use definition::KeyAnswer;
 use definition::OwnerAnswer;
 use definition::PicAnswer;
 use definition::Writing;
@@ -158,6 +160,23 @@ pub fn hand_on_extract(a: ExtractAnswer, answer: &mut [u64]) -> u32
         ExtractAnswer::Refused(r) => {
             put_four(answer, r.position as u64, r.needed as u64, 0, 0);
             return r.number;
+        }
+    }
+}
+
+// Hands on the answer to a set of copybooks.
+pub fn hand_on_key(a: KeyAnswer, answer: &mut [u64]) -> u32
+    ensures { λ r. ⌜ r ≡ returned (keyAnswerOf a) ⌝ }
+    ensures { λ _. ⌜ now (answer .exit) ≡ answered (keyNumbers (keyAnswerOf a)) (now (answer .entry)) ⌝ }
+{
+    match a {
+        KeyAnswer::Key { offset, width } => {
+            put_two(answer, offset as u64, width as u64);
+            return 0;
+        }
+        KeyAnswer::Refused(why) => {
+            put_two(answer, why.position as u64, why.needed as u64);
+            return why.number;
         }
     }
 }

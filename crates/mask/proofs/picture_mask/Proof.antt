@@ -1,4 +1,4 @@
--- `copybook::mask` meets its contract: the checks of the text, then the mask.
+-- `mask::picture_mask` meets its contract: the checks of the text, then the mask.
 -- Assumes nothing.
 use Prim.Native.Nat.{ℕ}
 use mathlib.Core.Path.{_≡_}
@@ -9,10 +9,10 @@ use Rattle.definition.specs.declared.Usage.{Usage}
 use Rattle.definition.specs.declared.Check.{Check}
 use Rattle.definition.specs.Basic.{Answer, refuse, _>>=_}
 use Rattle.definition.specs.Calls.{textChecks, pictureMask, afterWriting, maskCall, checkOf}
 use Rattle.mask.specs.Masks.{maskIn, maskAfter}
 use borrow.Author.Needs.{needs}
-use Rattle.copybook.proofs.mask.Statement.{statement}
-use Rattle.copybook.proofs.mask.Tie as tie
+use Rattle.mask.proofs.picture_mask.Statement.{statement}
+use Rattle.mask.proofs.picture_mask.Tie as tie
 
 module _ (usage : Usage) (bs out : List ℕ) (k : Check) (e : checkOf k ≡ textChecks bs) where
   passed :
@@ -48,8 +48,8 @@ enum-known-r c = search needs
 returns-2 : tie.Need-returns-2
 returns-2 c = search refused
 
-pub mask-spec : {M : Type 1} → statement M
-mask-spec =
+pub picture-mask-spec : {M : Type 1} → statement M
+picture-mask-spec =
     tie.close
     (tie.spec
     text-checks-requires

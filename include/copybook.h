@@ -108,6 +108,9 @@ enum copybook_number {
     /* cards, after 3 and before 50; the position is that of the byte in column 7 */
     COPYBOOK_INDICATOR = 51,
 
+    /* an item, in the place of 21 and with its position */
+    COPYBOOK_FLOAT_PICTURE = 52,
+
     /* the reasons of an entry, before 31 */
     COPYBOOK_PAST_LISTING = 53,
 
@@ -175,6 +178,8 @@ enum copybook_number {
       "close it on its line by the mark that opens it; within it that mark is written twice") \
     R(COPYBOOK_INDICATOR, "a card's column 7 holds none of the four indicators", \
       "a blank marks code, * or / a comment, D a debugging line; a continued line (-) must be written as one") \
+    R(COPYBOOK_FLOAT_PICTURE, "an item of COMP-1 or COMP-2, its own or its group's, has a picture", \
+      "a float has none: drop the picture, or name another usage") \
     R(COPYBOOK_PAST_LISTING, "the entry's number is past the listing", \
       "entries are numbered from 0 in the order of the layout, the record's own line not counted") \
     R(COPYBOOK_NO_SET, "there are not 2 to 16 copybooks, or their stated lengths do not add up to the bytes lent", \
@@ -196,10 +201,11 @@ enum copybook_kind {
     COPYBOOK_BINARY = 3, /* big-endian */
     COPYBOOK_DECIMAL = 4,
     COPYBOOK_EDITED = 5,
-    COPYBOOK_GROUP = 6 /* in a listing */
+    COPYBOOK_GROUP = 6, /* in a listing */
+    COPYBOOK_FLOAT = 7  /* in a listing; COMP-1 and COMP-2, big-endian */
 };
 
-/* Usages that a picture is asked with. */
+/* Usages that a picture is asked with; COMP-1 and COMP-2 have no picture. */
 enum copybook_usage { COPYBOOK_DISPLAY = 0, COPYBOOK_COMP_3 = 1, COPYBOOK_COMP = 2 };
 
 /* Signs that a picture is asked with. */
@@ -228,7 +234,7 @@ enum copybook_storage { COPYBOOK_STORAGE_DISPLAY = 0, COPYBOOK_STORAGE_COMP_3 = 
  * The layout listing of the copybook in `text`, written to `out`.
  *
  * `work` must have COPYBOOK_WORK numbers; whatever it holds, all of it is zero after every call, also after a refusal.
- * answer[0] is the number of bytes written, answer[1] is 0. Refusals: 1 to 3, 50, 10 to 14, 20 to 31.
+ * answer[0] is the number of bytes written, answer[1] is 0. Refusals: 1 to 3, 50, 10 to 14, 20 to 30 and 52, 31.
  *
  * The listing: one byte of kind, then a body whose length the kind fixes. Numbers are little-endian, 4 bytes unless
  * said. copybook_next reads it.
@@ -241,6 +247,7 @@ enum copybook_storage { COPYBOOK_STORAGE_DISPLAY = 0, COPYBOOK_STORAGE_COMP_3 = 
  *   COPYBOOK_DECIMAL  precision, scale, storage, sign (1 each)
  *   COPYBOOK_EDITED   precision, scale, signed (1 each), picture start and length
  *   COPYBOOK_GROUP    number of members, which follow in order
+ *   COPYBOOK_FLOAT    bits, 32 or 64 (1)
  * Starts point into `text`. Length 0 means absent, and an absent name means FILLER; absent places hold 0. Offsets count
  * from the start of the list that the entry stands in.
  *
@@ -295,7 +302,7 @@ enum copybook_reason {
 /*
  * Why an entry of the listing stands where it does, written to `out`: COPYBOOK_REASON bytes for each reason. Entries
  * are numbered from 0 in the order of the listing, COPYBOOK_RECORD not counted. `work` and the answer are those of
- * copybook_layout. Refusals: 1 to 3, 50, 10 to 14, 20 to 30, 53, 31.
+ * copybook_layout. Refusals: 1 to 3, 50, 10 to 14, 20 to 30 and 52, 53, 31.
  *
  * Numbers are little-endian: the reason's kind (1 byte); start and length of the named item's name in `text` (4 each, 0
  * where no item is named, or one without a name); the bytes that it adds (4): 0 for COPYBOOK_FIRST and COPYBOOK_INSIDE,
@@ -328,8 +335,8 @@ uint32_t copybook_reasons_cards(const uint8_t *cards, size_t n, uint64_t entry, 
  * has a DEPENDING ON. All agree in offset, width, kind and what the listing says of the kind, but for the place of an
  * edited item's picture: its mask is compared. The name is only compared, and may be any bytes.
  *
- * `work` as for copybook_layout. Refusals: 56; then 1 to 3, 50, 10 to 14 and 20 to 30 of the first copybook that has
- * one, the position counted in that copybook; then 57.
+ * `work` as for copybook_layout. Refusals: 56; then 1 to 3, 50, 10 to 14, 20 to 30 and 52 of the first copybook that
+ * has one, the position counted in that copybook; then 57.
  */
 uint32_t copybook_key(const uint8_t *texts, size_t n, const uint64_t *lengths, size_t c, const uint8_t *name, size_t l,
                       uint32_t *work, size_t w, uint64_t *answer, size_t k);
@@ -359,12 +366,12 @@ enum copybook_owned { COPYBOOK_PIECE = 0, COPYBOOK_SLACK = 1 };
  *     byte inside it; or
  *     COPYBOOK_SLACK, the number of the entry that the slack precedes, 0, 0
  * Entries are numbered from 0 in the order of the listing, COPYBOOK_RECORD not counted. `work` as for copybook_layout.
- * Refusals: 1 to 3, 50, 10 to 14, 20 to 30, 40, 41.
+ * Refusals: 1 to 3, 50, 10 to 14, 20 to 30 and 52, 40, 41.
  */
 uint32_t copybook_owner(const uint8_t *text, size_t n, uint64_t position, uint32_t *work, size_t w, uint64_t *answer,
                         size_t k);
 
-/* The same for a copybook on cards. Refusals: 1 to 3, 51, 50, 10 to 14, 20 to 30, 40, 41. */
+/* The same for a copybook on cards. Refusals: 1 to 3, 51, 50, 10 to 14, 20 to 30 and 52, 40, 41. */
 uint32_t copybook_owner_cards(const uint8_t *cards, size_t n, uint64_t position, uint32_t *work, size_t w,
                               uint64_t *answer, size_t k);
 
@@ -377,7 +384,7 @@ uint32_t copybook_owner_cards(const uint8_t *cards, size_t n, uint64_t position,
  *     the number of the heaviest fitting subset among them, the earliest if equal; its weight; how many were looked at;
  *     how far off it is at most: 0 if all were, else what all items that fit alone weigh more
  * No choice there is outweighs the one found by more than that. `work` as for copybook_layout; `weights` is only read,
- * and is aligned to 4 bytes. Refusals: 1 to 3, 50, 10 to 14, 20 to 30, 40, 58, 59, 60.
+ * and is aligned to 4 bytes. Refusals: 1 to 3, 50, 10 to 14, 20 to 30, 52, 40, 58, 59, 60.
  */
 #define COPYBOOK_MOST_ITEMS 16
 
@@ -415,6 +422,7 @@ struct copybook_entry {
     enum copybook_storage storage;
     struct copybook_span picture;      /* of an edited item; with details of every item that has one */
     uint32_t members;                  /* of a group; they follow */
+    unsigned bits;                     /* of a float: 32 or 64 */
 
     /* from the details; 0 without them */
     uint32_t position;                 /* of the statement's first word */
@@ -456,6 +464,7 @@ static inline size_t copybook_after(uint8_t kind)
     case COPYBOOK_INT:
         return 2;
     case COPYBOOK_BINARY:
+    case COPYBOOK_FLOAT:
         return 1;
     case COPYBOOK_DECIMAL:
     case COPYBOOK_GROUP:
@@ -492,6 +501,9 @@ static inline void copybook_read_kind(const uint8_t *p, struct copybook_entry *e
         break;
     case COPYBOOK_GROUP:
         entry->members = copybook_four(p);
+        break;
+    case COPYBOOK_FLOAT:
+        entry->bits = p[0];
         break;
     default:
         break;

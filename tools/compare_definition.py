@@ -10,8 +10,8 @@ computes its answer to each input: the bytes of the listing, read back into the 
 Each input must get the same list of numbers, or the same refusal, from both. Left out, and counted by number, are the inputs that the
 definition turns down with a refusal that docs/RULES.md adds to the Rust's; of these, the reason is checked as far as it shows (`due`).
 The Rust has no answer where a literal after VALUE holds a period that would end a statement, or `*>`, or is left open, nor where a
-picture has P, which holds a byte there, nor where a group names a usage or DISPLAY stands after another usage word:
-there the answer of layout_list.py, a reading of docs/RULES.md, stands in its place.
+picture has P, which holds a byte there, nor where a group names a usage, DISPLAY stands after another usage word or a
+word names a float: there the answer of layout_list.py, a reading of docs/RULES.md, stands in its place.
 The exit status is 1 if there is a difference, and 2 if there was no comparison. It needs rt and cargo, and no network.
 """
 
@@ -115,7 +115,7 @@ maskOf usage picture = elim (pictureMask usage picture 65535) [ refuse r ↦ bro
 
 -- how long the body of a kind is
 abbrev pub bodyLength : ℕ → ℕ
-bodyLength kind = byteAt kind (0 ∷ 37 ∷ 39 ∷ 38 ∷ 41 ∷ 48 ∷ 41 ∷ [])
+bodyLength kind = byteAt kind (0 ∷ 37 ∷ 39 ∷ 38 ∷ 41 ∷ 48 ∷ 41 ∷ 38 ∷ [])
 
 abbrev pub detailsIn : ℕ → List ℕ → List ℕ → List ℕ
 detailsIn kind body text =
@@ -164,6 +164,7 @@ kindNumbers (FieldKind.Binary signed) m = 3 ∷ flag signed ∷ []
 kindNumbers (FieldKind.Decimal precision scale repr sign) m = 4 ∷ precision ∷ scale ∷ storageNumber repr ∷ signNumber sign ∷ []
 kindNumbers (FieldKind.Edited precision scale signed) m = 5 ∷ precision ∷ scale ∷ flag signed ∷ m
 kindNumbers FieldKind.Group m = broken
+kindNumbers (FieldKind.Float bits) m = broken
 
 -- the two questions
 abbrev pub copybook : List ℕ → List ℕ

@@ -12,6 +12,8 @@ Where each thing that a comparison must cover is made:
   repeated clauses, SEPARATE in odd places and after VALUE                      REPEATED, Maker.soup
   literals after VALUE: periods, `*>`, white space and other marks in them, doubled and open ones; marks before VALUE; VALUE as
     a name, a target, a picture                                                 QUOTED, Maker.quoted
+  floats, aligned or not, repeated, redefined and redefining, of groups; with pictures, taken back or not
+                                                                                FLOATS, Maker.floats
   usages on groups, on dropped roots, taken back by DISPLAY, with SYNC, over text and edited items; several usage words;
     DISPLAY where no clause begins                                              USAGES, Maker.usages
   cards: sequence numbers, indicators, text behind column 72, words cut there, comments between words, short and empty lines,
@@ -228,6 +230,54 @@ LARGE = """
 05 A OCCURS 2147483645 PIC X. 05 B PIC X. 05 C REDEFINES B OCCURS 2 DEPENDING ON N PIC X(2).
 05 A OCCURS 2147483646 PIC X. 05 B PIC X. 05 C REDEFINES B OCCURS 9 DEPENDING ON N PIC X(2).
 """.strip().split("\n")
+FLOATS = """
+05 A COMP-1. 05 B COMPUTATIONAL-1. 05 C COMP-2. 05 D COMPUTATIONAL-2.
+05 A usage is comp-1. 05 B USAGE Comp-2. 05 C USAGE IS COMP-1 COMP-2. 05 D COMP-2 USAGE COMP-1.
+05 A COMP-10. 05 B COMP-1X.
+05 A COMP-11 PIC X. 05 B COMPUTATIONAL-12 PIC X. 05 C COMP1 PIC X.
+05 COMP-1 PIC X. 05 COMP-2 COMP-2. 05 B REDEFINES COMP-2 PIC X(9).
+05 A PIC X VALUE COMP-1. 05 B PIC S9 SIGN COMP-2. 05 C PIC X OCCURS 2 COMP.
+05 A PIC X. 05 B COMP-1 SYNC. 05 C PIC X. 05 D SYNC COMP-2. 05 E PIC X.
+05 A PIC X. 05 B COMP-1. 05 C COMP-2. 05 D PIC X.
+05 A COMP-1. 05 B COMP-2 SYNC. 05 C COMP-1 SYNC. 05 D COMP-2 SYNC LEFT. 05 E PIC X. 05 F COMP-1 SYNC RIGHT.
+05 A PIC X. 05 B COMP-2 SYNC OCCURS 3. 05 C PIC X. 05 D COMP-1 OCCURS 2 SYNC.
+05 A PIC X. 05 B COMP-2 SYNC OCCURS 0. 05 C PIC X.
+05 G OCCURS 2. 10 A PIC X. 10 B COMP-2 SYNC. 10 C PIC X.
+05 N PIC 9. 05 A COMP-1 OCCURS 1 TO 5 DEPENDING ON N. 05 B PIC X.
+01 R COMP-1. 05 A. 05 B. 05 G. 10 C. 10 D SYNC.
+01 R COMP-1. 05 X PIC X DISPLAY. 05 A SYNC. 05 G COMP-2. 10 B. 10 C COMP PIC 9(4). 10 D SYNC.
+01 R COMP-2 SYNC. 05 X PIC X DISPLAY. 05 A. 05 B PIC 9(5) COMP-3. 05 C.
+01 R COMP-1. 05 A. 05 B PIC 9.
+01 R COMP-1. 05 G. 10 H. 15 A PIC X.
+01 R COMP-2 PIC 9(4). 05 A. 05 B PIC X COMP.
+01 R COMP-2 PIC Q. 05 A.
+01 R COMP-1.
+01 R COMP-1 PIC X.
+01 R COMP-1. 88 Y COMP-2. 05 A. 88 N PIC X.
+05 A COMP-1 PIC X PIC.
+05 A PIC X COMP-2 PICTURE IS.
+01 R COMP-2. 05 A PIC. 05 B PIC IS.
+05 A COMP-1 PIC.
+05 A. 05 B COMP-1 PIC X.
+05 A COMP-1 PIC X. 05 B.
+05 A COMP-1 PIC X9.
+05 A COMP-1 PIC 9(32).
+05 A COMP-1 PIC (.
+05 A REDEFINES Z COMP-2 PIC X.
+05 A REDEFINES Z COMP-2.
+05 A COMP-2. 05 B REDEFINES A COMP-1. 05 C PIC X.
+05 A PIC X(3). 05 B REDEFINES A COMP-2 SYNC. 05 C COMP-1 SYNC.
+05 X PIC X. 05 A COMP-1 SYNC. 05 B REDEFINES A PIC X(5). 05 C COMP-1 SYNC.
+05 A COMP-1. 10 B. 10 C SYNC. 05 D REDEFINES A COMP-2. 10 E. 05 F PIC X.
+05 X PIC X. 05 A COMP-1 SYNC. 05 A COMP-2. 05 B REDEFINES A COMP-1.
+05 X PIC X OCCURS 2147483640. 05 A COMP-2 SYNC OCCURS 0.
+05 X PIC X OCCURS 2147483641. 05 A COMP-2 SYNC OCCURS 0.
+05 A COMP-1 OCCURS 536870911. 05 B PIC X(3).
+05 A COMP-1 OCCURS 536870911. 05 B COMP-1.
+05 A COMP-2 OCCURS 268435455. 05 B COMP-1 SYNC.
+05 A COMP-2 OCCURS 268435456.
+""".strip().split("\n")
+
 USAGES = """
 01 COUNTS COMP. 05 A PIC 9(4). 05 B PIC 9(9).
 01 R COMP.
@@ -577,7 +627,7 @@ class Maker:
 
     def usage_words(self):
         usage = self.one(["COMP", "COMP", "COMP", "BINARY", "COMP-4", "COMPUTATIONAL-5", "COMP-3", "PACKED-DECIMAL",
-                          "DISPLAY", "COMP-1"])
+                          "DISPLAY", "COMP-6"])
         return self.one([[], ["USAGE"], ["USAGE", "IS"]]) + [usage]
 
     def siblings(self, level, depth, left):
@@ -621,6 +671,50 @@ class Maker:
             text = text.rstrip() if self.chance(0.8) else text
             text += self.one([". ", ".\n", ".\n", ".\r\n", ".\t", ".*> C\n", ". *> C. D\n", " .\n", "\n.\n", ".\n\n* C\n", ".\x0c", "."])
         return "spread", text
+
+    def floats(self):
+        """Groups in groups, some with the usage of a float, around floats, numbers and text, some with SYNC, OCCURS or
+        REDEFINES, some with a picture too many or too few."""
+        usages = ["COMP-1", "COMP-2"] * 5 + ["COMPUTATIONAL-1", "COMPUTATIONAL-2", "COMP", "COMP-3", "DISPLAY", "COMP-6"]
+
+        def parts(group, names, around):
+            usage = self.one(usages) if self.chance(0.25 if group else 0.7) else None
+            holds = usage or around
+            floats = holds and holds[-2:] in ("-1", "-2")
+            out = [self.one([[], ["USAGE"], ["USAGE", "IS"]]) + [usage]] if usage else []
+            if self.chance(0.1 if group else 0.04 if floats else 0.96):
+                out.append(["PIC", self.one(["X", "X(3)", "9(4)", "9(5)", "9(10)", "ZZ9", "S9V9"] * 3 + ["Q"])])
+            if self.chance(0.5):
+                out.append(self.one([["SYNC"], ["SYNCHRONIZED"], ["SYNC", "LEFT"], ["SYNC", "RIGHT"]]))
+            if self.chance(0.15):
+                out.append(["OCCURS", self.one(["0", "1", "2", "3", "536870911", "268435455"])])
+            if self.chance(0.03):
+                out.append(["OCCURS", "1", "TO", "4", "DEPENDING", "ON", self.one(names or ["N"])])
+            if names and self.chance(0.12):
+                out.append(["REDEFINES", self.one(names)])
+            if self.chance(0.05):
+                out.append(self.one([["VALUE", "COMP-1"], ["SIGN", "COMP-2"], ["DISPLAY"], ["COMP-2"]]))
+            if self.chance(0.4):
+                self.r.shuffle(out)
+            if self.chance(0.05):
+                out.append(self.one([["PIC"], ["PIC", "IS"]]))
+            return [self.cased(w) if w in KEYWORDS + usages else w for p in out for w in p], holds
+
+        def rows(level, depth, around):
+            out, names = [], []
+            for k in range(self.r.randint(1, 4)):
+                name = self.one(["A", "B", "C", "COMP-1"]) + self.one(["", str(k)])
+                group = depth > 0 and self.chance(0.4)
+                said, holds = parts(group, names, around)
+                out.append([f"{level:02}", name] + said)
+                names.append(name)
+                if group:
+                    out += rows(level + self.r.randint(1, 5), depth - 1, holds)
+            return out
+
+        said, holds = parts(True, [], None) if self.chance(0.5) else (None, None)
+        root = [["01", "R"] + said] if said is not None else []
+        return "floats", self.joined(root + rows(5, self.one([0, 1, 1, 2]), holds))
 
     def usages(self):
         """Groups in groups, most with a usage, around members that name none, another one, DISPLAY or several."""
@@ -833,7 +927,7 @@ def generate(count, seed):
         return out
 
     copybooks = shuffled([("fold", FOLDS), ("repeated", REPEATED), ("root", ROOTS), ("order", ORDER), ("large", LARGE),
-                          ("good", GOOD), ("quoted", QUOTED), ("usage", USAGES), ("chains", chains())])
+                          ("good", GOOD), ("quoted", QUOTED), ("usage", USAGES), ("float", FLOATS), ("chains", chains())])
     copybooks += shuffled([(f.__name__, f()) for f in (edges, at_every_place, bare_clauses, levels, counts)])
     pictures = [(*p, m.usage(), m.sign()) for p in shuffled([("written", PICTURES), ("spaced", SPACED), ("alone", alone())])]
     pictures += [("every", text, usage, sign) for text in EVERY for usage in range(3) for sign in range(5)]
@@ -853,7 +947,8 @@ def generate(count, seed):
         if (len(inputs) - written) % 3 == 0:
             put(*m.picture())
         else:
-            put(*(m.quoted() if m.chance(0.1) else m.usages() if m.chance(0.1) else m.copybook()))
+            put(*(m.quoted() if m.chance(0.1) else m.usages() if m.chance(0.1) else m.floats() if m.chance(0.05)
+                  else m.copybook()))
     return list(inputs.values())
 
 

@@ -14,8 +14,8 @@ from reader_list import Refused
 
 LARGEST = 2147483647
 MOST_SYMBOLS, MOST_DIGITS, LONGEST_MASK, MOST_DEPTH = 65535, 31, 255, 64
-DISPLAY, COMP3, COMP = 0, 1, 2
-TEXT, INT, BINARY, DECIMAL, EDITED, GROUP = range(1, 7)
+DISPLAY, COMP3, COMP, COMP1, COMP2 = range(5)
+TEXT, INT, BINARY, DECIMAL, EDITED, GROUP, FLOAT = range(1, 8)
 UNSIGNED, EMBEDDED, LEADING, TRAILING = range(4)
 STORED_DISPLAY, STORED_COMP3, STORED_ZONED = range(3)
 
@@ -154,6 +154,18 @@ def sign_of(said):
     return {4: LEADING, 3: TRAILING}.get(said, EMBEDDED)
 
 
+def elementary(s):
+    """Kind, its details and width of a statement without members, by the usage that holds for it."""
+    if s.held in (COMP1, COMP2):  # COMP-1 takes 4 bytes and COMP-2 takes 8, neither with a picture.
+        if s.picture is not None:
+            raise Refused(52, s.at)
+        width = 4 if s.held == COMP1 else 8
+        return FLOAT, [width * 8], width
+    if s.picture is None:
+        raise Refused(21, s.at)
+    return pictured(s.picture.text, s.held, sign_of(s.sign), s.at)
+
+
 def laid(nodes, depth):
     """The entries of a sibling list before folding, and its width."""
     if depth > MOST_DEPTH:
@@ -165,16 +177,14 @@ def laid(nodes, depth):
             members, width = laid(inner, depth + 1)
             members = folded(members)
             kind, details = GROUP, []
-        elif s.picture is None:
-            raise Refused(21, s.at)
         else:
-            kind, details, width = pictured(s.picture.text, s.held, sign_of(s.sign), s.at)
+            kind, details, width = elementary(s)
         offset = cursor
         if s.redefines:
             offset = offsets.get(s.redefines.text.upper())
             if offset is None:
                 raise Refused(28, s.at)
-        elif s.sync and kind == BINARY:
+        elif s.sync and kind in (BINARY, FLOAT):
             offset = -(-cursor // width) * width
         slack = 0 if s.redefines else offset - cursor
         e = Entry(s.at, s.name, offset, width, kind, details, s.occurs, s.depending, s.redefines, s.picture, members, s.level, s.redefines, slack)
@@ -275,7 +285,7 @@ def answer(text):
 
 # ---------------------------------------------------------------- a listing read back
 
-BODIES = {TEXT: 0, INT: 2, BINARY: 1, DECIMAL: 4, EDITED: 11, GROUP: 4}
+BODIES = {TEXT: 0, INT: 2, BINARY: 1, DECIMAL: 4, EDITED: 11, GROUP: 4, FLOAT: 1}
 
 
 def entries_of(text, made):
@@ -321,7 +331,7 @@ def printed(text, numbers):
         while left[-1] == 0:
             left.pop()
         left[-1] -= 1
-        word = {TEXT: b"text", INT: b"int", BINARY: b"bin", DECIMAL: b"dec", EDITED: b"edit", GROUP: b"group"}[kind]
+        word = [b"text", b"int", b"bin", b"dec", b"edit", b"group", b"float"][kind - 1]
         lines.append(b"%d %s %d %d %s %s %s %s" % (len(left) - 1, name, offset, width, word, b"%d" % count if mark else b"-", depending or b"-", redefines or b"-"))
         if kind == GROUP:
             left.append(struct.unpack("<I", rest)[0])

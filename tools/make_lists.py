@@ -12,11 +12,12 @@ with a fixed seed, so that the same lists are made each time:
 - crates/test_reader/data/texts.txt: copybook texts with the answers of tools/reader_list.py, a reading by document 01. Where the Rust has
   an answer, the two are compared: its refusals 10 to 13, and where it accepts a copybook without REDEFINES, the names, the nesting, the
   counts and the DEPENDING ON names. It has none where a literal holds a period that would end a statement, or `*>`,
-  or is left open; nor of the usage that holds where a group names one or DISPLAY stands after another usage word.
+  or is left open; nor of the usage that holds where a group names one, DISPLAY stands after another usage word or a
+  word names a float.
 - crates/test_layout/data/layouts1.txt to layouts4.txt: copybook texts with the answers of tools/layout_list.py, a layout by document 01. Each answer is compared
   with the Rust's: the listing, read back into the oracle's numbers, or the number of the refusal. Where the answer is a refusal that document
   01 adds, the Rust's is held against the reason as far as it shows. Copybooks with P in a picture, with a usage on a
-  group or with DISPLAY after another usage word are not compared with the Rust.
+  group, with DISPLAY after another usage word or with floats are not compared with the Rust.
 - crates/test_layout/data/document.txt: the copybooks that documents 01 and 02 speak of, and their traps, with answers written here by hand.
 - crates/test_layout/data/cards.txt: copybooks on cards with the answers of tools/layout_list.py, which reads the code from its columns. The
   Rust has no cards.
@@ -267,7 +268,7 @@ def document():
 
 # ---------------------------------------------------------------- copybook texts
 
-TEXTS, QUOTED_TEXTS, USAGE_TEXTS = 800, 100, 100
+TEXTS, QUOTED_TEXTS, USAGE_TEXTS, FLOAT_TEXTS = 800, 100, 100, 100
 # Literals at the limits: 50 before 14 and 10, and after 2; level 88 after 800 statements.
 LITERALS = ["1.\n" * 801 + "88 A VALUE '", "1.\n" * 800 + "88 A VALUE '1. '.\n88 B VALUE \"'. \"\n", "256. 88 A VALUE 'a. b' 'c", "05 A VALUE 'a. b'\x80"]
 NESTED = "".join(f"{k} G{k}. " for k in range(256))
@@ -301,6 +302,14 @@ def usage_inputs():
     yield from generator.USAGES
     while True:
         yield m.usages()[1]
+
+
+def float_inputs():
+    """Floats: what is written by hand, then random copybooks."""
+    m = generator.Maker(SEED)
+    yield from generator.FLOATS
+    while True:
+        yield m.floats()[1]
 
 
 def rust_entries(answer):
@@ -368,7 +377,7 @@ def distinct(texts, count):
 
 def texts(oracle):
     inputs = distinct(text_inputs(), TEXTS) + distinct(quoted_inputs(), QUOTED_TEXTS)
-    inputs += distinct(usage_inputs(), USAGE_TEXTS)
+    inputs += distinct(usage_inputs(), USAGE_TEXTS) + distinct(float_inputs(), FLOAT_TEXTS)
     cases, asked = [], collections.Counter()
     for i, answer in zip(inputs, oracle.ask(inputs)):
         reading = reader_list.reading(i.text)
@@ -380,7 +389,7 @@ def texts(oracle):
 
 # ---------------------------------------------------------------- layouts
 
-LAYOUTS, USAGE_LAYOUTS, LAYOUT_LISTS = 2700, 200, 4
+LAYOUTS, USAGE_LAYOUTS, FLOAT_LAYOUTS, LAYOUT_LISTS = 2500, 200, 200, 4
 # Groups in groups, each with a redefiner: around an item of a list of depth 64 stand 64 groups and 65 folds. Names that are all one make the groups
 # count as already folded.
 FOLDED_CHAINS = [" ".join(f"{k} {g(k)}." for k in range(1, n)) + f" {n} A PIC X. " + " ".join(f"{k} H REDEFINES {'A' if k == n else g(k)} PIC X(2)." for k in range(n, 1, -1))
@@ -419,6 +428,7 @@ def check_layout(i, made, answer):
 
 def layouts(oracle):
     inputs = distinct(layout_inputs(), LAYOUTS) + distinct(usage_inputs(), USAGE_LAYOUTS)
+    inputs += distinct(float_inputs(), FLOAT_LAYOUTS)
     cases, kinds = [], collections.Counter()
     for i, answer in zip(inputs, oracle.ask(inputs)):
         made = layout_list.answer(i.text)
@@ -440,7 +450,7 @@ def parts(cases, count):
 
 # ---------------------------------------------------------------- document 01's copybooks
 
-GROUP = 6
+GROUP, FLOAT = 6, 7
 
 
 def item(name, offset, width, kind, *details, occurs=None, depending=None, redefines=None):
@@ -503,6 +513,8 @@ def layout_document():
              "05 D DISPLAY. 10 E PIC 9(5). 05 F PIC 9(5).")
     over = "05 A PIC X(8). 05 B REDEFINES A COMP. 10 C PIC 9(4). 05 D PIC 9(4)."
     slack = "01 R COMP. 05 A PIC X. 05 B PIC 9(5) SYNC. 05 C PIC ZZ9.99. 05 D PIC 9(4) SYNC DISPLAY."
+    lice = "05 A PIC X. 05 B COMP-1 SYNC. 05 C PIC X. 05 D SYNC COMP-2. 05 E PIC X."
+    member = "01 R COMP-2. 05 A PIC X DISPLAY. 05 G. 10 B. 10 C PIC 9(4) COMP. 05 D."
     cases = [
         (fish, listed(fish, 20, 0, 3, item("TAG", 0, 5, TEXT), item("SIRE", 6, 2, BINARY, 0), item("WT", 8, 4, DECIMAL, 4, 1, STORED_DISPLAY, 0, occurs=3))),
         # the catches that are not marked
@@ -559,6 +571,19 @@ def layout_document():
         one("05 A COMP PIC 9(4) USAGE IS DISPLAY.", 0, 4, INT, 0, 0),
         one("05 A DISPLAY PIC 9(4) COMP.", 0, 2, BINARY, 0),
         one("05 A COMP PIC 9(4) VALUE 1 DISPLAY.", 0, 2, BINARY, 0),
+        # document 02, A.6: floats
+        one("05 A COMP-1.", 0, 4, FLOAT, 32),
+        one("05 A COMPUTATIONAL-1.", 0, 4, FLOAT, 32),
+        one("05 A COMP-2.", 0, 8, FLOAT, 64),
+        one("05 A USAGE IS COMPUTATIONAL-2.", 0, 8, FLOAT, 64),
+        one("05 A COMP-1 PIC X PIC.", 0, 4, FLOAT, 32),
+        (lice, listed(lice, 25, 0, 5, item("A", 0, 1, TEXT), item("B", 4, 4, FLOAT, 32), item("C", 8, 1, TEXT),
+                      item("D", 16, 8, FLOAT, 64), item("E", 24, 1, TEXT))),
+        (member, listed(member, 19, 0, 3, item("A", 0, 1, TEXT), item("G", 1, 10, GROUP, 2), item("B", 0, 8, FLOAT, 64),
+                        item("C", 8, 2, BINARY, 0), item("D", 11, 8, FLOAT, 64))),
+        ("05 A PIC X. 05 B PIC 9 COMP-2.", refused(52, 12)),
+        ("01 R COMP-1. 05 A. 05 B PIC X.", refused(52, 19)),
+        ("01 R COMP-1. 05 A COMP.", refused(21, 13)),
     ]
     if cases[0][1][1] != 129:
         sys.exit("the worked example has 129 bytes")

@@ -34,10 +34,10 @@ def size(nodes):
     return sum(1 + size(inner) for _, inner in nodes)
 
 
-def pictured(s):
-    """Whether an elementary item is binary, and its width."""
-    kind, _, width = layout_list.pictured(s.picture.text, s.held, layout_list.sign_of(s.sign), s.at)
-    return kind == layout_list.BINARY, width
+def elementary(s):
+    """Whether SYNC aligns an elementary item, which is binary or a float then, and its width."""
+    kind, _, width = layout_list.elementary(s)
+    return kind in (layout_list.BINARY, layout_list.FLOAT), width
 
 
 def count(s):
@@ -58,8 +58,8 @@ def lay(nodes, number, record, paths, around=""):
     for s, inner in nodes:
         name = around + (s.name.text.decode() if s.name else "FILLER")
         if not inner:
-            binary, width = pictured(s)
-            if s.sync and binary:  # An elementary SYNC binary item first lays slack:
+            aligned, width = elementary(s)
+            if s.sync and aligned:  # An elementary SYNC binary or float item first lays slack:
                 while place % width:  # the smallest number of bytes that brings the place to a multiple of its width.
                     record.append((SLACK, number))
                     paths.append(name)
@@ -110,8 +110,8 @@ def extent(nodes):
     """How many bytes a list lays."""
     place = 0
     for s, inner in nodes:
-        binary, width = (False, extent(inner)) if inner else pictured(s)
-        if s.sync and binary:
+        aligned, width = (False, extent(inner)) if inner else elementary(s)
+        if s.sync and aligned:
             place += -place % width
         place += width * count(s)
     return place
@@ -121,8 +121,8 @@ def find(nodes, number, first, q):
     """The owner of byte q of a list whose first byte is byte `first` of the record."""
     place = 0
     for s, inner in nodes:
-        binary, width = (False, extent(inner)) if inner else pictured(s)
-        if s.sync and binary:
+        aligned, width = (False, extent(inner)) if inner else elementary(s)
+        if s.sync and aligned:
             slack = -place % width
             if q < place + slack:
                 return SLACK, number
@@ -152,7 +152,8 @@ def answer(text, position):
 
 # ---------------------------------------------------------------- what the program prints
 
-KINDS = {layout_list.TEXT: "text", layout_list.INT: "int", layout_list.BINARY: "bin", layout_list.DECIMAL: "dec", layout_list.EDITED: "edit"}
+KINDS = {layout_list.TEXT: "text", layout_list.INT: "int", layout_list.BINARY: "bin", layout_list.DECIMAL: "dec",
+         layout_list.EDITED: "edit", layout_list.FLOAT: "float"}
 
 
 def printed(text, position=None):
@@ -175,7 +176,7 @@ def printed(text, position=None):
         if mark == SLACK:
             return f"slack before {number} {paths[p]}"
         s = statements[number]
-        kind, _, width = layout_list.pictured(s.picture.text, s.held, layout_list.sign_of(s.sign), s.at)
+        kind, _, width = layout_list.elementary(s)
         return f"entry {number} {paths[p]} {KINDS[kind]} {width}"
 
     if position is not None:
@@ -299,7 +300,7 @@ def features(text, record):
 def records():
     """Cases: the text, how many runs its record has, and for each its mark, entry and width."""
     m = Maker(SEED)
-    texts = dict.fromkeys(WRITTEN + generator.ROOTS + generator.GOOD)
+    texts = dict.fromkeys(WRITTEN + generator.ROOTS + generator.GOOD + generator.FLOATS)
     cases, seen, total = [], collections.Counter(), 0
     for text in itertools.chain(texts, (m.copybook() for _ in itertools.count())):
         text = text.encode("latin-1")
@@ -329,7 +330,7 @@ def records():
 def asked():
     """Cases: the text, a position and the answer."""
     written = [HUGE, generator.LARGE, generator.ROOTS, generator.ORDER, generator.FOLDS, generator.GOOD,
-               generator.REPEATED, generator.QUOTED[::4], generator.USAGES[::2]]
+               generator.REPEATED, generator.QUOTED[::4], generator.USAGES[::2], generator.FLOATS[::2]]
     written.append(text for text in generator.edges() if len(text) < 100)
     cases, kinds = [], collections.Counter()
     for text in dict.fromkeys(itertools.chain(*written)):

@@ -4,14 +4,14 @@ It shares nothing with the crates: `reading(text)` is the answer that the reader
 `0 NUMBER POSITION NEEDED` is a refusal. `1 COUNT` is followed by the statements, 17 numbers for each: level, position,
 parent (its row and 1, or 0), name; picture, usage, sign, sync, occurs mark and count, DEPENDING ON name, REDEFINES
 name; the usage that holds. A name or a picture is its start and its length, both 0 if absent. Usage: 0 none said, 1
-COMP-3, 2 COMP, 3 DISPLAY; the one that holds is 0 DISPLAY, 1 COMP-3 or 2 COMP. Sign: 0 none said, else 1, plus 1 for
-LEADING, plus 2 for SEPARATE.
+COMP-3, 2 COMP, 3 DISPLAY, 4 COMP-1, 5 COMP-2; the one that holds is 0 DISPLAY, 1 COMP-3, 2 COMP, 3 COMP-1 or 4
+COMP-2. Sign: 0 none said, else 1, plus 1 for LEADING, plus 2 for SEPARATE.
 
 A text of the class `Cards` is on cards with columns, and every position is one in the cards.
 
 `plain(text)` says whether the Rust has an answer, as far as its literals go: no literal after VALUE holds `*>` or a
 period that would end a statement, and none is left open. `plain_usages(text)` says it as far as usages go: no group
-names one, and no DISPLAY stands after another usage word.
+names one, no DISPLAY stands after another usage word, and no word names a float.
 """
 
 import collections
@@ -22,14 +22,16 @@ MOST_BYTES, MOST_STATEMENTS = 65535, 800
 
 COMP3 = ("COMP-3", "COMPUTATIONAL-3", "PACKED-DECIMAL")
 COMP = ("COMP", "COMPUTATIONAL", "COMP-4", "COMPUTATIONAL-4", "COMP-5", "COMPUTATIONAL-5", "BINARY")
+COMP1 = ("COMP-1", "COMPUTATIONAL-1")
+COMP2 = ("COMP-2", "COMPUTATIONAL-2")
 # The usages that a statement names, each with the one that holds for it; 0 is none.
-NAMED_COMP3, NAMED_COMP, NAMED_DISPLAY = 1, 2, 3
-HELD = {NAMED_DISPLAY: 0, NAMED_COMP3: 1, NAMED_COMP: 2}
+NAMED_COMP3, NAMED_COMP, NAMED_DISPLAY, NAMED_COMP1, NAMED_COMP2 = 1, 2, 3, 4, 5
+HELD = {NAMED_DISPLAY: 0, NAMED_COMP3: 1, NAMED_COMP: 2, NAMED_COMP1: 3, NAMED_COMP2: 4}
 
 Word = collections.namedtuple("Word", "at text")
 Literal = collections.namedtuple("Literal", "text")
 Statement = collections.namedtuple(
-    "Statement", "level at depth parent name picture usage back sign sync occurs depending redefines held")
+    "Statement", "level at depth parent name picture usage back float sign sync occurs depending redefines held")
 
 
 class Refused(Exception):
@@ -146,7 +148,7 @@ def number(word, limit):
 
 
 def unsaid():
-    return dict(picture=None, usage=0, back=False, sign=0, sync=0, occurs=None, depending=None, redefines=None)
+    return dict(picture=None, usage=0, back=False, float=False, sign=0, sync=0, occurs=None, depending=None, redefines=None)
 
 
 def clauses(words, said):
@@ -198,8 +200,11 @@ def clauses(words, said):
             said["usage"] = NAMED_COMP3
         elif key in COMP:
             said["usage"] = NAMED_COMP
+        elif key in COMP1 + COMP2:
+            said["usage"] = NAMED_COMP1 if key in COMP1 else NAMED_COMP2
+            said["float"] = True
         elif key == "DISPLAY":
-            said["back"] = said["back"] or said["usage"] in (NAMED_COMP3, NAMED_COMP)
+            said["back"] = said["back"] or said["usage"] not in (0, NAMED_DISPLAY)
             said["usage"] = NAMED_DISPLAY
         elif key == "SIGN":
             i += is_word(i, "IS")
@@ -251,21 +256,22 @@ def kept_statements(text):
     return [s._replace(held=held(s, kept)) for s in kept]
 
 
-def takes_back(words):
-    """Whether a DISPLAY stands after another usage word in a statement of these words, up to where it is refused."""
+def said_in(words):
+    """What a statement of these words says, up to where it is refused."""
     said = unsaid()
     try:
         clauses(words, said)
     except Refused:
         pass
-    return said["back"]
+    return said
 
 
 def plain_usages(text):
-    """Whether no statement takes another usage back, those after a refusal included, and no group of the kept
-    statements names a usage."""
+    """Whether no statement takes another usage back or names a float, those after a refusal included, and no group of
+    the kept statements names a usage."""
     try:
-        if any(number(words[0], 256) != 88 and takes_back(words) for words in list(statements(text))):
+        said = [said_in(words) for words in list(statements(text)) if number(words[0], 256) != 88]
+        if any(s["back"] or s["float"] for s in said):
             return False
         kept = kept_statements(text)
     except Refused:

@@ -41,15 +41,15 @@ def listed(nodes, outward, out):
             plain = [d for d in done if not d.statement.redefines]
             own = [(AFTER, plain[-1].statement.name, plain[-1].end)] if plain else [(FIRST, None, 0)]
             if not inner and s.sync:
-                binary, width = owner_list.pictured(s)
-                slack = next(n for n in range(width) if (own[0][2] + n) % width == 0) if binary else 0
+                aligned, width = owner_list.elementary(s)
+                slack = next(n for n in range(width) if (own[0][2] + n) % width == 0) if aligned else 0
                 own += [(SLACK, None, slack)] if slack else []
         chain = own + outward
         out[s.at] = chain
         if inner:
             width = listed(inner, [(INSIDE, s.name, 0)] + chain, out)
         else:
-            _, width = owner_list.pictured(s)
+            _, width = owner_list.elementary(s)
         offset = sum(adds for _, _, adds in own)
         done.append(Sibling(s, offset, offset + reserved(s, width)))
         widest = max(widest, done[-1].end)

@@ -69,7 +69,7 @@ pub fn number(kind: &FieldKind, width: usize, picture: Option<&str>) -> Option<N
     let asked = |usage| picture.and_then(|p| copybook::picture(p.as_bytes(), usage, None).ok()).map(|p| p.kind);
     let says_sign = || matches!(asked(Usage::Comp), Some(FieldKind::Binary { signed: true }));
     match *kind {
-        FieldKind::Text | FieldKind::Group { .. } => None,
+        FieldKind::Text | FieldKind::Group { .. } | FieldKind::Float { .. } => None,
         FieldKind::Int { signed, sign } => {
             Some(Number { digits: width - usize::from(is_separate(sign)), after_point: 0, signed })
         }
@@ -101,6 +101,7 @@ pub fn storage(kind: &FieldKind) -> Option<&'static str> {
         FieldKind::Binary { .. } => Some("binary"),
         FieldKind::Decimal { repr, .. } => Some(repr.word()),
         FieldKind::Edited { .. } => Some("edited"),
+        FieldKind::Float { .. } => Some("float"),
     }
 }
 
@@ -114,6 +115,9 @@ pub fn sign(kind: &FieldKind) -> Option<SignKind> {
 
 /// What a kind holds, in words: `packed, 7 digits, 2 after the point, signed`.
 pub fn holds(kind: &FieldKind, number: Option<Number>) -> String {
+    if let FieldKind::Float { bits } = kind {
+        return format!("float, {bits} bits");
+    }
     let Some(storage) = storage(kind) else {
         return kind.word().into();
     };

@@ -20,7 +20,7 @@ class Item:
     occurs: int = None                              # the most occurrences
     depending: str = None
     redefines: str = None
-    sync: bool = False                              # a binary item with SYNC
+    sync: bool = False                              # a binary or float item with SYNC
     short_native: bool = False                      # COMP-5 with 1 or 2 digits
     children: list = dataclasses.field(default_factory=list)
     conditions: list = dataclasses.field(default_factory=list)   # statements of level 88, whole
@@ -293,7 +293,8 @@ class Maker:
     # -------------------------------------------------- items
 
     def elementary(self, kinds, occurs=None, value=True, name=None):
-        """An item of one of the kinds: text, display, sign, comp, comp3, edited, sync, native, scaled, scaled-edited."""
+        """An item of one of the kinds: text, display, sign, comp, comp3, edited, sync, native, scaled, scaled-edited,
+        float, sync-float."""
         kind = self.rng.choice(kinds)
         item = Item(name or ("FILLER" if self.chance(0.08) else self.name()), kind=kind, occurs=occurs)
         signed = kind == "sign" or self.chance(0.5)
@@ -312,6 +313,12 @@ class Maker:
             picture = self.scaled_picture("S" if signed else "", digits)
             usage = self.rng.choice(("", self.comp(digits), self.comp3(), self.sign() if signed else ""))
             clauses += [usage] if usage else []
+        elif kind in ("float", "sync-float"):
+            picture, literal = None, self.rng.choice(("ZERO", "0", "1.5"))
+            clauses.append(self.usage("COMP-1", "COMP-2", "COMPUTATIONAL-1", "COMPUTATIONAL-2"))
+            item.sync = kind == "sync-float"
+            if item.sync:
+                clauses.append(self.synchronized())
         elif kind == "scaled-edited":
             picture = self.scaled_edited()
         elif kind == "edited":
@@ -333,11 +340,12 @@ class Maker:
                 clauses.append(self.comp3())
             elif kind == "sync":
                 clauses.append(self.comp(digits))
-                clauses.append(self.case(self.rng.choice(("SYNC", "SYNC", "SYNCHRONIZED", "SYNC RIGHT", "SYNC LEFT"))))
+                clauses.append(self.synchronized())
                 item.sync = True
             elif self.chance(0.1):
                 clauses.append(self.usage("DISPLAY"))
-        clauses.append(self.pic(picture))
+        if picture:
+            clauses.append(self.pic(picture))
         if occurs:
             clauses.append(self.times(occurs))
         self.rng.shuffle(clauses)
@@ -345,6 +353,9 @@ class Maker:
             clauses.append(self.case(self.rng.choice(("VALUE ", "VALUE IS "))) + literal)
         item.clauses = " ".join(clauses)
         return item
+
+    def synchronized(self):
+        return self.case(self.rng.choice(("SYNC", "SYNC", "SYNCHRONIZED", "SYNC RIGHT", "SYNC LEFT")))
 
     def literal(self):
         """A literal of at most 30 bytes, with what would end a statement or a line outside it."""
@@ -498,6 +509,32 @@ def group_usages(m):
     return members(4, usage or "DISPLAY")
 
 
+def floats(m):
+    """Floats in the record's own list, with SYNC and without, and in groups, some of which name the usage of all floats
+    in them."""
+    def members(depth, named):
+        out = []
+        for _ in range(m.rng.randint(1, 4)):
+            occurs = m.rng.randint(1, 4) if m.chance(0.2) else None
+            if depth and m.chance(0.4):
+                usage = m.usage("COMP-1", "COMP-2") if m.chance(0.6) else ""
+                out.append(m.group(members(depth - 1, named or bool(usage)), occurs))
+                out[-1].clauses = f"{out[-1].clauses} {usage}".strip()
+            elif named and m.chance(0.6):
+                out.append(Item(m.name(), m.times(occurs) if occurs else "", "float", occurs=occurs))
+            else:
+                out.append(m.elementary(("float",) if named else ("float", "text", "comp", "comp3", "display"), occurs))
+        return out
+
+    items = []
+    for _ in range(m.rng.randint(1, 5)):
+        if m.chance(0.5):
+            items.append(m.elementary(("sync-float", "sync-float", "sync"), m.rng.randint(1, 5) if m.chance(0.3) else None))
+        else:
+            items += members(2, False)
+    return items
+
+
 def tables(m):
     return m.nested(PLAIN, 4, 3, 2, 5)
 
@@ -592,7 +629,7 @@ def native(m):
 
 # A class of copybooks, how it is made, and its share. Those of AGREEING meet no departure.
 AGREEING = {"usages": (usages, 3), "signs": (signs, 2), "edited": (edited, 3), "scaled": (scaled, 3),
-            "long": (long_numbers, 2), "groups": (groups, 2), "group-usages": (group_usages, 3),
+            "long": (long_numbers, 2), "groups": (groups, 2), "group-usages": (group_usages, 3), "floats": (floats, 3),
             "tables": (tables, 3), "redefines": (redefines, 3),
             "conditions": (conditions, 1), "literals": (literals, 2), "cards": (cards, 3), "sync": (sync, 3), "sync-aligned": (sync_aligned, 2), "mixed": (mixed, 3), "single": (None, 1)}
 DEPARTURES = {"depending": (depending, 2), "comp-5": (native, 1), "sync-in-groups": (sync_groups, 2), "sync-in-tables": (sync_tables, 2)}

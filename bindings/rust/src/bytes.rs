@@ -112,4 +112,8 @@ impl<'t> Facts<'t> for Bytes<'t, '_> {
     fn members(&mut self) -> usize {
         self.four()
     }
+
+    fn bits(&mut self) -> u8 {
+        self.one()
+    }
 }

@@ -70,13 +70,7 @@ pub fn owner(form: Form, text: &[u8], position: usize, work: &mut [u32]) -> Resu
     }
 }
 
-pub fn extract(
-    text: &[u8],
-    weights: &[u32],
-    limit: u64,
-    budget: u64,
-    work: &mut [u32],
-) -> Result<Extract, Refusal> {
+pub fn extract(text: &[u8], weights: &[u32], limit: u64, budget: u64, work: &mut [u32]) -> Result<Extract, Refusal> {
     let (mut answer, w) = ([0; 4], work.len());
     // SAFETY: slices, see above.
     let number = unsafe {
@@ -152,6 +146,10 @@ impl<'t> Facts<'t> for Numbers<'t> {
 
     fn members(&mut self) -> usize {
         unreachable!("no picture is a group")
+    }
+
+    fn bits(&mut self) -> u8 {
+        unreachable!("a float has no picture")
     }
 }
 

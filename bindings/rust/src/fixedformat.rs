@@ -10,9 +10,10 @@
 //! ```
 //!
 //! and gets the same layouts from the proved library, but for what docs/DIFFERENCES.md tells of the original: P holds
-//! no byte, and a group's usage holds for its members. The values are those that the original's `parse` gives: text is
-//! left-justified, trimmed and padded with blanks, binary is big-endian. What reads other specifications than copybooks
-//! is not here; the kinds that only those have are, so that a `match` over all kinds still compiles.
+//! no byte, a group's usage holds for its members, and COMP-1 and COMP-2 are floats. The values are those that the
+//! original's `parse` gives: text is left-justified, trimmed and padded with blanks, binary is big-endian, and so are
+//! floats. What reads other specifications than copybooks is not here; the kinds that only those have are, so that a
+//! `match` over all kinds still compiles.
 
 use crate::{Entries, Entry, Reader, Refusal};
 pub use crate::{NumRepr, SignKind, Usage};
@@ -201,6 +202,7 @@ fn elementary(kind: crate::FieldKind, width: usize) -> FieldKind {
             FieldKind::Edited { precision, scale, signed, mask: mask(picture, width) }
         }
         Kind::Group { .. } => FieldKind::Group(Vec::new()),
+        Kind::Float { bits } => FieldKind::Float { bits, endian: Endian::Big },
     }
 }
 

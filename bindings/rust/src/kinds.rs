@@ -65,6 +65,7 @@ pub(crate) trait Facts<'t> {
     fn repr(&mut self) -> NumRepr;
     fn picture(&mut self) -> &'t str;
     fn members(&mut self) -> usize;
+    fn bits(&mut self) -> u8;
 }
 
 /// The kinds: number, word, and the facts that follow in a listing, in its order; each is a function of [`Facts`].
@@ -110,4 +111,6 @@ kinds! {
     5 "edit" Edited { precision: u8, scale: u8, signed: bool, picture: &'t str };
     /// The members follow it.
     6 "group" Group { members: usize };
+    /// COMP-1 has 32 bits, COMP-2 has 64. Big-endian.
+    7 "float" Float { bits: u8 };
 }

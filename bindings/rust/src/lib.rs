@@ -116,18 +116,19 @@ impl Extract {
     }
 }
 
-/// The layout of the copybook in `text`. Refusals: 1, 2, 50, 10 to 30.
+/// The layout of the copybook in `text`. Refusals: 1, 2, 50, 10 to 30 and 52.
 pub fn layout(text: &[u8]) -> Result<Layout<'_, 'static>, Refusal> {
     Form::Free.layout(text)
 }
 
-/// The layout of a copybook on cards. Refusals: 1, 2, 51, 50, 10 to 30. Places and positions are those in `cards`.
+/// The layout of a copybook on cards. Refusals: 1, 2, 51, 50, 10 to 30 and 52. Places and positions are those in
+/// `cards`.
 pub fn layout_cards(cards: &[u8]) -> Result<Layout<'_, 'static>, Refusal> {
     Form::Cards.layout(cards)
 }
 
 /// What the layout does not say of its entries: their places in the record, slack, levels, pictures, REDEFINES. The
-/// details of an entry have its number in the layout. Refusals: 1, 2, 50, 10 to 30.
+/// details of an entry have its number in the layout. Refusals: 1, 2, 50, 10 to 30 and 52.
 pub fn details(text: &[u8]) -> Result<Details<'_, 'static>, Refusal> {
     Form::Free.details(text)
 }
@@ -142,29 +143,29 @@ pub fn layout_and_details(text: &[u8]) -> Result<(Layout<'_, 'static>, Details<'
     Form::Free.layout_and_details(text)
 }
 
-/// Whose the byte at `position` of the record is. Refusals: 1, 2, 50, 10 to 30, 40, 41.
+/// Whose the byte at `position` of the record is. Refusals: 1, 2, 50, 10 to 30 and 52, 40, 41.
 pub fn owner(text: &[u8], position: usize) -> Result<Owner, Refusal> {
     Form::Free.owner(text, position)
 }
 
-/// Whose the byte at `position` of the record that cards describe is. Refusals: 1, 2, 51, 50, 10 to 30, 40, 41.
+/// Whose the byte at `position` of the record that cards describe is. Refusals: 1, 2, 51, 50, 10 to 30 and 52, 40, 41.
 pub fn owner_cards(cards: &[u8], position: usize) -> Result<Owner, Refusal> {
     Form::Cards.owner(cards, position)
 }
 
 /// Why the entry of that number in the layout, from 0, stands where it does: see [`Reasons`]. Refusals: 1, 2, 50, 10 to
-/// 30, 53.
+/// 30 and 52, 53.
 pub fn reasons(text: &[u8], entry: usize) -> Result<Reasons<'_, 'static>, Refusal> {
     Form::Free.reasons(text, entry)
 }
 
-/// The reasons of an entry of a copybook on cards. Refusals: 1, 2, 51, 50, 10 to 30, 53.
+/// The reasons of an entry of a copybook on cards. Refusals: 1, 2, 51, 50, 10 to 30 and 52, 53.
 pub fn reasons_cards(cards: &[u8], entry: usize) -> Result<Reasons<'_, 'static>, Refusal> {
     Form::Cards.reasons(cards, entry)
 }
 
 /// Of the top-level items, each with a weight from 1 to 1,000 in their order, the heaviest choice whose reserved widths
-/// sum to at most `limit` bytes, among the first `budget` subsets. Refusals: 1, 2, 50, 10 to 30, 40, 58, 59, 60.
+/// sum to at most `limit` bytes, among the first `budget` subsets. Refusals: 1, 2, 50, 10 to 30, 52, 40, 58, 59, 60.
 ///
 /// ```
 /// let text = b"01 FISH. 05 TAG PIC X(5). 05 SIRE PIC 9(4) COMP SYNC. 05 WT OCCURS 3 PIC 9(3)V9.";
@@ -180,7 +181,7 @@ pub fn extract(text: &[u8], weights: &[u32], limit: u64, budget: u64) -> Result<
 /// Where the key of that name stands in the records of a set of 2 to 16 copybooks in free text: each has exactly one
 /// entry of the name at the top of its layout, letter case aside, which is no group, has neither OCCURS nor REDEFINES,
 /// and stands behind no DEPENDING ON, and all agree in offset, width, kind and kind details, an edited one in its mask.
-/// Refusals: 56; 1, 2, 50, 10 to 30 of the first copybook that is refused; 57.
+/// Refusals: 56; 1, 2, 50, 10 to 30 and 52 of the first copybook that is refused; 57.
 pub fn key(name: &[u8], copybooks: &[&[u8]]) -> Result<Key, NoKey> {
     key::key_in(name, copybooks)
 }

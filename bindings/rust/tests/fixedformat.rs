@@ -92,6 +92,15 @@ fn errors() {
     assert_eq!(Layout::read("05 A.").unwrap_err().number, 21);
 }
 
+/// COMP-1 and COMP-2, for which the original's copybooks have no answer, are its big-endian floats.
+#[test]
+fn floats() {
+    let float = |bits| FieldKind::Float { bits, endian: Endian::Big };
+    let found = book::parse("01 R. 05 A COMP-1. 05 B COMP-2 SYNC.").unwrap();
+    let fields = vec![field("A", 0, 4, float(32)), field("B", 8, 8, float(64))];
+    assert_eq!(found, Layout { record_len: 16, fields, variable: false });
+}
+
 /// A program may name every kind that the original has, and its modules.
 #[test]
 fn names_of_the_original() {

@@ -1,7 +1,9 @@
 //! include/copybook.h says what this crate says: the refusals and their words, the numbers of kinds, usages, signs and
 //! storages, lengths, and the version.
 
-use copybook::{FieldKind, NumRepr, SignKind, Usage, LONGEST_DETAILS, LONGEST_LISTING, LONGEST_REASONS, REFUSALS, WORK};
+use copybook::{
+    FieldKind, NumRepr, SignKind, Usage, LONGEST_DETAILS, LONGEST_LISTING, LONGEST_REASONS, REFUSALS, WORK,
+};
 
 const HEADER: &str = include_str!("../../../include/copybook.h");
 
@@ -58,6 +60,7 @@ fn numbers_of_kinds() {
         FieldKind::Decimal { precision: 0, scale: 0, repr: NumRepr::Display, sign },
         FieldKind::Edited { precision: 0, scale: 0, signed: false, picture },
         FieldKind::Group { members: 0 },
+        FieldKind::Float { bits: 32 },
     ];
     let debug = |kind: &FieldKind| format!("{kind:?}").split(' ').next().unwrap().to_owned();
     let mut expected: Vec<_> = kinds.iter().map(|kind| (capitals(&debug(kind)), kind.number().into())).collect();

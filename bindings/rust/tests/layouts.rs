@@ -1,6 +1,6 @@
 //! Layouts: the worked example in full, each kind, groups and folds, and the examples of the repository.
 
-use copybook::{layout, Entry, FieldKind, Layout, NumRepr, Reader, Refusal, SignKind};
+use copybook::{layout, owner, reasons, Entry, FieldKind, Layout, NumRepr, Owner, Reader, Reason, Refusal, SignKind};
 use std::fs;
 
 const FISH: &[u8] = b"01 FISH. 05 TAG PIC X(5). 05 SIRE PIC 9(4) COMP SYNC. 05 WT OCCURS 3 PIC 9(3)V9.";
@@ -156,6 +156,31 @@ fn usages_on_groups() {
     // of several usage words the last holds
     assert_eq!(only("05 A COMP PIC 9(4) USAGE IS DISPLAY."), (int, 4));
     assert_eq!(only("05 A DISPLAY PIC 9(4) COMP."), (binary, 2));
+}
+
+/// COMP-1 and COMP-2 are floats, which have no picture; SYNC aligns them to their width, and members of a group take
+/// them as any usage.
+#[test]
+fn floats() {
+    let (single, double) = (FieldKind::Float { bits: 32 }, FieldKind::Float { bits: 64 });
+    assert_eq!(only("05 A COMP-1."), (single, 4));
+    assert_eq!(only("05 A USAGE IS COMPUTATIONAL-2."), (double, 8));
+    assert_eq!(only("05 A PIC X COMP-2 PIC."), (double, 8));
+    let found = layout(b"05 A PIC X. 05 B COMP-1 SYNC. 05 C PIC X. 05 D COMP-2 SYNC OCCURS 2.").unwrap();
+    assert_eq!(outline(&found), [(0, "A", 0, 1), (0, "B", 4, 4), (0, "C", 8, 1), (0, "D", 16, 8)]);
+    assert_eq!(found.record_len(), 32);
+    let found = layout(b"01 R COMP-2. 05 G. 10 A. 10 B PIC 9(4) COMP. 05 C.").unwrap();
+    assert_eq!(outline(&found), [(0, "G", 0, 10), (1, "A", 0, 8), (1, "B", 8, 2), (0, "C", 10, 8)]);
+    // 52 for a picture, in the place of 21
+    let number = |text: &str| layout(text.as_bytes()).unwrap_err().number;
+    assert_eq!(number("05 A COMP-1 PIC 9."), 52);
+    assert_eq!(number("01 R COMP-2. 05 A PIC X."), 52);
+    assert_eq!(number("05 A. 05 B COMP-1 PIC X."), 21);
+    // slack before an aligned float has its owner and its reason
+    let text = b"05 A PIC X. 05 B COMP-2 SYNC.";
+    assert_eq!(owner(text, 7), Ok(Owner::Slack { entry: 1 }));
+    let told = reasons(text, 1).unwrap();
+    assert!(told.iter().any(|r| r == Reason::Slack { bytes: 7 }), "{told:?}");
 }
 
 /// A base and its redefiners are members of a group of the base's name, as wide as the widest of them.

@@ -72,6 +72,7 @@ impl Made<'_> {
                 self.word(Some(picture));
             }
             FieldKind::Group { members } => self.four(members),
+            FieldKind::Float { bits } => self.bytes.push(bits),
         }
     }
 
@@ -127,6 +128,7 @@ fn check_details(text: &[u8], layout: &Layout, details: &Details) {
         match e.kind {
             FieldKind::Group { .. } => {}
             FieldKind::Edited { picture: listed, .. } => assert_eq!(picture, Some(listed)),
+            FieldKind::Float { .. } => assert_eq!(picture, None),
             _ => assert!(picture.is_some()),
         }
     }

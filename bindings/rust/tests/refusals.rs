@@ -88,6 +88,8 @@ fn sentences() {
     says("05 OCCURS OCCURS 1 occurs 1 TO B.", "TO of OCCURS is followed by B, not by a count", "B");
     says("05 A OCCURS 1 DEPENDING ON.", "DEPENDING of A has no name after it", "");
     says("05 A.", "A has neither a picture nor members", "");
+    let float = "B is a float by its usage, or its group's, and has the picture 9(4)";
+    says("01 A COMP-1. 05 B PIC X PIC 9(4).", float, "9(4)");
     says("05.", "FILLER has neither a picture nor members", "");
     says("05 A PIC X(5.", "the picture X(5 of A has a `(` without its `)`", "X(5");
     says("05 A PIC IS X(2)9( N).", "the picture X(2)9( of A has a `(` without its `)`", "X(2)9(");
@@ -220,6 +222,7 @@ fn every_number() {
         copybook::check_record_len(2, false, 1).unwrap_err(),
         refused(b"05 A PIC X VALUE 'open"),
         copybook::layout_cards(b"000100-").unwrap_err(),
+        refused(b"05 A COMP-1 PIC 9."),
         copybook::reasons(b"05 A PIC X.", 1).unwrap_err(),
         copybook::key(b"K", &[]).unwrap_err().refusal,
         copybook::key(b"K", &[b"", b""]).unwrap_err().refusal,

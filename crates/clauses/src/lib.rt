@@ -7,6 +7,7 @@ ghost use Rattle.definition.specs.Statement.{counted as countedOf, begin as beg
 ghost use Rattle.definition.specs.declared.Expect.the-variants.{IsPicture, To, OnName, UsageIs, SignIs, Side};
 use definition::Clauses;
 use definition::Expect;
+use definition::ItemUsage;
 use definition::Keyword;
 use definition::Occurs;
 use definition::SignWords;
@@ -51,7 +52,7 @@ fn with_sync(mut c: Clauses, sync: bool) -> Clauses
 }
 
 // The clauses with another usage.
-fn with_usage(c: Clauses, u: Usage) -> Clauses
+fn with_usage(c: Clauses, u: ItemUsage) -> Clauses
     ensures { λ r. ⌜ r ≡ withUsage u c ⌝ }
 {
     let picture = c.picture;
@@ -136,7 +137,7 @@ pub fn no_clauses() -> Clauses
 }
 
 // The usage that holds for a statement with this clause, where `outer` holds around it.
-pub fn usage_of(outer: Usage, u: UsageClause) -> Usage
+pub fn usage_of(outer: ItemUsage, u: UsageClause) -> ItemUsage
     ensures { λ r. ⌜ r ≡ usageOf outer u ⌝ }
 {
     match u {
@@ -154,9 +155,20 @@ fn begin(k: Keyword, c: Clauses) -> Step
         Keyword::Redefines => Step::Go(Expect::Target, with_redefines(c, nowhere())),
         Keyword::Occurs => Step::Go(Expect::ACount, c),
         Keyword::Usage => Step::Go(Expect::UsageIs, c),
-        Keyword::Display => Step::Go(Expect::Clause, with_usage(c, Usage::Display)),
-        Keyword::Comp3 => Step::Go(Expect::Clause, with_usage(c, Usage::Comp3)),
-        Keyword::Comp => Step::Go(Expect::Clause, with_usage(c, Usage::Comp)),
+        Keyword::Display => Step::Go(
+            Expect::Clause,
+            with_usage(c, ItemUsage::Picture(Usage::Display)),
+        ),
+        Keyword::Comp3 => Step::Go(
+            Expect::Clause,
+            with_usage(c, ItemUsage::Picture(Usage::Comp3)),
+        ),
+        Keyword::Comp => Step::Go(
+            Expect::Clause,
+            with_usage(c, ItemUsage::Picture(Usage::Comp)),
+        ),
+        Keyword::Comp1 => Step::Go(Expect::Clause, with_usage(c, ItemUsage::Comp1)),
+        Keyword::Comp2 => Step::Go(Expect::Clause, with_usage(c, ItemUsage::Comp2)),
         Keyword::Sign => Step::Go(
             Expect::SignIs,
             with_sign(

@@ -22,9 +22,9 @@ use definition::Writing;
 
 // The layout listing of a copybook: how many bytes were written. Refusals, in this order: 1 text over 65,535 bytes; 2 a
 // byte over 127, at the first one; 3 work memory under 16,384 numbers; 50 a literal that its line does not close, at the
-// opening mark of the first one; each statement's 10 to 14; each sibling list's, item's and fold's 20 to 30; 29 for a
-// top-level end; 31, with the length of the listing, if the output is shorter. A refusal changes no byte of the output,
-// bytes past the listing keep their values, and work memory is zero after every call.
+// opening mark of the first one; each statement's 10 to 14; each sibling list's, item's and fold's 20 to 30, a float's 52
+// in the place of 21; 29 for a top-level end; 31, with the length of the listing, if the output is shorter. A refusal
+// changes no byte of the output, bytes past the listing keep their values, and work memory is zero after every call.
 // The contract rules out a program that starts every item at its list's beginning, and one that refuses every copybook.
 pub fn layout_listing(text: &[u8], work: &mut [u32], out: &mut [u8]) -> Writing
     ensures { λ r. ⌜ left (writingOf r) (now (out .exit)) (now (work .exit)) ≡ layoutCall (now (text .entry)) (now (out .entry)) (now (work .entry)) ⌝ }
@@ -139,9 +139,9 @@ pub fn extract(
 // exactly one entry of the name at the top of its folded listing, case aside, an absent name being FILLER; it is no
 // group and has neither OCCURS nor REDEFINES, no DEPENDING ON stands before it in the listing, at any depth, and all
 // agree in offset, width, kind and kind details, an edited one in its mask. Refusals: 56, before any reading, for a set
-// of another size, or whose lengths, added up, are not those bytes; then the reader's (1 to 3, 50, 10 to 14, 20 to 30)
-// of the first copybook that is refused, its position counted in that copybook; then 57 where there is no such key. 56
-// and 57 are at 0. The name is only compared. Work memory is zero after every call.
+// of another size, or whose lengths, added up, are not those bytes; then the reader's (1 to 3, 50, 10 to 14, 20 to 30,
+// 52) of the first copybook that is refused, its position counted in that copybook; then 57 where there is no such key.
+// 56 and 57 are at 0. The name is only compared. Work memory is zero after every call.
 // The contract rules out a program that takes the first of two entries of the name, and one that says 57 before it has
 // read the last copybook.
 pub fn set_key(texts: &[u8], lengths: &[u64], name: &[u8], work: &mut [u32]) -> KeyAnswer

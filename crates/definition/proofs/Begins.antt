@@ -18,12 +18,12 @@ use Rattle.definition.specs.declared.Token.the-variants.{Word, Stop, Ope
 use Rattle.definition.specs.declared.Said.{Said}
 use Rattle.definition.specs.declared.Said.the-variants.{Before, Value, Literal}
 use Rattle.definition.specs.declared.Statement.{Statement}
-use Rattle.definition.specs.declared.Usage.{Usage}
+use Rattle.definition.specs.declared.ItemUsage.{ItemUsage}
 use Rattle.definition.specs.Limits.{mostStatements}
 use Rattle.definition.specs.Basic.{if_then_else_, Answer, give, _>>=_, refuseIf}
 use Rattle.definition.specs.Words.{byteKind, next, completed, completedEnd, seen, saidNext, unlessOpen, tokens}
 use Rattle.definition.specs.Words.{onFirst, sentences, statementWords}
-use Rattle.definition.specs.Statement.{named, statement, statements}
+use Rattle.definition.specs.Statement.{named, statement, statements, outermost}
 use Rattle.definition.specs.Tree.{Forest, leaf, item, above, notAbove, forest, fields}
 use Rattle.definition.specs.Usages.{inheriting, inherit, inherited}
 use Rattle.definition.specs.Calls.{keptStatements, recordFields}
@@ -288,7 +288,7 @@ unfolding forest
 forest-begin [] = refl
 forest-begin (s ∷ ss) = ap (λ (l : List ℕ). s .at ∷ l) (above-begin (s .level) (forest ss) ∙ forest-begin ss)
 
-inherit-begin : (outer : Usage) (f : Forest) → beginnings (inherit outer f) ≡ beginnings f
+inherit-begin : (outer : ItemUsage) (f : Forest) → beginnings (inherit outer f) ≡ beginnings f
 unfolding inherit
 inherit-begin outer leaf = refl
 inherit-begin outer (item s kids later) =
@@ -314,5 +314,5 @@ fields-begin text work f h =
     through _ _ kept λ _ _ e.
     subst (λ (g : Forest). Rises 0 (beginnings g)) (given-same h₂)
     (fields-rise (inherited (forest ss))
-    (subst (Rises 0) (sym (inherit-begin Usage.Display (forest ss) ∙ forest-begin ss))
+    (subst (Rises 0) (sym (inherit-begin outermost (forest ss) ∙ forest-begin ss))
     (statements-rise text (statementWords text) 0 0 ss e (words-rise text))))

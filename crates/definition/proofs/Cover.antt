@@ -17,7 +17,7 @@ use Rattle.definition.specs.Layout.{Laid, content, start, slackFrom, ent
 use Rattle.definition.specs.Record.{recordLength, unfolded, layout}
 use Rattle.definition.specs.Owner.{slack, Piece, piece, extent, repeated, size, orNone, storage, isAligned, slackBefore, once, laidItem, laid, overlaid}
 use Rattle.definition.specs.Placed.{contentOf, entryAt, placed}
-use Rattle.definition.proofs.Answers.{bound, through, given-same, not-refused, or-false}
+use Rattle.definition.proofs.Answers.{through, given-same, not-refused, or-false}
 use Rattle.definition.proofs.LayoutLaws.{redefiners-none, redefiners-ends, redefiners-next, folded-none, folded-base, below-none, below-entry}
 use Rattle.definition.proofs.Pieces.{extent-append, extent-repeated}
 
@@ -70,7 +70,7 @@ module _ (text : List ℕ) where
   once-width k s (item t kids later) inner = refl
 
   pub content-given : (s : Statement) (kids : Forest) (w : ℕ) (c : Pictured) → content text s kids w ≡ give c → c ≡ contentOf text s kids w
-  content-given s leaf w c h = let b = bound _ _ h in sym (ap orNone (b .rest))
+  content-given s leaf w c h = sym (ap orNone h)
   content-given s (item t kids later) w c h = sym (given-same h)
 
   slack-start :

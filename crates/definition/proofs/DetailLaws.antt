@@ -15,7 +15,7 @@ use Rattle.definition.specs.declared.Pictured.{Pictured}
 use Rattle.definition.specs.declared.Statement.{Statement}
 use Rattle.definition.specs.Basic.{if_then_else_, given, fewest, give, orRefuse}
 use Rattle.definition.specs.Tree.{Forest, leaf, item}
-use Rattle.definition.specs.Picture.{isBinary}
+use Rattle.definition.specs.Picture.{isAlignable}
 use Rattle.definition.specs.Fold.{Entries, end, entry, append, entryEnd, sameName, Place, placeOf, find, hasMember, rebased, redefiners, withRedefiners, foldedList, foldedBelow, foldedAll}
 use Rattle.definition.specs.Layout.{Laid, start, slackFrom, entryOf, shallow, advance, lay}
 use Rattle.definition.specs.Record.{unfolded}
@@ -99,8 +99,8 @@ module _ (text : List ℕ) where
   -- an item without REDEFINES does not start before the cursor
   start-low : (s : Statement) (c : Pictured) (seen : List Place) (cursor offset : ℕ) → given (s .clauses .redefines) ≡ false → start text s c seen cursor ≡ give offset → cursor ≤ offset
   start-low s c seen cursor offset g h =
-      by-test (s .clauses .sync && isBinary (c .kind))
-      (sym (ap (λ (b : Bool). if b then orRefuse 28 (s .at) (find text (s .clauses .redefines) seen) else (if s .clauses .sync && isBinary (c .kind) then give (cursor + fewest (c .width) cursor) else give cursor)) g) ∙ h)
+      by-test (s .clauses .sync && isAlignable (c .kind))
+      (sym (ap (λ (b : Bool). if b then orRefuse 28 (s .at) (find text (s .clauses .redefines) seen) else (if s .clauses .sync && isAlignable (c .kind) then give (cursor + fewest (c .width) cursor) else give cursor)) g) ∙ h)
     where
       by-test : (b : Bool) → (if b then give (cursor + fewest (c .width) cursor) else give cursor) ≡ give offset → cursor ≤ offset
       by-test true e = omega (arith, given-same e)

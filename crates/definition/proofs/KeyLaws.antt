@@ -47,6 +47,7 @@ kindBack l =
     else if eqb k 4 then
     FieldKind.Decimal (getD l 1 0) (getD l 2 0) (storageBack (getD l 3 0)) (signBack (getD l 4 0))
     else if eqb k 5 then FieldKind.Edited (getD l 1 0) (getD l 2 0) (eqb (getD l 3 0) 1)
+    else if eqb k 7 then FieldKind.Float (getD l 1 0)
     else FieldKind.Group
 
 flag-back : (b : Bool) → eqb (flag b) 1 ≡ b
@@ -72,6 +73,7 @@ kind-back (FieldKind.Decimal precision scale repr sign) =
     λ i. FieldKind.Decimal precision scale (storage-back repr i) (sign-back sign i)
 kind-back (FieldKind.Edited precision scale signed) = ap (FieldKind.Edited precision scale) (flag-back signed)
 kind-back FieldKind.Group = refl
+kind-back (FieldKind.Float bits) = refl
 
 -- kinds with the same details are the same
 kind-same : (a b : FieldKind) → same (kindDetails a) (kindDetails b) ≡ true → a ≡ b
@@ -287,7 +289,7 @@ module _ (work : ℕ) (name : List ℕ) where
       through _ _ h λ x first h₁.
       through _ _ h₁ λ more rest h₂.
       let both = and-both (agree (some k) x) (allAgree (some k) more)
-          (subst (λ (l : List (Option Key)). allAgree (some k) l ≡ true) (sym (given-same h₂)) a) in
+      (subst (λ (l : List (Option Key)). allAgree (some k) l ≡ true) (sym (given-same h₂)) a) in
       (has-key text k (first ∙ ap give (agreed k x (both .0))), ih more rest (both .1))
 
   from-first :
@@ -297,9 +299,10 @@ module _ (work : ℕ) (name : List ℕ) where
       keyIn work name text ≡ give x →
       keysIn work name texts ≡ give more →
       AllHave work name k (text ∷ texts)
-  from-first k text texts x more true e h first rest =
-      (has-key text k (first ∙ ap give h),
-      all-have k texts more rest (ap (λ (o : Option Key). allAgree o more) (sym h) ∙ e))
+  from-first k text texts x more true e h first rest = (
+    has-key text k (first ∙ ap give h),
+    all-have k texts more rest (ap (λ (o : Option Key). allAgree o more) (sym h) ∙ e),
+  )
   from-first k text texts x more false e h first rest = no-some h
 
   all-common :

@@ -32,6 +32,7 @@ details# (FieldKind.Binary signed) = 1
 details# (FieldKind.Decimal precision scale repr sign) = 4
 details# (FieldKind.Edited precision scale signed) = 11
 details# FieldKind.Group = 4
+details# (FieldKind.Float bits) = 1
 
 details-length : (k : FieldKind) (pic : Span) (n : ℕ) → length (details k pic n) ≡ details# k
 details-length FieldKind.Text pic n = refl
@@ -40,6 +41,7 @@ details-length (FieldKind.Binary signed) pic n = refl
 details-length (FieldKind.Decimal precision scale repr sign) pic n = refl
 details-length (FieldKind.Edited precision scale signed) pic n = refl
 details-length FieldKind.Group pic n = refl
+details-length (FieldKind.Float bits) pic n = refl
 
 occurs-length : (o : Occurs) → length (occursBytes o) ≡ 5
 occurs-length Occurs.Once = refl

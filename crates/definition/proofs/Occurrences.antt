@@ -162,7 +162,7 @@ module _ {text : List ℕ} {owner : ℕ → Answer Owner} {f : Forest} {es : Ent
 
 -- ---------------------------------------------------------------- slack
 
--- slack stands directly before the place of an entry of its list, which is that of an elementary SYNC binary item, and is the fewest bytes that
+-- slack stands directly before the place of an entry of its list, which is that of an elementary SYNC binary or float item, and is the fewest bytes that
 -- align it: the list starts at the byte `base`, and its earlier items end `reached` bytes after that
 pub record Slackened (text : List ℕ) (first width : ℕ) : Type 0 where
   pub statement : Statement

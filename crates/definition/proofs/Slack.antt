@@ -1,4 +1,5 @@
--- A picture that makes an item binary gives it a width, so that its slack is the fewest bytes that bring a place to a multiple of that width.
+-- A picture that makes an item binary gives it a width, and a float has one, so that the slack of either is the fewest bytes that bring a place
+-- to a multiple of that width.
 -- Assumes nothing.
 use Prim.Native.Nat.{ℕ, _<_}
 use mathlib.Core.Path.{_≡_, refl, sym, _∙_}
@@ -7,19 +8,21 @@ use mathlib.Core.List.{List}
 use native.Mathlib.Omega.{arith}
 use lib.Dec.{eqb, leb}
 use Rattle.definition.specs.declared.Usage.{Usage}
+use Rattle.definition.specs.declared.ItemUsage.{ItemUsage}
 use Rattle.definition.specs.declared.SignKind.{SignKind}
 use Rattle.definition.specs.declared.SignClause.{SignClause}
 use Rattle.definition.specs.declared.FieldKind.{FieldKind}
 use Rattle.definition.specs.declared.Pictured.{Pictured}
 use Rattle.definition.specs.declared.Statement.{Statement}
-use Rattle.definition.specs.Basic.{if_then_else_, part, Answer, refuse, give, _>>=_}
+use Rattle.definition.specs.Basic.{if_then_else_, given, part, Answer, refuse, give, _>>=_, refuseIf}
 use Rattle.definition.specs.Statement.{signOf}
-use Rattle.definition.specs.Picture.{pictured, isBinary, resolveSign, isEmbedded, isText, isMasked, allDigits, storedDigits, fraction, isSigned, storageWidth, numeric, kinded, symbols, picture}
+use Rattle.definition.specs.Picture.{pictured, isAlignable, resolveSign, isEmbedded, isText, isMasked, allDigits, storedDigits, fraction, isSigned, storageWidth, numeric, kinded, symbols, picture}
+use Rattle.definition.specs.Layout.{underUsage}
 use Rattle.definition.specs.Owner.{orNone, storage}
 
--- if it is binary, it has a width
+-- if SYNC aligns it, it has a width
 abbrev pub Sized : Pictured → Type 0
-Sized c = isBinary (c .kind) ≡ true → 0 < c .width
+Sized c = isAlignable (c .kind) ≡ true → 0 < c .width
 
 never : {A : Type 0} → false ≡ true → A
 never e = absurd (let z : _≡_ {A = ℕ} 0 1 = cc in omega arith)
@@ -37,11 +40,15 @@ numeric-sized : (u : Usage) (sign : SignKind) (precision scale digits : ℕ) (si
 numeric-sized Usage.Comp sign precision scale digits signed e = comp-width (leb digits 4) (leb digits 9)
 numeric-sized Usage.Comp3 sign precision scale digits signed e = never e
 numeric-sized Usage.Display sign precision scale digits signed e =
-    never (sym (not-binary (eqb scale 0 && not (signed && isEmbedded sign)) _ _ refl refl) ∙ e)
+    never (sym (neither (eqb scale 0 && not (signed && isEmbedded sign)) _ _ refl refl) ∙ e)
   where
-    not-binary : (b : Bool) (k l : FieldKind) → isBinary k ≡ false → isBinary l ≡ false → isBinary (if b then k else l) ≡ false
-    not-binary true k l x y = x
-    not-binary false k l x y = y
+    neither :
+        (b : Bool) (k l : FieldKind) →
+        isAlignable k ≡ false →
+        isAlignable l ≡ false →
+        isAlignable (if b then k else l) ≡ false
+    neither true k l x y = x
+    neither false k l x y = y
 
 kinded-sized : (u : Usage) (c : SignClause) (l : List ℕ) → Sized (kinded u c l)
 unfolding kinded
@@ -54,11 +61,27 @@ unfolding _>>=_
 answer-sized u c (refuse r) = never
 answer-sized u c (give l) = kinded-sized u c l
 
--- a picture that makes an item binary gives it a width
-pub storage-sized : (text : List ℕ) (s : Statement) → Sized (storage text s)
+-- what comes after a check
+checked-sized : (a : Answer (Unit {0})) (b : Answer Pictured) → Sized (orNone b) → Sized (orNone (a >>= λ _. b))
+unfolding _>>=_
+checked-sized (refuse r) b h = never
+checked-sized (give u) b h = h
+
+under-sized : (text : List ℕ) (s : Statement) (u : ItemUsage) → Sized (orNone (underUsage text s u))
 unfolding picture
-storage-sized text s =
-    answer-sized (s .usage) (signOf (s .clauses .sign)) (symbols (s .at) (s .usage) (part text (s .clauses .picture)))
+under-sized text s (ItemUsage.Picture u) =
+    checked-sized (refuseIf (not (given (s .clauses .picture))) 21 (s .at)) _
+    (answer-sized u (signOf (s .clauses .sign)) (symbols (s .at) u (part text (s .clauses .picture))))
+under-sized text s ItemUsage.Comp1 =
+    checked-sized (refuseIf (given (s .clauses .picture)) 52 (s .at)) (give (pictured (FieldKind.Float 32) 4))
+    (λ _. omega arith)
+under-sized text s ItemUsage.Comp2 =
+    checked-sized (refuseIf (given (s .clauses .picture)) 52 (s .at)) (give (pictured (FieldKind.Float 64) 8))
+    (λ _. omega arith)
+
+-- an elementary item that SYNC aligns has a width
+pub storage-sized : (text : List ℕ) (s : Statement) → Sized (storage text s)
+storage-sized text s = under-sized text s (s .usage)
 
 pub and-true : (a b : Bool) → (a && b) ≡ true → b ≡ true
 and-true true b h = h

@@ -15,7 +15,7 @@ use Rattle.definition.specs.declared.Expect.the-variants.{Bound, Times, 
 use Rattle.definition.specs.declared.Expect.the-variants.{SignIs, SignWord, Side, Nothing}
 use Rattle.definition.specs.declared.Keyword.{Keyword}
 use Rattle.definition.specs.declared.SignWords.{SignWords}
-use Rattle.definition.specs.declared.Usage.{Usage}
+use Rattle.definition.specs.declared.ItemUsage.{ItemUsage}
 use Rattle.definition.specs.declared.Span.{Span}
 use Rattle.definition.specs.declared.Step.{Step}
 use Rattle.definition.specs.declared.Step.the-variants.{Go, Fail}
@@ -34,7 +34,7 @@ use Rattle.definition.specs.Demand.{EntrySpans, EachSpan}
 use Rattle.definition.specs.Statement.{key, keywordOf, noClauses, withPicture, withDepending, withRedefines}
 use Rattle.definition.specs.Statement.{withSign, counted, begin, onClause, onDepending, onTimes, onSign}
 use Rattle.definition.specs.Statement.{clauseStep, separated, step, finish, clauses, named, statement}
-use Rattle.definition.specs.Statement.{statements}
+use Rattle.definition.specs.Statement.{statements, outermost}
 use Rattle.definition.proofs.Answers.{through, given-same}
 use Rattle.definition.proofs.LayoutLaws.{redefiners-none, redefiners-hit, redefiners-miss, redefiners-ends}
 use Rattle.definition.proofs.LayoutLaws.{redefiners-next, folded-none, folded-base, folded-alone, folded-under}
@@ -137,7 +137,7 @@ module _ (P : Span → Type 0) where
       let ih = forest-spans ss (a .1) in
       (a .0, above-spans (s .level) (forest ss) ih, notAbove-spans (s .level) (forest ss) ih)
 
-  inherit-spans : (u : Usage) (f : Forest) → ForestSpans f → ForestSpans (inherit u f)
+  inherit-spans : (u : ItemUsage) (f : Forest) → ForestSpans f → ForestSpans (inherit u f)
   unfolding inherit
   inherit-spans u leaf x = tt
   inherit-spans u (item s kids later) x = (
@@ -157,7 +157,7 @@ module _ (P : Span → Type 0) where
   -- of every span of the fields of the record
   pub record-spans : (ss : List Statement) → AllSpans ss → ForestSpans (recordOf ss)
   record-spans ss a =
-      fields-spans (inherited (forest ss)) (inherit-spans Usage.Display (forest ss) (forest-spans ss a))
+      fields-spans (inherited (forest ss)) (inherit-spans outermost (forest ss) (forest-spans ss a))
 
   -- ---------------------------------------------------------------- the entries that are laid from it
 
@@ -221,6 +221,8 @@ module _ (P : Span → Type 0) where
       begin-spans Keyword.Display = record { picture = f .picture; depending = f .depending; redefines = f .redefines }
       begin-spans Keyword.Comp3 = record { picture = f .picture; depending = f .depending; redefines = f .redefines }
       begin-spans Keyword.Comp = record { picture = f .picture; depending = f .depending; redefines = f .redefines }
+      begin-spans Keyword.Comp1 = record { picture = f .picture; depending = f .depending; redefines = f .redefines }
+      begin-spans Keyword.Comp2 = record { picture = f .picture; depending = f .depending; redefines = f .redefines }
       begin-spans Keyword.Sign = sign-spans f (SignWords.Said false false)
       begin-spans Keyword.Sync = record { picture = f .picture; depending = f .depending; redefines = f .redefines }
       begin-spans Keyword.Value = f

@@ -1,8 +1,9 @@
--- A copybook with no usage on a group and no DISPLAY after another usage word has the entries that it had while DISPLAY
--- named no usage and none was inherited. Word by word, both readings say the same but for a DISPLAY that is named; a
--- layout never asks for that.
+-- A copybook with no usage on a group, no DISPLAY after another usage word and no word that names a float has the
+-- entries that it had while neither DISPLAY nor those words named a usage and none was inherited. Word by word, both
+-- readings say the same but for a DISPLAY that is named; a layout never asks for that.
 -- Assumes nothing.
 use Prim.Native.Nat.{ℕ, suc, max}
+use Prim.Native.String.{String}
 use mathlib.Core.Path.{_≡_, refl, sym, ap, ap₂, subst, _∙_}
 use mathlib.Core.Bool.{Bool, true, false, _&&_, _||_, not}
 use mathlib.Core.List.{List, [], _∷_, map}
@@ -10,6 +11,7 @@ use mathlib.Core.Option.{Option, none, some}
 use lib.Dec.{eqb, leb, ltb}
 use Rattle.definition.specs.declared.Span.{Span}
 use Rattle.definition.specs.declared.Usage.{Usage}
+use Rattle.definition.specs.declared.ItemUsage.{ItemUsage}
 use Rattle.definition.specs.declared.UsageClause.{UsageClause}
 use Rattle.definition.specs.declared.SignWords.{SignWords}
 use Rattle.definition.specs.declared.Clauses.{Clauses}
@@ -27,20 +29,21 @@ use Rattle.definition.specs.Basic.{if_then_else_, bytes, same, uppers, g
 use Rattle.definition.specs.Basic.{Answer, refuse, give, _>>=_, refused, refuseIf, orRefuse}
 use Rattle.definition.specs.Words.{statementWords}
 use Rattle.definition.specs.Statement.{key, Spelling, spellings, pick, meaning, keywordOf, clausesOf, noClauses}
-use Rattle.definition.specs.Statement.{withPicture, withUsage, withSign, withDepending, counted, begin, onClause}
-use Rattle.definition.specs.Statement.{onDepending, onTimes, onSign, clauseStep, separately, separated, step}
-use Rattle.definition.specs.Statement.{finish, clauses, usageOf, statementOf, named, statement}
-use Rattle.definition.specs.Statement.{statements, signOf}
+use Rattle.definition.specs.Statement.{withPicture, withUsage, withSign, withDepending, withRedefines, counted, begin}
+use Rattle.definition.specs.Statement.{onClause, onDepending, onTimes, onSign, clauseStep, separately, separated, step}
+use Rattle.definition.specs.Statement.{finish, clauses, usageOf, outermost, statementOf, named, statement}
+use Rattle.definition.specs.Statement.{statements}
 use Rattle.definition.specs.Tree.{Forest, leaf, item, above, notAbove, forest, fields}
 use Rattle.definition.specs.Usages.{inheriting, inherit, inherited, recordOf}
 use Rattle.definition.specs.Fold.{Entries, entry, Place, placeOf, entryEnd, foldCheck, foldedAll}
-use Rattle.definition.specs.Layout.{shallow, content, start, slackFrom, entryOf, tooLarge, advance, Laid, lay}
+use Rattle.definition.specs.Layout.{shallow, underUsage, content, start, slackFrom, entryOf, tooLarge, advance}
+use Rattle.definition.specs.Layout.{Laid, lay}
 use Rattle.definition.specs.Record.{endsFit, unfolded, layout}
-use Rattle.definition.specs.Picture.{picture}
 use Rattle.definition.specs.Calls.{entryChecks, literalCheck, keptStatements, recordFields, entries}
-use Rattle.definition.specs.Ungrouped.{undisplayed, clausesAlone, namedAlone, statementAlone, statementsAlone}
-use Rattle.definition.specs.Ungrouped.{entriesAlone, isOther, lasting, isSkipped, lastingIn, lastingAll, isNamed}
-use Rattle.definition.specs.Ungrouped.{isPlain, plainGroups, plainRead, plainUsages}
+use Rattle.definition.specs.Ungrouped.{isOneOf, newWords, asSeen, clausesAlone, namedAlone, statementAlone}
+use Rattle.definition.specs.Ungrouped.{statementsAlone, entriesAlone, isOther, lasts, lasting, isSkipped}
+use Rattle.definition.specs.Ungrouped.{lastingIn, lastingAll, isNamed, isPlain, plainGroups, plainRead, plainUsages}
+use Rattle.definition.proofs.Answers.{or-false}
 use Rattle.definition.proofs.Lists.{tested}
 use Rattle.definition.proofs.WordLaws.{never, and-both, same-equal}
 
@@ -48,9 +51,11 @@ use Rattle.definition.proofs.WordLaws.{never, and-both, same-equal}
 
 abbrev undisplay : UsageClause → UsageClause
 undisplay UsageClause.Absent = UsageClause.Absent
-undisplay (UsageClause.Given Usage.Display) = UsageClause.Absent
-undisplay (UsageClause.Given Usage.Comp3) = UsageClause.Given Usage.Comp3
-undisplay (UsageClause.Given Usage.Comp) = UsageClause.Given Usage.Comp
+undisplay (UsageClause.Given (ItemUsage.Picture Usage.Display)) = UsageClause.Absent
+undisplay (UsageClause.Given (ItemUsage.Picture Usage.Comp3)) = UsageClause.Given (ItemUsage.Picture Usage.Comp3)
+undisplay (UsageClause.Given (ItemUsage.Picture Usage.Comp)) = UsageClause.Given (ItemUsage.Picture Usage.Comp)
+undisplay (UsageClause.Given ItemUsage.Comp1) = UsageClause.Given ItemUsage.Comp1
+undisplay (UsageClause.Given ItemUsage.Comp2) = UsageClause.Given ItemUsage.Comp2
 
 abbrev forget : Clauses → Clauses
 forget c =
@@ -63,68 +68,74 @@ forgetStep (Fail n) = Fail n
 -- what is not another usage is none without DISPLAY
 none-other : (u : UsageClause) → isOther u ≡ false → undisplay u ≡ UsageClause.Absent
 none-other UsageClause.Absent h = refl
-none-other (UsageClause.Given Usage.Display) h = refl
-none-other (UsageClause.Given Usage.Comp3) h = never (sym h)
-none-other (UsageClause.Given Usage.Comp) h = never (sym h)
+none-other (UsageClause.Given (ItemUsage.Picture Usage.Display)) h = refl
+none-other (UsageClause.Given (ItemUsage.Picture Usage.Comp3)) h = never (sym h)
+none-other (UsageClause.Given (ItemUsage.Picture Usage.Comp)) h = never (sym h)
+none-other (UsageClause.Given ItemUsage.Comp1) h = never (sym h)
+none-other (UsageClause.Given ItemUsage.Comp2) h = never (sym h)
 
--- ---------------------------------------------------------------- a word that is not DISPLAY
+-- ---------------------------------------------------------------- a word that is none of the new ones
 
-abbrev isNot : Keyword → Bool
-isNot Keyword.Display = false
-isNot Keyword.Picture = true
-isNot Keyword.Redefines = true
-isNot Keyword.Occurs = true
-isNot Keyword.Usage = true
-isNot Keyword.Comp3 = true
-isNot Keyword.Comp = true
-isNot Keyword.Sign = true
-isNot Keyword.Sync = true
-isNot Keyword.Value = true
-isNot Keyword.Other = true
+abbrev isOld : Keyword → Bool
+isOld Keyword.Display = false
+isOld Keyword.Comp1 = false
+isOld Keyword.Comp2 = false
+isOld Keyword.Picture = true
+isOld Keyword.Redefines = true
+isOld Keyword.Occurs = true
+isOld Keyword.Usage = true
+isOld Keyword.Comp3 = true
+isOld Keyword.Comp = true
+isOld Keyword.Sign = true
+isOld Keyword.Sync = true
+isOld Keyword.Value = true
+isOld Keyword.Other = true
 
--- of these spellings DISPLAY alone means it
-abbrev oneDisplay : List Spelling → Bool
-oneDisplay [] = true
-oneDisplay (s ∷ ss) = (isNot (s .means) || key "DISPLAY" (bytes (s .word))) && oneDisplay ss
+-- of these spellings the new words alone mean what is new
+abbrev newAlone : List Spelling → Bool
+newAlone [] = true
+newAlone (s ∷ ss) = (isOld (s .means) || isOneOf newWords (bytes (s .word))) && newAlone ss
 
-module _ (u : List ℕ) (h : key "DISPLAY" u ≡ false) where
-  pick-not :
+module _ (u : List ℕ) (h : isOneOf newWords u ≡ false) where
+  pick-old :
       (s : Spelling) (k : Keyword) →
-      (isNot (s .means) || key "DISPLAY" (bytes (s .word))) ≡ true →
-      isNot k ≡ true →
-      isNot (pick u (bytes (s .word)) (s .means) k) ≡ true
+      (isOld (s .means) || isOneOf newWords (bytes (s .word))) ≡ true →
+      isOld k ≡ true →
+      isOld (pick u (bytes (s .word)) (s .means) k) ≡ true
   unfolding pick
-  pick-not s k t n = by-tests (isNot (s .means)) refl (same u (bytes (s .word))) refl t
+  pick-old s k t n = by-tests (isOld (s .means)) refl (same u (bytes (s .word))) refl t
     where
       by-tests :
           (a : Bool) →
-          isNot (s .means) ≡ a →
+          isOld (s .means) ≡ a →
           (b : Bool) →
           same u (bytes (s .word)) ≡ b →
-          (a || key "DISPLAY" (bytes (s .word))) ≡ true →
-          isNot (if b then s .means else k) ≡ true
+          (a || isOneOf newWords (bytes (s .word))) ≡ true →
+          isOld (if b then s .means else k) ≡ true
       by-tests true p true q t = p
       by-tests a p false q t = n
       by-tests false p true q t =
-          let is : bytes (s .word) ≡ bytes "DISPLAY" = same-equal (bytes (s .word)) (bytes "DISPLAY") t in
-          never (sym h ∙ ap (same u) (sym is) ∙ q)
+          let is : u ≡ bytes (s .word) = same-equal u (bytes (s .word)) q in
+          never (sym h ∙ ap (isOneOf newWords) is ∙ t)
 
-  meaning-not :
-      (ss : List Spelling) (k : Keyword) → oneDisplay ss ≡ true → isNot k ≡ true → isNot (meaning u ss k) ≡ true
-  meaning-not [] k t n = n
-  meaning-not (s ∷ ss) k t n =
-      let both = and-both (isNot (s .means) || key "DISPLAY" (bytes (s .word))) (oneDisplay ss) t in
-      meaning-not ss (pick u (bytes (s .word)) (s .means) k) (both .1) (pick-not s k (both .0) n)
+  meaning-old :
+      (ss : List Spelling) (k : Keyword) → newAlone ss ≡ true → isOld k ≡ true → isOld (meaning u ss k) ≡ true
+  meaning-old [] k t n = n
+  meaning-old (s ∷ ss) k t n =
+      let both = and-both (isOld (s .means) || isOneOf newWords (bytes (s .word))) (newAlone ss) t in
+      meaning-old ss (pick u (bytes (s .word)) (s .means) k) (both .1) (pick-old s k (both .0) n)
 
-  keyword-not : isNot (keywordOf u) ≡ true
+  keyword-old : isOld (keywordOf u) ≡ true
   unfolding keywordOf same
-  keyword-not = meaning-not spellings Keyword.Other refl refl
+  keyword-old = meaning-old spellings Keyword.Other refl refl
 
 -- ---------------------------------------------------------------- one word
 
 module _ (c : Clauses) where
-  begin-forget : (k : Keyword) → isNot k ≡ true → begin k (forget c) ≡ forgetStep (begin k c)
+  begin-forget : (k : Keyword) → isOld k ≡ true → begin k (forget c) ≡ forgetStep (begin k c)
   begin-forget Keyword.Display n = never n
+  begin-forget Keyword.Comp1 n = never n
+  begin-forget Keyword.Comp2 n = never n
   begin-forget Keyword.Picture n = refl
   begin-forget Keyword.Redefines n = refl
   begin-forget Keyword.Occurs n = refl
@@ -149,9 +160,9 @@ module _ (c : Clauses) where
   either true x y p q = p
   either false x y p q = q
 
-  module _ (u : List ℕ) (h : key "DISPLAY" u ≡ false) where
+  module _ (u : List ℕ) (h : isOneOf newWords u ≡ false) where
     on-clause : onClause u (forget c) ≡ forgetStep (onClause u c)
-    on-clause = begin-forget (keywordOf u) (keyword-not u h)
+    on-clause = begin-forget (keywordOf u) (keyword-old u h)
 
     on-depending : onDepending u (forget c) ≡ forgetStep (onDepending u c)
     on-depending = either (key "DEPENDING" u) (Go OnName c) (onClause u c) refl on-clause
@@ -183,17 +194,151 @@ separated-forget u (Fail n) = refl
 separated-forget u (Go e c) =
     either c (key "SEPARATE" u) (Go e (withSign (separately (c .sign)) c)) (Go e c) refl refl
 
--- a step lasts where it takes no other usage back
+-- ---------------------------------------------------------------- a new word
+
+-- what holds of each of these words holds of a word that is one of them
+abbrev Each : (List ℕ → Type 0) → List String → Type 0
+Each P [] = Unit {0}
+Each P (k ∷ ks) = P (bytes k) × Each P ks
+
+one-of : (P : List ℕ → Type 0) (ks : List String) → Each P ks → (u : List ℕ) → isOneOf ks u ≡ true → P u
+one-of P [] h u e = never e
+one-of P (k ∷ ks) h u e = by-test (key k u) refl (one-of P ks (h .1) u) e
+  where
+    by-test : (b : Bool) → key k u ≡ b → (isOneOf ks u ≡ true → P u) → (b || isOneOf ks u) ≡ true → P u
+    by-test true p ih e = subst P (sym (same-equal u (bytes k) p)) (h .0)
+    by-test false p ih e = ih e
+
+-- a word is none of these
+abbrev NoneOf : List String → List ℕ → Type 0
+NoneOf [] u = Unit {0}
+NoneOf (k ∷ ks) u = (key k u ≡ false) × NoneOf ks u
+
+none-of : (ks : List String) (u : List ℕ) → isOneOf ks u ≡ false → NoneOf ks u
+none-of [] u h = tt
+none-of (k ∷ ks) u h = let both = or-false (key k u) (isOneOf ks u) h in (both .0, none-of ks u (both .1))
+
+-- the words that a clause goes on with
+abbrev onward : List String
+onward = "IS" ∷ "TO" ∷ "TIMES" ∷ "DEPENDING" ∷ "ON" ∷ "LEFT" ∷ "RIGHT" ∷ "LEADING" ∷ "SEPARATE" ∷ []
+
+-- a word that is none of those, and no count
+record Silent (u : List ℕ) : Type 0 where
+  no-onward : isOneOf onward u ≡ false
+  no-count : count u ≡ none
+
+-- what such a word does, where `began` is what it does at a clause
+abbrev silently : Expect → Span → Clauses → Step → Step
+silently Clause w c began = began
+silently IsPicture w c began = Go Clause (withPicture w c)
+silently APicture w c began = Go Clause (withPicture w c)
+silently Target w c began = Go Clause (withRedefines w c)
+silently ACount w c began = Fail 11
+silently To w c began = began
+silently Bound w c began = Fail 12
+silently Times w c began = began
+silently DependingOn w c began = began
+silently OnName w c began = Go Clause (withDepending w c)
+silently AName w c began = Go Clause (withDepending w c)
+silently UsageIs w c began = began
+silently SignIs w c began = Go Clause (withSign (SignWords.Said false false) c)
+silently SignWord w c began = Go Clause (withSign (SignWords.Said false false) c)
+silently Side w c began = began
+silently Nothing w c began = Go Nothing c
+
+module _ {u : List ℕ} (q : Silent u) where
+  abbrev no : NoneOf onward u
+  no = none-of onward u (q .no-onward)
+
+  no-separate : (s : Step) → separated u s ≡ s
+  no-separate (Go e c) = rw (no .1 .1 .1 .1 .1 .1 .1 .1 .0)
+  no-separate (Fail n) = refl
+
+  silent-clause : (e : Expect) (w : Span) (c : Clauses) → clauseStep e w u c ≡ silently e w c (begin (keywordOf u) c)
+  unfolding clauseStep
+  silent-clause Clause w c = refl
+  silent-clause IsPicture w c = rw (no .0)
+  silent-clause APicture w c = refl
+  silent-clause Target w c = refl
+  silent-clause ACount w c = rw (q .no-count)
+  silent-clause To w c = rw (no .1 .0, no .1 .1 .0, no .1 .1 .1 .0)
+  silent-clause Bound w c = rw (q .no-count)
+  silent-clause Times w c = rw (no .1 .1 .0, no .1 .1 .1 .0)
+  silent-clause DependingOn w c = rw (no .1 .1 .1 .0)
+  silent-clause OnName w c = rw (no .1 .1 .1 .1 .0)
+  silent-clause AName w c = refl
+  silent-clause UsageIs w c = rw (no .0)
+  silent-clause SignIs w c = rw (no .0, no .1 .1 .1 .1 .1 .1 .1 .0)
+  silent-clause SignWord w c = rw (no .1 .1 .1 .1 .1 .1 .1 .0)
+  silent-clause Side w c = rw (no .1 .1 .1 .1 .1 .0, no .1 .1 .1 .1 .1 .1 .0)
+  silent-clause Nothing w c = refl
+
+  silent-step : (e : Expect) (w : Span) (c : Clauses) → step e w u c ≡ silently e w c (begin (keywordOf u) c)
+  unfolding step
+  silent-step e w c = no-separate (clauseStep e w u c) ∙ silent-clause e w c
+
+-- a step lasts where it names no float and takes no other usage back
 abbrev Lasts : Clauses → Step → Type 0
-Lasts c (Go e d) = (not (isOther (c .usage)) || isOther (d .usage)) ≡ true
+Lasts c (Go e d) = lasts (c .usage) (d .usage) ≡ true
 Lasts c (Fail n) = Unit {0}
 
--- DISPLAY names what is none without it, and does nothing else
+-- the empty word does nothing where a clause may begin
+empty-step : (e : Expect) (w : Span) (c : Clauses) → step e w [] c ≡ silently e w c (Go Clause c)
+unfolding keywordOf pick same number digits
+empty-step e w c = silent-step (record { no-onward = refl; no-count = refl }) e w c
+
 module _ (c : Clauses) where
-  back :
-      (not (isOther (c .usage)) || false) ≡ true →
-      Go Clause (forget c) ≡ Go Clause (forget (withUsage Usage.Display c))
-  back h =
+  -- a usage that is named leaves what it was without DISPLAY
+  abbrev Leaves : ItemUsage → Type 0
+  Leaves v = lasts (c .usage) (UsageClause.Given v) ≡ true → Go Clause (forget c) ≡ Go Clause (forget (withUsage v c))
+
+  silently-forget :
+      (v : ItemUsage) →
+      Leaves v →
+      (e : Expect) (w : Span) →
+      Lasts c (silently e w c (Go Clause (withUsage v c))) →
+      silently e w (forget c) (Go Clause (forget c)) ≡ forgetStep (silently e w c (Go Clause (withUsage v c)))
+  silently-forget v left Clause w h = left h
+  silently-forget v left IsPicture w h = refl
+  silently-forget v left APicture w h = refl
+  silently-forget v left Target w h = refl
+  silently-forget v left ACount w h = refl
+  silently-forget v left To w h = left h
+  silently-forget v left Bound w h = refl
+  silently-forget v left Times w h = left h
+  silently-forget v left DependingOn w h = left h
+  silently-forget v left OnName w h = refl
+  silently-forget v left AName w h = refl
+  silently-forget v left UsageIs w h = left h
+  silently-forget v left SignIs w h = refl
+  silently-forget v left SignWord w h = refl
+  silently-forget v left Side w h = left h
+  silently-forget v left Nothing w h = refl
+
+  -- the word was the empty one
+  abbrev Forgets : List ℕ → Type 0
+  Forgets u =
+      (e : Expect) (w : Span) →
+      Lasts c (step e w u c) →
+      step e w [] (forget c) ≡ forgetStep (step e w u c)
+
+  names-forget :
+      (u : List ℕ) (v : ItemUsage) →
+      isOneOf onward u ≡ false →
+      count u ≡ none →
+      begin (keywordOf u) c ≡ Go Clause (withUsage v c) →
+      Leaves v →
+      Forgets u
+  names-forget u v o n b left e w h =
+      let there : step e w u c ≡ silently e w c (Go Clause (withUsage v c)) =
+      silent-step (record { no-onward = o; no-count = n }) e w c ∙ ap (silently e w c) b in
+      empty-step e w (forget c)
+      ∙ silently-forget v left e w (subst (Lasts c) there h)
+      ∙ ap forgetStep (sym there)
+
+  -- DISPLAY names what is none without it; a float is not named
+  display-leaves : Leaves (ItemUsage.Picture Usage.Display)
+  display-leaves h =
       ap
       (λ (u : UsageClause).
       Go Clause (clausesOf (c .picture) u (c .sign) (c .sync) (c .occurs) (c .depending) (c .redefines)))
@@ -203,44 +348,38 @@ module _ (c : Clauses) where
       by-test true h = never h
       by-test false h = refl
 
-  display-forget :
-      (e : Expect) (w : Span) →
-      Lasts c (step e w (bytes "DISPLAY") c) →
-      step e w [] (forget c) ≡ forgetStep (step e w (bytes "DISPLAY") c)
-  unfolding step clauseStep keywordOf pick same number digits
-  display-forget Clause w h = back h
-  display-forget IsPicture w h = refl
-  display-forget APicture w h = refl
-  display-forget Target w h = refl
-  display-forget ACount w h = refl
-  display-forget To w h = back h
-  display-forget Bound w h = refl
-  display-forget Times w h = back h
-  display-forget DependingOn w h = back h
-  display-forget OnName w h = refl
-  display-forget AName w h = refl
-  display-forget UsageIs w h = back h
-  display-forget SignIs w h = refl
-  display-forget SignWord w h = refl
-  display-forget Side w h = back h
-  display-forget Nothing w h = refl
+  new-forget : Each Forgets newWords
+  unfolding keywordOf pick same number digits
+  new-forget = (
+    names-forget (bytes "DISPLAY") (ItemUsage.Picture Usage.Display) refl refl refl display-leaves,
+    (
+      names-forget (bytes "COMP-1") ItemUsage.Comp1 refl refl refl (λ h. never h),
+      (
+        names-forget (bytes "COMPUTATIONAL-1") ItemUsage.Comp1 refl refl refl (λ h. never h),
+        (
+          names-forget (bytes "COMP-2") ItemUsage.Comp2 refl refl refl (λ h. never h),
+          (names-forget (bytes "COMPUTATIONAL-2") ItemUsage.Comp2 refl refl refl (λ h. never h), tt),
+        ),
+      ),
+    ),
+  )
 
   step-other :
-      (e : Expect) (w : Span) (u : List ℕ) → key "DISPLAY" u ≡ false → step e w u (forget c) ≡ forgetStep (step e w u c)
+      (e : Expect) (w : Span) (u : List ℕ) →
+      isOneOf newWords u ≡ false →
+      step e w u (forget c) ≡ forgetStep (step e w u c)
   unfolding step
   step-other e w u p = ap (separated u) (clause-step-forget c u p e w) ∙ separated-forget u (clauseStep e w u c)
 
   step-forget :
       (e : Expect) (w : Span) (u : List ℕ) →
       Lasts c (step e w u c) →
-      step e w (undisplayed u) (forget c) ≡ forgetStep (step e w u c)
-  step-forget e w u h = by-test (key "DISPLAY" u) refl
+      step e w (asSeen u) (forget c) ≡ forgetStep (step e w u c)
+  step-forget e w u h = by-test (isOneOf newWords u) refl
     where
-      by-test : (b : Bool) → key "DISPLAY" u ≡ b → step e w (if b then [] else u) (forget c) ≡ forgetStep (step e w u c)
-      by-test true p =
-          let is : u ≡ bytes "DISPLAY" = same-equal u (bytes "DISPLAY") p in
-          display-forget e w (subst (λ (x : List ℕ). Lasts c (step e w x c)) is h)
-          ∙ ap (λ (x : List ℕ). forgetStep (step e w x c)) (sym is)
+      by-test :
+          (b : Bool) → isOneOf newWords u ≡ b → step e w (if b then [] else u) (forget c) ≡ forgetStep (step e w u c)
+      by-test true p = one-of Forgets newWords new-forget u p e w h
       by-test false p = step-other e w u p
 
 -- ---------------------------------------------------------------- a statement
@@ -281,7 +420,7 @@ module _ (text : List ℕ) where
 
   abbrev lastingOn : Clauses → List Span → Step → Bool
   lastingOn c ws s =
-      elim s [ Go e d ↦ (not (isOther (c .usage)) || isOther (d .usage)) && lasting text e d ws | Fail n ↦ true ]
+      elim s [ Go e d ↦ lasts (c .usage) (d .usage) && lasting text e d ws | Fail n ↦ true ]
 
   after-step :
       (at : ℕ) (ws : List Span) (c : Clauses) →
@@ -293,7 +432,7 @@ module _ (text : List ℕ) where
       Lasts c s × (onAlone at ws (forgetStep s) ≡ mapped forget (onNow at ws s))
   unfolding _>>=_
   after-step at ws c ih (Go e d) h =
-      let both = and-both (not (isOther (c .usage)) || isOther (d .usage)) (lasting text e d ws) h in
+      let both = and-both (lasts (c .usage) (d .usage)) (lasting text e d ws) h in
       (both .0, ih e d (both .1))
   after-step at ws c ih (Fail n) h = (tt, refl)
 
@@ -465,9 +604,9 @@ fields-map g (item s (item u us vs) (item t kids later)) = refl
 
 -- where no group names a usage, each statement has its own
 abbrev alone : Statement → Statement
-alone s = inheriting Usage.Display s
+alone s = inheriting outermost s
 
-none-named : (u : UsageClause) → not (isNamed u) ≡ true → usageOf Usage.Display u ≡ Usage.Display
+none-named : (u : UsageClause) → not (isNamed u) ≡ true → usageOf outermost u ≡ outermost
 none-named UsageClause.Absent h = refl
 none-named (UsageClause.Given u) h = never h
 
@@ -475,7 +614,7 @@ plain-within : (s : Statement) (kids : Forest) → isPlain s kids ≡ true → i
 unfolding inherit
 plain-within s leaf h = refl
 plain-within s (item t kids later) h =
-    ap (λ (u : Usage). inherit u (item t kids later)) (none-named (s .clauses .usage) h)
+    ap (λ (u : ItemUsage). inherit u (item t kids later)) (none-named (s .clauses .usage) h)
 
 inherited-plain : (f : Forest) → plainGroups f ≡ true → inherited f ≡ mapForest alone f
 unfolding inherit plainGroups
@@ -488,23 +627,27 @@ inherited-plain (item s kids later) h =
 
 -- ---------------------------------------------------------------- the layout
 
-usage-forget : (u : UsageClause) → usageOf Usage.Display (undisplay u) ≡ usageOf Usage.Display u
+usage-forget : (u : UsageClause) → usageOf outermost (undisplay u) ≡ usageOf outermost u
 usage-forget UsageClause.Absent = refl
-usage-forget (UsageClause.Given Usage.Display) = refl
-usage-forget (UsageClause.Given Usage.Comp3) = refl
-usage-forget (UsageClause.Given Usage.Comp) = refl
+usage-forget (UsageClause.Given (ItemUsage.Picture Usage.Display)) = refl
+usage-forget (UsageClause.Given (ItemUsage.Picture Usage.Comp3)) = refl
+usage-forget (UsageClause.Given (ItemUsage.Picture Usage.Comp)) = refl
+usage-forget (UsageClause.Given ItemUsage.Comp1) = refl
+usage-forget (UsageClause.Given ItemUsage.Comp2) = refl
 
 module _ (text : List ℕ) where
+  under-forget : (s : Statement) (u : ItemUsage) → underUsage text (forgetStatement s) u ≡ underUsage text (alone s) u
+  under-forget s (ItemUsage.Picture u) = refl
+  under-forget s ItemUsage.Comp1 = refl
+  under-forget s ItemUsage.Comp2 = refl
+
   content-forget :
       (s : Statement) (kids : Forest) (width : ℕ) →
       content text (forgetStatement s) (mapForest forgetStatement kids) width
       ≡ content text (alone s) (mapForest alone kids) width
   content-forget s leaf width =
-      ap
-      (λ (u : Usage).
-      refuseIf (not (given (s .clauses .picture))) 21 (s .at)
-      >>= λ _. picture (s .at) u (signOf (s .clauses .sign)) (part text (s .clauses .picture)))
-      (usage-forget (s .clauses .usage))
+      under-forget s (usageOf outermost (undisplay (s .clauses .usage)))
+      ∙ ap (underUsage text (alone s)) (usage-forget (s .clauses .usage))
   content-forget s (item t kids later) width = refl
 
   shallow-forget :
@@ -573,7 +716,8 @@ record-forget text ss h =
     ∙ ap (layout text) (sym (fields-map alone f))
     ∙ ap (λ (x : Forest). layout text (fields x)) (sym (inherited-plain f h))
 
--- a copybook with no usage on a group and no DISPLAY after another usage word has the entries that it had
+-- a copybook with no usage on a group, no DISPLAY after another usage word and no word that names a float has the
+-- entries that it had
 pub same-entries : (text : List ℕ) (work : ℕ) → plainUsages text ≡ true → entriesAlone text work ≡ entries text work
 unfolding entriesAlone entries recordFields keptStatements _>>=_
 same-entries text work h =

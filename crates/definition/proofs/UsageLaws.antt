@@ -5,8 +5,9 @@ use Prim.Native.Nat.{ℕ, suc}
 use mathlib.Core.Path.{_≡_, refl, ap, ap₂, _∙_}
 use mathlib.Core.List.{List, [], _∷_}
 use lib.ListN.{length}
-use Rattle.definition.specs.declared.Usage.{Usage}
+use Rattle.definition.specs.declared.ItemUsage.{ItemUsage}
 use Rattle.definition.specs.declared.Statement.{Statement}
+use Rattle.definition.specs.Statement.{outermost}
 use Rattle.definition.specs.Tree.{Forest, leaf, item, above, notAbove, forest, Open, opened, stillOpen}
 use Rattle.definition.specs.Usages.{inheriting, inherit, inherited, around, inheritAlong}
 use Rattle.definition.proofs.Lists.{tested}
@@ -31,7 +32,7 @@ under-none : (f : Forest) → under [] f ≡ inherited f
 unfolding stillOpen inherit
 under-none leaf = refl
 under-none (item s kids later) =
-    let t = inheriting Usage.Display s in ap (item t (inherit (t .usage) kids)) (under-none later)
+    let t = inheriting outermost s in ap (item t (inherit (t .usage) kids)) (under-none later)
 
 -- what is above the innermost open one stands under it, and the others under those around it
 module _ (o : Open) (os : List Open) where

@@ -15,7 +15,7 @@ use Rattle.definition.specs.declared.SignKind.{SignKind}
 use Rattle.definition.specs.declared.SignClause.{SignClause}
 use Rattle.definition.specs.declared.NumRepr.{NumRepr}
 use Rattle.definition.specs.declared.FieldKind.{FieldKind}
-use Rattle.definition.specs.declared.FieldKind.the-variants.{Text, Int, Binary, Decimal, Edited, Group}
+use Rattle.definition.specs.declared.FieldKind.the-variants.{Text, Int, Binary, Decimal, Edited, Group, Float}
 use Rattle.definition.specs.declared.Pictured.{Pictured}
 use Rattle.definition.specs.declared.Entry.{Entry}
 use Rattle.definition.specs.declared.Owner.{Owner}
@@ -159,7 +159,7 @@ pub data Catch : Type 0 where
   ending : String → List (List ℕ) → Catch
   -- of the bytes below 128, those that may follow six columns of a card
   indicators : String → Catch
-  -- a copybook, and whether it is one that group usages and DISPLAY leave as it was
+  -- a copybook, and whether it is one that group usages, DISPLAY and floats leave as it was
   asBefore : String → Bool → Catch
 
 -- a call for a copybook, with 16,384 numbers of work memory lent
@@ -269,6 +269,10 @@ tank = "05 A PIC X. 05 G OCCURS 2. 10 B PIC X. 10 C PIC 9(5) COMP SYNC. 05 D PIC
 -- counts in a record of COMP: two aligned items, one of them in a group
 abbrev pub counts : String
 counts = "01 R COMP. 05 A PIC X. 05 B PIC 9(5) SYNC. 05 G. 10 C PIC X. 10 D PIC 9(4) SYNC."
+
+-- two aligned floats after odd places
+abbrev pub floats : String
+floats = "05 A PIC X. 05 B SYNC COMP-1. 05 C PIC X. 05 D COMP-2 SYNC. 05 E PIC X."
 
 -- five digits, packed
 abbrev packed5 : FieldKind
@@ -650,6 +654,80 @@ table =
     ∷ asBefore "01 R. 05 G COMP. 10 A PIC X." false
     -- cards, too
     ∷ cards (accepted "000100 01 R COMP.\n000200     05 A PIC 9(4)." 2 false (column 0 2 (Binary false) ∷ []))
+    -- floats, each spelling, wherever the word stands
+    ∷ accepted "05 A COMP-1. 05 B COMPUTATIONAL-1. 05 C COMP-2. 05 D COMPUTATIONAL-2. 05 E usage is comp-1. 05 F USAGE Comp-2."
+    36 false
+    (column 0 4 (Float 32) ∷ column 4 4 (Float 32) ∷ column 8 8 (Float 64) ∷ column 16 8 (Float 64) ∷
+    column 24 4 (Float 32) ∷ column 28 8 (Float 64) ∷ [])
+    ∷ accepted "05 COMP-1 PIC X VALUE COMP-2. 05 A COMP-1 COMP PIC 9(4). 05 B COMP COMP-2." 11 false
+    (column 0 1 Text ∷ column 1 2 (Binary false) ∷ column 3 8 (Float 64) ∷ [])
+    ∷ listed "05 A COMP-1." 49
+    (hex "00 04000000 00 01000000 07 03000000 01000000 00000000 04000000"
+    ++ hex "00 00000000 00000000 00000000 00000000 00000000 20")
+    ∷ listed "05 A COMP-2." 49
+    (hex "00 08000000 00 01000000 07 03000000 01000000 00000000 08000000"
+    ++ hex "00 00000000 00000000 00000000 00000000 00000000 40")
+    ∷ noRoom "05 A COMP-2." 48 49
+    ∷ detailed "05 A COMP-2." (facts 0 5 0 false 0 0 0 absent absent absent)
+    -- SYNC before and after the usage, at odd offsets: slack, its owner and its reason; without SYNC none
+    ∷ accepted floats 25 false
+    (column 0 1 Text ∷ column 4 4 (Float 32) ∷ column 8 1 Text ∷ column 16 8 (Float 64) ∷ column 24 1 Text ∷ [])
+    ∷ owned floats 1 (Owner.Slack 1)
+    ∷ owned floats 7 (Owner.Piece 1 4 3)
+    ∷ owned floats 9 (Owner.Slack 3)
+    ∷ owned floats 15 (Owner.Slack 3)
+    ∷ owned floats 16 (Owner.Piece 3 16 0)
+    ∷ reasoned floats 3 (hex "02 21000000 01000000 09000000  03 00000000 00000000 07000000")
+    ∷ detailed "05 A PIC X. 05 B COMP-1 SYNC."
+    (facts 0 5 0 false 0 0 0 (span 9 1) absent absent ++ facts 12 5 0 false 0 4 3 absent absent absent)
+    ∷ accepted "05 A PIC X. 05 B COMP-1. 05 C COMP-2." 13 false
+    (column 0 1 Text ∷ column 1 4 (Float 32) ∷ column 5 8 (Float 64) ∷ [])
+    -- 4 after 4 has none, 8 after 4 has
+    ∷ accepted "05 A COMP-1. 05 B COMP-1 SYNC. 05 C COMP-1. 05 D COMP-2 SYNC LEFT." 24 false
+    (column 0 4 (Float 32) ∷ column 4 4 (Float 32) ∷ column 8 4 (Float 32) ∷ column 16 8 (Float 64) ∷ [])
+    -- inherited, through groups and from a dropped root; a member's own usage holds, SYNC is not inherited
+    ∷ accepted "01 R COMP-1 SYNC. 05 X PIC X DISPLAY. 05 A. 05 G. 10 B. 10 C COMP-2. 05 H COMP. 10 D PIC 9(4)." 19 false
+    (column 0 1 Text ∷ column 1 4 (Float 32) ∷ column 5 12 Group ∷ column 0 4 (Float 32) ∷ column 4 8 (Float 64) ∷
+    column 17 2 Group ∷ column 0 2 (Binary false) ∷ [])
+    ∷ accepted "05 X PIC X. 05 G COMP-2. 10 A PIC X COMP. 10 B SYNC. 05 C PIC X." 18 false
+    (column 0 1 Text ∷ column 1 16 Group ∷ column 0 1 Text ∷ column 8 8 (Float 64) ∷ column 17 1 Text ∷ [])
+    ∷ owned "01 R COMP-1. 05 X PIC X DISPLAY. 05 A SYNC." 3 (Owner.Slack 1)
+    -- a group is a group, whatever usage it has and whatever its picture
+    ∷ accepted "05 X COMP-2. 05 G COMP-1 PIC X. 10 A." 12 false
+    (column 0 8 (Float 64) ∷ column 8 4 Group ∷ column 0 4 (Float 32) ∷ [])
+    ∷ accepted "01 R COMP-2 PIC 9. 05 A PIC X DISPLAY." 1 false (column 0 1 Text ∷ [])
+    -- 52: a float with a picture, its usage inherited too, before all that the picture says and before 28
+    ∷ turnedDown "05 A PIC X. 05 B COMP-2 PIC S9(4)." 52 12
+    ∷ turnedDown "05 A PIC X COMP-1." 52 0
+    ∷ turnedDown "01 R COMP-1. 05 A. 05 B PIC 9." 52 19
+    ∷ turnedDown "01 R COMP-2. 05 G. 10 A PIC X." 52 19
+    ∷ turnedDown "05 A REDEFINES Z COMP-1 PIC (." 52 0
+    ∷ turnedDown "05 A REDEFINES Z COMP-1." 28 0
+    -- 21 and 52 have one place, and floats never meet 21; a bare PIC takes the picture back
+    ∷ turnedDown "05 A. 05 B COMP-1 PIC X." 21 0
+    ∷ turnedDown "05 A COMP-1 PIC X. 05 B." 52 0
+    ∷ turnedDown "01 R COMP-1. 05 A COMP." 21 13
+    ∷ accepted "05 A COMP-1 PIC X PIC." 4 false (column 0 4 (Float 32) ∷ [])
+    ∷ accepted "01 R COMP-2. 05 A PIC IS." 8 false (column 0 8 (Float 64) ∷ [])
+    -- OCCURS, also 0 and DEPENDING ON, and 29
+    ∷ accepted "05 X PIC X. 05 A COMP-2 OCCURS 3 SYNC." 32 false (column 0 1 Text ∷ column 8 8 (Float 64) ∷ [])
+    ∷ accepted "05 X PIC X. 05 A COMP-1 OCCURS 0 SYNC. 05 B PIC X." 5 false
+    (column 0 1 Text ∷ column 4 4 (Float 32) ∷ column 4 1 Text ∷ [])
+    ∷ owned "05 X PIC X. 05 A COMP-1 OCCURS 0 SYNC. 05 B PIC X." 3 (Owner.Slack 1)
+    ∷ accepted "05 N PIC 9. 05 A COMP-1 OCCURS 1 TO 5 DEPENDING ON N." 1 true
+    (column 0 1 (Int false SignKind.Unsigned) ∷ column 1 4 (Float 32) ∷ [])
+    ∷ turnedDown "05 X PIC X OCCURS 2147483641. 05 A COMP-2 SYNC OCCURS 0." 29 30
+    -- REDEFINES of and by floats: a redefiner is not aligned
+    ∷ accepted "05 A PIC X(3). 05 B REDEFINES A COMP-2 SYNC. 05 C PIC X." 8 false
+    (column 0 8 Group ∷ column 0 3 Text ∷ column 0 8 (Float 64) ∷ column 3 1 Text ∷ [])
+    ∷ accepted "05 X PIC X. 05 A COMP-1 SYNC. 05 B REDEFINES A PIC X(5). 05 C COMP-1." 12 false
+    (column 0 1 Text ∷ column 4 5 Group ∷ column 0 4 (Float 32) ∷ column 0 5 Text ∷ column 8 4 (Float 32) ∷ [])
+    -- cards, too; and copybooks without these words stay as they were
+    ∷ cards (accepted "000100 01 R COMP-2.\n000200     05 A." 8 false (column 0 8 (Float 64) ∷ []))
+    ∷ cards (turnedDown "000100 01 R COMP-2.\n000200     05 A PIC X." 52 31)
+    ∷ asBefore "05 COMP-1 PIC X VALUE COMP-2. 88 A COMP-1. 05 B PIC COMP-1." true
+    ∷ asBefore "05 A COMP-1." false
+    ∷ asBefore "05 A PIC 9 COMPUTATIONAL-2 COMP." false
     -- one key for a family: sets of 2 to 16 whose lengths add up, however large, before any reading
     ∷ keyed "Tag" (pair "01 FISH. 05 TAG PIC X(5). 05 WT PIC 9." "05 tag PIC XXXXX.") 0 5
     ∷ keyed "K" (copies 2 "05 A PIC X(3). 05 K PIC X(2).") 3 2
@@ -705,6 +783,9 @@ table =
     ∷ notKeyed "K" (pair "05 K PIC 99V9." "05 K PIC 9V99.") 57 0
     ∷ notKeyed "K" (pair "05 K PIC S9V9." "05 K PIC 9V9.") 57 0
     ∷ notKeyed "K" (pair "05 K PIC 9V9." "05 K PIC 9V9 COMP-3.") 57 0
+    ∷ keyed "K" (pair "05 K COMP-1." "01 R COMP-1. 05 K.") 0 4
+    ∷ notKeyed "K" (pair "05 K COMP-1." "05 K PIC X(4).") 57 0
+    ∷ notKeyed "K" (pair "05 K COMP-1." "05 K COMP-2.") 57 0
     -- an edited key by its mask and not by its place in the text
     ∷ keyed "K" (pair "05 K PIC ZZ9." "01 REC. 05 K PIC z(2)9.") 0 3
     ∷ notKeyed "K" (pair "05 K PIC ZZ9." "05 K PIC Z99.") 57 0

@@ -36,7 +36,7 @@ abbrev pub Starts : Bool → ℕ → ℕ → ℕ → Type 0
 Starts false width reached offset = offset ≡ reached
 Starts true width reached offset = (n : ℕ) × (offset ≡ reached + n) × Fewest width reached n
 
--- only an elementary SYNC binary item is aligned
+-- only an elementary SYNC binary or float item is aligned
 abbrev pub aligned : List ℕ → Statement → Forest → Bool
 aligned text s leaf = isAligned text s
 aligned text s (item t kids later) = false
@@ -144,7 +144,8 @@ ownerOn form text work q = called form (λ t. byteOwner t work q) text work
 -- text is what the reader sees, f are the fields of the record, es the entries of its listing, and the byte owner
 -- answers with `owner`
 pub record Demand (text : List ℕ) (owner : ℕ → Answer Owner) (f : Forest) (es : Entries) : Type 0 where
-  -- the listing tells the items; slack is the fewest bytes, and stands only before an elementary SYNC binary item, one with OCCURS 0 included
+  -- the listing tells the items; slack is the fewest bytes, and stands only before an elementary SYNC binary or float
+  -- item, one with OCCURS 0 included
   pub items : Tells text 0 f es
   -- the record is, in copybook order, one piece for each occurrence of each elementary item, where the listing says, and that slack,
   pub in-order : spots 0 (pieces text f) ≡ told 0 0 0 es

@@ -38,7 +38,7 @@ pub record Latest (has : Entry → Bool) (seen : List Entry) (t : Entry) : Type 
   pub none-since : NoneHas has since
 
 -- the item's own reasons are r and the slack, if any: with it the item stands where it does, and it is the fewest bytes
--- that align an elementary SYNC binary item; no other item has any
+-- that align an elementary SYNC binary or float item; no other item has any
 pub record Turn (text : List ℕ) (s : Statement) (kids : Forest) (seen : List Entry) (e : Entry)
     (r : Reason) : Type 0 where
   pub reasons : own text seen e ≡ r ∷ slackOf (e .slack)

@@ -58,6 +58,7 @@ isGroup (FieldKind.Binary signed) = false
 isGroup (FieldKind.Decimal precision scale repr sign) = false
 isGroup (FieldKind.Edited precision scale signed) = false
 isGroup FieldKind.Group = true
+isGroup (FieldKind.Float bits) = false
 
 -- an entry may be a key: without OCCURS or REDEFINES, with no DEPENDING ON before it, and no group
 abbrev pub mayBeKey : Named → Bool
@@ -78,6 +79,7 @@ keyMask text (FieldKind.Decimal precision scale repr sign) w = []
 keyMask text (FieldKind.Edited precision scale signed) w =
     maskAnswered (pictureMask Usage.Display (part text w) longestMask)
 keyMask text FieldKind.Group w = []
+keyMask text (FieldKind.Float bits) w = []
 
 -- what all copybooks of a set must agree in
 pub record Key : Type 0 where

@@ -44,6 +44,7 @@ kindByte (FieldKind.Binary signed) = 3
 kindByte (FieldKind.Decimal precision scale repr sign) = 4
 kindByte (FieldKind.Edited precision scale signed) = 5
 kindByte FieldKind.Group = 6
+kindByte (FieldKind.Float bits) = 7
 
 -- how many entries a list has, not counting those below them
 abbrev pub members# : Entries → ℕ
@@ -58,6 +59,7 @@ details (FieldKind.Binary signed) pic n = flag signed ∷ []
 details (FieldKind.Decimal precision scale repr sign) pic n = precision ∷ scale ∷ storageByte repr ∷ signByte sign ∷ []
 details (FieldKind.Edited precision scale signed) pic n = precision ∷ scale ∷ flag signed ∷ spanBytes pic
 details FieldKind.Group pic n = le4 n
+details (FieldKind.Float bits) pic n = bits ∷ []
 
 -- an entry with n members: name start and length; offset; width; occurs; DEPENDING ON name and REDEFINES name, start and length; details
 unfoldable pub entryBytes : Entry → ℕ → List ℕ

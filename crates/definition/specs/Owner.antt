@@ -1,6 +1,6 @@
--- The owner rule: which piece of a record each byte belongs to. It uses the kept statements and the widths of their pictures, and no offset.
--- A sibling list is laid from place 0, item by item in copybook order. An elementary SYNC binary item first lays slack: the smallest number of
--- bytes, 0 included, that brings the place to a multiple of its width. Then each item is laid count times: an elementary item as one piece of
+-- The owner rule: which piece of a record each byte belongs to. It uses the kept statements and the widths of elementary items, and no offset.
+-- A sibling list is laid from place 0, item by item in copybook order. An elementary SYNC binary or float item first lays slack: the smallest
+-- number of bytes, 0 included, that brings the place to a multiple of its width. Then each item is laid count times: an elementary item as one piece of
 -- its width, a group as its whole list, slack and all. With OCCURS 0 no piece is laid, but the slack stays.
 -- Assumes nothing.
 use Prim.Native.Nat.{ℕ, zero, suc, _+_, _-_}
@@ -14,7 +14,7 @@ use Rattle.definition.specs.declared.Statement.{Statement}
 use Rattle.definition.specs.declared.Owner.{Owner}
 use Rattle.definition.specs.Basic.{if_then_else_, given, fewest, Answer, refuse, give}
 use Rattle.definition.specs.Tree.{Forest, leaf, item}
-use Rattle.definition.specs.Picture.{pictured, isBinary}
+use Rattle.definition.specs.Picture.{pictured, isAlignable}
 use Rattle.definition.specs.Fold.{times}
 use Rattle.definition.specs.Layout.{elementary}
 
@@ -50,7 +50,7 @@ abbrev pub size : Forest → ℕ
 size leaf = 0
 size (item s kids later) = suc (size kids + size later)
 
--- kind and width by the picture; an accepted copybook has a picture at each elementary item
+-- kind and width of an elementary item; none is refused in an accepted copybook
 abbrev pub orNone : Answer Pictured → Pictured
 orNone (refuse r) = pictured FieldKind.Text 0
 orNone (give c) = c
@@ -58,11 +58,11 @@ orNone (give c) = c
 abbrev pub storage : List ℕ → Statement → Pictured
 storage text s = orNone (elementary text s)
 
--- an elementary item with SYNC whose picture and usage make it binary
+-- an elementary item with SYNC whose picture and usage make it binary, or whose usage makes it a float
 abbrev pub isAligned : List ℕ → Statement → Bool
-isAligned text s = s .clauses .sync && isBinary (storage text s .kind)
+isAligned text s = s .clauses .sync && isAlignable (storage text s .kind)
 
--- the slack before an item whose entry has number k: an elementary SYNC binary item lays it
+-- the slack before an item whose entry has number k: an elementary SYNC binary or float item lays it
 abbrev pub slackBefore : List ℕ → ℕ → ℕ → Statement → Forest → List Piece
 slackBefore text k place s (item t kids later) = []
 slackBefore text k place s leaf = if isAligned text s then piece (slack k) (fewest (storage text s .width) place) ∷ [] else []

@@ -129,13 +129,15 @@ mask l = without "SV" l
 abbrev pub pictured : FieldKind → ℕ → Pictured
 pictured k w = record { kind = k; width = w }
 
-abbrev pub isBinary : FieldKind → Bool
-isBinary FieldKind.Text = false
-isBinary (FieldKind.Int signed sign) = false
-isBinary (FieldKind.Binary signed) = true
-isBinary (FieldKind.Decimal precision scale repr sign) = false
-isBinary (FieldKind.Edited precision scale signed) = false
-isBinary FieldKind.Group = false
+-- SYNC aligns binary and float items
+abbrev pub isAlignable : FieldKind → Bool
+isAlignable FieldKind.Text = false
+isAlignable (FieldKind.Int signed sign) = false
+isAlignable (FieldKind.Binary signed) = true
+isAlignable (FieldKind.Decimal precision scale repr sign) = false
+isAlignable (FieldKind.Edited precision scale signed) = false
+isAlignable FieldKind.Group = false
+isAlignable (FieldKind.Float bits) = true
 
 abbrev pub isDisplay : Usage → Bool
 isDisplay Usage.Display = true

@@ -13,6 +13,7 @@ use mathlib.Core.Option.{Option, none, some}
 use lib.Dec.{eqb, leb}
 use Rattle.definition.specs.declared.Span.{Span}
 use Rattle.definition.specs.declared.Usage.{Usage}
+use Rattle.definition.specs.declared.ItemUsage.{ItemUsage}
 use Rattle.definition.specs.declared.UsageClause.{UsageClause}
 use Rattle.definition.specs.declared.SignKind.{SignKind}
 use Rattle.definition.specs.declared.SignClause.{SignClause}
@@ -60,6 +61,10 @@ spellings =
     ∷ spelt "COMP-5" Keyword.Comp
     ∷ spelt "COMPUTATIONAL-5" Keyword.Comp
     ∷ spelt "BINARY" Keyword.Comp
+    ∷ spelt "COMP-1" Keyword.Comp1
+    ∷ spelt "COMPUTATIONAL-1" Keyword.Comp1
+    ∷ spelt "COMP-2" Keyword.Comp2
+    ∷ spelt "COMPUTATIONAL-2" Keyword.Comp2
     ∷ spelt "SIGN" Keyword.Sign
     ∷ spelt "SYNC" Keyword.Sync
     ∷ spelt "SYNCHRONIZED" Keyword.Sync
@@ -90,7 +95,7 @@ noClauses = clausesOf absent UsageClause.Absent SignWords.Absent false Occurs.On
 abbrev pub withPicture : Span → Clauses → Clauses
 withPicture v c = clausesOf v (c .usage) (c .sign) (c .sync) (c .occurs) (c .depending) (c .redefines)
 
-abbrev pub withUsage : Usage → Clauses → Clauses
+abbrev pub withUsage : ItemUsage → Clauses → Clauses
 withUsage v c = clausesOf (c .picture) (UsageClause.Given v) (c .sign) (c .sync) (c .occurs) (c .depending) (c .redefines)
 
 abbrev pub withSign : SignWords → Clauses → Clauses
@@ -121,9 +126,11 @@ begin Keyword.Picture c = Go IsPicture (withPicture absent c)
 begin Keyword.Redefines c = Go Target (withRedefines absent c)
 begin Keyword.Occurs c = Go ACount c
 begin Keyword.Usage c = Go UsageIs c
-begin Keyword.Display c = Go Clause (withUsage Usage.Display c)
-begin Keyword.Comp3 c = Go Clause (withUsage Usage.Comp3 c)
-begin Keyword.Comp c = Go Clause (withUsage Usage.Comp c)
+begin Keyword.Display c = Go Clause (withUsage (ItemUsage.Picture Usage.Display) c)
+begin Keyword.Comp3 c = Go Clause (withUsage (ItemUsage.Picture Usage.Comp3) c)
+begin Keyword.Comp c = Go Clause (withUsage (ItemUsage.Picture Usage.Comp) c)
+begin Keyword.Comp1 c = Go Clause (withUsage ItemUsage.Comp1 c)
+begin Keyword.Comp2 c = Go Clause (withUsage ItemUsage.Comp2 c)
 begin Keyword.Sign c = Go SignIs (withSign (SignWords.Said false false) c)
 begin Keyword.Sync c = Go Side (withSync true c)
 begin Keyword.Value c = Go Nothing c
@@ -208,16 +215,20 @@ signOf (SignWords.Said true false) = SignClause.Given SignKind.Embedded
 signOf (SignWords.Said false false) = SignClause.Given SignKind.Embedded
 
 -- the usage that holds for a statement where `outer` holds around it: its own, else the outer one
-abbrev pub usageOf : Usage → UsageClause → Usage
+abbrev pub usageOf : ItemUsage → UsageClause → ItemUsage
 usageOf outer UsageClause.Absent = outer
 usageOf outer (UsageClause.Given u) = u
+
+-- around the record DISPLAY holds
+abbrev pub outermost : ItemUsage
+outermost = ItemUsage.Picture Usage.Display
 
 -- ---------------------------------------------------------------- statements
 
 -- a statement by itself, where DISPLAY holds around it; `Usages` has what its groups name
 abbrev pub statementOf : ℕ → ℕ → Span → Clauses → Statement
 statementOf level at name c =
-    record { level = level; at = at; name = name; clauses = c; usage = usageOf Usage.Display (c .usage) }
+    record { level = level; at = at; name = name; clauses = c; usage = usageOf outermost (c .usage) }
 
 -- the words after the level: a name, or none, and clauses
 unfoldable pub named : List ℕ → ℕ → ℕ → List Span → Answer Statement

@@ -7,7 +7,7 @@ use mathlib.Core.Bool.{Bool, true, false}
 use mathlib.Core.List.{List, [], _∷_, _++_}
 use lib.Dec.{ltb}
 use lib.ListN.{length}
-use Rattle.definition.specs.declared.Usage.{Usage}
+use Rattle.definition.specs.declared.ItemUsage.{ItemUsage}
 use Rattle.definition.specs.declared.Statement.{Statement}
 use Rattle.definition.specs.Basic.{if_then_else_}
 
@@ -43,9 +43,9 @@ higher n (s ∷ ss) = if ltb n (s .level) then suc (higher n ss) else 0
 pub record Open : Type 0 where
   pub level : ℕ
   pub number : ℕ
-  pub usage : Usage
+  pub usage : ItemUsage
 
-abbrev pub opened : ℕ → ℕ → Usage → Open
+abbrev pub opened : ℕ → ℕ → ItemUsage → Open
 opened level number usage = record { level = level; number = number; usage = usage }
 
 -- the open statements whose level is smaller than n, the innermost first

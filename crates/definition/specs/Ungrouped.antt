@@ -1,14 +1,16 @@
--- The entries as they were while DISPLAY named no usage and each statement had its own usage alone, as in the Rust; and
--- the test on a copybook under which they are those of `Calls` (`UngroupedLaws`, of the proofs, says so): no group
--- names a usage, and no DISPLAY stands after another usage word.
+-- The entries as they were while neither DISPLAY nor the words of floats named a usage and each statement had its own
+-- usage alone, as in the Rust; and the test on a copybook under which they are those of `Calls` (`UngroupedLaws`, of the
+-- proofs, says so): no group names a usage, no DISPLAY stands after another usage word, and no word names a float.
 -- Assumes nothing.
 use Prim.Native.Nat.{ℕ, suc}
+use Prim.Native.String.{String}
 use mathlib.Core.Bool.{Bool, true, false, _&&_, _||_, not}
 use mathlib.Core.List.{List, [], _∷_}
 use mathlib.Core.Option.{Option, none, some}
 use lib.Dec.{eqb, leb}
 use Rattle.definition.specs.declared.Span.{Span}
 use Rattle.definition.specs.declared.Usage.{Usage}
+use Rattle.definition.specs.declared.ItemUsage.{ItemUsage}
 use Rattle.definition.specs.declared.UsageClause.{UsageClause}
 use Rattle.definition.specs.declared.Clauses.{Clauses}
 use Rattle.definition.specs.declared.Expect.{Expect}
@@ -27,15 +29,24 @@ use Rattle.definition.specs.Calls.{entryChecks, literalCheck, keptStatem
 
 -- ---------------------------------------------------------------- the reading as it was
 
--- a word in upper case as it was seen: DISPLAY was none that says something, as the empty word is none
-abbrev pub undisplayed : List ℕ → List ℕ
-undisplayed u = if key "DISPLAY" u then [] else u
+-- a word in upper case is one of these
+abbrev pub isOneOf : List String → List ℕ → Bool
+isOneOf [] u = false
+isOneOf (k ∷ ks) u = key k u || isOneOf ks u
+
+-- the words that name a usage since
+abbrev pub newWords : List String
+newWords = "DISPLAY" ∷ "COMP-1" ∷ "COMPUTATIONAL-1" ∷ "COMP-2" ∷ "COMPUTATIONAL-2" ∷ []
+
+-- a word in upper case as it was seen: one of those was none that says something, as the empty word is none
+abbrev pub asSeen : List ℕ → List ℕ
+asSeen u = if isOneOf newWords u then [] else u
 
 -- the clauses of the words of a statement
 unfoldable pub clausesAlone : List ℕ → ℕ → Expect → Clauses → List Span → Answer Clauses
 clausesAlone text at e c [] = finish at e c
 clausesAlone text at e c (w ∷ ws) =
-    elim (step e w (undisplayed (uppers (part text w))) c) [
+    elim (step e w (asSeen (uppers (part text w))) c) [
       | Go e′ c′ ↦ clausesAlone text at e′ c′ ws
       | Fail n ↦ refused n at
     ]
@@ -80,16 +91,29 @@ entriesAlone text work = do
 -- a usage other than DISPLAY is named
 abbrev pub isOther : UsageClause → Bool
 isOther UsageClause.Absent = false
-isOther (UsageClause.Given Usage.Display) = false
-isOther (UsageClause.Given Usage.Comp3) = true
-isOther (UsageClause.Given Usage.Comp) = true
+isOther (UsageClause.Given (ItemUsage.Picture Usage.Display)) = false
+isOther (UsageClause.Given (ItemUsage.Picture Usage.Comp3)) = true
+isOther (UsageClause.Given (ItemUsage.Picture Usage.Comp)) = true
+isOther (UsageClause.Given ItemUsage.Comp1) = true
+isOther (UsageClause.Given ItemUsage.Comp2) = true
 
--- no word takes another usage back, as DISPLAY does where a clause may begin
+-- a float is named
+abbrev pub isFloat : UsageClause → Bool
+isFloat UsageClause.Absent = false
+isFloat (UsageClause.Given (ItemUsage.Picture u)) = false
+isFloat (UsageClause.Given ItemUsage.Comp1) = true
+isFloat (UsageClause.Given ItemUsage.Comp2) = true
+
+-- after a usage another is said, or none: no float is named, and no other usage than DISPLAY is taken back
+abbrev pub lasts : UsageClause → UsageClause → Bool
+lasts u v = not (isFloat v) && (not (isOther u) || isOther v)
+
+-- so word by word: DISPLAY and the words of floats may say more where a clause may begin
 unfoldable pub lasting : List ℕ → Expect → Clauses → List Span → Bool
 lasting text e c [] = true
 lasting text e c (w ∷ ws) =
     elim (step e w (uppers (part text w)) c) [
-      | Go e′ c′ ↦ (not (isOther (c .usage)) || isOther (c′ .usage)) && lasting text e′ c′ ws
+      | Go e′ c′ ↦ lasts (c .usage) (c′ .usage) && lasting text e′ c′ ws
       | Fail n ↦ true
     ]
 

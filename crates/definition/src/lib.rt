@@ -71,16 +71,24 @@ pub enum Token {
     Open(usize),
 }
 
+// The usage that a picture is read with.
 pub enum Usage {
     Display,
     Comp3,
     Comp,
 }
 
-// What a statement says of the usage: nothing, or one of the three.
+// The usage of an item: one that its picture is read with, or that of a float, which has no picture.
+pub enum ItemUsage {
+    Picture(Usage),
+    Comp1,
+    Comp2,
+}
+
+// What a statement says of the usage: nothing, or one of the five.
 pub enum UsageClause {
     Absent,
-    Given(Usage),
+    Given(ItemUsage),
 }
 
 pub enum SignKind {
@@ -129,6 +137,9 @@ pub enum FieldKind {
         signed: bool,
     },
     Group,
+    Float {
+        bits: u8,
+    },
 }
 
 // What an item holds, and the bytes of one occurrence.
@@ -163,6 +174,8 @@ pub enum Keyword {
     Display,
     Comp3,
     Comp,
+    Comp1,
+    Comp2,
     Sign,
     Sync,
     Value,
@@ -204,7 +217,7 @@ pub struct Statement {
     pub at: usize,
     pub name: Span,
     pub clauses: Clauses,
-    pub usage: Usage,
+    pub usage: ItemUsage,
 }
 
 // An entry of the listing. `at` and `level` are its statement's; `over` is its REDEFINES as the statement has it, which

@@ -73,9 +73,9 @@ module _ (lengths : List ℕ) (i : ℕ) (h : i < length lengths) where
   copybooks-next at texts =
       ap (λ (l : List ℕ). copybooks l (drop at texts)) (drop-next lengths i h)
       ∙ ap
-        (λ (bs : List ℕ).
-        take (getD lengths i 0) (drop at texts) ∷ copybooks (drop (i + 1) lengths) bs)
-        (drop-drop (getD lengths i 0) at texts)
+      (λ (bs : List ℕ).
+      take (getD lengths i 0) (drop at texts) ∷ copybooks (drop (i + 1) lengths) bs)
+      (drop-drop (getD lengths i 0) at texts)
 
 sum-none : (lengths : List ℕ) (i : ℕ) → length lengths ≤ i → sum (drop i lengths) ≡ 0
 unfolding sum
@@ -141,8 +141,8 @@ module _ {texts lengths : List ℕ} {n : ℕ} {name : List ℕ} {first : Sought}
       sym
       (inv .same
       ∙ ap
-        (allAgreed n name (foundKey (take (getD lengths 0 0) texts) first) agreed)
-        (copybooks-none lengths (drop at texts) i h))
+      (allAgreed n name (foundKey (take (getD lengths 0 0) texts) first) agreed)
+      (copybooks-none lengths (drop at texts) i h))
 
   module _ (h : i < length lengths) where
     pub next-fits : at + getD lengths i 0 ≤ length texts
@@ -162,22 +162,22 @@ module _ {texts lengths : List ℕ} {n : ℕ} {name : List ℕ} {first : Sought}
     goes-on =
         inv .same
         ∙ ap
-          (allAgreed n name (foundKey (take (getD lengths 0 0) texts) first) agreed)
-          (copybooks-next lengths i h at texts)
+        (allAgreed n name (foundKey (take (getD lengths 0 0) texts) first) agreed)
+        (copybooks-next lengths i h at texts)
         ∙ ap
-          (λ (e : ℕ).
-          nextAgrees n name (foundKey (take e texts) first) agreed (take (getD lengths i 0) (drop at texts))
-          >>= λ so.
-          allAgreed n name (foundKey (take (getD lengths 0 0) texts) first) so
-          (copybooks (drop (i + 1) lengths) (drop (at + getD lengths i 0) texts)))
-          (sym (inv .ends))
+        (λ (e : ℕ).
+        nextAgrees n name (foundKey (take e texts) first) agreed (take (getD lengths i 0) (drop at texts))
+        >>= λ so.
+        allAgreed n name (foundKey (take (getD lengths 0 0) texts) first) so
+        (copybooks (drop (i + 1) lengths) (drop (at + getD lengths i 0) texts)))
+        (sym (inv .ends))
         ∙ ap
-          (λ (m : ℕ).
-          nextAgrees n name (foundKey (take end texts) first) agreed (take m (drop at texts))
-          >>= λ so.
-          allAgreed n name (foundKey (take (getD lengths 0 0) texts) first) so
-          (copybooks (drop (i + 1) lengths) (drop (at + getD lengths i 0) texts)))
-          (let e : getD lengths i 0 ≡ at + getD lengths i 0 - at = omega arith in e)
+        (λ (m : ℕ).
+        nextAgrees n name (foundKey (take end texts) first) agreed (take m (drop at texts))
+        >>= λ so.
+        allAgreed n name (foundKey (take (getD lengths 0 0) texts) first) so
+        (copybooks (drop (i + 1) lengths) (drop (at + getD lengths i 0) texts)))
+        (let e : getD lengths i 0 ≡ at + getD lengths i 0 - at = omega arith in e)
 
     module _ (x : Agreed)
         (q : agreedOf x
@@ -190,10 +190,10 @@ module _ {texts lengths : List ℕ} {n : ℕ} {name : List ℕ} {first : Sought}
       asked =
           q
           ∙ ap
-            (λ (m : ℕ).
-            nextAgrees m name (foundKey (take end texts) first) agreed
-            (take (at + getD lengths i 0 - at) (drop at texts)))
-            (inv .kept)
+          (λ (m : ℕ).
+          nextAgrees m name (foundKey (take end texts) first) agreed
+          (take (at + getD lengths i 0 - at) (drop at texts)))
+          (inv .kept)
 
       pub agreeing-on :
           {so : Bool} →
@@ -211,11 +211,11 @@ module _ {texts lengths : List ℕ} {n : ℕ} {name : List ℕ} {first : Sought}
             same =
                 goes-on
                 ∙ ap
-                  (λ (y : Answer Bool).
-                  y >>= λ so.
-                  allAgreed n name (foundKey (take (getD lengths 0 0) texts) first) so
-                  (copybooks (drop (i + 1) lengths) (drop (at + getD lengths i 0) texts)))
-                  (sym asked ∙ ap agreedOf e);
+                (λ (y : Answer Bool).
+                y >>= λ so.
+                allAgreed n name (foundKey (take (getD lengths 0 0) texts) first) so
+                (copybooks (drop (i + 1) lengths) (drop (at + getD lengths i 0) texts)))
+                (sym asked ∙ ap agreedOf e);
           }
 
       pub agreeing-refused :
@@ -225,11 +225,11 @@ module _ {texts lengths : List ℕ} {n : ℕ} {name : List ℕ} {first : Sought}
           sym
           (goes-on
           ∙ ap
-            (λ (y : Answer Bool).
-            y >>= λ so.
-            allAgreed n name (foundKey (take (getD lengths 0 0) texts) first) so
-            (copybooks (drop (i + 1) lengths) (drop (at + getD lengths i 0) texts)))
-            (sym asked ∙ ap agreedOf e))
+          (λ (y : Answer Bool).
+          y >>= λ so.
+          allAgreed n name (foundKey (take (getD lengths 0 0) texts) first) so
+          (copybooks (drop (i + 1) lengths) (drop (at + getD lengths i 0) texts)))
+          (sym asked ∙ ap agreedOf e))
 
 -- ---------------------------------------------------------------- lengths added up
 
@@ -364,9 +364,9 @@ module _ (n : ℕ) (name : List ℕ) where
         sym
         (split
         ∙ ap
-          (λ (x : Answer (Option Key)).
-          (x >>= λ k. keysIn n name others >>= λ ks. give (k ∷ ks)) >>= λ ks. placeOf ks)
-          e)
+        (λ (x : Answer (Option Key)).
+        (x >>= λ k. keysIn n name others >>= λ ks. give (k ∷ ks)) >>= λ ks. placeOf ks)
+        e)
 
     module _ (s : Sought) (e : keyIn n name first-text ≡ give (foundKey first-text s)) where
       after-first :
@@ -376,9 +376,9 @@ module _ (n : ℕ) (name : List ℕ) where
       after-first =
           split
           ∙ ap
-            (λ (x : Answer (Option Key)).
-            (x >>= λ k. keysIn n name others >>= λ ks. give (k ∷ ks)) >>= λ ks. placeOf ks)
-            e
+          (λ (x : Answer (Option Key)).
+          (x >>= λ k. keysIn n name others >>= λ ks. give (k ∷ ks)) >>= λ ks. placeOf ks)
+          e
 
       later-all :
           laterOf n name s lengths texts
@@ -433,12 +433,12 @@ module _ (texts lengths name : List ℕ) (n : ℕ) {r : Bool} (e : r ≡ isSet l
   set-key y z p =
       p
       ∙ sym
-        (ap
-        (λ (b : Bool).
-        refuseIf (not b) 56 0 >>= λ _.
-        keysIn n name (copybooks lengths texts) >>= λ ks.
-        orRefuse 57 0 (common ks) >>= λ k. give (k .offset, k .width))
-        (sym e ∙ y))
+      (ap
+      (λ (b : Bool).
+      refuseIf (not b) 56 0 >>= λ _.
+      keysIn n name (copybooks lengths texts) >>= λ ks.
+      orRefuse 57 0 (common ks) >>= λ k. give (k .offset, k .width))
+      (sym e ∙ y))
 
   pub no-set : r ≡ false → refused 56 0 ≡ setKey texts lengths name n
   unfolding setKey _>>=_

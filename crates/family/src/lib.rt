@@ -34,13 +34,7 @@ pub enum KeyRead {
 }
 
 // The key in the record that was read into n rows, with a table for its entries.
-fn key_in(
-    text: &[u8],
-    work: &mut [u32],
-    n: usize,
-    entries: &mut [u32],
-    name: &[u8],
-) -> KeyRead
+fn key_in(text: &[u8], work: &mut [u32], n: usize, entries: &mut [u32], name: &[u8]) -> KeyRead
     requires { ⌜ Read (now text) (now work) n × Roomy (now entries) n ⌝ }
     ensures { λ r. ⌜ readKey (now (text .entry)) r
         ≡ keyIn (length (now (work .entry))) (now (name .entry)) (now (text .entry)) ⌝ }
@@ -109,12 +103,7 @@ fn next_agrees(
     match key_of(&texts[at..end], work, name) {
         KeyRead::Read(found) => {
             if agreed {
-                return Agreed::So(key::agree_in(
-                    &texts[0..head],
-                    first,
-                    &texts[at..end],
-                    found,
-                ));
+                return Agreed::So(key::agree_in(&texts[0..head], first, &texts[at..end], found));
             }
             return Agreed::So(false);
         }

@@ -83,13 +83,13 @@ module _ (text name : List ℕ) where
       ((flatIn (d + 1 + 1) ms ++ flatIn (d + 1) later) ++ l))
       deep
       ∙ ap
-        (soughtIn text name (v || given (e .depending)) s)
-        (append-assoc (flatIn (d + 1 + 1) ms) (flatIn (d + 1) later) l)
+      (soughtIn text name (v || given (e .depending)) s)
+      (append-assoc (flatIn (d + 1 + 1) ms) (flatIn (d + 1) later) l)
       ∙ below-top ms (d + 1) (v || given (e .depending)) s (flatIn (d + 1) later ++ l)
       ∙ below-top later d ((v || given (e .depending)) || variable ms) s l
       ∙ ap
-        (λ (b : Bool). soughtIn text name b s l)
-        (or-assoc v (given (e .depending)) (variable ms) (variable later))
+      (λ (b : Bool). soughtIn text name b s l)
+      (or-assoc v (given (e .depending)) (variable ms) (variable later))
 
   -- the search over the listing meets the entries of the name at the top
   at-top :
@@ -102,10 +102,10 @@ module _ (text name : List ℕ) where
       (if isNamed text name e then met s (named e v) else s)
       (flatIn 0 later)
       ∙ at-top later ((v || given (e .depending)) || variable ms)
-        (if isNamed text name e then met s (named e v) else s)
+      (if isNamed text name e then met s (named e v) else s)
       ∙ ap
-        (λ (b : Bool). metAll (if isNamed text name e then met s (named e v) else s) (namedIn text name b later))
-        (or-once v (given (e .depending)) (variable ms))
+      (λ (b : Bool). metAll (if isNamed text name e then met s (named e v) else s) (namedIn text name b later))
+      (or-once v (given (e .depending)) (variable ms))
       ∙ by-test (isNamed text name e)
     where
       by-test :

@@ -248,6 +248,7 @@ fn key_mask(text: &[u8], kind: FieldKind, picture: Span, out: &mut [u8]) -> usiz
             signed,
         } => edited_mask(text, picture, out),
         FieldKind::Group => 0,
+        FieldKind::Float { bits } => 0,
     }
 }
 

@@ -29,6 +29,10 @@ fn with_c(word: &[u8]) -> Keyword
     let k = pick(word, b"COMPUTATIONAL-4", Keyword::Comp, k);
     let k = pick(word, b"COMP-5", Keyword::Comp, k);
     let k = pick(word, b"COMPUTATIONAL-5", Keyword::Comp, k);
+    let k = pick(word, b"COMP-1", Keyword::Comp1, k);
+    let k = pick(word, b"COMPUTATIONAL-1", Keyword::Comp1, k);
+    let k = pick(word, b"COMP-2", Keyword::Comp2, k);
+    let k = pick(word, b"COMPUTATIONAL-2", Keyword::Comp2, k);
     k
 }
 

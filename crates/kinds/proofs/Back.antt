@@ -9,12 +9,13 @@ use Rattle.definition.specs.declared.SignKind.{SignKind}
 use Rattle.definition.specs.declared.NumRepr.{NumRepr}
 use Rattle.definition.specs.declared.FieldKind.{FieldKind}
 use Rattle.definition.specs.declared.Usage.{Usage}
+use Rattle.definition.specs.declared.ItemUsage.{ItemUsage}
 use Rattle.definition.specs.declared.UsageClause.{UsageClause}
 use Rattle.definition.specs.declared.SignWords.{SignWords}
 use Rattle.definition.specs.Listing.{flag, signByte, storageByte}
 use Rattle.kinds.specs.declared.KindNumbers.{KindNumbers}
 use Rattle.kinds.specs.Kinds.{signAt, storageAt, kindNumbers, numbersOf, kindOf, packed, unpacked, kindCode, kindAt, Bytes}
-use Rattle.kinds.specs.Usages.{usageByte, usageAt, usageCode, usageClauseAt, signCode, signWordsAt}
+use Rattle.kinds.specs.Usages.{itemUsageByte, itemUsageAt, usageCode, usageClauseAt, signCode, signWordsAt}
 
 pub flag-back : (b : Bool) → eqb (flag b) 1 ≡ b
 flag-back true = refl
@@ -70,6 +71,8 @@ numbers-few (FieldKind.Edited p s b) h =
     record { kind = omega arith; signed = flag-few b; sign = omega arith; storage = omega arith; precision = h .0; scale = h .1 }
 numbers-few FieldKind.Group h =
     record { kind = omega arith; signed = omega arith; sign = omega arith; storage = omega arith; precision = omega arith; scale = omega arith }
+numbers-few (FieldKind.Float bits) h =
+    record { kind = omega arith; signed = omega arith; sign = omega arith; storage = omega arith; precision = h; scale = omega arith }
 
 -- six numbers in one are read back
 unpacked-back : (n : KindNumbers) → Few n → unpacked (packed n) ≡ n
@@ -95,28 +98,35 @@ numbers-back (FieldKind.Binary b) = ap FieldKind.Binary (flag-back b)
 numbers-back (FieldKind.Decimal p s r g) = ap₂ (FieldKind.Decimal p s) (storage-back r) (sign-back g)
 numbers-back (FieldKind.Edited p s b) = ap (FieldKind.Edited p s) (flag-back b)
 numbers-back FieldKind.Group = refl
+numbers-back (FieldKind.Float bits) = refl
 
--- a kind whose precision and scale are bytes is read back from its number
+-- a kind whose precision, scale and bits are bytes is read back from its number
 pub kind-back : (k : FieldKind) → Bytes k → kindAt (kindCode k) ≡ k
 kind-back k h = ap kindOf (unpacked-back (numbersOf k) (numbers-few k h)) ∙ numbers-back k
 
 -- ---------------------------------------------------------------- clauses
 
-pub usage-back : (u : Usage) → usageAt (usageByte u) ≡ u
-usage-back Usage.Display = refl
-usage-back Usage.Comp3 = refl
-usage-back Usage.Comp = refl
+pub usage-back : (u : ItemUsage) → itemUsageAt (itemUsageByte u) ≡ u
+usage-back (ItemUsage.Picture Usage.Display) = refl
+usage-back (ItemUsage.Picture Usage.Comp3) = refl
+usage-back (ItemUsage.Picture Usage.Comp) = refl
+usage-back ItemUsage.Comp1 = refl
+usage-back ItemUsage.Comp2 = refl
 
-pub usage-few : (u : Usage) → usageByte u < 7
-usage-few Usage.Display = omega arith
-usage-few Usage.Comp3 = omega arith
-usage-few Usage.Comp = omega arith
+pub usage-few : (u : ItemUsage) → itemUsageByte u < 7
+usage-few (ItemUsage.Picture Usage.Display) = omega arith
+usage-few (ItemUsage.Picture Usage.Comp3) = omega arith
+usage-few (ItemUsage.Picture Usage.Comp) = omega arith
+usage-few ItemUsage.Comp1 = omega arith
+usage-few ItemUsage.Comp2 = omega arith
 
 pub usage-clause-back : (u : UsageClause) → usageClauseAt (usageCode u) ≡ u
 usage-clause-back UsageClause.Absent = refl
-usage-clause-back (UsageClause.Given Usage.Display) = refl
-usage-clause-back (UsageClause.Given Usage.Comp3) = refl
-usage-clause-back (UsageClause.Given Usage.Comp) = refl
+usage-clause-back (UsageClause.Given (ItemUsage.Picture Usage.Display)) = refl
+usage-clause-back (UsageClause.Given (ItemUsage.Picture Usage.Comp3)) = refl
+usage-clause-back (UsageClause.Given (ItemUsage.Picture Usage.Comp)) = refl
+usage-clause-back (UsageClause.Given ItemUsage.Comp1) = refl
+usage-clause-back (UsageClause.Given ItemUsage.Comp2) = refl
 
 pub usage-clause-few : (u : UsageClause) → usageCode u < 8
 usage-clause-few UsageClause.Absent = omega arith

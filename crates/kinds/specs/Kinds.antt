@@ -28,7 +28,7 @@ abbrev pub kindNumbers : ℕ → ℕ → ℕ → ℕ → ℕ → ℕ → KindNum
 kindNumbers kind signed sign precision scale storage =
     record { kind = kind; signed = signed; sign = sign; precision = precision; scale = scale; storage = storage }
 
--- the numbers of a kind, each 0 where it has none
+-- the numbers of a kind, each 0 where it has none; a float's precision is its bits
 abbrev pub numbersOf : FieldKind → KindNumbers
 numbersOf FieldKind.Text = kindNumbers 1 0 0 0 0 0
 numbersOf (FieldKind.Int signed sign) = kindNumbers 2 (flag signed) (signByte sign) 0 0 0
@@ -36,6 +36,7 @@ numbersOf (FieldKind.Binary signed) = kindNumbers 3 (flag signed) 0 0 0 0
 numbersOf (FieldKind.Decimal precision scale repr sign) = kindNumbers 4 0 (signByte sign) precision scale (storageByte repr)
 numbersOf (FieldKind.Edited precision scale signed) = kindNumbers 5 (flag signed) 0 precision scale 0
 numbersOf FieldKind.Group = kindNumbers 6 0 0 0 0 0
+numbersOf (FieldKind.Float bits) = kindNumbers 7 0 0 bits 0 0
 
 -- the kind of its numbers
 abbrev pub kindOf : KindNumbers → FieldKind
@@ -45,6 +46,7 @@ kindOf n =
     else if eqb (n .kind) 3 then FieldKind.Binary (eqb (n .signed) 1)
     else if eqb (n .kind) 4 then FieldKind.Decimal (n .precision) (n .scale) (storageAt (n .storage)) (signAt (n .sign))
     else if eqb (n .kind) 5 then FieldKind.Edited (n .precision) (n .scale) (eqb (n .signed) 1)
+    else if eqb (n .kind) 7 then FieldKind.Float (n .precision)
     else FieldKind.Group
 
 -- ---------------------------------------------------------------- a kind as one number
@@ -62,7 +64,7 @@ kindCode k = packed (numbersOf k)
 abbrev pub kindAt : ℕ → FieldKind
 kindAt code = kindOf (unpacked code)
 
--- a kind that its number gives back: its precision and scale are bytes
+-- a kind that its number gives back: its precision, its scale and its bits are bytes
 abbrev pub Bytes : FieldKind → Type 0
 Bytes FieldKind.Text = Unit {0}
 Bytes (FieldKind.Int signed sign) = Unit {0}
@@ -70,3 +72,4 @@ Bytes (FieldKind.Binary signed) = Unit {0}
 Bytes (FieldKind.Decimal precision scale repr sign) = (precision < 256) × (scale < 256)
 Bytes (FieldKind.Edited precision scale signed) = (precision < 256) × (scale < 256)
 Bytes FieldKind.Group = Unit {0}
+Bytes (FieldKind.Float bits) = bits < 256

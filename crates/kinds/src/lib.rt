@@ -3,10 +3,12 @@
 ghost use mathlib.Core.Path.{_≡_};
 ghost use Prim.Native.Nat.{_≤_};
 ghost use Rattle.definition.specs.Listing.{flag, signByte, storageByte, kindByte};
-ghost use Rattle.definition.specs.Picture.{isBinary};
+ghost use Rattle.definition.specs.Picture.{isAlignable};
 ghost use Rattle.kinds.specs.Kinds.{signAt, storageAt, numbersOf, kindOf, kindCode, kindAt};
-ghost use Rattle.kinds.specs.Usages.{usageByte, usageAt, usageCode, usageClauseAt, signClauseAt, signCode, signWordsAt};
+ghost use Rattle.kinds.specs.Usages.{usageByte, usageAt, itemUsageByte, itemUsageAt, usageCode, usageClauseAt};
+ghost use Rattle.kinds.specs.Usages.{signClauseAt, signCode, signWordsAt};
 use definition::FieldKind;
+use definition::ItemUsage;
 use definition::NumRepr;
 use definition::SignClause;
 use definition::SignKind;
@@ -87,7 +89,7 @@ pub fn storage_at(n: u8) -> NumRepr
 
 // ---------------------------------------------------------------- kinds
 
-// A kind's own number, and those of what it holds, each 0 where it has none.
+// A kind's own number, and those of what it holds, each 0 where it has none; a float's precision is its bits.
 pub struct KindNumbers {
     pub kind: u8,
     pub signed: u8,
@@ -159,6 +161,14 @@ pub fn numbers_of(k: FieldKind) -> KindNumbers
             scale: 0,
             storage: 0,
         },
+        FieldKind::Float { bits } => KindNumbers {
+            kind: 7,
+            signed: 0,
+            sign: 0,
+            precision: bits,
+            scale: 0,
+            storage: 0,
+        },
     }
 }
 
@@ -196,6 +206,9 @@ pub fn kind_of(n: KindNumbers) -> FieldKind
             signed: n.signed == 1,
         };
     }
+    if kind == 7 {
+        return FieldKind::Float { bits: n.precision };
+    }
     FieldKind::Group
 }
 
@@ -231,17 +244,21 @@ pub fn kind_at(code: u32) -> FieldKind
     })
 }
 
-// Whether a kind is binary.
-pub fn is_binary(k: FieldKind) -> bool
-    ensures { λ r. ⌜ r ≡ isBinary k ⌝ }
+// Whether SYNC aligns a kind, binary or a float.
+pub fn is_alignable(k: FieldKind) -> bool
+    ensures { λ r. ⌜ r ≡ isAlignable k ⌝ }
 {
-    kind_byte(k) == 3
+    let n = kind_byte(k);
+    if n == 3 {
+        return true;
+    }
+    n == 7
 }
 
 // ---------------------------------------------------------------- usages and sign clauses
 
-// The number of a usage.
-pub fn usage_byte(u: Usage) -> u8
+// The number of a picture's usage.
+fn usage_byte(u: Usage) -> u8
     ensures { λ r. ⌜ (r ≡ usageByte u) × (r ≤ 2) ⌝ }
 {
     match u {
@@ -251,7 +268,7 @@ pub fn usage_byte(u: Usage) -> u8
     }
 }
 
-// The usage of a number.
+// The usage of a picture, from its number.
 pub fn usage_at(n: u8) -> Usage
     ensures { λ r. ⌜ r ≡ usageAt n ⌝ }
 {
@@ -264,13 +281,37 @@ pub fn usage_at(n: u8) -> Usage
     Usage::Comp
 }
 
+// The number of an item's usage.
+pub fn item_usage_byte(u: ItemUsage) -> u8
+    ensures { λ r. ⌜ (r ≡ itemUsageByte u) × (r ≤ 4) ⌝ }
+{
+    match u {
+        ItemUsage::Picture(v) => usage_byte(v),
+        ItemUsage::Comp1 => 3,
+        ItemUsage::Comp2 => 4,
+    }
+}
+
+// The usage of an item, from its number.
+pub fn item_usage_at(n: u8) -> ItemUsage
+    ensures { λ r. ⌜ r ≡ itemUsageAt n ⌝ }
+{
+    if n == 3 {
+        return ItemUsage::Comp1;
+    }
+    if n == 4 {
+        return ItemUsage::Comp2;
+    }
+    ItemUsage::Picture(usage_at(n))
+}
+
 // A usage clause as a number: 0 where there is none.
 pub fn usage_code(u: UsageClause) -> u8
     ensures { λ r. ⌜ r ≡ usageCode u ⌝ }
 {
     match u {
         UsageClause::Absent => 0,
-        UsageClause::Given(v) => usage_byte(v) + 1,
+        UsageClause::Given(v) => item_usage_byte(v) + 1,
     }
 }
 
@@ -281,7 +322,7 @@ pub fn usage_clause_at(n: u8) -> UsageClause
     if n == 0 {
         return UsageClause::Absent;
     }
-    UsageClause::Given(usage_at(n - 1))
+    UsageClause::Given(item_usage_at(n - 1))
 }
 
 // The sign clause of a number: 0 where there is none.

@@ -1,4 +1,4 @@
--- Bounds of what a picture says: its width, its precision and its scale.
+-- Bounds of what an elementary item holds: its width, its precision and its scale, its bits.
 -- Assumes nothing.
 use Prim.Native.Nat.{ℕ, zero, suc, _+_, _≤_}
 use mathlib.Core.Path.{_≡_, refl, sym, ap, subst, _∙_}
@@ -9,6 +9,7 @@ use lib.Dec.{eqb, leb, ltb}
 use lib.ListN.{length, replicate, length-append, length-replicate}
 use borrow.Author.Tests.{ltb-false}
 use Rattle.definition.specs.declared.Usage.{Usage}
+use Rattle.definition.specs.declared.ItemUsage.{ItemUsage}
 use Rattle.definition.specs.declared.SignKind.{SignKind}
 use Rattle.definition.specs.declared.SignClause.{SignClause}
 use Rattle.definition.specs.declared.NumRepr.{NumRepr}
@@ -19,7 +20,7 @@ use Rattle.definition.specs.Limits.{mostBytes, mostDigits, longestMask}
 use Rattle.definition.specs.Basic.{if_then_else_, upper, give, _>>=_}
 use Rattle.definition.specs.Tree.{Forest, leaf, item}
 use Rattle.definition.specs.Picture.{expand, allDigits, storedDigits, fraction, isText, isMasked, mask, pictured, isEmbedded, signBytes, storageWidth, display, numeric, kinded, tooLong, symbols, picture}
-use Rattle.definition.specs.Layout.{content}
+use Rattle.definition.specs.Layout.{underUsage, content}
 use Rattle.definition.proofs.Answers.{through, given-same, not-refused, or-false}
 use Rattle.definition.proofs.PictureLaws.{tally-le, without-length, mask-width}
 use Rattle.kinds.specs.Kinds.{Bytes}
@@ -109,9 +110,16 @@ picture-bounded at u g bs e =
     let fits = few _ at 0 0 (omega arith) e₂ in
     subst Bounded (given-same h₁) (subst (λ (x : List ℕ). Bounded (kinded u g x)) same (kinded-bounded u g m (omega arith) n))
 
+under-bounded : (text : List ℕ) (s : Statement) (u : ItemUsage) {c : Pictured} → underUsage text s u ≡ give c → Bounded c
+under-bounded text s (ItemUsage.Picture u) e = through _ _ e λ x e₁ h₁. picture-bounded (s .at) _ _ _ h₁
+under-bounded text s ItemUsage.Comp1 e =
+    through _ _ e λ x e₁ h₁. subst Bounded (given-same h₁) (record { width = omega arith; bytes = omega arith })
+under-bounded text s ItemUsage.Comp2 e =
+    through _ _ e λ x e₁ h₁. subst Bounded (given-same h₁) (record { width = omega arith; bytes = omega arith })
+
 -- an item without children
 pub leaf-bounded : (text : List ℕ) (s : Statement) (w : ℕ) {c : Pictured} → content text s leaf w ≡ give c → Bounded c
-leaf-bounded text s w e = through _ _ e λ x e₁ h₁. picture-bounded (s .at) _ _ _ h₁
+leaf-bounded text s w e = under-bounded text s (s .usage) e
 
 -- the kind of any item
 pub content-bytes : (text : List ℕ) (s : Statement) (kids : Forest) (w : ℕ) {c : Pictured} → content text s kids w ≡ give c → Bytes (c .kind)

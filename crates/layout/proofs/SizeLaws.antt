@@ -282,6 +282,7 @@ details-few (FieldKind.Binary signed) = omega arith
 details-few (FieldKind.Decimal precision scale repr sign) = omega arith
 details-few (FieldKind.Edited precision scale signed) = omega arith
 details-few FieldKind.Group = omega arith
+details-few (FieldKind.Float bits) = omega arith
 
 pub bytes-few : (es : Entries) → length (entriesBytes es) ≤ 49 * entries# es
 bytes-few end = omega (arith, ap length bytes-none)

@@ -10,7 +10,7 @@ use Rattle.definition.specs.declared.Statement.{Statement}
 use Rattle.definition.specs.declared.Pictured.{Pictured}
 use Rattle.definition.specs.declared.Entry.{Entry}
 use Rattle.definition.specs.Basic.{if_then_else_, given, fewest, Answer, refuse, give, refuseIf, orRefuse}
-use Rattle.definition.specs.Picture.{isBinary}
+use Rattle.definition.specs.Picture.{isAlignable}
 use Rattle.definition.specs.Fold.{Place, find}
 use Rattle.rows.specs.Columns.{ROW, AT, OFFSET, BASE}
 use Rattle.rows.specs.Table.{cell}
@@ -25,7 +25,7 @@ use Rattle.layout.specs.Outcomes.{ListOutcome, stopped, ready, ItemOutco
 abbrev pub startAt : Statement → Pictured → Option ℕ → ℕ → Answer ℕ
 startAt s c found cursor =
     if given (s .clauses .redefines) then orRefuse 28 (s .at) found
-    else if s .clauses .sync && isBinary (c .kind) then give (cursor + fewest (c .width) cursor)
+    else if s .clauses .sync && isAlignable (c .kind) then give (cursor + fewest (c .width) cursor)
     else give cursor
 
 -- a start as the definition's answer

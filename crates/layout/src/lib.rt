@@ -4,10 +4,8 @@ ghost use Prim.Native.Nat.{_+_, _*_, _-_, _≤_, _<_};
 ghost use lib.ListN.{length};
 ghost use Rattle.definition.specs.Limits.{deepest, largest};
 ghost use Rattle.definition.specs.Basic.{if_then_else_, given, fewest};
-ghost use Rattle.definition.specs.Layout.{content, slackFrom};
-ghost use Rattle.definition.specs.Calls.{pictureOf, checkOf};
-ghost use Rattle.definition.specs.Statement.{signOf};
-ghost use Rattle.definition.specs.Tree.{Forest.leaf};
+ghost use Rattle.definition.specs.Layout.{slackFrom};
+ghost use Rattle.definition.specs.Calls.{checkOf};
 ghost use Rattle.redefines.specs.Targets.{offsetOf, plainAfter};
 ghost use Rattle.redefines.specs.Prints.{Printed};
 ghost use Rattle.places.specs.Places.{entriesIn, Linked, rowsForest};
@@ -22,9 +20,6 @@ use definition::FieldKind;
 use definition::PicAnswer;
 use definition::Pictured;
 use definition::Refusal;
-use definition::SignClause;
-use definition::SignKind;
-use definition::SignWords;
 use definition::Span;
 use definition::Statement;
 use limits::Ending;
@@ -73,7 +68,7 @@ fn start_of(work: &[u32], s: Statement, c: Pictured, target: usize, cursor: usiz
     }
     if clauses.sync {
         let kind = c.kind;
-        if kinds::is_binary(kind) {
+        if kinds::is_alignable(kind) {
             return Start::At(aligned(cursor, c.width));
         }
     }
@@ -103,42 +98,6 @@ fn advanced(cursor: usize, redefines: Span, end: usize) -> usize
         return cursor;
     }
     end
-}
-
-// The sign that a picture is read with.
-fn sign_of(s: SignWords) -> SignClause
-    ensures { λ r. ⌜ r ≡ signOf s ⌝ }
-{
-    match s {
-        SignWords::Absent => SignClause::Absent,
-        SignWords::Said { leading, separate } => {
-            if separate {
-                if leading {
-                    return SignClause::Given(SignKind::LeadingSeparate);
-                }
-                return SignClause::Given(SignKind::TrailingSeparate);
-            }
-            SignClause::Given(SignKind::Embedded)
-        }
-    }
-}
-
-// Kind and width of an item without children: 21 for no picture, and the picture's own refusals.
-fn elementary(text: &[u8], s: Statement) -> PicAnswer
-    ensures { λ r. ⌜ pictureOf r ≡ content (now (text .entry)) s leaf 0 ⌝ }
-{
-    let clauses = s.clauses;
-    let picture = clauses.picture;
-    if 0 < picture.len {
-        let usage = s.usage;
-        let sign = clauses.sign;
-        return picture::picture_at(names::part_of(text, picture), s.at, usage, sign_of(sign));
-    }
-    PicAnswer::Refused(Refusal {
-        number: 21,
-        position: s.at,
-        needed: 0,
-    })
 }
 
 // The cursor after an item and where the item ends, or why it is refused.
@@ -311,7 +270,7 @@ fn lay_item(
         }
     }
     let s = rows::statement_at(work, i);
-    match elementary(text, s) {
+    match contents::elementary(text, s) {
         PicAnswer::Accepted(c) => {
             return place(text, work, i, 0, last, cursor, c);
         }

@@ -72,6 +72,7 @@ details-most (FieldKind.Binary signed) = omega arith
 details-most (FieldKind.Decimal precision scale repr sign) = omega arith
 details-most (FieldKind.Edited precision scale signed) = omega arith
 details-most FieldKind.Group = omega arith
+details-most (FieldKind.Float bits) = omega arith
 
 module _ (e : Entry) (n : ℕ) where
   -- the parts of an entry, in the order in which they are put

@@ -198,6 +198,9 @@ fn put_details(out: &mut [u8], at: usize, kind: FieldKind, picture: Span, n: usi
         FieldKind::Group => {
             return put4(out, at, n);
         }
+        FieldKind::Float { bits } => {
+            return put_byte(out, at, bits);
+        }
     }
 }
 

@@ -133,9 +133,10 @@ pub key-handed :
     (r ≡ returned a) × (l′ ≡ answered (keyNumbers a) l) →
     (r ≡ returned (after .answer)) × ((l′ ≡ answered (keyNumbers (after .answer)) l) × (work ≡ after .work))
 key-handed after a out work r l l′ e p =
-    let s = ap (λ (x : After (ℕ × ℕ)). x .answer) e in
-    (p .0 ∙ ap returned s,
-    (p .1 ∙ ap (λ (x : Answer (ℕ × ℕ)). answered (keyNumbers x) l) s, ap (λ (x : After (ℕ × ℕ)). x .work) e))
+    let s = ap (λ (x : After (ℕ × ℕ)). x .answer) e in (
+      p .0 ∙ ap returned s,
+      (p .1 ∙ ap (λ (x : Answer (ℕ × ℕ)). answered (keyNumbers x) l) s, ap (λ (x : After (ℕ × ℕ)). x .work) e),
+    )
 
 -- what an entry leaves, and what was handed on of its answer
 pub handed :

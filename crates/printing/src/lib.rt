@@ -57,6 +57,7 @@ pub fn kind(kind: u8) {
         3 => word(b" bin"),
         4 => word(b" dec"),
         5 => word(b" edit"),
+        7 => word(b" float"),
         _ => word(b" group"),
     }
 }
@@ -128,6 +129,7 @@ pub fn entry_size(kind: u8) -> usize
         3 => 39,
         4 => 42,
         5 => 49,
+        7 => 39,
         _ => 42,
     }
 }

@@ -118,7 +118,7 @@ pub fn lay_fields(
     }
 }
 
-// Lays out the record that was read into n rows, or says why not: 20 to 30. The table has room for the entries of so many rows.
+// Lays out the record that was read into n rows, or says why not: 20 to 30 and 52. The table has room for the entries of so many rows.
 pub fn lay_record(text: &[u8], work: &mut [u32], n: usize, entries: &mut [u32]) -> RecordLaid
     requires { ⌜ Read (now text) (now work) n × Roomy (now entries) n ⌝ }
     ensures { λ r. ⌜ RecordIs (now (text .entry)) (recordFields (now (text .entry)) (length (now (work .entry)))) r (now (work .exit)) (now (entries .exit)) ⌝ }

@@ -13,14 +13,14 @@ use lib.ListN.{length, getD, set, length-set}
 use lib.Seq.{sets, length-sets, getD-set-other, getD-set-same}
 use Rattle.definition.specs.declared.Span.{Span}
 use Rattle.definition.specs.declared.Occurs.{Occurs}
-use Rattle.definition.specs.declared.Usage.{Usage}
+use Rattle.definition.specs.declared.ItemUsage.{ItemUsage}
 use Rattle.definition.specs.declared.Clauses.{Clauses}
 use Rattle.definition.specs.declared.Statement.{Statement}
 use Rattle.definition.specs.Basic.{span}
 use Rattle.definition.specs.Listing.{flag}
 use Rattle.definition.specs.Statement.{clausesOf}
 use Rattle.definition.proofs.Lists.{order}
-use Rattle.kinds.specs.Usages.{usageAt, usageByte, usageCode, usageClauseAt, signCode, signWordsAt}
+use Rattle.kinds.specs.Usages.{itemUsageAt, itemUsageByte, usageCode, usageClauseAt, signCode, signWordsAt}
 use Rattle.kinds.proofs.Back.{flag-back, flag-few, usage-back, usage-few, usage-clause-back, usage-clause-few}
 use Rattle.kinds.proofs.Back.{sign-words-back, sign-words-few}
 use Rattle.rows.specs.Columns.{ROW, LEVEL, PARENT, AT, NAME, PICTURE, DEPENDING, REDEFINES, SAID, LOW, HIGH, OFFSET}
@@ -45,15 +45,15 @@ mark-few Occurs.Once = omega arith
 mark-few (Occurs.Times n) = omega arith
 
 -- a level that is a byte, and a usage
-module _ (level : ℕ) (u : Usage) (h : level < 256) where
+module _ (level : ℕ) (u : ItemUsage) (h : level < 256) where
   level-back : levelCode level u % 256 ≡ level
   level-back = omega arith
 
-  held-back : usageAt (levelCode level u / 256 % 8) ≡ u
+  held-back : itemUsageAt (levelCode level u / 256 % 8) ≡ u
   held-back =
-      let d : levelCode level u / 256 ≡ usageByte u = omega arith in
-      let m : usageByte u % 8 ≡ usageByte u = mod-eq-of-lt (omega (arith, usage-few u)) in
-      ap (λ (n : ℕ). usageAt (n % 8)) d ∙ ap usageAt m ∙ usage-back u
+      let d : levelCode level u / 256 ≡ itemUsageByte u = omega arith in
+      let m : itemUsageByte u % 8 ≡ itemUsageByte u = mod-eq-of-lt (omega (arith, usage-few u)) in
+      ap (λ (n : ℕ). itemUsageAt (n % 8)) d ∙ ap itemUsageAt m ∙ usage-back u
 
 -- the parts of what is said
 module _ (c : Clauses) where
@@ -117,7 +117,7 @@ module _ (w : List ℕ) (a parent : ℕ) (s : Statement) where
 
 -- ---------------------------------------------------------------- one row
 
-abbrev made : ℕ → ℕ → Span → Clauses → Usage → Statement
+abbrev made : ℕ → ℕ → Span → Clauses → ItemUsage → Statement
 made level at name clauses usage =
     record { level = level; at = at; name = name; clauses = clauses; usage = usage }
 
@@ -152,7 +152,7 @@ module _ (w : List ℕ) (k : ℕ) where
 
     usage-held : usageIn w k ≡ s .usage
     usage-held =
-        ap (λ (n : ℕ). usageAt (n / 256 % 8)) (h LEVEL (lit< tt)) ∙ held-back (s .level) (s .usage) (fits .level)
+        ap (λ (n : ℕ). itemUsageAt (n / 256 % 8)) (h LEVEL (lit< tt)) ∙ held-back (s .level) (s .usage) (fits .level)
 
     statement-held : statementAt w k ≡ s
     statement-held =
@@ -179,7 +179,7 @@ module _ (w : List ℕ) (a parent : ℕ) (s : Statement) where
 
   -- and the other rows are as before
   pub usage-other : (k : ℕ) → (k ≡ a → ⊥) → usageIn (putRow w a parent s) k ≡ usageIn w k
-  usage-other k n = ap (λ (x : ℕ). usageAt (x / 256 % 8)) (cell-other w a parent s k n LEVEL (lit< tt))
+  usage-other k n = ap (λ (x : ℕ). itemUsageAt (x / 256 % 8)) (cell-other w a parent s k n LEVEL (lit< tt))
 
   pub statement-other : (k : ℕ) → (k ≡ a → ⊥) → statementAt (putRow w a parent s) k ≡ statementAt w k
   statement-other k n = statement-same (putRow w a parent s) k w (λ c l. cell-other w a parent s k n c (omega arith))

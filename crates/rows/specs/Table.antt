@@ -9,14 +9,14 @@ use lib.ListN.{getD}
 use lib.Seq.{sets}
 use Rattle.definition.specs.declared.Span.{Span}
 use Rattle.definition.specs.declared.Occurs.{Occurs}
-use Rattle.definition.specs.declared.Usage.{Usage}
+use Rattle.definition.specs.declared.ItemUsage.{ItemUsage}
 use Rattle.definition.specs.declared.Clauses.{Clauses}
 use Rattle.definition.specs.declared.Statement.{Statement}
 use Rattle.definition.specs.Limits.{mostBytes}
 use Rattle.definition.specs.Basic.{if_then_else_, span}
 use Rattle.definition.specs.Listing.{flag}
 use Rattle.definition.specs.Statement.{clausesOf}
-use Rattle.kinds.specs.Usages.{usageByte, usageAt, usageCode, usageClauseAt, signCode, signWordsAt}
+use Rattle.kinds.specs.Usages.{itemUsageByte, itemUsageAt, usageCode, usageClauseAt, signCode, signWordsAt}
 use Rattle.rows.specs.Columns.{ROW, LEVEL, PARENT, AT, NAME, PICTURE, DEPENDING, REDEFINES, SAID, LOW, HIGH}
 
 -- ---------------------------------------------------------------- a number for each part
@@ -42,8 +42,8 @@ abbrev pub occursAt : ℕ → ℕ → ℕ → Occurs
 occursAt mark low high = if eqb mark 0 then Occurs.Once else Occurs.Times (high * 4294967296 + low)
 
 -- a level, and the usage that holds, as one number
-abbrev pub levelCode : ℕ → Usage → ℕ
-levelCode level u = level + 256 * usageByte u
+abbrev pub levelCode : ℕ → ItemUsage → ℕ
+levelCode level u = level + 256 * itemUsageByte u
 
 -- the usage that is named, sign, SYNC and whether OCCURS is said, as one number
 abbrev pub saidCode : Clauses → ℕ
@@ -112,8 +112,8 @@ abbrev pub parentAt : List ℕ → ℕ → ℕ
 parentAt w k = cell w k PARENT
 
 -- the usage that holds for the statement in row k
-abbrev pub usageIn : List ℕ → ℕ → Usage
-usageIn w k = usageAt (cell w k LEVEL / 256 % 8)
+abbrev pub usageIn : List ℕ → ℕ → ItemUsage
+usageIn w k = itemUsageAt (cell w k LEVEL / 256 % 8)
 
 -- the OCCURS of the statement in row k
 abbrev pub occursIn : List ℕ → ℕ → Occurs

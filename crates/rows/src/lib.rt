@@ -10,10 +10,10 @@ ghost use Rattle.rows.specs.Table.{spanCode, spanAt, markOf, countOf, oc
 ghost use Rattle.rows.specs.Table.{usageIn, occursIn};
 ghost use Rattle.rows.specs.Table.{Short, Brief, Placed, clauseCells, putRow, clausesAt, statementAt};
 use definition::Clauses;
+use definition::ItemUsage;
 use definition::Occurs;
 use definition::Span;
 use definition::Statement;
-use definition::Usage;
 
 // The columns of a row, as `specs/Columns` has them.
 pub const ROW: usize = 20;
@@ -136,10 +136,10 @@ fn put_four(work: &mut [u32], at: usize, a: u32, b: u32, c: u32, d: u32)
 }
 
 // A level, and the usage that holds, as one number.
-fn level_code(level: u8, u: Usage) -> u32
+fn level_code(level: u8, u: ItemUsage) -> u32
     ensures { λ r. ⌜ r ≡ levelCode level u ⌝ }
 {
-    kinds::wide(level) + 256 * kinds::wide(kinds::usage_byte(u))
+    kinds::wide(level) + 256 * kinds::wide(kinds::item_usage_byte(u))
 }
 
 // The usage that is named, sign, SYNC and whether OCCURS is said, as one number.
@@ -196,11 +196,11 @@ pub fn put_row(work: &mut [u32], k: usize, parent: u32, s: Statement)
 }
 
 // The usage that holds for the statement in row k.
-pub fn usage_in(work: &[u32], k: usize) -> Usage
+pub fn usage_in(work: &[u32], k: usize) -> ItemUsage
     requires { ⌜ ROW * k + ROW ≤ length (now work) ⌝ }
     ensures { λ r. ⌜ r ≡ usageIn (now (work .entry)) k ⌝ }
 {
-    kinds::usage_at((work[ROW * k + LEVEL] / 256 % 8) as u8)
+    kinds::item_usage_at((work[ROW * k + LEVEL] / 256 % 8) as u8)
 }
 
 // The OCCURS of the statement in row k.

@@ -10,6 +10,7 @@ ghost use Rattle.tokens.specs.Tokens.{tokensAt};
 ghost use Rattle.statement.specs.Reading.{finishedOf, closing, ClausesAre, Ends, NamedAre, FirstStatement};
 use definition::Clauses;
 use definition::Expect;
+use definition::ItemUsage;
 use definition::Refusal;
 use definition::Span;
 use definition::Statement;
@@ -155,7 +156,7 @@ fn statement_of(level: u8, at: usize, name: Span, c: Clauses) -> Statement
         at: at,
         name: name,
         clauses: c,
-        usage: clauses::usage_of(Usage::Display, usage),
+        usage: clauses::usage_of(ItemUsage::Picture(Usage::Display), usage),
     }
 }
 

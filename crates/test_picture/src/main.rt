@@ -100,6 +100,9 @@ fn kind(list: &[u8], p: Reached, k: FieldKind) -> Reached
         FieldKind::Group => {
             return Reached::Differs;
         }
+        FieldKind::Float { bits: _ } => {
+            return Reached::Differs;
+        }
     }
 }
 
@@ -121,6 +124,7 @@ fn is_edited(k: FieldKind) -> bool {
             signed: _,
         } => true,
         FieldKind::Group => false,
+        FieldKind::Float { bits: _ } => false,
     }
 }
 

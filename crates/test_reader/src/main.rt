@@ -6,6 +6,7 @@ ghost use Rattle.rows.specs.Columns.{ROW};
 ghost use Rattle.replay.specs.Places.{Inside, Fair};
 use definition::Check;
 use definition::Clauses;
+use definition::ItemUsage;
 use definition::Occurs;
 use definition::SignWords;
 use definition::Span;
@@ -26,19 +27,27 @@ fn usage_number(u: UsageClause) -> u64 {
     match u {
         UsageClause::Absent => 0,
         UsageClause::Given(v) => match v {
-            Usage::Display => 3,
-            Usage::Comp3 => 1,
-            Usage::Comp => 2,
+            ItemUsage::Picture(p) => match p {
+                Usage::Display => 3,
+                Usage::Comp3 => 1,
+                Usage::Comp => 2,
+            },
+            ItemUsage::Comp1 => 4,
+            ItemUsage::Comp2 => 5,
         },
     }
 }
 
 // The usage that holds.
-fn held_number(u: Usage) -> u64 {
+fn held_number(u: ItemUsage) -> u64 {
     match u {
-        Usage::Display => 0,
-        Usage::Comp3 => 1,
-        Usage::Comp => 2,
+        ItemUsage::Picture(p) => match p {
+            Usage::Display => 0,
+            Usage::Comp3 => 1,
+            Usage::Comp => 2,
+        },
+        ItemUsage::Comp1 => 3,
+        ItemUsage::Comp2 => 4,
     }
 }
 

@@ -9,7 +9,7 @@ use lib.Dec.{lit<}
 use lib.ListN.{length, getD, set}
 use lib.Seq.{getD-set-same, getD-set-other}
 use borrow.Author.Tests.{lt-ltb, le-ltb}
-use Rattle.definition.specs.declared.Usage.{Usage}
+use Rattle.definition.specs.declared.ItemUsage.{ItemUsage}
 use Rattle.definition.specs.declared.Statement.{Statement}
 use Rattle.definition.specs.Tree.{Open, opened, innermost}
 use Rattle.definition.specs.Usages.{around}
@@ -72,7 +72,7 @@ unfolding topDown
 down-put w ls k p s zero row h = refl
 down-put w ls k p s (suc n) row h =
     let other : row - 1 ≡ k → ⊥ = λ e. omega (arith, h .1, h .2) in
-    ap₂ (λ (u : Usage) (os : List Open). opened (getD ls n 0) row u ∷ os) (usage-other w k p s (row - 1) other)
+    ap₂ (λ (u : ItemUsage) (os : List Open). opened (getD ls n 0) row u ∷ os) (usage-other w k p s (row - 1) other)
     (ap (λ (q : ℕ). topDown (putRow w k p s) ls n q) (cell-other w k p s (row - 1) other PARENT (lit< tt))
     ∙ down-put w ls k p s n (cell w (row - 1) PARENT) (h .3))
 

@@ -7,7 +7,7 @@ use native.Mathlib.Numerals.{add-one}
 use native.Mathlib.Omega.{arith}
 use lib.ListN.{length}
 use Rattle.definition.specs.declared.Refusal.{Refusal}
-use Rattle.definition.specs.declared.Usage.{Usage}
+use Rattle.definition.specs.declared.ItemUsage.{ItemUsage}
 use Rattle.definition.specs.declared.Statement.{Statement}
 use Rattle.definition.specs.Limits.{leastWork, mostStatements}
 use Rattle.definition.specs.Basic.{Answer, refuse, give, _>>=_}
@@ -46,7 +46,7 @@ module _ (n : ℕ) (s : Statement) where
 -- ---------------------------------------------------------------- what an answer says
 
 -- a statement can be stored whatever usage it takes
-pub inheriting-placed : (u : Usage) (s : Statement) → Placed s → Placed (inheriting u s)
+pub inheriting-placed : (u : ItemUsage) (s : Statement) → Placed s → Placed (inheriting u s)
 inheriting-placed u s h = record { at = h .at; name = h .name; clauses = h .clauses }
 
 along-storable : (os : List Open) (k : ℕ) (ss : List Statement) → Storables ss → Storables (inheritAlong os k ss)

@@ -5,7 +5,8 @@ use mathlib.Core.Path.{_≡_}
 use mathlib.Core.List.{List, [], _∷_}
 use lib.Dec.{ltb}
 use lib.ListN.{length, getD}
-use Rattle.definition.specs.declared.Usage.{Usage}
+use Rattle.definition.specs.declared.ItemUsage.{ItemUsage}
+use Rattle.definition.specs.Statement.{outermost}
 use Rattle.definition.specs.Basic.{if_then_else_}
 use Rattle.definition.specs.Tree.{Open, opened, stillOpen, innermost}
 use Rattle.definition.proofs.ParentLaws.{Fit}
@@ -24,8 +25,8 @@ abbrev pub stackOf : List ℕ → OpenLevels → List Open
 stackOf w o = topDown w (o .levels) (o .count) (o .row)
 
 -- the usage that holds around a statement whose parent is row - 1, or that has none
-abbrev pub usageAround : List ℕ → ℕ → Usage
-usageAround w row = if ltb 0 row then usageIn w (row - 1) else Usage.Display
+abbrev pub usageAround : List ℕ → ℕ → ItemUsage
+usageAround w row = if ltb 0 row then usageIn w (row - 1) else outermost
 
 -- no statement is open
 pub record NoneOpen (o : OpenLevels) : Type 0 where

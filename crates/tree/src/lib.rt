@@ -10,6 +10,7 @@ ghost use Rattle.definition.specs.Usages.{inheriting as inheritingOf};
 ghost use Rattle.tree.specs.Levels.{NoneOpen, Nested, Closed, Opened, usageAround};
 ghost use Rattle.tree.specs.Reading.{Added, StatementsAre, RowsAre};
 use definition::Check;
+use definition::ItemUsage;
 use definition::MOST_STATEMENTS;
 use definition::Refusal;
 use definition::Statement;
@@ -96,18 +97,18 @@ fn open(o: OpenLevels, level: u8, k: usize) -> OpenLevels
 }
 
 // The usage that holds around a statement whose parent is row - 1, or that has none.
-fn usage_around(work: &[u32], row: usize) -> Usage
+fn usage_around(work: &[u32], row: usize) -> ItemUsage
     requires { ⌜ ROW * row ≤ length (now work) ⌝ }
     ensures { λ r. ⌜ r ≡ usageAround (now (work .entry)) row ⌝ }
 {
     if 0 < row {
         return rows::usage_in(work, row - 1);
     }
-    Usage::Display
+    ItemUsage::Picture(Usage::Display)
 }
 
 // A statement with the usage that holds for it, where `outer` holds around it.
-fn inheriting(outer: Usage, s: Statement) -> Statement
+fn inheriting(outer: ItemUsage, s: Statement) -> Statement
     ensures { λ r. ⌜ r ≡ inheritingOf outer s ⌝ }
 {
     let name = s.name;

@@ -304,9 +304,14 @@ impl Maker {
         if self.chance(if group { 5 } else { 30 }) {
             let usage = self.one(&[
                 "COMP", "COMP", "COMP", "BINARY", "COMP-4", "COMPUTATIONAL-5", "COMP-3", "PACKED-DECIMAL", "DISPLAY",
-                "COMP-1",
+                "COMP-6",
             ]);
             parts.push(format!("{}{usage}", self.one(&["", "USAGE ", "USAGE IS "])));
+        }
+        if self.chance(1) {
+            let usage = self.one(&["COMP-1", "COMP-2", "COMPUTATIONAL-1", "COMPUTATIONAL-2"]);
+            parts.retain(|part| !part.starts_with("PIC") || usage.ends_with("L-2"));
+            parts.push(usage.into());
         }
         if self.chance(30) {
             parts.push(self.one(&["SYNC", "SYNCHRONIZED", "SYNC LEFT", "SYNC RIGHT"]).into());

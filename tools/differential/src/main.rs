@@ -9,15 +9,15 @@
 //! A copybook must get the bytes of listing and of details that the Rust's answer comes to by their formats (`answer`),
 //! or the number of refusal that its error means. Places in the text, positions, levels and slack, which the Rust does
 //! not have, are those of a reading of the rules that shares no code with the product (`reading`); so are the added
-//! refusals 1, 2, 14, 24, 27, 29, 30 and 50: an input with one is left out of the comparison with the Rust, and counted,
-//! but number and position are checked. So is a copybook in which a literal after VALUE holds a period that would end a
-//! statement, or `*>`: there the Rust has no answer, and tools/quoted compares every byte. So is one in which a group
-//! names a usage, or DISPLAY stands after another usage word: its refusal and its owners are checked, and tools/usages
-//! compares every byte. So is an input with P in a picture, which holds a byte in the Rust and none here: its refusals,
-//! the widths of pictures and the owners of copybooks are checked, and tools/pictures compares all else. The Rust has
-//! no byte owner: owners are compared, for some copybooks, with the bytes laid one by one by the reading. The masks of
-//! the edited pictures of a listing are compared too, and the record check. A picture is compared under every usage and
-//! sign, and its mask under every usage.
+//! refusals 1, 2, 14, 24, 27, 29, 30, 50 and 52: an input with one is left out of the comparison with the Rust, and
+//! counted, but number and position are checked. So is a copybook in which a literal after VALUE holds a period that
+//! would end a statement, or `*>`: there the Rust has no answer, and tools/quoted compares every byte. So is one in which
+//! a group names a usage, DISPLAY stands after another usage word, or COMP-1 or COMP-2 names a float: its refusal and its
+//! owners are checked, and tools/usages and tools/floats compare every byte. So is an input with P in a picture, which
+//! holds a byte in the Rust and none here: its refusals, the widths of pictures and the owners of copybooks are checked,
+//! and tools/pictures compares all else. The Rust has no byte owner: owners are compared, for some copybooks, with the
+//! bytes laid one by one by the reading. The masks of the edited pictures of a listing are compared too, and the record
+//! check. A picture is compared under every usage and sign, and its mask under every usage.
 //!
 //! The drop-in (`drop_in`) must give the Rust's own layout, field by field, of every accepted copybook, the Rust's kind
 //! of every accepted picture, and errors that say what the Rust's say.

@@ -32,6 +32,8 @@ pub enum Usage {
     Display,
     Comp3,
     Comp,
+    Comp1,
+    Comp2,
 }
 
 #[derive(Clone, Copy, PartialEq, Eq, Debug)]
@@ -76,7 +78,8 @@ pub struct Reading {
     pub fields: Vec<usize>,
     pub dropped: bool,
     /// Why the Rust has no answer, as far as the words say: a literal holds `*>` or a period that would end a
-    /// statement, or is left open; or a statement takes another usage back by DISPLAY, or a group names a usage.
+    /// statement, or is left open; or a statement names a float, or takes another usage back by DISPLAY; or a group
+    /// names a usage.
     pub no_answer: Option<&'static str>,
     /// The folded top list, or why there is none. The last check, 29 for a top-level end, needs the widths of folds,
     /// and is made on the Rust's answer (`answer::copybook`).
@@ -214,8 +217,9 @@ fn count(word: &[u8]) -> Option<u128> {
 
 // ---------------------------------------------------------------- statements
 
-/// One statement from its words; nothing for a level 88. `back` tells whether a DISPLAY stood after another usage word.
-fn statement(text: &[u8], words: &[Span], back: &mut bool) -> Answer<Option<Statement>> {
+/// One statement from its words; nothing for a level 88. `lost` is told where its usages leave the Rust without an
+/// answer.
+fn statement(text: &[u8], words: &[Span], lost: &mut Option<&'static str>) -> Answer<Option<Statement>> {
     let at = words[0].start;
     let level = number(words[0].of(text), 256).ok_or(Refused(10, at))? as u64;
     if level == 88 {
@@ -273,8 +277,14 @@ fn statement(text: &[u8], words: &[Span], back: &mut bool) -> Answer<Option<Stat
             }
             "USAGE" => i += usize::from(is(i, "IS")),
             "DISPLAY" => {
-                *back |= matches!(s.named, Some(Usage::Comp | Usage::Comp3));
+                if s.named.is_some_and(|u| u != Usage::Display) {
+                    *lost = lost.or(Some(USAGES));
+                }
                 s.named = Some(Usage::Display);
+            }
+            "COMP-1" | "COMPUTATIONAL-1" | "COMP-2" | "COMPUTATIONAL-2" => {
+                *lost = Some(FLOATS);
+                s.named = Some(if key.ends_with('1') { Usage::Comp1 } else { Usage::Comp2 });
             }
             "COMP-3" | "COMPUTATIONAL-3" | "PACKED-DECIMAL" => s.named = Some(Usage::Comp3),
             "COMP" | "COMPUTATIONAL" | "COMP-4" | "COMPUTATIONAL-4" | "COMP-5" | "COMPUTATIONAL-5" | "BINARY" => {
@@ -301,12 +311,12 @@ fn statement(text: &[u8], words: &[Span], back: &mut bool) -> Answer<Option<Stat
     Ok(Some(s))
 }
 
-/// The kept statements, the first refusal if there is one, and whether any statement, those after a refusal included,
-/// takes another usage back.
-fn statements(text: &[u8], words: &[Vec<Span>]) -> (Vec<Statement>, Answer<()>, bool) {
-    let (mut kept, mut read, mut back) = (Vec::new(), Ok(()), false);
+/// The kept statements, the first refusal if there is one, and why any statement, those after a refusal included,
+/// leaves the Rust without an answer.
+fn statements(text: &[u8], words: &[Vec<Span>]) -> (Vec<Statement>, Answer<()>, Option<&'static str>) {
+    let (mut kept, mut read, mut lost) = (Vec::new(), Ok(()), None);
     for words in words {
-        match statement(text, words, &mut back) {
+        match statement(text, words, &mut lost) {
             _ if read.is_err() => {}
             Err(r) => read = Err(r),
             Ok(None) => {}
@@ -314,7 +324,7 @@ fn statements(text: &[u8], words: &[Vec<Span>]) -> (Vec<Statement>, Answer<()>, 
             Ok(Some(s)) => kept.push(s),
         }
     }
-    (kept, read, back)
+    (kept, read, lost)
 }
 
 /// The record's fields; each statement gets the list of those below it, and the usage that holds for it: its own, else
@@ -449,7 +459,20 @@ pub fn picture(picture: &[u8], usage: Usage, sign: Option<Sign>) -> Result<(u128
             },
             true,
         ),
+        Usage::Comp1 | Usage::Comp2 => unreachable!("a float has no picture"),
     })
+}
+
+/// Width of an item without members, and whether SYNC aligns it; or the number of its refusal.
+fn elementary(text: &[u8], s: &Statement) -> Result<(u128, bool), u32> {
+    let pictured = s.picture.len > 0;
+    match s.usage {
+        Usage::Comp1 | Usage::Comp2 if pictured => Err(52),
+        Usage::Comp1 => Ok((4, true)),
+        Usage::Comp2 => Ok((8, true)),
+        _ if !pictured => Err(21),
+        usage => picture(s.picture.of(text), usage, s.sign),
+    }
 }
 
 // ---------------------------------------------------------------- layout
@@ -496,13 +519,9 @@ impl Laying<'_> {
         let (mut cursor, mut reach) = (0u128, 0u128);
         for &k in list {
             let s = &self.kept[k];
-            let (members, width, binary) = if s.below.is_empty() {
-                if s.picture.len == 0 {
-                    return Err(Refused(21, s.at));
-                }
-                let (width, binary) =
-                    picture(s.picture.of(self.text), s.usage, s.sign).map_err(|n| Refused(n, s.at))?;
-                (Vec::new(), width, binary)
+            let (members, width, aligned) = if s.below.is_empty() {
+                let (width, aligned) = elementary(self.text, s).map_err(|n| Refused(n, s.at))?;
+                (Vec::new(), width, aligned)
             } else {
                 let (inner, width) = self.list(&s.below, depth + 1)?;
                 let folded = self.fold(inner)?;
@@ -513,7 +532,7 @@ impl Laying<'_> {
                 let target = s.redefines.of(self.text);
                 let earlier = items.iter().rev().find(|i| self.name(i.shape.statement).eq_ignore_ascii_case(target));
                 earlier.ok_or(Refused(28, s.at))?.offset
-            } else if s.sync && binary {
+            } else if s.sync && aligned {
                 cursor.div_ceil(width) * width
             } else {
                 cursor
@@ -581,8 +600,8 @@ pub fn read(text: &[u8]) -> Reading {
         Ok(found) => found,
         Err(r) => return refused(Vec::new(), Some(LITERALS), r),
     };
-    let (mut kept, read, back) = statements(text, &words);
-    let no_answer = if !plain { Some(LITERALS) } else { back.then_some(USAGES) };
+    let (mut kept, read, lost) = statements(text, &words);
+    let no_answer = if !plain { Some(LITERALS) } else { lost };
     if let Err(r) = read {
         return refused(kept, no_answer, r);
     }
@@ -611,6 +630,7 @@ const MOST_LAID: usize = 20_000;
 /// What leaves the Rust without an answer.
 const LITERALS: &str = "has no answer: literals";
 const USAGES: &str = "has no answer: usages";
+const FLOATS: &str = "has no answer: floats";
 const SCALES: &str = "has no answer: P";
 
 impl Reading {
@@ -642,8 +662,7 @@ impl Reading {
         for &k in list {
             let s = &self.statements[k];
             let entry = k - usize::from(self.dropped);
-            let item =
-                s.below.is_empty().then(|| picture(s.picture.of(text), s.usage, s.sign).expect("an accepted picture"));
+            let item = s.below.is_empty().then(|| elementary(text, s).expect("an accepted item"));
             if let Some((width, true)) = item {
                 let slack = if s.sync { (width - place % width) % width } else { 0 };
                 out.push(Laid { slack: true, entry, len: slack });

@@ -26,16 +26,22 @@ returns-7 : tie.Need-returns-7
 returns-7 c = rw (c .before .enum-told7 .given .1, c .with-usage3 .ensures)
 
 returns-8 : tie.Need-returns-8
-returns-8 c = rw (c .before .enum-told8 .given .1, c .with-sign .ensures)
+returns-8 c = rw (c .before .enum-told8 .given .1, c .with-usage4 .ensures)
 
 returns-9 : tie.Need-returns-9
-returns-9 c = rw (c .before .enum-told9 .given .1, c .with-sync .ensures)
+returns-9 c = rw (c .before .enum-told9 .given .1, c .with-usage5 .ensures)
 
 returns-10 : tie.Need-returns-10
-returns-10 c = rw (c .enum-told10 .given .1)
+returns-10 c = rw (c .before .enum-told10 .given .1, c .with-sign .ensures)
 
 returns-11 : tie.Need-returns-11
-returns-11 c = rw (c .enum-told11 .given .1)
+returns-11 c = rw (c .before .enum-told11 .given .1, c .with-sync .ensures)
+
+returns-12 : tie.Need-returns-12
+returns-12 c = rw (c .enum-told12 .given .1)
+
+returns-13 : tie.Need-returns-13
+returns-13 c = rw (c .enum-told13 .given .1)
 
 pub begin-spec : {M : Type 1} → statement M
 begin-spec =
@@ -60,6 +66,10 @@ begin-spec =
     (λ c. search needs)
     (λ c κs. search needs)
     (λ c. search needs)
+    (λ c κs. search needs)
+    (λ c. search needs)
+    (λ c κs. search needs)
+    (λ c. search needs)
     (λ c. search needs)
     returns
     returns-2
@@ -71,4 +81,6 @@ begin-spec =
     returns-8
     returns-9
     returns-10
-    returns-11)
+    returns-11
+    returns-12
+    returns-13)

@@ -17,6 +17,7 @@ told (FieldKind.Binary b) = refl
 told (FieldKind.Decimal p s r g) = refl
 told (FieldKind.Edited p s b) = refl
 told FieldKind.Group = refl
+told (FieldKind.Float b) = refl
 
 said : (k : FieldKind) {n : ℕ} → n ≡ kindByte k → eqb n 6 ≡ isGroup k
 said k e = ap (λ (x : ℕ). eqb x 6) e ∙ told k

@@ -46,6 +46,9 @@ module _ (text : List ℕ) (w : Span) (out : List ℕ) (k : FieldKind) where
   no-group : k ≡ FieldKind.Group → Masked out (keyMask text k w) 0
   no-group e = none (ap (λ (x : FieldKind). keyMask text x w) e)
 
+  no-float : {b : ℕ} → k ≡ FieldKind.Float b → Masked out (keyMask text k w) 0
+  no-float e = none (ap (λ (x : FieldKind). keyMask text x w) e)
+
 returns : tie.Need-returns
 returns c = search no-text
 
@@ -64,6 +67,9 @@ returns-5 c = search edited
 returns-6 : tie.Need-returns-6
 returns-6 c = search no-group
 
+returns-7 : tie.Need-returns-7
+returns-7 c = search no-float
+
 pub key-mask-spec : {M : Type 1} → statement M
 key-mask-spec =
     tie.close
@@ -75,10 +81,12 @@ key-mask-spec =
     (λ c. search needs)
     (λ c κs. search needs)
     (λ c. search needs)
+    (λ c. search needs)
     returns
     returns-2
     returns-3
     returns-4
     (λ c. search needs)
     returns-5
-    returns-6)
+    returns-6
+    returns-7)

@@ -24,8 +24,8 @@ told :
 told first a second b {x} {y} {m} {n} p q e =
     e
     ∙ ap₂ same
-      (ap (λ (k : ℕ). take k x) (sub-zero m) ∙ p .is)
-      (ap (λ (k : ℕ). take k y) (sub-zero n) ∙ q .is)
+    (ap (λ (k : ℕ). take k x) (sub-zero m) ∙ p .is)
+    (ap (λ (k : ℕ). take k y) (sub-zero n) ∙ q .is)
 
 returns : tie.Need-returns
 returns c = search told

@@ -21,38 +21,42 @@ module _ (m n : KindNumbers) where
     module _ (b : m .precision ≡ n .precision) where
       scales-differ : (m .scale ≡ n .scale → ⊥) → false ≡ sameNumbers m n
       scales-differ h =
-          rw
-          (eq-eqb (m .kind) (n .kind) a,
-          eq-eqb (m .precision) (n .precision) b,
-          ne-eqb (m .scale) (n .scale) h)
+          rw (
+            eq-eqb (m .kind) (n .kind) a,
+            eq-eqb (m .precision) (n .precision) b,
+            ne-eqb (m .scale) (n .scale) h,
+          )
 
       module _ (d : m .scale ≡ n .scale) where
         storages-differ : (m .storage ≡ n .storage → ⊥) → false ≡ sameNumbers m n
         storages-differ h =
-            rw
-            (eq-eqb (m .kind) (n .kind) a,
-            eq-eqb (m .precision) (n .precision) b,
-            eq-eqb (m .scale) (n .scale) d,
-            ne-eqb (m .storage) (n .storage) h)
+            rw (
+              eq-eqb (m .kind) (n .kind) a,
+              eq-eqb (m .precision) (n .precision) b,
+              eq-eqb (m .scale) (n .scale) d,
+              ne-eqb (m .storage) (n .storage) h,
+            )
 
         module _ (e : m .storage ≡ n .storage) where
           signed-differ : (m .signed ≡ n .signed → ⊥) → false ≡ sameNumbers m n
           signed-differ h =
-              rw
-              (eq-eqb (m .kind) (n .kind) a,
-              eq-eqb (m .precision) (n .precision) b,
-              eq-eqb (m .scale) (n .scale) d,
-              eq-eqb (m .storage) (n .storage) e,
-              ne-eqb (m .signed) (n .signed) h)
+              rw (
+                eq-eqb (m .kind) (n .kind) a,
+                eq-eqb (m .precision) (n .precision) b,
+                eq-eqb (m .scale) (n .scale) d,
+                eq-eqb (m .storage) (n .storage) e,
+                ne-eqb (m .signed) (n .signed) h,
+              )
 
           signs-tell : m .signed ≡ n .signed → eqb (m .sign) (n .sign) ≡ sameNumbers m n
           signs-tell f =
-              rw
-              (eq-eqb (m .kind) (n .kind) a,
-              eq-eqb (m .precision) (n .precision) b,
-              eq-eqb (m .scale) (n .scale) d,
-              eq-eqb (m .storage) (n .storage) e,
-              eq-eqb (m .signed) (n .signed) f)
+              rw (
+                eq-eqb (m .kind) (n .kind) a,
+                eq-eqb (m .precision) (n .precision) b,
+                eq-eqb (m .scale) (n .scale) d,
+                eq-eqb (m .storage) (n .storage) e,
+                eq-eqb (m .signed) (n .signed) f,
+              )
 
 returns : tie.Need-returns
 returns c = search kinds-differ

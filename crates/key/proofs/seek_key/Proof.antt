@@ -20,14 +20,16 @@ loop-holds c =
     seeking-starts (a .text .now) (a .name .now) (a .work .now) (a .entries .now) (a .n) (p .0) (p .1)
 
 sought-at-requires : tie.Need-sought-at-requires Inv-loop μ-loop
-sought-at-requires c κs =
-    (at-fits (c .before .loop .inv .here) (c .loop-test .taken),
-    at-sound (c .before .loop .inv .here) (c .loop-test .taken))
+sought-at-requires c κs = (
+  at-fits (c .before .loop .inv .here) (c .loop-test .taken),
+  at-sound (c .before .loop .inv .here) (c .loop-test .taken),
+)
 
 behind-at-requires : tie.Need-behind-at-requires Inv-loop μ-loop
-behind-at-requires c κs =
-    (at-fits (c .before .before .loop .inv .here) (c .before .loop-test .taken),
-    at-sound (c .before .before .loop .inv .here) (c .before .loop-test .taken))
+behind-at-requires c κs = (
+  at-fits (c .before .before .loop .inv .here) (c .before .loop-test .taken),
+  at-sound (c .before .before .loop .inv .here) (c .before .loop-test .taken),
+)
 
 loop-again : tie.Need-loop-again Inv-loop μ-loop
 loop-again c =

@@ -16,6 +16,7 @@ own (FieldKind.Binary b) = refl
 own (FieldKind.Decimal p s r g) = refl
 own (FieldKind.Edited p s b) = refl
 own FieldKind.Group = refl
+own (FieldKind.Float b) = refl
 
 said : (k : FieldKind) {n : KindNumbers} → n ≡ numbersOf k → n .kind ≡ kindByte k
 said k e = ap (λ (x : KindNumbers). x .kind) e ∙ own k

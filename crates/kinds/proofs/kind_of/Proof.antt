@@ -28,8 +28,26 @@ module _ (n : KindNumbers) where
   edited : n .kind ≡ 5 → FieldKind.Edited (n .precision) (n .scale) (eqb (n .signed) 1) ≡ kindOf n
   edited e = rw e
 
-  group : (n .kind ≡ 1 → ⊥) → (n .kind ≡ 2 → ⊥) → (n .kind ≡ 3 → ⊥) → (n .kind ≡ 4 → ⊥) → (n .kind ≡ 5 → ⊥) → FieldKind.Group ≡ kindOf n
-  group a b c d e = rw (ne-eqb (n .kind) 1 a, ne-eqb (n .kind) 2 b, ne-eqb (n .kind) 3 c, ne-eqb (n .kind) 4 d, ne-eqb (n .kind) 5 e)
+  float : n .kind ≡ 7 → FieldKind.Float (n .precision) ≡ kindOf n
+  float e = rw e
+
+  group :
+      (n .kind ≡ 1 → ⊥) →
+      (n .kind ≡ 2 → ⊥) →
+      (n .kind ≡ 3 → ⊥) →
+      (n .kind ≡ 4 → ⊥) →
+      (n .kind ≡ 5 → ⊥) →
+      (n .kind ≡ 7 → ⊥) →
+      FieldKind.Group ≡ kindOf n
+  group a b c d e f =
+      rw (
+        ne-eqb (n .kind) 1 a,
+        ne-eqb (n .kind) 2 b,
+        ne-eqb (n .kind) 3 c,
+        ne-eqb (n .kind) 4 d,
+        ne-eqb (n .kind) 5 e,
+        ne-eqb (n .kind) 7 f,
+      )
 
 returns : tie.Need-returns
 returns c = search text
@@ -47,7 +65,10 @@ returns-5 : tie.Need-returns-5
 returns-5 c = search edited
 
 returns-6 : tie.Need-returns-6
-returns-6 c = search group
+returns-6 c = search float
+
+returns-7 : tie.Need-returns-7
+returns-7 c = search group
 
 pub kind-of-spec : {M : Type 1} → statement M
 kind-of-spec =
@@ -61,4 +82,5 @@ kind-of-spec =
     (λ c κs. search needs)
     returns-4
     returns-5
-    returns-6)
+    returns-6
+    returns-7)

@@ -37,6 +37,9 @@ module _ {k : FieldKind} where
   group : k ≡ FieldKind.Group → kindNumbers 6 0 0 0 0 0 ≡ numbersOf k
   group e = rw e
 
+  float : {b : ℕ} → k ≡ FieldKind.Float b → kindNumbers 7 0 0 b 0 0 ≡ numbersOf k
+  float e = rw e
+
 returns : tie.Need-returns
 returns c = search text
 
@@ -55,6 +58,9 @@ returns-5 c = search edited
 returns-6 : tie.Need-returns-6
 returns-6 c = search group
 
+returns-7 : tie.Need-returns-7
+returns-7 c = search float
+
 pub numbers-of-spec : {M : Type 1} → statement M
 numbers-of-spec =
     tie.close
@@ -71,9 +77,11 @@ numbers-of-spec =
     (λ c. search needs)
     (λ c κs. search needs)
     (λ c. search needs)
+    (λ c. search needs)
     returns
     returns-2
     returns-3
     returns-4
     returns-5
-    returns-6)
+    returns-6
+    returns-7)

@@ -4,9 +4,9 @@ use borrow.Author.Needs.{needs}
 use Prim.Native.Nat.{ℕ, _-_}
 use mathlib.Core.Path.{_≡_}
 use borrow.Author.Tests.{ne-eqb}
-use Rattle.definition.specs.declared.Usage.{Usage}
+use Rattle.definition.specs.declared.ItemUsage.{ItemUsage}
 use Rattle.definition.specs.declared.UsageClause.{UsageClause}
-use Rattle.kinds.specs.Usages.{usageAt, usageClauseAt}
+use Rattle.kinds.specs.Usages.{itemUsageAt, usageClauseAt}
 use Rattle.kinds.proofs.usage_clause_at.Statement.{statement}
 use Rattle.kinds.proofs.usage_clause_at.Tie as tie
 
@@ -14,7 +14,7 @@ module _ {n : ℕ} where
   none : n ≡ 0 → UsageClause.Absent ≡ usageClauseAt n
   none e = rw e
 
-  some : (n ≡ 0 → ⊥) → {u : Usage} → u ≡ usageAt (n - 1) → UsageClause.Given u ≡ usageClauseAt n
+  some : (n ≡ 0 → ⊥) → {u : ItemUsage} → u ≡ itemUsageAt (n - 1) → UsageClause.Given u ≡ usageClauseAt n
   some h e = rw (ne-eqb n 0 h, e)
 
 returns : tie.Need-returns

@@ -3,14 +3,14 @@
 use borrow.Author.Needs.{needs}
 use Prim.Native.Nat.{ℕ, _+_}
 use mathlib.Core.Path.{_≡_}
-use Rattle.definition.specs.declared.Usage.{Usage}
+use Rattle.definition.specs.declared.ItemUsage.{ItemUsage}
 use Rattle.definition.specs.declared.UsageClause.{UsageClause}
-use Rattle.kinds.specs.Usages.{usageByte, usageCode}
+use Rattle.kinds.specs.Usages.{itemUsageByte, usageCode}
 use Rattle.kinds.proofs.usage_code.Statement.{statement}
 use Rattle.kinds.proofs.usage_code.Tie as tie
 
-module _ {c : UsageClause} {u : Usage} where
-  given-code : c ≡ UsageClause.Given u → {n : ℕ} → n ≡ usageByte u → n + 1 ≡ usageCode c
+module _ {c : UsageClause} {u : ItemUsage} where
+  given-code : c ≡ UsageClause.Given u → {n : ℕ} → n ≡ itemUsageByte u → n + 1 ≡ usageCode c
   given-code e p = rw (e, p)
 
 returns-2 : tie.Need-returns-2

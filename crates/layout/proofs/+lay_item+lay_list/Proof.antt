@@ -38,7 +38,7 @@ use Rattle.layout.proofs.+lay_item+lay_list.Lts-lay_item as lay-item-lt
 use Rattle.layout.proofs.lay_list.Reads as lay-list
 use Rattle.layout.proofs.lay_list.Kinds as lay-list-kinds
 use Rattle.layout.proofs.+lay_item+lay_list.Lts-lay_list as lay-list-lts
-use Rattle.layout.proofs.elementary.Reads as elementary-reads
+use Rattle.contents.proofs.elementary.Reads as elementary-reads
 use Rattle.places.proofs.end_of.Reads as end-of-reads
 use Rattle.layout.proofs.fold_check.Reads as fold-check-reads
 use Rattle.limits.proofs.most.Reads as most-reads

@@ -12,7 +12,7 @@ use Rattle.definition.specs.declared.Entry.{Entry}
 use Rattle.definition.specs.declared.Pictured.{Pictured}
 use Rattle.definition.specs.Limits.{largest}
 use Rattle.definition.specs.Basic.{if_then_else_, given, fewest, Answer, give, orRefuse}
-use Rattle.definition.specs.Picture.{isBinary}
+use Rattle.definition.specs.Picture.{isAlignable}
 use Rattle.definition.specs.Fold.{find}
 use Rattle.definition.specs.Layout.{start, slackFrom, entryOf, tooLarge}
 use Rattle.rows.specs.Table.{statementAt}
@@ -70,7 +70,7 @@ module _ (t w : List ℕ) (i below last cursor : ℕ) (c : Pictured) {s : Statem
     starts = ap (λ (n : ℕ). startAt s c (offsetOf w n) cursor) pk ∙ go (given (s .clauses .redefines))
       where
         other : Answer ℕ
-        other = if s .clauses .sync && isBinary (c .kind) then give (cursor + fewest (c .width) cursor) else give cursor
+        other = if s .clauses .sync && isAlignable (c .kind) then give (cursor + fewest (c .width) cursor) else give cursor
 
         go :
             (g : Bool) →

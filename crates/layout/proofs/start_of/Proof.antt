@@ -11,7 +11,7 @@ use borrow.Author.Tests.{lt-ltb, le-ltb}
 use Rattle.definition.specs.declared.Statement.{Statement}
 use Rattle.definition.specs.declared.Pictured.{Pictured}
 use Rattle.definition.specs.Basic.{fewest, give, refused, orRefuse}
-use Rattle.definition.specs.Picture.{isBinary}
+use Rattle.definition.specs.Picture.{isAlignable}
 use Rattle.rows.specs.Columns.{OFFSET}
 use Rattle.rows.specs.Table.{cell}
 use Rattle.redefines.specs.Targets.{offsetOf}
@@ -37,7 +37,7 @@ module _ (w : List ℕ) (s : Statement) (c : Pictured) (target cursor : ℕ) whe
     loose : s .clauses .sync ≡ false → give cursor ≡ startAt s c (offsetOf w target) cursor
     loose e = rw (le-ltb 0 (s .clauses .redefines .len) h, e)
 
-    module _ (e : s .clauses .sync ≡ true) {b : Bool} (p : b ≡ isBinary (c .kind)) where
+    module _ (e : s .clauses .sync ≡ true) {b : Bool} (p : b ≡ isAlignable (c .kind)) where
       slack : {n : ℕ} → b ≡ true → n ≡ cursor + fewest (c .width) cursor → give n ≡ startAt s c (offsetOf w target) cursor
       slack y q = rw (le-ltb 0 (s .clauses .redefines .len) h, e, ← p, y, q)
 

@@ -71,6 +71,18 @@ same-length-5 c = search needs
 returns-6 : tie.Need-returns-6
 returns-6 c = rw (c .before .before .before .before .enum-told2 .given .1) (c .before .before .put4 .ensures)
 
+enum-known-kind-5 : tie.Need-enum-known-kind-5
+enum-known-kind-5 c = search needs
+
+put-byte-requires : tie.Need-put-byte-requires
+put-byte-requires c κs = rw (c .before .before .kind5 .given .1) at (c .before .before .before .before .before .pre)
+
+same-length-6 : tie.Need-same-length-6
+same-length-6 c = search needs
+
+returns-7 : tie.Need-returns-7
+returns-7 c = rw (c .before .before .before .before .before .kind5 .given .1) (c .before .before .put-byte .ensures)
+
 pub put-details-spec : {M : Type 1} → statement M
 put-details-spec =
     tie.close
@@ -96,4 +108,8 @@ put-details-spec =
     enum-told-2
     put4-requires
     same-length-5
-    returns-6)
+    returns-6
+    enum-known-kind-5
+    put-byte-requires
+    same-length-6
+    returns-7)

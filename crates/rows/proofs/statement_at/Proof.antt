@@ -7,13 +7,13 @@ use mathlib.Core.List.{List}
 use native.Mathlib.Omega.{arith}
 use Rattle.definition.specs.declared.Span.{Span}
 use Rattle.definition.specs.declared.Clauses.{Clauses}
-use Rattle.definition.specs.declared.Usage.{Usage}
+use Rattle.definition.specs.declared.ItemUsage.{ItemUsage}
 use Rattle.rows.specs.Columns.{ROW, LEVEL, AT, NAME}
 use Rattle.rows.specs.Table.{spanAt, cell, usageIn, clausesAt, statementAt}
 use Rattle.rows.proofs.statement_at.Statement.{statement}
 use Rattle.rows.proofs.statement_at.Tie as tie
 
-module _ (w : List ℕ) (k : ℕ) {n : Span} {c : Clauses} {u : Usage} where
+module _ (w : List ℕ) (k : ℕ) {n : Span} {c : Clauses} {u : ItemUsage} where
   -- the statement of parts that are read
   read :
       n ≡ spanAt (cell w k NAME) →

@@ -7,7 +7,7 @@ use mathlib.Core.Path.{_≡_, sym, ap, ap₂, subst, _∙_}
 use mathlib.Core.List.{List, _∷_}
 use native.Mathlib.Omega.{arith}
 use lib.ListN.{length}
-use Rattle.definition.specs.declared.Usage.{Usage}
+use Rattle.definition.specs.declared.ItemUsage.{ItemUsage}
 use Rattle.definition.specs.declared.Statement.{Statement}
 use Rattle.definition.specs.Tree.{Open, opened, stillOpen, innermost}
 use Rattle.definition.specs.Usages.{inheriting, around}
@@ -48,7 +48,7 @@ module _
       stack-put =
           let w′ = putRow w k (u .row) held in
           opening .is w′
-          ∙ ap₂ (λ (x : Usage) (os : List Open). opened (s .level) (suc k) x ∷ os)
+          ∙ ap₂ (λ (x : ItemUsage) (os : List Open). opened (s .level) (suc k) x ∷ os)
           (usage-put w k (u .row) held fits held-storable)
           (ap (topDown w′ (u .levels) (u .count)) (parent-put w k (u .row) held fits)
           ∙ down-put w (u .levels) k (u .row) held (u .count) (u .row) (closed .fit))
@@ -66,29 +66,29 @@ module _
 
       -- what the calls say together
       added :
-          {w′ : List ℕ} {a : Usage} {t : Statement} →
+          {w′ : List ℕ} {a : ItemUsage} {t : Statement} →
           a ≡ usageAround w (u .row) →
           t ≡ inheriting a s →
           w′ ≡ putRow w k (u .row) t →
           Added w k o s w′ r
       added {w′} {a} {t} ea et e =
           let outer = stillOpen (s .level) (stackOf w o) in
-          let is : t ≡ held = et ∙ ap (λ (x : Usage). inheriting x s) ea in
+          let is : t ≡ held = et ∙ ap (λ (x : ItemUsage). inheriting x s) ea in
           subst (λ (x : List ℕ). Added w k o s x r) (sym (e ∙ ap (putRow w k (u .row)) is))
           (record {
             row =
-                ap₂ (λ (p : ℕ) (x : Usage). putRow w k p (inheriting x s))
+                ap₂ (λ (p : ℕ) (x : ItemUsage). putRow w k p (inheriting x s))
                 (closed .row ∙ ap innermost (closed .is)) around-is;
             levels =
                 stack-put
-                ∙ ap₂ (λ (x : Usage) (os : List Open). opened (s .level) (suc k) (inheriting x s .usage) ∷ os)
+                ∙ ap₂ (λ (x : ItemUsage) (os : List Open). opened (s .level) (suc k) (inheriting x s .usage) ∷ os)
                 around-is (closed .is);
             nested = nested-put;
             storable = record { level = closed .byte; placed = placed };
           })
 
 -- the statement can be stored with the usage that it takes
-placed-so : (a : Usage) (s : Statement) {t : Statement} → Placed s → t ≡ inheriting a s → Placed t
+placed-so : (a : ItemUsage) (s : Statement) {t : Statement} → Placed s → t ≡ inheriting a s → Placed t
 placed-so a s placed e = rw e (inheriting-placed a s placed)
 
 put-row-requires : tie.Need-put-row-requires

@@ -6,17 +6,18 @@ use Prim.Native.Nat.{ℕ, _-_, _≤_, _<_}
 use mathlib.Core.Path.{_≡_}
 use mathlib.Core.List.{List}
 use native.Mathlib.Omega.{arith}
-use Rattle.definition.specs.declared.Usage.{Usage}
+use Rattle.definition.specs.declared.ItemUsage.{ItemUsage}
+use Rattle.definition.specs.Statement.{outermost}
 use Rattle.rows.specs.Table.{usageIn}
 use Rattle.tree.specs.Levels.{usageAround}
 use Rattle.tree.proofs.usage_around.Statement.{statement}
 use Rattle.tree.proofs.usage_around.Tie as tie
 
 module _ (w : List ℕ) (row : ℕ) where
-  some : 0 < row → {u : Usage} → u ≡ usageIn w (row - 1) → u ≡ usageAround w row
+  some : 0 < row → {u : ItemUsage} → u ≡ usageIn w (row - 1) → u ≡ usageAround w row
   some h e = rw (e, lt-ltb 0 row h)
 
-  none : row ≤ 0 → Usage.Display ≡ usageAround w row
+  none : row ≤ 0 → outermost ≡ usageAround w row
   none h = rw (le-ltb 0 row h)
 
 returns : tie.Need-returns

@@ -1,4 +1,4 @@
--- `layout::sign_of` meets its contract, case by case.
+-- `contents::sign_of` meets its contract, case by case.
 -- Assumes nothing.
 use borrow.Author.Needs.{needs}
 use mathlib.Core.Path.{_≡_, refl, sym, ap, ap₂, _∙_}
@@ -7,8 +7,8 @@ use Rattle.definition.specs.declared.SignKind.{SignKind}
 use Rattle.definition.specs.declared.SignClause.{SignClause}
 use Rattle.definition.specs.declared.SignWords.{SignWords}
 use Rattle.definition.specs.Statement.{signOf}
-use Rattle.layout.proofs.sign_of.Statement.{statement}
-use Rattle.layout.proofs.sign_of.Tie as tie
+use Rattle.contents.proofs.sign_of.Statement.{statement}
+use Rattle.contents.proofs.sign_of.Tie as tie
 
 module _ {s : SignWords} {l p : Bool} (e : s ≡ SignWords.Said l p) where
   leading : p ≡ true → l ≡ true → SignClause.Given SignKind.LeadingSeparate ≡ signOf s

@@ -148,9 +148,12 @@ hasBase (some base) = true
 unfoldable pub foldedList : List ℕ → List Place → Entries → Entries
 foldedList text bases end = end
 foldedList text bases (entry e members later) =
-    if given (e .redefines) then
-    (if hasBase (find text (e .redefines) bases) then foldedList text bases later else entry e members (foldedList text bases later))
-    else withRedefiners text e members (redefiners text (placeOf e) later) (foldedList text (placeOf e ∷ bases) later)
+    elim (given (e .redefines)) [
+      | true ↦
+        if hasBase (find text (e .redefines) bases) then foldedList text bases later
+        else entry e members (foldedList text bases later)
+      | false ↦ withRedefiners text e members (redefiners text (placeOf e) later) (foldedList text (placeOf e ∷ bases) later)
+    ]
 
 -- every list below folded, and not this one
 unfoldable pub foldedBelow : List ℕ → Entries → Entries

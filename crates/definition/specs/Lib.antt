@@ -20,8 +20,6 @@ pub mod Extract
 pub mod Calls
 pub mod Key
 pub mod Ungrouped
-pub mod Computing
-pub mod Catches
 pub mod Placed
 pub mod Demand
 pub mod Explained

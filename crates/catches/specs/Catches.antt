@@ -10,29 +10,29 @@ use mathlib.Core.List.{List, [], _∷_, _++_}
 use mathlib.Core.Option.{Option, none, some}
 use lib.Dec.{T, eqb, ltb}
 use lib.ListN.{length}
 use Rattle.definition.specs.declared.Usage.{Usage}
 use Rattle.definition.specs.declared.SignKind.{SignKind}
 use Rattle.definition.specs.declared.SignClause.{SignClause}
 use Rattle.definition.specs.declared.NumRepr.{NumRepr}
 use Rattle.definition.specs.declared.FieldKind.{FieldKind}
 use Rattle.definition.specs.declared.FieldKind.the-variants.{Text, Int, Binary, Decimal, Edited, Group, Float}
 use Rattle.definition.specs.declared.Pictured.{Pictured}
 use Rattle.definition.specs.declared.Entry.{Entry}
 use Rattle.definition.specs.declared.Owner.{Owner}
 use Rattle.definition.specs.declared.Extract.{Extract}
 use Rattle.definition.specs.declared.Span.{Span}
 use Rattle.definition.specs.Basic.{if_then_else_, bytes, among, given, same, span, absent, le4, le8}
 use Rattle.definition.specs.Basic.{Answer, refuse, give, _>>=_}
 use Rattle.definition.specs.Tree.{Forest, leaf, item}
 use Rattle.definition.specs.Fold.{Entries, end, entry, Place, searchBack}
 use Rattle.definition.specs.Record.{recordLength, variable}
 use Rattle.definition.specs.Listing.{flag, spanBytes, kindByte, details, members#}
 use Rattle.definition.specs.Cards.{Form, freeText, cardText}
 use Rattle.definition.specs.Calls.{entries, layoutListing, layoutDetails, pictureAnswer, pictureMask, byteOwner}
 use Rattle.definition.specs.Calls.{recordFields, entryReasons, extractAnswer, indicatorCheck, called}
 use Rattle.definition.specs.Key.{setKey}
 use Rattle.definition.specs.Ungrouped.{plainUsages}
-use Rattle.definition.specs.Computing.{computing}
+use Rattle.catches.specs.Computing.{computing}
 
 -- ---------------------------------------------------------------- answers in numbers
 

@@ -46,6 +46,12 @@ same-equal (x ∷ xs) (y ∷ ys) h =
     let both = and-both (eqb x y) (same xs ys) h in
     λ i. eqb-true x y (both .0) i ∷ same-equal xs ys (both .1) i
 
+-- a word is the same as itself
+pub same-self : (l : List ℕ) → same l l ≡ true
+unfolding same
+same-self [] = refl
+same-self (x ∷ l) = rw (eq-eqb x x refl) (same-self l)
+
 -- words of other lengths are other words
 pub same-long : (a b : List ℕ) → (length a ≡ length b → ⊥) → same a b ≡ false
 unfolding same

@@ -32,7 +32,7 @@ use Rattle.definition.specs.Calls.{entries, layoutListing, layoutDetails, pictu
 use Rattle.definition.specs.Calls.{recordFields, entryReasons, extractAnswer, indicatorCheck, called}
 use Rattle.definition.specs.Key.{setKey}
 use Rattle.definition.specs.Ungrouped.{plainUsages}
-use Rattle.catches.specs.Computing.{computing}
+use Rattle.definition.specs.Computing.{computing}
 
 -- ---------------------------------------------------------------- answers in numbers
 

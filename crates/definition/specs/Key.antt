@@ -210,7 +210,8 @@ abbrev pub AllHave : ℕ → List ℕ → Key → List (List ℕ) → Type 0
 AllHave work name k [] = Unit {0}
 AllHave work name k (text ∷ texts) = HasKey work name k text × AllHave work name k texts
 
--- the answered offset and width are those of one key that every copybook of the set has
+-- the answered offset and width are those of one key that every copybook of the set has; and where all copybooks of a set
+-- have one key, its offset and width are answered, so that 57 is not said too often (`KeyLaws.answered`)
 pub record Shared (texts lengths name : List ℕ) (work offset width : ℕ) : Type 0 where
   pub key : Key
   pub offset-is : offset ≡ key .offset

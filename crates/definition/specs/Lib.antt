@@ -20,6 +20,7 @@ pub mod Extract
 pub mod Calls
 pub mod Key
 pub mod Ungrouped
+pub mod Computing
 pub mod Placed
 pub mod Demand
 pub mod Explained

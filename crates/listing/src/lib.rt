@@ -44,8 +44,8 @@ fn put_low(out: &mut [u8], at: usize, x: usize) -> usize
     put_byte(out, at, (x % 256) as u8)
 }
 
-// A number in four bytes, the lowest first.
-pub fn put4(out: &mut [u8], at: usize, x: usize) -> usize
+// A number in four bytes, the lowest first, each where the output has its place.
+fn put4_each(out: &mut [u8], at: usize, x: usize) -> usize
     requires { ⌜ Countable at (le4 x) ⌝ }
     ensures { λ r. ⌜ Put (now (out .entry)) at (le4 x) r (now (out .exit)) ⌝ }
 {
@@ -53,6 +53,22 @@ pub fn put4(out: &mut [u8], at: usize, x: usize) -> usize
     let third = put_low(out, second, x / 256);
     let fourth = put_low(out, third, x / 65536);
     put_low(out, fourth, x / 16777216)
+}
+
+// The same. Where the output has room for all four they are stored without a test between them, so that the compiler
+// makes one store of them.
+pub fn put4(out: &mut [u8], at: usize, x: usize) -> usize
+    requires { ⌜ Countable at (le4 x) ⌝ }
+    ensures { λ r. ⌜ Put (now (out .entry)) at (le4 x) r (now (out .exit)) ⌝ }
+{
+    if out.len() < at + 4 {
+        return put4_each(out, at, x);
+    }
+    out[at] = (x % 256) as u8;
+    out[at + 1] = (x / 256 % 256) as u8;
+    out[at + 2] = (x / 65536 % 256) as u8;
+    out[at + 3] = (x / 16777216 % 256) as u8;
+    at + 4
 }
 
 // A number in eight bytes, the lowest first.

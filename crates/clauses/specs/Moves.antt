@@ -9,7 +9,8 @@ use Rattle.definition.specs.declared.Expect.{Expect}
 use Rattle.definition.specs.declared.SignWords.{SignWords}
 use Rattle.definition.specs.declared.Span.{Span}
 use Rattle.definition.specs.declared.Step.{Step}
-use Rattle.definition.specs.Statement.{withPicture, withRedefines, withDepending, withOccurs, withSign, begin, clauseStep}
+use Rattle.definition.specs.Statement.{withPicture, withRedefines, withDepending, withOccurs, withSign}
+use Rattle.definition.specs.Statement.{begin, clauseStep}
 use Rattle.clauses.specs.declared.Move.{Move}
 
 -- what a move makes of the clauses, where the word stands at w

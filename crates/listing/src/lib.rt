@@ -231,8 +231,8 @@ pub fn put_head(out: &mut [u8], at: usize, length: usize, variable: bool, top: u
     put_marked(out, next, kinds::flag_byte(variable), top)
 }
 
-// What the listing says of an entry: its kind, name, offset and width, how often it stands, the names of DEPENDING ON and
-// REDEFINES, and its picture.
+// What the listing says of an entry: its kind, name, offset and width, how often it stands, the names of DEPENDING ON
+// and REDEFINES, and its picture.
 pub struct Line {
     pub kind: FieldKind,
     pub name: Span,

@@ -1,6 +1,6 @@
 // The symbols of a picture: each with its repeat `(n)`, and their count, run by run: a symbol with its repeat is one step,
 // whatever n is. Leans on `definition` and `text`.
-ghost use Prim.Native.Nat.{ℕ, _≤_, _<_};
+ghost use Prim.Native.Nat.{_<_};
 ghost use mathlib.Core.Path.{_≡_};
 ghost use mathlib.Core.List.{[], _∷_, reverse};
 ghost use lib.ListN.{length, replicate, drop};
@@ -145,22 +145,13 @@ fn run_at(picture: &[u8], i: usize, at: usize) -> Repeat
     if next < picture.len() {
         if picture[next] == b'(' {
             if 0 < d {
-                return Repeat::Times {
-                    n: d,
-                    skip: d - 1,
-                };
+                return Repeat::Times { n: d, skip: d - 1 };
             }
             return repeat_at(picture, i + 1, at);
         }
-        return Repeat::Times {
-            n: d + 1,
-            skip: d,
-        };
+        return Repeat::Times { n: d + 1, skip: d };
     }
-    Repeat::Times {
-        n: d + 1,
-        skip: d,
-    }
+    Repeat::Times { n: d + 1, skip: d }
 }
 
 // ---------------------------------------------------------------- symbols, judged run by run

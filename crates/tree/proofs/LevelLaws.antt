@@ -65,8 +65,8 @@ module _ (w : List ℕ) (k p : ℕ) (s : Statement) where
       let first = level-other (row - 1) other in
       let held = usage-other w k p s (row - 1) other in
       let later =
-          ap (topDown (putRow w k p s) n) (cell-other w k p s (row - 1) other PARENT (lit< tt))
-          ∙ down-put n (cell w (row - 1) PARENT) (h .3) in
+      ap (topDown (putRow w k p s) n) (cell-other w k p s (row - 1) other PARENT (lit< tt))
+      ∙ down-put n (cell w (row - 1) PARENT) (h .3) in
       λ i. opened (first i) row (held i) ∷ later i
 
 -- the innermost open one has the usage that holds around

@@ -8,7 +8,8 @@ use Rattle.clauses.proofs.step.Tie as tie
 returns : tie.Need-returns
 unfolding step
 returns c =
-    let move = c .before .before .move-of .ensures (c .before .before .before .before .args .w) (c .before .before .before .before .args .c) in
+    let start = c .before .before .before .before in
+    let move = c .before .before .move-of .ensures (start .args .w) (start .args .c) in
     rw (c .separated .ensures, c .before .moved .ensures, move)
 
 pub step-spec : {M : Type 1} → statement M

@@ -8,7 +8,7 @@ use native.Mathlib.Omega.{arith}
 use lib.ListN.{length, getD, drop, replicate}
 use Rattle.definition.specs.declared.Refusal.{Refusal}
 use Rattle.definition.specs.Limits.{mostSymbols}
-use Rattle.definition.specs.Basic.{upper, refuse, give, _>>=_}
+use Rattle.definition.specs.Basic.{upper, _>>=_}
 use Rattle.definition.specs.Picture.{expand}
 use Rattle.definition.proofs.PictureLaws.{onto, onto-nil, onto-onto, expand-end}
 use Rattle.symbols.specs.declared.Tallies.{Tallies}
@@ -72,7 +72,11 @@ module _ {t : List ℕ} {at : ℕ} {s : Tallies} {half : Half} {i : ℕ} (inv : 
 
       many : mostSymbols - s .symbols < n → Counts at t (Counted.Refused (record { number = 24; position = at; needed = 0 }))
       unfolding _>>=_
-      many m = record { same = rw (inv .same, run .is .many (s .symbols) (inv .few) (omega (arith, inv .few))); small = tt }
+      many m =
+          record {
+            same = rw (inv .same, run .is .many (s .symbols) (inv .few) (omega (arith, inv .few)));
+            small = tt;
+          }
 
       less : length t - (i + 1 + skip) < length t - i
       less = omega (arith, step)
@@ -140,7 +144,9 @@ returns : tie.Need-returns Inv-loop μ-loop
 returns c = search many
 
 add-i : tie.Need-add-i Inv-loop μ-loop
-add-i c = omega (arith, step (c .before .before .before .before .before .before .before .before .before .loop .inv) (c .before .before .before .before .before .run-at .ensures) (c .before .before .before .n .given .1))
+add-i c =
+    let read = c .before .before .before .before .before in
+    omega (arith, step (read .before .before .before .before .loop .inv) (read .run-at .ensures) (c .before .before .before .n .given .1))
 
 half-after-requires : tie.Need-half-after-requires Inv-loop μ-loop
 half-after-requires c κs = search needs
@@ -149,13 +155,19 @@ cast-add-run : tie.Need-cast-add-run Inv-loop μ-loop
 cast-add-run c = search needs
 
 add-run-requires : tie.Need-add-run-requires Inv-loop μ-loop
-add-run-requires c κs = adds (c .before .before .before .before .before .before .before .before .before .before .loop .inv) (c .before .before .before .before .before .before .run-at .ensures) (c .before .before .before .before .n .given .1) (c .before .if1 .left)
+add-run-requires c κs =
+    let read = c .before .before .before .before .before .before in
+    adds (read .before .before .before .before .loop .inv) (read .run-at .ensures) (c .before .before .before .before .n .given .1) (c .before .if1 .left)
 
 loop-less : tie.Need-loop-less Inv-loop μ-loop
-loop-less c = less (c .before .before .before .before .before .before .before .before .before .before .before .loop .inv) (c .before .before .before .before .before .before .before .run-at .ensures) (c .before .before .before .before .before .n .given .1)
+loop-less c =
+    let read = c .before .before .before .before .before .before .before in
+    less (read .before .before .before .before .loop .inv) (read .run-at .ensures) (c .before .before .before .before .before .n .given .1)
 
 loop-again : tie.Need-loop-again Inv-loop μ-loop
-loop-again c = search (go-on (c .before .before .before .before .before .before .before .before .before .before .before .loop .inv) (c .before .before .before .before .before .before .before .run-at .ensures) (c .before .before .before .before .before .n .given .1))
+loop-again c =
+    let read = c .before .before .before .before .before .before .before in
+    search (go-on (read .before .before .before .before .loop .inv) (read .run-at .ensures) (c .before .before .before .before .before .n .given .1))
 
 enum-known-r : tie.Need-enum-known-r Inv-loop μ-loop
 enum-known-r c = search needs

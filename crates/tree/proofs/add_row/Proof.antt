@@ -50,8 +50,8 @@ module _
           let first = level-put w k (u .row) held fits held-storable in
           let usage = usage-put w k (u .row) held fits held-storable in
           let later =
-              ap (topDown w′ (u .count)) (parent-put w k (u .row) held fits)
-              ∙ down-put w k (u .row) held (u .count) (u .row) (closed .fit) in
+          ap (topDown w′ (u .count)) (parent-put w k (u .row) held fits)
+          ∙ down-put w k (u .row) held (u .count) (u .row) (closed .fit) in
           opening .is w′ ∙ (λ i. opened (first i) (suc k) (usage i) ∷ later i)
 
       nested-put : Nested (putRow w k (u .row) held) (suc k) r

@@ -25,7 +25,12 @@ record Left (w : List ℕ) (level k : ℕ) (n₀ row₀ n row : ℕ) : Type 0 wh
   rest : stillOpen level (topDown w n₀ row₀) ≡ stillOpen level (topDown w n row)
 
 -- all are left
-start : {w : List ℕ} {level k n row : ℕ} → level < 256 → ROW * k ≤ length w → Fit k (topDown w n row) → Left w level k n row n row
+start :
+    {w : List ℕ} {level k n row : ℕ} →
+    level < 256 →
+    ROW * k ≤ length w →
+    Fit k (topDown w n row) →
+    Left w level k n row n row
 start b t h = record { byte = b; there = t; whole = h; fit = h; within = omega arith; rest = refl }
 
 module _ {w : List ℕ} {level k n₀ row₀ n row : ℕ} (inv : Left w level k n₀ row₀ n row) where

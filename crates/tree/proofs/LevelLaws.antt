@@ -1,83 +1,90 @@
 -- Laws of the open levels: how many there are, the innermost, and one more; rows that are stored later leave them alone.
 -- Assumes nothing.
-use Prim.Native.Nat.{ℕ, zero, suc, _+_, _-_, _*_, _%_, _≤_, _<_}
-use mathlib.Core.Path.{_≡_, refl, ap, _∙_}
+use Prim.Native.Nat.{ℕ, zero, suc, _+_, _-_, _≤_, _<_}
+use mathlib.Core.Path.{_≡_, refl, ap, ap₂, subst, sym, _∙_}
 use mathlib.Core.List.{List, [], _∷_}
 use native.Mathlib.Numerals.{add-one}
 use native.Mathlib.Omega.{arith}
 use lib.Dec.{lit<}
-use lib.ListN.{length}
+use lib.ListN.{length, getD, set}
+use lib.Seq.{getD-set-same, getD-set-other}
 use borrow.Author.Tests.{lt-ltb, le-ltb}
+use Rattle.definition.specs.declared.ItemUsage.{ItemUsage}
 use Rattle.definition.specs.declared.Statement.{Statement}
 use Rattle.definition.specs.Tree.{Open, opened, innermost}
 use Rattle.definition.specs.Usages.{around}
 use Rattle.definition.proofs.ParentLaws.{Fit}
-use Rattle.rows.specs.Columns.{ROW, LEVEL, PARENT}
-use Rattle.rows.specs.Table.{Storable, cell, putRow, usageIn}
-use Rattle.rows.proofs.TableLaws.{statement-put, cell-other, usage-other}
-use Rattle.tree.specs.Levels.{levelIn, topDown, usageAround}
+use Rattle.rows.specs.Columns.{PARENT}
+use Rattle.rows.specs.Table.{cell, putRow, usageIn}
+use Rattle.rows.proofs.TableLaws.{cell-other, usage-other}
+use Rattle.tree.specs.Levels.{topDown, usageAround}
 
-module _ (w : List ℕ) where
+module _ (w ls : List ℕ) where
   -- no level, and the innermost of some
-  pub down-none : (row : ℕ) → topDown w 0 row ≡ []
+  pub down-none : (row : ℕ) → topDown w ls 0 row ≡ []
   unfolding topDown
   down-none row = refl
 
   pub down-next :
       (n row : ℕ) →
       0 < n →
-      topDown w n row
-      ≡ opened (levelIn w (row - 1)) row (usageIn w (row - 1)) ∷ topDown w (n - 1) (cell w (row - 1) PARENT)
+      topDown w ls n row
+      ≡ opened (getD ls (n - 1) 0) row (usageIn w (row - 1)) ∷ topDown w ls (n - 1) (cell w (row - 1) PARENT)
   unfolding topDown
-  down-next n row h = ap (λ (m : ℕ). topDown w m row) (let e : n ≡ suc (n - 1) = omega arith in e)
+  down-next n row h = ap (λ (m : ℕ). topDown w ls m row) (let e : n ≡ suc (n - 1) = omega arith in e)
 
-  pub length-down : (n row : ℕ) → length (topDown w n row) ≡ n
+  pub length-down : (n row : ℕ) → length (topDown w ls n row) ≡ n
   unfolding topDown
   length-down zero row = refl
   length-down (suc n) row = ap suc (length-down n (cell w (row - 1) PARENT))
 
-  -- one more is the innermost
-  pub down-more :
-      (n k : ℕ) →
-      topDown w (n + 1) (k + 1) ≡ opened (levelIn w k) (suc k) (usageIn w k) ∷ topDown w n (cell w k PARENT)
+  -- a level stored after these leaves them alone, and is the innermost
+  down-set : (i v n row : ℕ) → n ≤ i → topDown w (set ls i v) n row ≡ topDown w ls n row
   unfolding topDown
-  down-more n k =
+  down-set i v zero row h = refl
+  down-set i v (suc n) row h =
+      ap₂ (λ (x : ℕ) (os : List Open). opened x row (usageIn w (row - 1)) ∷ os)
+      (getD-set-other ls i n v 0 (λ e. omega arith)) (down-set i v n (cell w (row - 1) PARENT) (omega arith))
+
+  pub down-more :
+      (n v k : ℕ) →
+      n < length ls →
+      topDown w (set ls n v) (n + 1) (k + 1) ≡ opened v (suc k) (usageIn w k) ∷ topDown w ls n (cell w k PARENT)
+  unfolding topDown
+  down-more n v k h =
       let one : n + 1 ≡ suc n = add-one n in
       let row : k + 1 ≡ suc k = add-one k in
-      let here : suc k - 1 ≡ k = omega arith in
-      (λ i. topDown w (one i) (row i))
-      ∙ ap (λ (j : ℕ). opened (levelIn w j) (suc k) (usageIn w j) ∷ topDown w n (cell w j PARENT)) here
+      (λ i. topDown w (set ls n v) (one i) (row i)) ∙ more
+    where
+      here : suc k - 1 ≡ k
+      here = omega arith
 
-module _ (w : List ℕ) (k p : ℕ) (s : Statement) where
-  -- the level of a row that was stored, and of another
-  pub level-put : ROW * k + ROW ≤ length w → Storable s → levelIn (putRow w k p s) k ≡ s .level
-  level-put h fits = ap (λ (x : Statement). x .level) (statement-put w k p s h fits)
+      more : topDown w (set ls n v) (suc n) (suc k) ≡ opened v (suc k) (usageIn w k) ∷ topDown w ls n (cell w k PARENT)
+      more =
+          ap₂ (λ (x : ℕ) (os : List Open). opened x (suc k) (usageIn w (suc k - 1)) ∷ os) (getD-set-same ls n v 0 h)
+          (down-set n v n (cell w (suc k - 1) PARENT) (omega arith))
+          ∙ ap (λ (j : ℕ). opened v (suc k) (usageIn w j) ∷ topDown w ls n (cell w j PARENT)) here
 
-  level-other : (j : ℕ) → (j ≡ k → ⊥) → levelIn (putRow w k p s) j ≡ levelIn w j
-  level-other j n = ap (λ (x : ℕ). x % 256) (cell-other w k p s j n LEVEL (lit< tt))
-
-  -- a row stored after those that are open leaves them alone
-  pub down-put : (n row : ℕ) → Fit k (topDown w n row) → topDown (putRow w k p s) n row ≡ topDown w n row
-  unfolding topDown
-  down-put zero row h = refl
-  down-put (suc n) row h =
-      let other : row - 1 ≡ k → ⊥ = λ e. omega (arith, h .1, h .2) in
-      let first = level-other (row - 1) other in
-      let held = usage-other w k p s (row - 1) other in
-      let later =
-      ap (topDown (putRow w k p s) n) (cell-other w k p s (row - 1) other PARENT (lit< tt))
-      ∙ down-put n (cell w (row - 1) PARENT) (h .3) in
-      λ i. opened (first i) row (held i) ∷ later i
+-- a row stored after those that are open leaves them alone
+pub down-put :
+    (w ls : List ℕ) (k p : ℕ) (s : Statement) (n row : ℕ) → Fit k (topDown w ls n row) → topDown (putRow w k p s) ls n row ≡ topDown w ls n row
+unfolding topDown
+down-put w ls k p s zero row h = refl
+down-put w ls k p s (suc n) row h =
+    let other : row - 1 ≡ k → ⊥ = λ e. omega (arith, h .1, h .2) in
+    ap₂ (λ (u : ItemUsage) (os : List Open). opened (getD ls n 0) row u ∷ os) (usage-other w k p s (row - 1) other)
+    (ap (λ (q : ℕ). topDown (putRow w k p s) ls n q) (cell-other w k p s (row - 1) other PARENT (lit< tt))
+    ∙ down-put w ls k p s n (cell w (row - 1) PARENT) (h .3))
 
 -- the innermost open one has the usage that holds around
 pub down-around :
-    (w : List ℕ) (k n row : ℕ) →
-    Fit k (topDown w n row) →
-    row ≡ innermost (topDown w n row) →
-    usageAround w row ≡ around (topDown w n row)
+    (w ls : List ℕ) (k n row : ℕ) →
+    Fit k (topDown w ls n row) →
+    row ≡ innermost (topDown w ls n row) →
+    usageAround w row ≡ around (topDown w ls n row)
 unfolding topDown
-down-around w k zero row h e = rw (le-ltb 0 row (omega arith))
-down-around w k (suc n) row h e = rw (lt-ltb 0 row (h .1))
+down-around w ls k zero row h e = rw (le-ltb 0 row (omega arith))
+down-around w ls k (suc n) row h e = rw (lt-ltb 0 row (h .1))
 
 -- what is one of the first k is one of more
 pub fit-more : (k : ℕ) (os : List Open) → Fit k os → Fit (suc k) os

@@ -7,7 +7,7 @@ ghost use Rattle.definition.specs.Limits.{mostBytes, leastWork, mostStatements}
 ghost use Rattle.rows.specs.Columns.{ROW, PARENT};
 ghost use Rattle.rows.specs.Table.{Placed, cell};
 ghost use Rattle.definition.specs.Usages.{inheriting as inheritingOf};
-ghost use Rattle.tree.specs.Levels.{levelIn, NoneOpen, Nested, Closed, Opened, usageAround};
+ghost use Rattle.tree.specs.Levels.{NoneOpen, Nested, Closed, Opened, usageAround};
 ghost use Rattle.tree.specs.Reading.{Added, StatementsAre, RowsAre};
 use definition::Check;
 use definition::ItemUsage;
@@ -15,7 +15,6 @@ use definition::MOST_STATEMENTS;
 use definition::Refusal;
 use definition::Statement;
 use definition::Usage;
-use rows::LEVEL;
 use rows::PARENT;
 use rows::ROW;
 use statement::StatementRead;
@@ -28,9 +27,10 @@ fn wide(n: u32) -> usize
     n as usize
 }
 
-// The levels that are open: how many, and the row of the innermost and 1, or 0 for none. The rows of the others follow
-// by the parents, and each row has its level.
+// The levels that are open, the innermost last, and how many; the row of the innermost and 1, or 0 for none. The rows of the others follow by the
+// parents.
 pub struct OpenLevels {
+    pub levels: [u8; 256],
     pub count: usize,
     pub row: usize,
 }
@@ -39,16 +39,11 @@ pub struct OpenLevels {
 fn none_open() -> OpenLevels
     ensures { λ r. ⌜ NoneOpen r ⌝ }
 {
-    OpenLevels { count: 0, row: 0 }
-}
-
-// The level of row - 1.
-fn level_of(work: &[u32], row: usize) -> u8
-    requires { ⌜ (0 < row) × (ROW * row ≤ length (now work)) ⌝ }
-    ensures { λ r. ⌜ r ≡ levelIn (now (work .entry)) (row - 1) ⌝ }
-{
-    let k = row - 1;
-    (work[ROW * k + LEVEL] % 256) as u8
+    OpenLevels {
+        levels: [0; 256],
+        count: 0,
+        row: 0,
+    }
 }
 
 // The parent of row - 1: its row and 1, or 0 for none.
@@ -65,25 +60,38 @@ fn close(work: &[u32], o: OpenLevels, level: u8, k: usize) -> OpenLevels
     requires { ⌜ Nested (now work) k o ⌝ }
     ensures { λ r. ⌜ Closed (now (work .entry)) k o level r ⌝ }
 {
+    let levels = o.levels;
     let mut n = o.count;
     let mut row = o.row;
     while 0 < n {
-        if level_of(work, row) < level {
-            return OpenLevels { count: n, row: row };
+        if levels[n - 1] < level {
+            return OpenLevels {
+                levels: levels,
+                count: n,
+                row: row,
+            };
         }
         row = parent_of(work, row);
         n -= 1;
     }
-    OpenLevels { count: n, row: 0 }
+    OpenLevels {
+        levels: levels,
+        count: n,
+        row: 0,
+    }
 }
 
-// Opens the level of row k, after the others were closed.
-fn open(o: OpenLevels, k: usize) -> OpenLevels
-    requires { ⌜ (o .count < 256) × (k < 4294967295) ⌝ }
-    ensures { λ r. ⌜ Opened o k r ⌝ }
+// Opens a statement's level, in row k, after the others were closed.
+fn open(o: OpenLevels, level: u8, k: usize) -> OpenLevels
+    requires { ⌜ (o .count ≤ level) × (k < 4294967295) ⌝ }
+    ensures { λ r. ⌜ Opened o level k r ⌝ }
 {
+    let mut levels = o.levels;
+    let n = o.count;
+    levels[n] = level;
     OpenLevels {
-        count: o.count + 1,
+        levels: levels,
+        count: n + 1,
         row: k + 1,
     }
 }
@@ -125,7 +133,7 @@ fn add_row(work: &mut [u32], k: usize, o: OpenLevels, s: Statement) -> OpenLevel
     let outer = close(work, o, level, k);
     let around = usage_around(work, outer.row);
     rows::put_row(work, k, outer.row as u32, inheriting(around, s));
-    open(outer, k)
+    open(outer, level, k)
 }
 
 // The number of rows that a text has, or why it is refused.

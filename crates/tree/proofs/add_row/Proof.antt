@@ -12,13 +12,13 @@ use Rattle.definition.specs.declared.Statement.{Statement}
 use Rattle.definition.specs.Tree.{Open, opened, stillOpen, innermost}
 use Rattle.definition.specs.Usages.{inheriting, around}
 use Rattle.definition.proofs.ParentLaws.{Fit}
-use Rattle.rows.specs.Columns.{ROW}
-use Rattle.rows.specs.Table.{Placed, Storable, putRow}
+use Rattle.rows.specs.Columns.{ROW, PARENT}
+use Rattle.rows.specs.Table.{Placed, Storable, cell, usageIn, putRow}
 use Rattle.rows.proofs.TableLaws.{length-putRow, usage-put, parent-put}
 use Rattle.tree.specs.declared.OpenLevels.{OpenLevels}
 use Rattle.tree.specs.Levels.{topDown, stackOf, usageAround, Nested, Closed, Opened}
 use Rattle.tree.specs.Reading.{Added}
-use Rattle.tree.proofs.LevelLaws.{length-down, level-put, down-put, down-around, fit-more}
+use Rattle.tree.proofs.LevelLaws.{length-down, down-put, down-around, fit-more}
 use Rattle.tree.proofs.ReadingLaws.{inheriting-placed}
 use Rattle.tree.proofs.add_row.Statement.{statement}
 use Rattle.tree.proofs.add_row.Tie as tie
@@ -33,9 +33,9 @@ module _
 
     -- its usage holds around the statement
     around-is : usageAround w (u .row) ≡ around (stillOpen (s .level) (stackOf w o))
-    around-is = down-around w k (u .count) (u .row) (closed .fit) (closed .row) ∙ ap around (closed .is)
+    around-is = down-around w (u .levels) k (u .count) (u .row) (closed .fit) (closed .row) ∙ ap around (closed .is)
 
-    module _ (placed : Placed s) {r : OpenLevels} (opening : Opened u k r) where
+    module _ (placed : Placed s) {r : OpenLevels} (opening : Opened u (s .level) k r) where
       -- the statement as it is stored
       abbrev held : Statement
       held = inheriting (usageAround w (u .row)) s
@@ -47,17 +47,17 @@ module _
       stack-put : stackOf (putRow w k (u .row) held) r ≡ opened (s .level) (suc k) (held .usage) ∷ stackOf w u
       stack-put =
           let w′ = putRow w k (u .row) held in
-          let first = level-put w k (u .row) held fits held-storable in
-          let usage = usage-put w k (u .row) held fits held-storable in
-          let later =
-          ap (topDown w′ (u .count)) (parent-put w k (u .row) held fits)
-          ∙ down-put w k (u .row) held (u .count) (u .row) (closed .fit) in
-          opening .is w′ ∙ (λ i. opened (first i) (suc k) (usage i) ∷ later i)
+          opening .is w′
+          ∙ ap₂ (λ (x : ItemUsage) (os : List Open). opened (s .level) (suc k) x ∷ os)
+          (usage-put w k (u .row) held fits held-storable)
+          (ap (topDown w′ (u .levels) (u .count)) (parent-put w k (u .row) held fits)
+          ∙ down-put w (u .levels) k (u .row) held (u .count) (u .row) (closed .fit))
 
       nested-put : Nested (putRow w k (u .row) held) (suc k) r
       nested-put =
-          let few = length-down w (u .count) (u .row) in
+          let few = length-down w (u .levels) (u .count) (u .row) in
           record {
+            few = opening .few;
             fit =
                 subst (Fit (suc k)) (sym stack-put)
                 (omega (arith, closed .few, few), omega arith, omega arith, fit-more k (stackOf w u) (closed .fit));

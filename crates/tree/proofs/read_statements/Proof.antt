@@ -64,14 +64,14 @@ record Left (t w₀ w : List ℕ) (from : Stand) (n : ℕ) (o : OpenLevels) : Ty
 start : {t w : List ℕ} {from : Stand} {o : OpenLevels} → length t ≤ mostBytes → leastWork ≤ length w → from ≡ atStart → NoneOpen o → Left t w w from 0 o
 unfolding statementWords
 start {t} {w} {from} {o} s r b p =
-    let none : stackOf w o ≡ [] = ap (λ (n : ℕ). topDown w n (o .row)) (p .count) ∙ down-none w (o .row) in
+    let none : stackOf w o ≡ [] = ap (λ (n : ℕ). topDown w (o .levels) n (o .row)) (p .count) ∙ down-none w (o .levels) (o .row) in
     record {
       within = rw b (omega arith);
       short = s;
       room = r;
       long = refl;
       few = omega arith;
-      nested = record { fit = subst (Fit 0) (sym none) tt; there = omega arith };
+      nested = record { few = omega (arith, p .count); fit = subst (Fit 0) (sym none) tt; there = omega arith };
       opens = rw b;
       same = rw b (ap (λ (os : List Open). outcome w 0 os (whole t)) (sym none));
       held = rw b (λ h. h);

@@ -8,6 +8,9 @@ use mathlib.Core.List.{List, [], _∷_, _++_}
 use lib.Dec.{eqb, ltb}
 use lib.ListN.{length}
 use Rattle.definition.specs.declared.Entry.{Entry}
+use Rattle.definition.specs.declared.FieldKind.{FieldKind}
+use Rattle.definition.specs.declared.Occurs.{Occurs}
+use Rattle.listing.specs.declared.Line.{Line}
 use Rattle.definition.specs.Limits.{largest}
 use Rattle.definition.specs.Basic.{if_then_else_, absent, given, Answer, give, _>>=_, refuseIf}
 use Rattle.definition.specs.Fold.{Entries, end, entry, total, entryEnd, union, foldedAll}
@@ -65,6 +68,34 @@ abbrev pub moved : ℕ → Entry → Entry
 moved offset e =
     record { at = e .at; level = e .level; name = e .name; offset = offset; width = e .width; kind = e .kind; picture = e .picture; occurs = e .occurs; depending = e .depending; redefines = absent; over = e .over; slack = e .slack; folded = e .folded }
 
+-- the same of what the listing says of it, and of the union of an entry
+abbrev pub memberLine : Line → ℕ → Line
+memberLine l offset =
+    record {
+      kind = l .kind;
+      name = l .name;
+      offset = offset;
+      width = l .width;
+      occurs = l .occurs;
+      depending = l .depending;
+      redefines = absent;
+      picture = l .picture;
+    }
+
+abbrev pub unionLine : Line → ℕ → Line
+unionLine l width =
+    record {
+      kind = FieldKind.Group;
+      name = l .name;
+      offset = l .offset;
+      width = width;
+      occurs = Occurs.Once;
+      depending = absent;
+      redefines = absent;
+      picture = absent;
+    }
+
+-- the entry that an item stands for
 abbrev pub ownOf : List ℕ → Item → Entry
 ownOf w x =
     if eqb (x .mark) OWN then entryIn w (x .row)

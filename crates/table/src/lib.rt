@@ -15,7 +15,6 @@ ghost use Rattle.table.specs.Entered.{flatBytes, flatVaries, topEnd, fla
 use definition::Check;
 use definition::Entry;
 use definition::LARGEST;
-use definition::Refusal;
 use definition::Span;
 use rows::AT;
 use rows::DEPENDING;
@@ -253,11 +252,7 @@ pub fn ends_fit(work: &[u32], entries: &[u32], n: usize) -> Check
     let mut k = 0;
     while k < n {
         if LARGEST < top_end(work, entries, k) {
-            return Check::Refused(Refusal {
-                number: 29,
-                position: position_of(work, entries, k),
-                needed: 0,
-            });
+            return Check::Refused(limits::too_large(position_of(work, entries, k)));
         }
         k += 1;
     }

@@ -1,16 +1,21 @@
--- What laying a list, or one item of it, in the rows of the table leads to.
+-- What laying a list, or one item of it, in the rows of the table leads to, and the room that it takes.
 -- Assumes nothing.
-use Prim.Native.Nat.{ℕ, suc}
+use Prim.Native.Nat.{ℕ, suc, _*_, _≤_, _<_}
 use mathlib.Core.List.{List}
+use lib.ListN.{length}
 use Rattle.definition.specs.declared.Refusal.{Refusal}
 use Rattle.definition.specs.declared.Entry.{Entry}
 use Rattle.definition.specs.declared.Pictured.{Pictured}
 use Rattle.definition.specs.Basic.{Answer, refuse, give}
 use Rattle.definition.specs.Fold.{end, entry, entryEnd}
 use Rattle.definition.specs.Layout.{advance, Laid, lay}
+use Rattle.rows.specs.Columns.{ROW}
 use Rattle.rows.specs.Table.{statementAt}
 use Rattle.places.specs.Places.{putPlace, putPlaces, lastOf, rowsForest}
 use Rattle.redefines.specs.Targets.{seenAt, baseAfter, placersAfter}
+use Rattle.redefines.specs.Prints.{Printed}
+use Rattle.layout.specs.declared.ItemAnswer.{ItemAnswer}
+use Rattle.layout.specs.declared.LaidList.{LaidList}
 use Rattle.layout.specs.Bare.{ItemLaid, placedEntry, bareItem}
 
 -- ---------------------------------------------------------------- a list laid in the table
@@ -58,3 +63,21 @@ afterOwn text w i last below cursor (give e) = placing (advance cursor e) (entry
 -- row i, its kind and width known and `below` rows below it laid, placed after the sibling `last`
 abbrev pub placeRow : List ℕ → List ℕ → ℕ → ℕ → ℕ → ℕ → Pictured → ItemOutcome
 placeRow text w i below last cursor c = afterOwn text w i last below cursor (placedEntry text (statementAt w i) c (seenAt w last) cursor)
+
+-- ---------------------------------------------------------------- what the code answers
+
+-- what an answer says, with the table as the call leaves it; after a refusal its contents are left open
+abbrev pub itemOf : ItemAnswer → List ℕ → ItemOutcome
+itemOf (ItemAnswer.Done cursor reach) w = placing cursor reach w
+itemOf (ItemAnswer.Refused r) w = halted r
+
+-- the same for a list
+abbrev pub listOf : LaidList → List ℕ → ListOutcome
+listOf (LaidList.Done width last) w = ready width last w
+listOf (LaidList.Refused r) w = stopped r
+
+-- the table has rows up to `to`, with the fingerprints of their names
+pub record Room (text w : List ℕ) (to : ℕ) : Type 0 where
+  pub fits : ROW * to ≤ length w
+  pub small : to < 65536
+  pub printed : Printed text w to

@@ -66,7 +66,7 @@ module _ (bs out : List ℕ) {n : ℕ} (e : n ≡ length bs) where
 -- ---------------------------------------------------------------- the listing's parts
 
 -- the most that a kind adds
-details-most : (k : FieldKind) → details# k ≤ 11
+pub details-most : (k : FieldKind) → details# k ≤ 11
 details-most FieldKind.Text = omega arith
 details-most (FieldKind.Int signed sign) = omega arith
 details-most (FieldKind.Binary signed) = omega arith

@@ -32,7 +32,7 @@ use Rattle.definition.proofs.Walk.{walk-slack, walk-piece, walk-in, walk-later,
 use Rattle.rows.specs.Columns.{ROW, DEPENDING, REDEFINES, OFFSET, WIDTH, BELOW}
 use Rattle.rows.specs.Table.{cell, statementAt, statementsFrom}
 use Rattle.places.specs.Places.{entryIn, entriesIn, rowsForest}
-use Rattle.layout.proofs.BareLaws.{layout-is}
+use Rattle.record.proofs.LaidLaws.{layout-is}
 use Rattle.places.proofs.EntriesLaws.{size-stretch, Rows, rows-forest}
 use Rattle.places.proofs.RowLaws.{stretch-cons, stretch-none}
 use Rattle.unions.proofs.ShownLaws.{entries-size}

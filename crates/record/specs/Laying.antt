@@ -16,7 +16,7 @@ use Rattle.definition.specs.Fold.{Entries, foldedAll}
 use Rattle.definition.specs.Record.{recordLength, unfolded}
 use Rattle.places.specs.Places.{rowsForest}
 use Rattle.tree.specs.declared.RowsRead.{RowsRead}
-use Rattle.layout.specs.Steps.{Room}
+use Rattle.layout.specs.Outcomes.{Room}
 use Rattle.record.specs.declared.RecordLaid.{RecordLaid}
 use Rattle.definition.specs.Listing.{members#}
 use Rattle.unions.specs.Shown.{listIn, Tree}

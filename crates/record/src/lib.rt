@@ -6,7 +6,7 @@ ghost use Rattle.definition.specs.Limits.{mostStatements};
 ghost use Rattle.definition.specs.Basic.{give};
 ghost use Rattle.definition.specs.Calls.{recordFields};
 ghost use Rattle.places.specs.Places.{rowsForest};
-ghost use Rattle.layout.specs.Steps.{Room};
+ghost use Rattle.layout.specs.Outcomes.{Room};
 ghost use Rattle.rows.specs.Columns.{ROW};
 ghost use Rattle.entries.specs.Building.{Roomy};
 ghost use Rattle.record.specs.Laying.{Under, FieldsFrom, RecordIs, Read, CopybookRows};
@@ -88,7 +88,7 @@ pub fn lay_fields(
     ensures { λ r. ⌜ RecordIs (now (text .entry)) (give (rowsForest (now (work .entry)) from to)) r (now (work .exit)) (now (entries .exit)) ⌝ }
 {
     match layout::lay_list(text, work, from, to, DEEPEST) {
-        LaidList::Done { width, last } => match layout::fold_check(text, work, from, to) {
+        LaidList::Done { width, last } => match unions::fold_check(text, work, from, to) {
             Check::Passed => {
                 unions::link_unions(work, from, to);
                 let made = entries::make_entries(text, work, from, to, entries);

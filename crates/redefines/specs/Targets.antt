@@ -9,11 +9,12 @@ use mathlib.Core.List.{List, [], _∷_}
 use mathlib.Core.Option.{Option, none, some}
 use lib.Dec.{eqb}
 use Rattle.definition.specs.declared.Span.{Span}
-use Rattle.definition.specs.Basic.{if_then_else_, given}
+use Rattle.definition.specs.Basic.{if_then_else_, given, Answer, refuse, give}
 use Rattle.definition.specs.Fold.{sameName, Place, Search, searchBack}
 use Rattle.rows.specs.Columns.{NAME, REDEFINES, OFFSET, BEFORE, PLACERS}
 use Rattle.rows.specs.Table.{spanAt, cell}
 use Rattle.redefines.specs.declared.SearchEnd.{SearchEnd}
+use Rattle.redefines.specs.declared.Start.{Start}
 
 -- the name and the offset of the entry in row k
 abbrev pub placeAt : List ℕ → ℕ → Place
@@ -84,6 +85,15 @@ noSearch = record { found = none; compared = 0 }
 -- the definition's search for the target of a REDEFINES, if there is one
 abbrev pub targetSearch : List ℕ → Span → List Place → Search
 targetSearch text redefines seen = if given redefines then searchBack text redefines seen else noSearch
+
+-- a start as the definition's answer, and the row that the item redefines: its row and 1, or 0 for none
+abbrev pub startOf : Start → Answer ℕ
+startOf (Start.At target offset) = give offset
+startOf (Start.Refused r) = refuse r
+
+abbrev pub targetIn : Start → ℕ
+targetIn (Start.At target offset) = target
+targetIn (Start.Refused r) = 0
 
 -- the row that a search for a name ended at, if any, has that name
 abbrev pub Named : List ℕ → Span → List ℕ → ℕ → Type 0

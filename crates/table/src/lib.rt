@@ -19,7 +19,6 @@ use definition::Entry;
 use definition::FieldKind;
 use definition::LARGEST;
 use definition::Occurs;
-use definition::Refusal;
 use definition::Span;
 use listing::Line;
 use rows::AT;
@@ -333,11 +332,7 @@ pub fn ends_fit(work: &[u32], entries: &[u32], n: usize) -> Check
     let mut k = 0;
     while k < n {
         if LARGEST < top_end(work, entries, k) {
-            return Check::Refused(Refusal {
-                number: 29,
-                position: position_of(work, entries, k),
-                needed: 0,
-            });
+            return Check::Refused(limits::too_large(position_of(work, entries, k)));
         }
         k += 1;
     }

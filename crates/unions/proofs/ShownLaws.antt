@@ -20,10 +20,9 @@ use Rattle.redefines.specs.Targets.{seenFrom, basesAt, baseFrom, baseAfter, pla
 use Rattle.places.specs.Places.{entryIn, entriesIn, Linked, rowsForest}
 use Rattle.places.specs.Children.{ChildrenEnd, Numbered}
 use Rattle.places.proofs.EntriesLaws.{next-row, entries-step, linked-step, linked-numbered}
-use Rattle.layout.proofs.FoldLaws.{bases-after}
 use Rattle.places.proofs.RowLaws.{children-end, forest-split, forest-empty}
 use Rattle.unions.specs.Shown.{listIn, redefinersIn, foldedRest, shownAt, unionOf, nextIn, IsBase, Known, Marked}
-use Rattle.unions.proofs.BaseLaws.{base-found}
+use Rattle.unions.proofs.BaseLaws.{bases-after, base-found}
 use Rattle.unions.proofs.FoldedLaws.{append-end, append-append, list-step}
 
 -- ---------------------------------------------------------------- one row

@@ -4,7 +4,7 @@ use Prim.Native.Nat.{ℕ, suc, _+_, _*_, _≤_, _<_}
 use mathlib.Core.Path.{_≡_}
 use mathlib.Core.Bool.{Bool, true, false}
 use lib.Dec.{eqb, ltb}
-use mathlib.Core.List.{List}
+use mathlib.Core.List.{List, _∷_}
 use lib.ListN.{length}
 use Rattle.definition.specs.declared.Span.{Span}
 use Rattle.definition.specs.declared.Entry.{Entry}
@@ -26,6 +26,10 @@ abbrev pub standing : List ℕ → List Place → Entry → Standing
 standing text bases e =
     if given (e .redefines) then (if hasBase (find text (e .redefines) bases) then Standing.Under else Standing.Alone)
     else Standing.Base
+
+-- the bases after it
+abbrev pub basesAfter : Entry → List Place → List Place
+basesAfter e bases = if given (e .redefines) then bases else placeOf e ∷ bases
 
 -- what it comes to: nothing, itself, or itself with its redefiners
 abbrev pub shownAs : List ℕ → Standing → Entry → Entries → Entries → Entries

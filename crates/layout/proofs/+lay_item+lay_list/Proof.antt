@@ -27,8 +27,8 @@ use Rattle.redefines.proofs.PrintLaws.{printed-less}
 use Rattle.layout.specs.declared.ItemAnswer.{ItemAnswer}
 use Rattle.layout.specs.declared.LaidList.{LaidList}
 use Rattle.definition.specs.Fold.{foldCheck}
-use Rattle.layout.specs.Outcomes.{ListOutcome, stopped, ready, layRest, layTable, ItemOutcome, halted, layItem, placeRow}
-use Rattle.layout.specs.Steps.{itemOf, listOf, Room}
+use Rattle.layout.specs.Outcomes.{ListOutcome, stopped, ready, layRest, layTable, ItemOutcome, halted, layItem}
+use Rattle.layout.specs.Outcomes.{placeRow, itemOf, listOf, Room}
 use Rattle.layout.proofs.LayLaws.{list-stop, list-step, list-none, item-within, item-printed, leaf-stop, leaf-place, leaf-narrow, LaidRows, laid-rows, laid-printed, too-deep, inner-stop, fold-stop, group-place}
 use borrow.Fn.Kinds.{In}
 use borrow.Fn.PlainCycle.{Measures, is, falls, and}
@@ -40,7 +40,7 @@ use Rattle.layout.proofs.lay_list.Kinds as lay-list-kinds
 use Rattle.layout.proofs.+lay_item+lay_list.Lts-lay_list as lay-list-lts
 use Rattle.contents.proofs.elementary.Reads as elementary-reads
 use Rattle.places.proofs.end_of.Reads as end-of-reads
-use Rattle.layout.proofs.fold_check.Reads as fold-check-reads
+use Rattle.unions.proofs.fold_check.Reads as fold-check-reads
 use Rattle.limits.proofs.most.Reads as most-reads
 use Rattle.layout.proofs.place.Reads as place-reads
 use Rattle.rows.proofs.wide.Reads as wide-reads

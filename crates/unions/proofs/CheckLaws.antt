@@ -1,4 +1,4 @@
--- The check of a list, entry by entry, along the rows that hold it.
+-- Refusal 30: the check of a list, entry by entry, along the rows that hold it.
 -- Assumes nothing.
 use Prim.Native.Nat.{ℕ, suc, _+_, _*_, _≤_, _<_}
 use mathlib.Core.Path.{_≡_, refl, sym, ap, _∙_}
@@ -6,36 +6,57 @@ use mathlib.Core.Bool.{Bool, true, false}
 use mathlib.Core.List.{List, [], _∷_}
 use mathlib.Core.Option.{Option, none, some}
 use native.Mathlib.Omega.{arith}
+use lib.Dec.{ltb}
 use lib.ListN.{length}
 use Rattle.definition.specs.declared.Refusal.{Refusal}
 use Rattle.definition.specs.declared.Entry.{Entry}
-use Rattle.definition.specs.Basic.{if_then_else_, given, Answer, refuse, give, _>>=_}
+use Rattle.definition.specs.Basic.{if_then_else_, given, Answer, refuse, give, _>>=_, refuseIf}
 use Rattle.definition.specs.Tree.{Forest}
 use Rattle.definition.specs.Fold.{Entries, entry, Place, placeOf, find, foldCheck}
-use Rattle.rows.specs.Columns.{ROW, AT, REDEFINES, OFFSET, BEFORE, BASE}
+use Rattle.rows.specs.Columns.{ROW, AT, REDEFINES, OFFSET, BASE}
 use Rattle.rows.specs.Table.{cell, spanAt}
 use Rattle.redefines.specs.Targets.{seenFrom, basesAt, offsetOf, baseFrom, baseAfter}
 use Rattle.places.specs.Places.{entryIn, entriesIn, Linked, rowsForest}
 use Rattle.places.specs.Children.{ChildrenEnd, Numbered}
 use Rattle.places.proofs.RowLaws.{forest-empty, children-end}
 use Rattle.redefines.proofs.SearchLaws.{if-most, row-most, row-found}
-use Rattle.places.proofs.PlaceLaws.{seen-low, seen-out, seen-in}
 use Rattle.places.proofs.EntriesLaws.{entries-step, linked-step, linked-numbered}
-use Rattle.layout.specs.Bare.{basesAfter}
-use Rattle.layout.specs.Steps.{checkBase, checkEntry, checkRow}
-use Rattle.layout.proofs.BareLaws.{check-base, check-alone, check-under}
+use Rattle.unions.specs.Checks.{checkBase, checkEntry, checkRow}
+use Rattle.unions.specs.Shown.{basesAfter}
+use Rattle.unions.proofs.BaseLaws.{bases-after}
 
 -- ---------------------------------------------------------------- one entry
 
 module _ (text : List ℕ) (bases : List Place) (e : Entry) (members later : Entries) where
+  check-base :
+      given (e .redefines) ≡ false →
+      foldCheck text bases (entry e members later) ≡ foldCheck text (placeOf e ∷ bases) later
+  unfolding foldCheck
+  check-base g = rw (g, foldCheck)
+
+  module _ (g : given (e .redefines) ≡ true) where
+    check-alone :
+        find text (e .redefines) bases ≡ none →
+        foldCheck text bases (entry e members later) ≡ foldCheck text bases later
+    unfolding foldCheck
+    check-alone h = rw (g, h, foldCheck)
+
+    check-under :
+        {base : ℕ} →
+        find text (e .redefines) bases ≡ some base →
+        foldCheck text bases (entry e members later)
+        ≡ (refuseIf (ltb (e .offset) base) 30 (e .at) >>= λ _. foldCheck text bases later)
+    unfolding foldCheck
+    check-under h = rw (g, h, foldCheck)
+
   by-base :
       given (e .redefines) ≡ true →
       (o : Option ℕ) →
       find text (e .redefines) bases ≡ o →
       foldCheck text bases (entry e members later) ≡ (checkEntry text bases e >>= λ _. foldCheck text (basesAfter e bases) later)
   unfolding _>>=_
-  by-base g none h = check-alone text bases e members later g h ∙ rw (g, h)
-  by-base g (some base) h = check-under text bases e members later g h ∙ rw (g, h)
+  by-base g none h = check-alone g h ∙ rw (g, h)
+  by-base g (some base) h = check-under g h ∙ rw (g, h)
 
   by-kind :
       (b : Bool) →
@@ -43,7 +64,7 @@ module _ (text : List ℕ) (bases : List Place) (e : Entry) (members later : Ent
       foldCheck text bases (entry e members later) ≡ (checkEntry text bases e >>= λ _. foldCheck text (basesAfter e bases) later)
   unfolding _>>=_
   by-kind true g = by-base g (find text (e .redefines) bases) refl
-  by-kind false g = check-base text bases e members later g ∙ rw g
+  by-kind false g = check-base g ∙ rw g
 
   fold-passed : checkEntry text bases e ≡ give tt → foldCheck text bases (entry e members later) ≡ foldCheck text (basesAfter e bases) later
   unfolding _>>=_
@@ -54,20 +75,6 @@ module _ (text : List ℕ) (bases : List Place) (e : Entry) (members later : Ent
   fold-refused h = by-kind (given (e .redefines)) refl ∙ ap (λ (a : Answer (Unit {0})). a >>= λ _. foldCheck text (basesAfter e bases) later) h
 
 -- ---------------------------------------------------------------- one row
-
--- the bases after row i
-pub bases-after : (w : List ℕ) (i last : ℕ) → cell w i BEFORE ≡ last → last ≤ i → basesAt w (suc i) ≡ basesAfter (entryIn w i) (basesAt w last)
-bases-after w i last h l = go (given (entryIn w i .redefines)) refl
-  where
-    before : seenFrom true w i (cell w i BEFORE) ≡ basesAt w last
-    before = ap (seenFrom true w i) h ∙ seen-low true w i last l
-
-    go : (b : Bool) → given (entryIn w i .redefines) ≡ b → basesAt w (suc i) ≡ basesAfter (entryIn w i) (basesAt w last)
-    go true g = seen-out true w i g ∙ before ∙ ap (λ (b : Bool). if b then basesAt w last else placeOf (entryIn w i) ∷ basesAt w last) (sym g)
-    go false g =
-        seen-in true w i g
-        ∙ ap (λ (ps : List Place). placeOf (entryIn w i) ∷ ps) before
-        ∙ ap (λ (b : Bool). if b then basesAt w last else placeOf (entryIn w i) ∷ basesAt w last) (sym g)
 
 -- the base that a row names is the one that the check asks for
 row-check : (t w : List ℕ) (i last : ℕ) → cell w i BASE ≡ baseAfter t w i last → checkRow w i ≡ checkEntry t (basesAt w last) (entryIn w i)

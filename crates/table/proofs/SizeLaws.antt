@@ -2,55 +2,29 @@
 -- at most 49 bytes an entry. Each redefiner stands under one base alone: that is what is counted here.
 -- Assumes nothing.
 use Prim.Native.Nat.{ℕ, suc, _+_, _*_, _≤_}
-use mathlib.Core.Path.{_≡_, refl, sym, _∙_, ap, ap₂}
-use mathlib.Core.Bool.{Bool, true, false, _&&_}
+use mathlib.Core.Path.{_≡_, refl, sym, _∙_, ap}
+use mathlib.Core.Bool.{Bool, true, false}
 use mathlib.Core.List.{List, [], _∷_, _++_}
 use mathlib.Core.Option.{Option, none, some}
 use native.Mathlib.Omega.{arith}
-use lib.Dec.{eqb}
 use lib.ListN.{length, length-append}
-use borrow.Author.Tests.{eqb-true, eqb-false, eq-eqb, ne-eqb}
 use Rattle.definition.specs.declared.Span.{Span}
 use Rattle.definition.specs.declared.Entry.{Entry}
-use Rattle.definition.specs.declared.FieldKind.{FieldKind}
-use Rattle.definition.specs.Basic.{if_then_else_, same, uppers, given}
-use Rattle.definition.specs.Fold.{Entries, end, entry, append, nameOf, sameName, Place, placeOf, find, hasMember, rebased, redefiners, withRedefiners, hasBase, foldedList, foldedBelow, foldedAll}
+use Rattle.definition.specs.Basic.{if_then_else_, given}
+use Rattle.definition.specs.Fold.{Entries, end, entry, append, sameName, Place, placeOf, find, hasMember, rebased, redefiners, withRedefiners, hasBase, foldedList, foldedBelow, foldedAll}
 use Rattle.definition.specs.Listing.{members#, entryBytes, entriesBytes}
 use Rattle.definition.specs.Search.{entries#}
 use Rattle.definition.proofs.LayoutLaws.{find-none, find-hit, find-miss, redefiners-none, redefiners-hit, redefiners-miss, redefiners-ends, redefiners-next, append-none, append-entry}
-use Rattle.definition.proofs.ListingLaws.{bytes-none, bytes-entry, details#, entry-length}
-use Rattle.definition.proofs.WordLaws.{same-equal}
-use Rattle.names.proofs.SameLaws.{never}
-use Rattle.layout.proofs.BareLaws.{list-base, list-alone, list-under}
-
--- ---------------------------------------------------------------- equal names
-
-eqb-sym : (x y : ℕ) → eqb x y ≡ eqb y x
-eqb-sym x y = go (eqb x y) refl
-  where
-    go : (b : Bool) → eqb x y ≡ b → b ≡ eqb y x
-    go true h = sym (eq-eqb y x (sym (eqb-true x y h)))
-    go false h = sym (ne-eqb y x (λ e. eqb-false x y h (sym e)))
-
-pub same-sym : (a b : List ℕ) → same a b ≡ same b a
-unfolding same
-same-sym [] [] = refl
-same-sym [] (y ∷ ys) = refl
-same-sym (x ∷ xs) [] = refl
-same-sym (x ∷ xs) (y ∷ ys) = ap₂ _&&_ (eqb-sym x y) (same-sym xs ys)
+use Rattle.definition.proofs.ListingLaws.{bytes-none, bytes-entry, entry-length}
+use Rattle.names.proofs.SameLaws.{swapped, same-first}
+use Rattle.unions.proofs.FoldedLaws.{list-base, list-alone, list-under}
+use Rattle.listing.proofs.PutLaws.{details-most}
 
 -- what the entries of a list weigh: two for each of them and those below, and one more for each of its own
 abbrev weight : Entries → ℕ
 weight es = 2 * entries# es + members# es
 
 module _ (text : List ℕ) where
-  abbrev name : Span → List ℕ
-  name w = uppers (nameOf text w)
-
-  -- a name that is the same as a stands for it
-  pub same-first : (a b c : Span) → sameName text a b ≡ true → sameName text a c ≡ sameName text b c
-  same-first a b c h = ap (λ (l : List ℕ). same l (name c)) (same-equal (name a) (name b) h)
-
   -- ---------------------------------------------------------------- bases of other names
 
   -- no place has that name
@@ -83,7 +57,7 @@ module _ (text : List ℕ) where
   -- a search for a name that no place has finds none
   absent-none : (w v : Span) (ps : List Place) → sameName text w v ≡ true → Absent w ps → find text v ps ≡ none
   absent-none w v [] h a = find-none text v
-  absent-none w v (p ∷ ps) h a = find-miss text v p ps (sym (same-first w v (p .name) h) ∙ a .0) ∙ absent-none w v ps h (a .1)
+  absent-none w v (p ∷ ps) h a = find-miss text v p ps (sym (same-first text w v (p .name) h) ∙ a .0) ∙ absent-none w v ps h (a .1)
 
   -- ---------------------------------------------------------------- what stands under earlier bases
 
@@ -118,7 +92,7 @@ module _ (text : List ℕ) where
         sameName text (x .name) (y .redefines) ≡ t →
         weight (redefiners text x (entry y m later)) + under ws (entry y m later) ≡ under (x ∷ ws) (entry y m later)
     split-redefiner g ih true h =
-        let hit : find text (y .redefines) (x ∷ ws) ≡ some (x .offset) = find-hit text (y .redefines) x ws (same-sym (name (y .redefines)) (name (x .name)) ∙ h) in
+        let hit : find text (y .redefines) (x ∷ ws) ≡ some (x .offset) = find-hit text (y .redefines) x ws (swapped text (y .redefines) (x .name) ∙ h) in
         omega (
           arith,
           ap weight (redefiners-hit text x y m later g h),
@@ -126,7 +100,7 @@ module _ (text : List ℕ) where
           under-found (x ∷ ws) y m later g hit,
         )
     split-redefiner g ih false h =
-        let miss : find text (y .redefines) (x ∷ ws) ≡ find text (y .redefines) ws = find-miss text (y .redefines) x ws (same-sym (name (y .redefines)) (name (x .name)) ∙ h) in
+        let miss : find text (y .redefines) (x ∷ ws) ≡ find text (y .redefines) ws = find-miss text (y .redefines) x ws (swapped text (y .redefines) (x .name) ∙ h) in
         omega (
           arith,
           ap weight (redefiners-miss text x y m later g h),
@@ -142,7 +116,7 @@ module _ (text : List ℕ) where
         sameName text (x .name) (y .name) ≡ t →
         weight (redefiners text x (entry y m later)) + under ws (entry y m later) ≡ under (x ∷ ws) (entry y m later)
     split-base g ih true h =
-        let out : others (y .name) (x ∷ ws) ≡ others (y .name) ws = rw (same-sym (name (y .name)) (name (x .name)) ∙ h) in
+        let out : others (y .name) (x ∷ ws) ≡ others (y .name) ws = rw (swapped text (y .name) (x .name) ∙ h) in
         omega (
           arith,
           ap weight (redefiners-ends text x y m later g h),
@@ -151,7 +125,7 @@ module _ (text : List ℕ) where
           ap (λ (vs : List Place). under vs later) out,
         )
     split-base g ih false h =
-        let stay : others (y .name) (x ∷ ws) ≡ x ∷ others (y .name) ws = rw (same-sym (name (y .name)) (name (x .name)) ∙ h) in
+        let stay : others (y .name) (x ∷ ws) ≡ x ∷ others (y .name) ws = rw (swapped text (y .name) (x .name) ∙ h) in
         omega (
           arith,
           ap weight (redefiners-next text x y m later g h),
@@ -275,15 +249,6 @@ module _ (text : List ℕ) where
   folded-size es = omega (arith, fold-size (foldedBelow text es) [] [] (λ w h. h), below-members es, below-size es)
 
 -- an entry has at most 49 bytes
-details-few : (k : FieldKind) → details# k ≤ 11
-details-few FieldKind.Text = omega arith
-details-few (FieldKind.Int signed sign) = omega arith
-details-few (FieldKind.Binary signed) = omega arith
-details-few (FieldKind.Decimal precision scale repr sign) = omega arith
-details-few (FieldKind.Edited precision scale signed) = omega arith
-details-few FieldKind.Group = omega arith
-details-few (FieldKind.Float bits) = omega arith
-
 pub bytes-few : (es : Entries) → length (entriesBytes es) ≤ 49 * entries# es
 bytes-few end = omega (arith, ap length bytes-none)
 bytes-few (entry e m later) =
@@ -293,7 +258,7 @@ bytes-few (entry e m later) =
       length-append (entryBytes e (members# m)) (entriesBytes m ++ entriesBytes later),
       length-append (entriesBytes m) (entriesBytes later),
       entry-length e (members# m),
-      details-few (e .kind),
+      details-most (e .kind),
       bytes-few m,
       bytes-few later,
     )

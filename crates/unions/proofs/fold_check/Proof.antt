@@ -1,4 +1,4 @@
--- `layout::fold_check` meets its contract: the check of the whole list is the check of the rest, after the bases so far.
+-- `unions::fold_check` meets its contract: the check of the list is the check of the rest, after the bases so far.
 -- Assumes nothing.
 use borrow.Author.Needs.{needs}
 use Prim.Native.Nat.{ℕ, _-_, _<_}
@@ -12,10 +12,11 @@ use Rattle.definition.specs.Fold.{foldCheck}
 use Rattle.places.specs.Places.{entriesIn, rowsForest}
 use Rattle.places.specs.Children.{ChildrenEnd}
 use Rattle.places.proofs.RowLaws.{children-end}
-use Rattle.layout.specs.Steps.{checkRow}
-use Rattle.layout.proofs.FoldLaws.{Checking, checking-starts, checking-row, checking-numbered, checking-on, checking-refused, checking-ends}
-use Rattle.layout.proofs.fold_check.Statement.{statement}
-use Rattle.layout.proofs.fold_check.Tie as tie
+use Rattle.unions.specs.Checks.{checkRow}
+use Rattle.unions.proofs.CheckLaws.{Checking, checking-starts, checking-row, checking-numbered, checking-on}
+use Rattle.unions.proofs.CheckLaws.{checking-refused, checking-ends}
+use Rattle.unions.proofs.fold_check.Statement.{statement}
+use Rattle.unions.proofs.fold_check.Tie as tie
 
 module _ {t w : List ℕ} {from to i : ℕ} (inv : Checking t w from to i) {a : Check} (p : checkOf a ≡ checkRow w i) where
   next : {j : ℕ} → a ≡ Check.Passed → ChildrenEnd w i to j → Checking t w from to j

@@ -1,4 +1,4 @@
--- `layout::check_row` meets its contract: a row with a base, and one without.
+-- `unions::check_row` meets its contract: a row with a base, and one without.
 -- Assumes nothing.
 use borrow.Author.Needs.{needs}
 use Prim.Native.Nat.{ℕ, suc, _-_, _≤_, _<_}
@@ -10,9 +10,9 @@ use Rattle.definition.specs.Basic.{give, refused}
 use Rattle.rows.specs.Columns.{AT, OFFSET, BASE}
 use Rattle.rows.specs.Table.{cell}
 use Rattle.redefines.specs.Targets.{offsetOf}
-use Rattle.layout.specs.Steps.{checkBase, checkRow}
-use Rattle.layout.proofs.check_row.Statement.{statement}
-use Rattle.layout.proofs.check_row.Tie as tie
+use Rattle.unions.specs.Checks.{checkBase, checkRow}
+use Rattle.unions.proofs.check_row.Statement.{statement}
+use Rattle.unions.proofs.check_row.Tie as tie
 
 module _ (w : List ℕ) (i : ℕ) {b : ℕ} (p : b ≡ cell w i BASE) where
   by-base : {n : ℕ} → b ≡ n → checkBase (cell w i AT) (cell w i OFFSET) (offsetOf w n) ≡ checkRow w i

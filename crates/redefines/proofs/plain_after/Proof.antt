@@ -1,4 +1,4 @@
--- `layout::plain_after` meets its contract.
+-- `redefines::plain_after` meets its contract.
 -- Assumes nothing.
 use borrow.Author.Needs.{needs}
 use Prim.Native.Nat.{ℕ, zero, suc, _-_, _/_, _≤_, _<_}
@@ -12,9 +12,9 @@ use Rattle.definition.specs.declared.Span.{Span}
 use Rattle.definition.specs.Basic.{if_then_else_, given}
 use Rattle.rows.specs.Columns.{REDEFINES, PLACERS}
 use Rattle.rows.specs.Table.{cell, spanAt}
 use Rattle.redefines.specs.Targets.{plainAfter}
-use Rattle.layout.proofs.plain_after.Statement.{statement}
-use Rattle.layout.proofs.plain_after.Tie as tie
+use Rattle.redefines.proofs.plain_after.Statement.{statement}
+use Rattle.redefines.proofs.plain_after.Tie as tie
 
 module _ (w : List ℕ) where
   plain-by :

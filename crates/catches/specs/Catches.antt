@@ -90,7 +90,8 @@ widthIn (give p) = p .width ∷ []
 
 -- the widths of a picture: under DISPLAY with each of these signs, under COMP-3, under COMP
 abbrev pub widthsOf : List ℕ → List SignClause → List ℕ
-widthsOf bs [] = widthIn (pictureAnswer Usage.Comp3 SignClause.Absent bs) ++ widthIn (pictureAnswer Usage.Comp SignClause.Absent bs)
+widthsOf bs [] =
+    widthIn (pictureAnswer Usage.Comp3 SignClause.Absent bs) ++ widthIn (pictureAnswer Usage.Comp SignClause.Absent bs)
 widthsOf bs (c ∷ cs) = widthIn (pictureAnswer Usage.Display c bs) ++ widthsOf bs cs
 
 -- how many names each search for a target compares in a list, after the earlier siblings, the latest first
@@ -238,6 +239,11 @@ abbrev pub all : List Catch → Bool
 all [] = true
 all (r ∷ rs) = elim (right r) [ true ↦ all rs | false ↦ false ]
 
+-- a text after another
+abbrev joined : String → String → String
+joined ε t = t
+joined (c ∷ᶜ s) t = c ∷ᶜ joined s t
+
 -- the worked example: 129 bytes; byte 5 is slack before SIRE
 abbrev pub fish : String
 fish = "01 FISH. 05 TAG PIC X(5). 05 SIRE PIC 9(4) COMP SYNC. 05 WT OCCURS 3 PIC 9(3)V9."
@@ -249,11 +255,6 @@ fishListing =
     ++ hex "03 1d000000 04000000 06000000 02000000 00 00000000 00000000 00000000 00000000 00000000 00"
     ++ hex "04 39000000 02000000 08000000 04000000 01 03000000 00000000 00000000 00000000 00000000 04 01 00 00"
 
--- a text after another
-abbrev joined : String → String → String
-joined ε t = t
-joined (c ∷ᶜ s) t = c ∷ᶜ joined s t
-
 -- the worked example as cards, with sequence numbers, text behind column 72, a comment, a page eject, a debugging line,
 -- short lines and carriage returns
 abbrev pub cardFish : String
@@ -264,7 +265,9 @@ cardFish =
 
 -- a group that stands twice, with slack in each, after a byte; then an item that stands 0 times after its slack
 abbrev pub tank : String
-tank = "05 A PIC X. 05 G OCCURS 2. 10 B PIC X. 10 C PIC 9(5) COMP SYNC. 05 D PIC X. 05 E OCCURS 0 PIC 9(9) COMP SYNC. 05 F PIC X."
+tank =
+    joined "05 A PIC X. 05 G OCCURS 2. 10 B PIC X. 10 C PIC 9(5) COMP SYNC. 05 D PIC X. "
+    "05 E OCCURS 0 PIC 9(9) COMP SYNC. 05 F PIC X."
 
 -- counts in a record of COMP: two aligned items, one of them in a group
 abbrev pub counts : String
@@ -299,7 +302,8 @@ fishDetails =
 -- an entry's details: position, level, depth, made by folding, entries below, first byte, slack, and the three places
 abbrev pub facts : ℕ → ℕ → ℕ → Bool → ℕ → ℕ → ℕ → Span → Span → Span → List ℕ
 facts at level depth folded below first slack picture over depending =
-    le4 at ++ (level ∷ depth ∷ flag folded ∷ le4 below) ++ le8 first ++ le4 slack ++ spanBytes picture ++ spanBytes over ++ spanBytes depending
+    le4 at ++ (level ∷ depth ∷ flag folded ∷ le4 below) ++ le8 first ++ le4 slack ++ spanBytes picture
+    ++ spanBytes over ++ spanBytes depending
 
 -- a group laid over an item, with an aligned item in it, and an item after both: A, folded with B, has entries 0 and 1
 abbrev pub overlay : String
@@ -316,6 +320,12 @@ layers = "05 A PIC X. 05 B PIC X(4). 05 C REDEFINES B PIC X(2). 05 D REDEFINES c
 -- a group with a member of its own name, redefined: it counts as already folded
 abbrev pub homonym : String
 homonym = "05 Z PIC X. 05 G. 10 G PIC X. 10 H PIC X. 05 B REDEFINES G PIC X(5). 05 C PIC X."
+
+-- first bytes above 32 bits, in groups with OCCURS 0 and with DEPENDING ON
+abbrev pub faraway : String
+faraway =
+    joined "05 P PIC X(2) OCCURS 1000000000. 05 G OCCURS 0. 10 P PIC X(2) OCCURS 1000000000. "
+    "10 H OCCURS 0 TO 1 DEPENDING ON N. 15 P PIC X(2) OCCURS 1000000000. 15 Q PIC X."
 
 -- items without a name beside FILLER
 abbrev pub nameless : String
@@ -368,7 +378,8 @@ table =
     ∷ pictured "P(3)9" Usage.Display SignClause.Absent 1 (Decimal 4 3 NumRepr.Display SignKind.Unsigned)
     ∷ pictured "VP9" Usage.Comp3 SignClause.Absent 1 (Decimal 2 2 NumRepr.Comp3 SignKind.Embedded)
     ∷ pictured "S9P(4)" Usage.Display SignClause.Absent 1 (Decimal 5 4 NumRepr.Zoned SignKind.Embedded)
-    ∷ pictured "S9P(4)" Usage.Display (SignClause.Given SignKind.LeadingSeparate) 2 (Decimal 5 4 NumRepr.Display SignKind.LeadingSeparate)
+    ∷ pictured "S9P(4)" Usage.Display (SignClause.Given SignKind.LeadingSeparate) 2
+    (Decimal 5 4 NumRepr.Display SignKind.LeadingSeparate)
     ∷ pictured "P" Usage.Display SignClause.Absent 0 (Decimal 1 1 NumRepr.Display SignKind.Unsigned)
     -- nor of an edited item, whose mask keeps it
     ∷ pictured "ZZ9P" Usage.Display SignClause.Absent 3 (Edited 4 1 false)
@@ -414,18 +425,21 @@ table =
     ∷ unread "B(254)9P" Usage.Display 27
     ∷ pictured "B(256)9" Usage.Comp SignClause.Absent 2 (Binary false)
     -- SEPARATE counts after VALUE, which ends the reading of the other clauses
-    ∷ accepted "05 A PIC S9(4) SIGN TRAILING VALUE 5 SEPARATE COMP." 5 false (column 0 5 (Int true SignKind.TrailingSeparate) ∷ [])
+    ∷ accepted "05 A PIC S9(4) SIGN TRAILING VALUE 5 SEPARATE COMP." 5 false
+    (column 0 5 (Int true SignKind.TrailingSeparate) ∷ [])
     -- PIC is the name; levels
     ∷ turnedDown "05 PIC X." 21 0
     ∷ accepted "255 A PIC X." 1 false (column 0 1 Text ∷ [])
     ∷ turnedDown "256 A PIC X." 10 0
     -- REDEFINES and DEPENDING ON
-    ∷ accepted "05 A PIC X(2). 05 B REDEFINES A PIC X(5). 05 C PIC X." 5 false (column 0 5 Group ∷ column 0 2 Text ∷ column 0 5 Text ∷ column 2 1 Text ∷ [])
+    ∷ accepted "05 A PIC X(2). 05 B REDEFINES A PIC X(5). 05 C PIC X." 5 false
+    (column 0 5 Group ∷ column 0 2 Text ∷ column 0 5 Text ∷ column 2 1 Text ∷ [])
     ∷ turnedDown "05 A PIC X. 05 B PIC X. 05 B REDEFINES A PIC X. 05 C REDEFINES B PIC X." 30 48
     -- 28 before 29
     ∷ turnedDown "05 A PIC X. 05 B REDEFINES C OCCURS 2147483648 PIC X." 28 12
     ∷ turnedDown "05 A PIC X. 05 B REDEFINES A OCCURS 2147483648 PIC X." 29 12
-    ∷ accepted "05 N PIC 9(2). 05 T OCCURS 1 TO 5 DEPENDING ON N PIC X(3). 05 Z PIC X." 3 true (column 0 2 (Int false SignKind.Unsigned) ∷ column 2 3 Text ∷ column 2 1 Text ∷ [])
+    ∷ accepted "05 N PIC 9(2). 05 T OCCURS 1 TO 5 DEPENDING ON N PIC X(3). 05 Z PIC X." 3 true
+    (column 0 2 (Int false SignKind.Unsigned) ∷ column 2 3 Text ∷ column 2 1 Text ∷ [])
     -- the search for a target ends at the first match back from the item: directly before, the third back, the later of
     -- two, a redefiner; and it compares all earlier siblings, and no name in a group, where none has the name
     ∷ searched "05 A PIC X. 05 B REDEFINES A PIC X." (1 ∷ [])
@@ -439,9 +453,11 @@ table =
     ∷ searched "05 A REDEFINES A PIC X." (0 ∷ [])
     ∷ searched "05 G. 10 A PIC X. 10 B PIC X. 05 C REDEFINES A PIC X." (1 ∷ [])
     -- a group is not aligned because a member is SYNC
-    ∷ accepted "05 A PIC X. 05 G. 10 B PIC 9(4) COMP SYNC." 3 false (column 0 1 Text ∷ column 1 2 Group ∷ column 0 2 (Binary false) ∷ [])
+    ∷ accepted "05 A PIC X. 05 G. 10 B PIC 9(4) COMP SYNC." 3 false
+    (column 0 1 Text ∷ column 1 2 Group ∷ column 0 2 (Binary false) ∷ [])
     -- the worked example
-    ∷ accepted fish 20 false (column 0 5 Text ∷ column 6 2 (Binary false) ∷ column 8 4 (Decimal 4 1 NumRepr.Display SignKind.Unsigned) ∷ [])
+    ∷ accepted fish 20 false
+    (column 0 5 Text ∷ column 6 2 (Binary false) ∷ column 8 4 (Decimal 4 1 NumRepr.Display SignKind.Unsigned) ∷ [])
     ∷ listed fish 129 fishListing
     ∷ noRoom fish 128 129
     ∷ owned fish 0 (Owner.Piece 0 0 0)
@@ -484,9 +500,8 @@ table =
     ++ facts 18 10 1 false 0 1 0 (span 27 1) absent absent
     ++ facts 30 5 1 false 1 0 0 absent (span 45 1) absent
     ++ facts 48 10 2 false 0 0 0 (span 57 1) absent absent)
-    -- first bytes above 32 bits, in groups with OCCURS 0 and with DEPENDING ON
-    ∷ detailed
-    "05 P PIC X(2) OCCURS 1000000000. 05 G OCCURS 0. 10 P PIC X(2) OCCURS 1000000000. 10 H OCCURS 0 TO 1 DEPENDING ON N. 15 P PIC X(2) OCCURS 1000000000. 15 Q PIC X."
+    -- first bytes above 32 bits
+    ∷ detailed faraway
     (facts 0 5 0 false 0 0 0 (span 9 4) absent absent
     ++ facts 33 5 0 false 4 2000000000 0 absent absent absent
     ++ facts 48 10 1 false 0 2000000000 0 (span 57 4) absent absent
@@ -552,7 +567,7 @@ table =
     ∷ reasoned nameless 5 (why 2 19 6 3)
     ∷ reasoned nameless 7 (why 1 0 0 0 ++ why 5 0 0 0 ++ why 2 68 1 4)
     -- the sum may pass 32 bits, though no reason does
-    ∷ reasoned "05 P PIC X(2) OCCURS 1000000000. 05 G OCCURS 0. 10 P PIC X(2) OCCURS 1000000000. 10 H OCCURS 0 TO 1 DEPENDING ON N. 15 P PIC X(2) OCCURS 1000000000. 15 Q PIC X." 5
+    ∷ reasoned faraway 5
     (why 2 119 1 2000000000 ++ why 5 84 1 0 ++ why 2 51 1 2000000000 ++ why 5 36 1 0 ++ why 2 3 1 2000000000)
     -- cards: names stand in the card text; 51 comes before 53
     ∷ cards (reasoned "000010 05 TAG PIC X.\n000020* no\n000030 05 SIRE PIC 9(4) COMP SYNC." 1
@@ -571,12 +586,16 @@ table =
     ∷ accepted "05 A PIC X VALUE A'. 'B. 05 B PIC X." 2 false (column 0 1 Text ∷ column 1 1 Text ∷ [])
     ∷ accepted "05 A PIC X values\n'a. b'. 05 B PIC X." 2 false (column 0 1 Text ∷ column 1 1 Text ∷ [])
     -- white space in a literal separates words
-    ∷ accepted "05 A PIC S9 SIGN LEADING VALUE 'a SEPARATE'." 1 false (column 0 1 (Decimal 1 0 NumRepr.Zoned SignKind.Embedded) ∷ [])
-    ∷ accepted "05 A PIC S9 SIGN LEADING VALUE 'a SEPARATE b'." 2 false (column 0 2 (Int true SignKind.LeadingSeparate) ∷ [])
-    -- a name that is VALUE, a target that is, a quote before VALUE, a word that only begins with it, what is cut or dropped
+    ∷ accepted "05 A PIC S9 SIGN LEADING VALUE 'a SEPARATE'." 1 false
+    (column 0 1 (Decimal 1 0 NumRepr.Zoned SignKind.Embedded) ∷ [])
+    ∷ accepted "05 A PIC S9 SIGN LEADING VALUE 'a SEPARATE b'." 2 false
+    (column 0 2 (Int true SignKind.LeadingSeparate) ∷ [])
+    -- a name that is VALUE, a target that is, a quote before VALUE, a word that only begins with it, what is cut or
+    -- dropped
     ∷ turnedDown "05 VALUE 'St. 4'." 10 14
     ∷ accepted "05 VALUE PIC X '. 05 B PIC X." 2 false (column 0 1 Text ∷ column 1 1 Text ∷ [])
-    ∷ accepted "05 VALUE PIC X. 05 B REDEFINES VALUE PIC X 'St. 4'. 05 C PIC X." 2 false (column 0 1 Group ∷ column 0 1 Text ∷ column 0 1 Text ∷ column 1 1 Text ∷ [])
+    ∷ accepted "05 VALUE PIC X. 05 B REDEFINES VALUE PIC X 'St. 4'. 05 C PIC X." 2 false
+    (column 0 1 Group ∷ column 0 1 Text ∷ column 0 1 Text ∷ column 1 1 Text ∷ [])
     ∷ accepted "05 A' PIC X VALUE 'a. b'. 05 B PIC X." 2 false (column 0 1 Text ∷ column 1 1 Text ∷ [])
     ∷ turnedDown "05 A PIC X VALUE'St. 4'." 10 21
     ∷ accepted "05 A PIC X VALUE *> 'open\n5. 05 B PIC X." 2 false (column 0 1 Text ∷ column 1 1 Text ∷ [])
@@ -655,7 +674,8 @@ table =
     -- cards, too
     ∷ cards (accepted "000100 01 R COMP.\n000200     05 A PIC 9(4)." 2 false (column 0 2 (Binary false) ∷ []))
     -- floats, each spelling, wherever the word stands
-    ∷ accepted "05 A COMP-1. 05 B COMPUTATIONAL-1. 05 C COMP-2. 05 D COMPUTATIONAL-2. 05 E usage is comp-1. 05 F USAGE Comp-2."
+    ∷ accepted
+    "05 A COMP-1. 05 B COMPUTATIONAL-1. 05 C COMP-2. 05 D COMPUTATIONAL-2. 05 E usage is comp-1. 05 F USAGE Comp-2."
     36 false
     (column 0 4 (Float 32) ∷ column 4 4 (Float 32) ∷ column 8 8 (Float 64) ∷ column 16 8 (Float 64) ∷
     column 24 4 (Float 32) ∷ column 28 8 (Float 64) ∷ [])

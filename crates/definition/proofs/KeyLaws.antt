@@ -1,5 +1,6 @@
 -- The theorems of a set's key: the answered offset and width are those of the one top-level entry of that name in each
--- copybook, and its kind and details are the same in all; and where all copybooks of a set have one key, it is answered.
+-- copybook, and its kind and details are the same in all; and where all copybooks of a set have one key, it is
+-- answered.
 -- Assumes nothing.
 use Prim.Native.Nat.{ℕ, _+_}
 use mathlib.Core.Path.{_≡_, refl, sym, _∙_, ap, subst}

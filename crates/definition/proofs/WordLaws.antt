@@ -18,7 +18,9 @@ use Rattle.definition.specs.declared.Said.the-variants.{Before, Value, L
 use Rattle.definition.specs.declared.Token.{Token}
 use Rattle.definition.specs.declared.Token.the-variants.{Word, Stop, Open}
 use Rattle.definition.specs.Basic.{if_then_else_, is, white, same, span, part}
-use Rattle.definition.specs.Words.{cutHere, ends, byteKind, next, upTo, completed, completedEnd, seen, marked, isValue, heard, saidNext, unlessOpen, tokens, firstOpen, firstWords, afterStop, onFirst, sentences}
+use Rattle.definition.specs.Words.{cutHere, ends, byteKind, next, upTo, completed, completedEnd, seen, marked}
+use Rattle.definition.specs.Words.{isValue, heard, saidNext, unlessOpen, tokens, firstOpen, firstWords, afterStop}
+use Rattle.definition.specs.Words.{onFirst, sentences}
 use Rattle.definition.specs.Unquoted.{closed}
 use Rattle.definition.proofs.Lists.{drop-next}
 

@@ -32,7 +32,8 @@ after text w k last (give l) = ready (l .width) (lastOf k last (l .entries)) (pu
 
 -- the rest of a list, rows i to before `to`, laid after the sibling `last`
 abbrev pub layRest : List ℕ → List ℕ → ℕ → ℕ → ℕ → ℕ → ℕ → ℕ → ListOutcome
-layRest text w i to depth last cursor reach = after text w i last (lay text depth (seenAt w last) cursor reach (rowsForest w i to))
+layRest text w i to depth last cursor reach =
+    after text w i last (lay text depth (seenAt w last) cursor reach (rowsForest w i to))
 
 -- a whole list
 abbrev pub layTable : List ℕ → List ℕ → ℕ → ℕ → ℕ → ListOutcome
@@ -48,21 +49,26 @@ pub data ItemOutcome : Type 0 where
 -- the item of row i with its members' places
 abbrev pub afterItem : List ℕ → List ℕ → ℕ → ℕ → ℕ → Answer ItemLaid → ItemOutcome
 afterItem text w i last cursor (refuse r) = halted r
-afterItem text w i last cursor (give x) = placing (advance cursor (x .own)) (entryEnd (x .own)) (putPlaces text w i last (entry (x .own) (x .members) end))
+afterItem text w i last cursor (give x) =
+    placing (advance cursor (x .own)) (entryEnd (x .own)) (putPlaces text w i last (entry (x .own) (x .members) end))
 
 -- row i, whose children are the rows up to j, laid after the sibling `last`
 abbrev pub layItem : List ℕ → List ℕ → ℕ → ℕ → ℕ → ℕ → ℕ → ItemOutcome
 layItem text w i j depth last cursor =
-    afterItem text w i last cursor (bareItem text depth (seenAt w last) cursor (statementAt w i) (rowsForest w (suc i) j))
+    afterItem text w i last cursor
+    (bareItem text depth (seenAt w last) cursor (statementAt w i) (rowsForest w (suc i) j))
 
 -- the item of row i alone
 abbrev pub afterOwn : List ℕ → List ℕ → ℕ → ℕ → ℕ → ℕ → Answer Entry → ItemOutcome
 afterOwn text w i last below cursor (refuse r) = halted r
-afterOwn text w i last below cursor (give e) = placing (advance cursor e) (entryEnd e) (putPlace w i last below (baseAfter text w i last) (placersAfter text w i last) e)
+afterOwn text w i last below cursor (give e) =
+    placing (advance cursor e) (entryEnd e)
+    (putPlace w i last below (baseAfter text w i last) (placersAfter text w i last) e)
 
 -- row i, its kind and width known and `below` rows below it laid, placed after the sibling `last`
 abbrev pub placeRow : List ℕ → List ℕ → ℕ → ℕ → ℕ → ℕ → Pictured → ItemOutcome
-placeRow text w i below last cursor c = afterOwn text w i last below cursor (placedEntry text (statementAt w i) c (seenAt w last) cursor)
+placeRow text w i below last cursor c =
+    afterOwn text w i last below cursor (placedEntry text (statementAt w i) c (seenAt w last) cursor)
 
 -- ---------------------------------------------------------------- what the code answers
 

@@ -116,8 +116,10 @@ fn place(
     cursor: usize,
     c: Pictured,
 ) -> ItemAnswer
-    requires { ⌜ (ROW * i + ROW ≤ length (now work)) × (last ≤ i) × (i < 65536) × (below < 4294967296) × (cursor ≤ largest) × (c .width ≤ largest) × Printed (now text) (now work) i ⌝ }
-    ensures { λ r. ⌜ itemOf r (now (work .exit)) ≡ placeRow (now (text .entry)) (now (work .entry)) i below last cursor c ⌝ }
+    requires { ⌜ (ROW * i + ROW ≤ length (now work)) × (last ≤ i) × (i < 65536) × (below < 4294967296)
+        × (cursor ≤ largest) × (c .width ≤ largest) × Printed (now text) (now work) i ⌝ }
+    ensures { λ r. ⌜ itemOf r (now (work .exit))
+        ≡ placeRow (now (text .entry)) (now (work .entry)) i below last cursor c ⌝ }
 {
     let s = rows::statement_at(work, i);
     let clauses = s.clauses;
@@ -146,8 +148,8 @@ fn place(
     }
 }
 
-// Lays out row i, whose children are the rows up to j, after the sibling `last`. 20 for an inner list that is too deep; then
-// the inner list and its check; then the item's own checks.
+// Lays out row i, whose children are the rows up to j, after the sibling `last`. 20 for an inner list that is too deep;
+// then the inner list and its check; then the item's own checks.
 fn lay_item(
     text: &[u8],
     work: &mut [u32],
@@ -158,7 +160,8 @@ fn lay_item(
     cursor: usize,
 ) -> ItemAnswer
     requires { ⌜ (i < j) × Room (now text) (now work) j × («depth_left» ≤ deepest) × (last ≤ i) × (cursor ≤ largest) ⌝ }
-    ensures { λ r. ⌜ itemOf r (now (work .exit)) ≡ layItem (now (text .entry)) (now (work .entry)) i j (deepest - «depth_left») last cursor ⌝ }
+    ensures { λ r. ⌜ itemOf r (now (work .exit))
+        ≡ layItem (now (text .entry)) (now (work .entry)) i j (deepest - «depth_left») last cursor ⌝ }
 {
     let first = i + 1;
     if first < j {
@@ -210,11 +213,12 @@ fn lay_item(
     }
 }
 
-// Lays out the siblings in the rows from `from` up to `to`: each starts where the cursor is, and the list is as wide as its
-// largest end. The remaining depth falls at each group.
+// Lays out the siblings in the rows from `from` up to `to`: each starts where the cursor is, and the list is as wide as
+// its largest end. The remaining depth falls at each group.
 pub fn lay_list(text: &[u8], work: &mut [u32], from: usize, to: usize, depth_left: u32) -> LaidList
     requires { ⌜ Room (now text) (now work) to × («depth_left» ≤ deepest) ⌝ }
-    ensures { λ r. ⌜ listOf r (now (work .exit)) ≡ layTable (now (text .entry)) (now (work .entry)) from to (deepest - «depth_left») ⌝ }
+    ensures { λ r. ⌜ listOf r (now (work .exit))
+        ≡ layTable (now (text .entry)) (now (work .entry)) from to (deepest - «depth_left») ⌝ }
 {
     let mut i = from;
     let mut last = 0;

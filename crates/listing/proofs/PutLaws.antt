@@ -1,4 +1,5 @@
--- Laws of bytes that were put: some after others, what stands in the output then, and how long it is; the parts of an entry and of the listing.
+-- Laws of bytes that were put: some after others, what stands in the output then, and how long it is; the parts of an
+-- entry and of the listing.
 -- Assumes nothing.
 use Prim.Native.Nat.{ℕ, suc, _+_, _≤_, _<_}
 use mathlib.Core.Path.{_≡_, refl, ap, _∙_}

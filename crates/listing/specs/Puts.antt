@@ -1,5 +1,5 @@
--- What it means that bytes were put into an output, from a place on. A byte past the output's end is counted and not written, so that the same
--- functions measure and write.
+-- What it means that bytes were put into an output, from a place on. A byte past the output's end is counted and not
+-- written, so that the same functions measure and write.
 -- Assumes nothing.
 use Prim.Native.Nat.{ℕ, _+_, _<_}
 use mathlib.Core.Path.{_≡_}

@@ -1,6 +1,6 @@
-// The bytes of the layout listing, put into a lent output from a place on: numbers, places, the record's head, one entry. A byte
-// past the output's end is counted and not written, so that on an empty output the same functions only count. Each answers
-// the place after its bytes. Leans on `definition` and `kinds`.
+// The bytes of the layout listing, put into a lent output from a place on: numbers, places, the record's head, one
+// entry. A byte past the output's end is counted and not written, so that on an empty output the same functions only
+// count. Each answers the place after its bytes. Leans on `definition` and `kinds`.
 ghost use Prim.Native.Nat.{_%_};
 ghost use mathlib.Core.Path.{_≡_};
 ghost use mathlib.Core.List.{[], _∷_};
@@ -158,7 +158,8 @@ fn put_decimal(
     sign: SignKind,
 ) -> usize
     requires { ⌜ Countable at (precision ∷ scale ∷ storageByte repr ∷ signByte sign ∷ []) ⌝ }
-    ensures { λ r. ⌜ Put (now (out .entry)) at (precision ∷ scale ∷ storageByte repr ∷ signByte sign ∷ []) r (now (out .exit)) ⌝ }
+    ensures { λ r. ⌜ Put (now (out .entry)) at (precision ∷ scale ∷ storageByte repr ∷ signByte sign ∷ []) r
+        (now (out .exit)) ⌝ }
 {
     let next = put_pair(out, at, precision, scale);
     put_pair(out, next, kinds::storage_byte(repr), kinds::sign_byte(sign))
@@ -174,7 +175,8 @@ fn put_edited(
     picture: Span,
 ) -> usize
     requires { ⌜ Countable at (precision ∷ scale ∷ flag signed ∷ spanBytes picture) ⌝ }
-    ensures { λ r. ⌜ Put (now (out .entry)) at (precision ∷ scale ∷ flag signed ∷ spanBytes picture) r (now (out .exit)) ⌝ }
+    ensures { λ r. ⌜ Put (now (out .entry)) at (precision ∷ scale ∷ flag signed ∷ spanBytes picture) r
+        (now (out .exit)) ⌝ }
 {
     let third = put_pair(out, at, precision, scale);
     let place = put_byte(out, third, kinds::flag_byte(signed));

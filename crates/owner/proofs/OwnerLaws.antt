@@ -1,5 +1,5 @@
--- Laws of the byte owner over the table: a flat search for the clauses that it does not take; the rows of the table are those of the listing;
--- one law for each way through the walk; and what the walk finds is the definition's owner.
+-- Laws of the byte owner over the table: a flat search for the clauses that it does not take; the rows of the table are
+-- those of the listing; one law for each way through the walk; and what the walk finds is the definition's owner.
 -- Assumes nothing.
 use Prim.Native.Nat.{ℕ, zero, suc, _+_, _*_, _-_, _/_, _%_, _≤_, _<_}
 use mathlib.Core.Path.{_≡_, refl, sym, _∙_, ap, ap₂, subst}

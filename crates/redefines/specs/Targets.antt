@@ -29,7 +29,8 @@ unfoldable pub seenFrom : Bool → List ℕ → ℕ → ℕ → List Place
 seenFrom bases w zero last = []
 seenFrom bases w (suc k) last =
     if eqb last (suc k) then
-    (if leftOut bases w k then seenFrom bases w k (cell w k BEFORE) else placeAt w k ∷ seenFrom bases w k (cell w k BEFORE))
+    (if leftOut bases w k then seenFrom bases w k (cell w k BEFORE)
+    else placeAt w k ∷ seenFrom bases w k (cell w k BEFORE))
     else seenFrom bases w k last
 
 -- the siblings from `last` back
@@ -48,7 +49,8 @@ isTarget text target bases w k = if leftOut bases w k then false else sameName t
 unfoldable pub rowFrom : List ℕ → Span → Bool → List ℕ → ℕ → ℕ → ℕ
 rowFrom text target bases w zero last = 0
 rowFrom text target bases w (suc k) last =
-    if eqb last (suc k) then (if isTarget text target bases w k then suc k else rowFrom text target bases w k (cell w k BEFORE))
+    if eqb last (suc k)
+    then (if isTarget text target bases w k then suc k else rowFrom text target bases w k (cell w k BEFORE))
     else rowFrom text target bases w k last
 
 -- how many siblings it looked at to get there, those left out too
@@ -106,7 +108,8 @@ baseFrom text target w n last = rowFrom text target true w n last
 
 -- the base that row k redefines, after the sibling `last`: its row and 1, or 0 for none
 abbrev pub baseAfter : List ℕ → List ℕ → ℕ → ℕ → ℕ
-baseAfter text w k last = if given (spanAt (cell w k REDEFINES)) then baseFrom text (spanAt (cell w k REDEFINES)) w last last else 0
+baseAfter text w k last =
+    if given (spanAt (cell w k REDEFINES)) then baseFrom text (spanAt (cell w k REDEFINES)) w last last else 0
 
 -- ---------------------------------------------------------------- what places an item
 

@@ -47,7 +47,8 @@ fn passed_over(work: &[u32], k: usize, bases: bool) -> bool
 
 // Whether row k is what a search for this name, with this fingerprint, ends at.
 fn is_target(text: &[u8], work: &[u32], target: Span, print: u32, k: usize, bases: bool) -> bool
-    requires { ⌜ (ROW * k + ROW ≤ length (now work)) × PrintedRow (now text) (now work) k × (print ≡ namePrint (now text) target) ⌝ }
+    requires { ⌜ (ROW * k + ROW ≤ length (now work)) × PrintedRow (now text) (now work) k
+        × (print ≡ namePrint (now text) target) ⌝ }
     ensures { λ r. ⌜ r ≡ isTarget (now (text .entry)) target bases (now (work .entry)) k ⌝ }
 {
     if passed_over(work, k, bases) {

@@ -1,5 +1,5 @@
-// The symbols of a picture: each with its repeat `(n)`, and their count, run by run: a symbol with its repeat is one step,
-// whatever n is. Leans on `definition` and `text`.
+// The symbols of a picture: each with its repeat `(n)`, and their count, run by run: a symbol with its repeat is one
+// step, whatever n is. Leans on `definition` and `text`.
 ghost use Prim.Native.Nat.{_<_};
 ghost use mathlib.Core.Path.{_≡_};
 ghost use mathlib.Core.List.{[], _∷_, reverse};
@@ -70,7 +70,8 @@ pub enum Repeat {
     Refused(Refusal),
 }
 
-// How often a symbol stands, by the text after its `(`: 22 if no `)` follows, 23 for a count that is none, both at `at`.
+// How often a symbol stands, by the text after its `(`: 22 if no `)` follows, 23 for a count that is none, both at
+// `at`.
 fn repeat_in(inside: &[u8], at: usize) -> Repeat
     ensures { λ r. ⌜ Repeated at (40 ∷ now (inside .entry)) r ⌝ }
 {
@@ -156,8 +157,8 @@ fn run_at(picture: &[u8], i: usize, at: usize) -> Repeat
 
 // ---------------------------------------------------------------- symbols, judged run by run
 
-// How often the symbols of each set stand in a list of symbols: X A; 9 Z *; those of 9 Z * before the point; P; V and `.`; `$`;
-// `+`; `-`; the signs S + - C D; the editing symbols; S and V, which take no byte of a mask; and all symbols.
+// How often the symbols of each set stand in a list of symbols: X A; 9 Z *; those of 9 Z * before the point; P; V and
+// `.`; `$`; `+`; `-`; the signs S + - C D; the editing symbols; S and V, which take no byte of a mask; and all symbols.
 pub struct Tallies {
     pub text: u32,
     pub digits: u32,
@@ -203,8 +204,9 @@ fn before_point(points: u32, n: u32) -> u32
     0
 }
 
-// The tallies of some symbols and of one more that stands n times: only those that it touches change. Neighbours, as `/` and `0`,
-// have arms of their own here and in `is_symbol`: in one arm they would be a range, of which its proof has two cases.
+// The tallies of some symbols and of one more that stands n times: only those that it touches change. Neighbours, as
+// `/` and `0`, have arms of their own here and in `is_symbol`: in one arm they would be a range, of which its proof has
+// two cases.
 fn add_run(s: Tallies, b: u8, n: u32) -> Tallies
     requires { ⌜ Adds s n ⌝ }
     ensures { λ r. ⌜ r ≡ joined s (runOf b n) ⌝ }

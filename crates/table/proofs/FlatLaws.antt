@@ -1,4 +1,5 @@
--- Laws of the listing's entries one after the other: two lists, how many there are; what is asked of the folded listing is asked of them.
+-- Laws of the listing's entries one after the other: two lists, how many there are; what is asked of the folded listing
+-- is asked of them.
 -- Assumes nothing.
 use Prim.Native.Nat.{ℕ, zero, suc, _+_, _*_, max, _≤_}
 use mathlib.Core.Path.{_≡_, refl, sym, ap, ap₂, _∙_}

@@ -1,4 +1,5 @@
--- What the table says of the record: its bytes, whether it varies, its length and its ends; and the listing is the head and then the entries.
+-- What the table says of the record: its bytes, whether it varies, its length and its ends; and the listing is the head
+-- and then the entries.
 -- Assumes nothing.
 use Prim.Native.Nat.{ℕ, _+_, _*_, _≤_, _<_}
 use mathlib.Core.Path.{_≡_, sym, _∙_, ap, subst}

@@ -20,7 +20,8 @@ use Rattle.listing.specs.Puts.{Put}
 use Rattle.listing.proofs.PutLaws.{put-none, _and_}
 use Rattle.table.specs.declared.Item.{Item}
 use Rattle.table.specs.Items.{itemAt, itemsFrom}
-use Rattle.table.specs.Entered.{Shown, flatBytes, flatVaries, topEnd, flatLength, flatFits, ownOf, shownOf, shownAll, Sound, Rows}
+use Rattle.table.specs.Entered.{Shown, flatBytes, flatVaries, topEnd, flatLength, flatFits, ownOf, shownOf}
+use Rattle.table.specs.Entered.{shownAll, Sound, Rows}
 
 -- ---------------------------------------------------------------- the rest of a table
 

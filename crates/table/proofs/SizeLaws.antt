@@ -1,5 +1,6 @@
--- How large a folded listing is: folding adds an entry for two of the list at most, so a listing has at most three entries for two statements, and
--- at most 49 bytes an entry. Each redefiner stands under one base alone: that is what is counted here.
+-- How large a folded listing is: folding adds an entry for two of the list at most, so a listing has at most three
+-- entries for two statements, and at most 49 bytes an entry. Each redefiner stands under one base alone: that is what
+-- is counted here.
 -- Assumes nothing.
 use Prim.Native.Nat.{ℕ, suc, _+_, _*_, _≤_}
 use mathlib.Core.Path.{_≡_, refl, sym, _∙_, ap}
@@ -11,10 +12,12 @@ use lib.ListN.{length, length-append}
 use Rattle.definition.specs.declared.Span.{Span}
 use Rattle.definition.specs.declared.Entry.{Entry}
 use Rattle.definition.specs.Basic.{if_then_else_, given}
-use Rattle.definition.specs.Fold.{Entries, end, entry, append, sameName, Place, placeOf, find, hasMember, rebased, redefiners, withRedefiners, hasBase, foldedList, foldedBelow, foldedAll}
+use Rattle.definition.specs.Fold.{Entries, end, entry, append, sameName, Place, placeOf, find, hasMember, rebased}
+use Rattle.definition.specs.Fold.{redefiners, withRedefiners, hasBase, foldedList, foldedBelow, foldedAll}
 use Rattle.definition.specs.Listing.{members#, entryBytes, entriesBytes}
 use Rattle.definition.specs.Search.{entries#}
-use Rattle.definition.proofs.LayoutLaws.{find-none, find-hit, find-miss, redefiners-none, redefiners-hit, redefiners-miss, redefiners-ends, redefiners-next, append-none, append-entry}
+use Rattle.definition.proofs.LayoutLaws.{find-none, find-hit, find-miss, redefiners-none, redefiners-hit}
+use Rattle.definition.proofs.LayoutLaws.{redefiners-miss, redefiners-ends, redefiners-next, append-none, append-entry}
 use Rattle.definition.proofs.ListingLaws.{bytes-none, bytes-entry, entry-length}
 use Rattle.names.proofs.SameLaws.{swapped, same-first}
 use Rattle.unions.proofs.FoldedLaws.{list-base, list-alone, list-under}
@@ -61,7 +64,8 @@ module _ (text : List ℕ) where
 
   -- ---------------------------------------------------------------- what stands under earlier bases
 
-  -- the entries of a list, with those below them, that stand under one of these bases: a base of the list takes the place of one of its name
+  -- the entries of a list, with those below them, that stand under one of these bases: a base of the list takes the
+  -- place of one of its name
   unfoldable under : List Place → Entries → ℕ
   under vs end = 0
   under vs (entry y m later) =

@@ -1,5 +1,5 @@
-// The table of entries: the folded listing in work memory, each entry as ITEM numbers that name a row, in the order of the
-// listing. What is asked of the folded listing is asked of the table, by a loop. `entries` makes it.
+// The table of entries: the folded listing in work memory, each entry as ITEM numbers that name a row, in the order of
+// the listing. What is asked of the folded listing is asked of the table, by a loop. `entries` makes it.
 ghost use mathlib.Core.Path.{_≡_};
 ghost use Prim.Native.Nat.{_+_, _*_, _≤_, _<_};
 ghost use lib.ListN.{length};
@@ -12,7 +12,8 @@ ghost use Rattle.listing.specs.Puts.{Put, lineOf};
 ghost use Rattle.places.specs.Places.{entryIn};
 ghost use Rattle.rows.specs.Columns.{ROW};
 ghost use Rattle.table.specs.Items.{ITEM, itemCells, itemAt, itemsFrom, ItemSmall};
-ghost use Rattle.table.specs.Entered.{flatBytes, flatVaries, topEnd, flatLength, flatFits, moved, ownOf, shownOf, shownAll, Sound, Rows};
+ghost use Rattle.table.specs.Entered.{flatBytes, flatVaries, topEnd, flatLength, flatFits, moved, ownOf, shownOf};
+ghost use Rattle.table.specs.Entered.{shownAll, Sound, Rows};
 ghost use Rattle.table.specs.Entered.{memberLine, unionLine};
 use definition::Check;
 use definition::Entry;
@@ -212,8 +213,11 @@ fn line_of(work: &[u32], x: Item) -> Line
 
 // Puts the bytes of entry k.
 fn put_own(work: &[u32], entries: &[u32], k: usize, out: &mut [u8], at: usize) -> usize
-    requires { ⌜ (ITEM * k + ITEM ≤ length (now entries)) × Sound (now work) (itemAt (now entries) k) × (at ≤ 4294967295) ⌝ }
-    ensures { λ r. ⌜ Put (now (out .entry)) at (entryBytes (ownOf (now (work .entry)) (itemAt (now (entries .entry)) k)) (itemAt (now (entries .entry)) k .members)) r (now (out .exit)) ⌝ }
+    requires { ⌜ (ITEM * k + ITEM ≤ length (now entries)) × Sound (now work) (itemAt (now entries) k)
+        × (at ≤ 4294967295) ⌝ }
+    ensures { λ r. ⌜ Put (now (out .entry)) at
+        (entryBytes (ownOf (now (work .entry)) (itemAt (now (entries .entry)) k))
+        (itemAt (now (entries .entry)) k .members)) r (now (out .exit)) ⌝ }
 {
     let x = item_at(entries, k);
     listing::put_line(out, at, line_of(work, x), x.members)
@@ -221,8 +225,10 @@ fn put_own(work: &[u32], entries: &[u32], k: usize, out: &mut [u8], at: usize) -
 
 // Puts the bytes of the first n entries.
 pub fn put_entries(work: &[u32], entries: &[u32], n: usize, out: &mut [u8], at: usize) -> usize
-    requires { ⌜ (ITEM * n ≤ length (now entries)) × Rows (now work) (itemsFrom (now entries) 0 n) × (at + length (flatBytes (shownAll (now work) (itemsFrom (now entries) 0 n))) < 4294967296) ⌝ }
-    ensures { λ r. ⌜ Put (now (out .entry)) at (flatBytes (shownAll (now (work .entry)) (itemsFrom (now (entries .entry)) 0 n))) r (now (out .exit)) ⌝ }
+    requires { ⌜ (ITEM * n ≤ length (now entries)) × Rows (now work) (itemsFrom (now entries) 0 n)
+        × (at + length (flatBytes (shownAll (now work) (itemsFrom (now entries) 0 n))) < 4294967296) ⌝ }
+    ensures { λ r. ⌜ Put (now (out .entry)) at
+        (flatBytes (shownAll (now (work .entry)) (itemsFrom (now (entries .entry)) 0 n))) r (now (out .exit)) ⌝ }
 {
     let mut place = at;
     let mut k = 0;

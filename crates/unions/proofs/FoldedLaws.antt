@@ -1,5 +1,5 @@
--- Folded lists, entry by entry: a list is what its first entry comes to and then the rest; what is counted or measured of two lists together;
--- the redefiners of a base.
+-- Folded lists, entry by entry: a list is what its first entry comes to and then the rest; what is counted or measured
+-- of two lists together; the redefiners of a base.
 -- Assumes nothing.
 use Prim.Native.Nat.{ℕ, _+_, max}
 use mathlib.Core.Path.{_≡_, refl, ap, _∙_}
@@ -10,7 +10,8 @@ use native.Mathlib.Omega.{arith}
 use Rattle.definition.specs.declared.Span.{Span}
 use Rattle.definition.specs.declared.Entry.{Entry}
 use Rattle.definition.specs.Basic.{if_then_else_, given}
-use Rattle.definition.specs.Fold.{Entries, end, entry, append, sameName, sameSpelling, Place, placeOf, find, hasMember, rebased, redefiners, widest, withRedefiners, foldedList, foldedBelow, foldedAll}
+use Rattle.definition.specs.Fold.{Entries, end, entry, append, sameName, sameSpelling, Place, placeOf, find, hasMember}
+use Rattle.definition.specs.Fold.{rebased, redefiners, widest, withRedefiners, foldedList, foldedBelow, foldedAll}
 use Rattle.definition.specs.Listing.{members#}
 use Rattle.unions.specs.declared.Standing.{Standing}
 use Rattle.unions.specs.Shown.{standing, basesAfter, shownAs, shownNamed}

@@ -1,4 +1,5 @@
--- A folded list, row by row along the rows that hold it: what a row comes to, and then the rest; the redefiners of a row.
+-- A folded list, row by row along the rows that hold it: what a row comes to, and then the rest; the redefiners of a
+-- row.
 -- Assumes nothing.
 use Prim.Native.Nat.{ℕ, suc, _+_, _*_, _-_, _≤_, _<_}
 use mathlib.Core.Path.{_≡_, refl, sym, ap, subst, _∙_}
@@ -10,7 +11,8 @@ use Rattle.definition.specs.Basic.{if_then_else_, given}
 use lib.Dec.{ltb}
 use lib.ListN.{length}
 use Rattle.definition.specs.Tree.{Forest, leaf, item, higher}
-use Rattle.definition.specs.Fold.{Entries, end, entry, append, Place, sameName, rebased, redefiners, foldedList, foldedBelow, foldedAll}
+use Rattle.definition.specs.Fold.{Entries, end, entry, append, Place, sameName, rebased, redefiners, foldedList}
+use Rattle.definition.specs.Fold.{foldedBelow, foldedAll}
 use Rattle.definition.specs.Owner.{size}
 use Rattle.definition.specs.Search.{entries#}
 use Rattle.definition.proofs.LayoutLaws.{redefiners-hit, redefiners-miss, redefiners-ends, redefiners-next}

@@ -1,4 +1,5 @@
--- How wide the rows are in the folded list, and where they end: a row alone, a base with its redefiners; and the parts of a table of rows.
+-- How wide the rows are in the folded list, and where they end: a row alone, a base with its redefiners; and the parts
+-- of a table of rows.
 -- Assumes nothing.
 use Prim.Native.Nat.{ℕ, zero, suc, _+_, _-_, _≤_, _<_}
 use mathlib.Core.Path.{_≡_, refl, sym, ap, subst, _∙_}
@@ -25,9 +26,12 @@ use Rattle.places.specs.Places.{entryIn, rowsForest}
 use Rattle.places.specs.Children.{ChildrenEnd, Numbered}
 use Rattle.redefines.proofs.SearchLaws.{back, back-step}
 use Rattle.unions.specs.declared.Standing.{Standing}
-use Rattle.unions.specs.Shown.{standing, listIn, redefinersIn, shownAt, unionOf, nextIn, Findable, IsBase, Known, Marked, Sized, Tree, Branch, Base, SizedRow}
+use Rattle.unions.specs.Shown.{standing, listIn, redefinersIn, shownAt, unionOf, nextIn, Findable, IsBase, Known}
+use Rattle.unions.specs.Shown.{Marked, Sized, Tree, Branch, Base, SizedRow}
 use Rattle.unions.proofs.BaseLaws.{if-not, opens, passes, differs, closes}
-use Rattle.unions.proofs.ShownLaws.{RowIs, marked-step, marked-linked, marked-numbered, marked-known, redefined-none, redefined-hit, redefined-miss, redefined-ends, redefined-next, Walking, walking-starts, walking-on}
+use Rattle.unions.proofs.ShownLaws.{RowIs, marked-step, marked-linked, marked-numbered, marked-known}
+use Rattle.unions.proofs.ShownLaws.{redefined-none, redefined-hit, redefined-miss, redefined-ends}
+use Rattle.unions.proofs.ShownLaws.{redefined-next, Walking, walking-starts, walking-on}
 
 -- ---------------------------------------------------------------- parts of a table
 

@@ -11,7 +11,8 @@ use Rattle.definition.specs.declared.Entry.{Entry}
 use Rattle.definition.specs.Limits.{largest}
 use Rattle.definition.specs.Basic.{if_then_else_, given}
 use Rattle.definition.specs.Tree.{Forest, leaf, item}
-use Rattle.definition.specs.Fold.{Entries, end, entry, total, sameName, sameSpelling, Place, placeOf, find, redefiners, withRedefiners, hasBase, foldedList, foldedBelow, foldedAll}
+use Rattle.definition.specs.Fold.{Entries, end, entry, total, sameName, sameSpelling, Place, placeOf, find, redefiners}
+use Rattle.definition.specs.Fold.{withRedefiners, hasBase, foldedList, foldedBelow, foldedAll}
 use Rattle.definition.specs.Owner.{size}
 use Rattle.rows.specs.Columns.{ROW, NAME, REDEFINES, BASE, NEXT}
 use Rattle.rows.specs.Table.{cell, spanAt}
@@ -60,7 +61,8 @@ foldedRest text w i to last = foldedList text (basesAt w last) (foldedBelow text
 -- what row i comes to in it, where its children end at j
 abbrev pub shownAt : List ℕ → List ℕ → ℕ → ℕ → ℕ → ℕ → Entries
 shownAt text w i j to last =
-    shownAs text (standing text (basesAt w last) (entryIn w i)) (entryIn w i) (foldedAll text (listIn w (suc i) j)) (foldedBelow text (listIn w j to))
+    shownAs text (standing text (basesAt w last) (entryIn w i)) (entryIn w i) (foldedAll text (listIn w (suc i) j))
+    (foldedBelow text (listIn w j to))
 
 -- ---------------------------------------------------------------- what the table is to be
 
@@ -75,7 +77,8 @@ nextIn w u k (item s kids later) = if eqb (cell w k BASE) u then suc k else next
 
 -- a search for a name, from the sibling `last` back, finds row i where row i has that name
 abbrev pub Findable : List ℕ → List ℕ → ℕ → ℕ → Type 0
-Findable text w i last = (target : Span) → eqb (baseFrom text target w last last) (suc i) ≡ sameName text target (spanAt (cell w i NAME))
+Findable text w i last =
+    (target : Span) → eqb (baseFrom text target w last last) (suc i) ≡ sameName text target (spanAt (cell w i NAME))
 
 -- row i has no REDEFINES
 abbrev pub IsBase : List ℕ → ℕ → Type 0
@@ -85,7 +88,9 @@ IsBase w i = given (spanAt (cell w i REDEFINES)) ≡ false
 pub record Known (text w : List ℕ) (i last : ℕ) : Type 0 where
   pub fits : ROW * i + ROW ≤ length w
   pub back : last ≤ i
-  pub is : given (spanAt (cell w i REDEFINES)) ≡ true → hasBase (find text (spanAt (cell w i REDEFINES)) (basesAt w last)) ≡ ltb 0 (cell w i BASE)
+  pub is :
+      given (spanAt (cell w i REDEFINES)) ≡ true →
+      hasBase (find text (spanAt (cell w i REDEFINES)) (basesAt w last)) ≡ ltb 0 (cell w i BASE)
 
 -- a row is linked, and names the next row of its union among the later siblings
 pub record RowMarked (text w : List ℕ) (k last : ℕ) (kids later : Forest) : Type 0 where

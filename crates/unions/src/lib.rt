@@ -109,7 +109,8 @@ pub enum Standing {
 // How the entry of row i stands in the folded list, where the siblings before it go back from `last`.
 pub fn standing_of(text: &[u8], work: &[u32], i: usize, last: usize) -> Standing
     requires { ⌜ Known (now text) (now work) i last ⌝ }
-    ensures { λ r. ⌜ r ≡ standing (now (text .entry)) (basesAt (now (work .entry)) last) (entryIn (now (work .entry)) i) ⌝ }
+    ensures { λ r. ⌜ r
+        ≡ standing (now (text .entry)) (basesAt (now (work .entry)) last) (entryIn (now (work .entry)) i) ⌝ }
 {
     let redefines = rows::span_at(work[ROW * i + REDEFINES]);
     if 0 < redefines.len {
@@ -133,7 +134,10 @@ pub fn row_total(work: &[u32], k: usize) -> usize
 // Whether row i stands in the folded list under that name.
 fn shown_named(text: &[u8], work: &[u32], i: usize, last: usize, name: Span) -> bool
     requires { ⌜ Known (now text) (now work) i last ⌝ }
-    ensures { λ r. ⌜ r ≡ shownNamed (now (text .entry)) name (standing (now (text .entry)) (basesAt (now (work .entry)) last) (entryIn (now (work .entry)) i)) (entryIn (now (work .entry)) i) ⌝ }
+    ensures { λ r. ⌜ r
+        ≡ shownNamed (now (text .entry)) name
+        (standing (now (text .entry)) (basesAt (now (work .entry)) last) (entryIn (now (work .entry)) i))
+        (entryIn (now (work .entry)) i) ⌝ }
 {
     let own = rows::span_at(work[ROW * i + NAME]);
     match standing_of(text, work, i, last) {
@@ -146,7 +150,8 @@ fn shown_named(text: &[u8], work: &[u32], i: usize, last: usize, name: Span) -> 
 // Whether the folded list of the rows from `from` up to `to` has an entry spelled like that name.
 pub fn has_member(text: &[u8], work: &[u32], from: usize, to: usize, name: Span) -> bool
     requires { ⌜ Tree (now text) (now work) from to ⌝ }
-    ensures { λ r. ⌜ r ≡ hasMember (now (text .entry)) name (foldedAll (now (text .entry)) (listIn (now (work .entry)) from to)) ⌝ }
+    ensures { λ r. ⌜ r
+        ≡ hasMember (now (text .entry)) name (foldedAll (now (text .entry)) (listIn (now (work .entry)) from to)) ⌝ }
 {
     let mut i = from;
     let mut last = 0;

@@ -2,7 +2,8 @@
 -- Assumes nothing.
 use borrow.Author.Needs.{needs}
 use Prim.Native.Nat.{_-_}
-use Rattle.table.proofs.LoopLaws.{at-fits, at-sound, Fitting, fitting-starts, fitting-ends, fitting-over, fitting-on}
+use Rattle.table.proofs.LoopLaws.{at-fits, at-sound, Fitting, fitting-starts, fitting-ends, fitting-over}
+use Rattle.table.proofs.LoopLaws.{fitting-on}
 use Rattle.table.proofs.ends_fit.Statement.{statement}
 use Rattle.table.proofs.ends_fit.Tie as tie
 

@@ -4,14 +4,14 @@
 ghost use Prim.Native.Nat.{_≤_, _<_};
 ghost use lib.ListN.{length};
 ghost use Rattle.replay.specs.Places.{Inside, Fair};
-use super::extracts;
-use super::keys;
-use super::owners;
-use super::pictures;
-use super::readings;
-use super::reports;
+use record_cases::extracts;
+use record_cases::keys;
+use record_cases::owners;
+use record_cases::reports;
 use replay::Reached;
 use replay::Tally;
+use text_cases::pictures;
+use text_cases::readings;
 
 // The numbers of work memory that a call needs, and the most that a case lends.
 const WORK: usize = 16384;

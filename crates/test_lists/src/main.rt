@@ -1,16 +1,12 @@
 // Replays the lists of data/, each made by tools/make_lists.py, and prints of each how many of its cases agree. A list
 // is a file, and a case the words up to a period: the question, and the numbers of the answer that is due (the crate
-// `replay` reads them). Each kind of question has its module, which says what the words of a case are.
-mod extracts;
-mod keys;
+// `replay` reads them). Each kind of question has its module in `text_cases` or `record_cases`, which says what the
+// words of a case are.
 mod lists;
-mod owners;
-mod pictures;
-mod readings;
-mod reports;
 
 ghost use Rattle.replay.specs.Places.{Fair};
 use lists::Question;
+use record_cases::owners;
 use replay::Tally;
 
 fn replay_pictures(room: &mut [u8]) {

@@ -5,8 +5,8 @@ use borrow.Author.Needs.{needs}
 use Prim.Native.Nat.{_-_, _*_, _≤_}
 use lib.ListN.{length}
 use Rattle.replay.specs.Places.{Inside}
-use Rattle.test_lists.proofs.readings.all_rows.Statement.{statement}
-use Rattle.test_lists.proofs.readings.all_rows.Tie as tie
+use Rattle.text_cases.proofs.readings.all_rows.Statement.{statement}
+use Rattle.text_cases.proofs.readings.all_rows.Tie as tie
 
 abbrev Inv-loop : tie.InvT-loop
 Inv-loop list work n place₀ k₀ place k = (k ≤ n) × Inside list place

@@ -4,8 +4,8 @@
 use borrow.Author.Needs.{needs}
 use Prim.Native.Nat.{_-_}
 use Rattle.replay.specs.Places.{Inside, Fair}
-use Rattle.test_lists.proofs.owners.replay_runs.Statement.{statement}
-use Rattle.test_lists.proofs.owners.replay_runs.Tie as tie
+use Rattle.record_cases.proofs.owners.replay_runs.Statement.{statement}
+use Rattle.record_cases.proofs.owners.replay_runs.Tie as tie
 
 abbrev Inv-loop : tie.InvT-loop
 Inv-loop list text runs t₀ place₀ begin₀ i₀ t place begin i = Inside list place × Fair t

@@ -4,8 +4,8 @@
 use borrow.Author.Needs.{needs}
 use Prim.Native.Nat.{_-_, _≤_}
 use Rattle.replay.specs.Places.{Fair}
-use Rattle.test_lists.proofs.owners.replay_run.Statement.{statement}
-use Rattle.test_lists.proofs.owners.replay_run.Tie as tie
+use Rattle.record_cases.proofs.owners.replay_run.Statement.{statement}
+use Rattle.record_cases.proofs.owners.replay_run.Tie as tie
 
 abbrev Inv-loop : tie.InvT-loop
 Inv-loop text run begin end t₀ position₀ t position = (begin ≤ position) × Fair t

@@ -6,8 +6,8 @@ use Prim.Native.Nat.{_-_, _≤_}
 use mathlib.Core.Path.{_≡_}
 use lib.ListN.{length}
 use Rattle.replay.specs.Places.{Inside}
-use Rattle.test_lists.proofs.extracts.take_weights.Statement.{statement}
-use Rattle.test_lists.proofs.extracts.take_weights.Tie as tie
+use Rattle.record_cases.proofs.extracts.take_weights.Statement.{statement}
+use Rattle.record_cases.proofs.extracts.take_weights.Tie as tie
 
 abbrev Inv-loop : tie.InvT-loop
 Inv-loop list weights₀ n place₀ i₀ weights place i = (i ≤ n) × Inside list place × (length weights ≡ length weights₀)

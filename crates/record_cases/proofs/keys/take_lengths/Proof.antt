@@ -6,8 +6,8 @@ use Prim.Native.Nat.{_-_, _≤_}
 use mathlib.Core.Path.{_≡_}
 use lib.ListN.{length}
 use Rattle.replay.specs.Places.{Inside}
-use Rattle.test_lists.proofs.keys.take_lengths.Statement.{statement}
-use Rattle.test_lists.proofs.keys.take_lengths.Tie as tie
+use Rattle.record_cases.proofs.keys.take_lengths.Statement.{statement}
+use Rattle.record_cases.proofs.keys.take_lengths.Tie as tie
 
 abbrev Inv-loop : tie.InvT-loop
 Inv-loop list lengths₀ n place₀ i₀ lengths place i = (i ≤ n) × Inside list place × (length lengths ≡ length lengths₀)

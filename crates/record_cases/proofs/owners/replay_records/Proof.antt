@@ -5,8 +5,8 @@ use borrow.Author.Needs.{needs}
 use Prim.Native.Nat.{_-_}
 use lib.ListN.{length}
 use Rattle.replay.specs.Places.{Fair}
-use Rattle.test_lists.proofs.owners.replay_records.Statement.{statement}
-use Rattle.test_lists.proofs.owners.replay_records.Tie as tie
+use Rattle.record_cases.proofs.owners.replay_records.Statement.{statement}
+use Rattle.record_cases.proofs.owners.replay_records.Tie as tie
 
 abbrev Inv-loop : tie.InvT-loop
 Inv-loop list c₀ at₀ c at = Fair (c .records) × Fair (c .positions)

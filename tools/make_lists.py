@@ -1,32 +1,42 @@
 #!/usr/bin/env python3
-"""Writes the lists that the test programs replay.
+"""Writes the lists that the program test_lists replays, in crates/test_lists/data.
 
     tools/make_lists.py [ORACLE_SRC]
 
-ORACLE_SRC is the folder with the Rust files; tools/oracle is built from it, and asked. The inputs are those of tools/compare_definition.py,
-with a fixed seed, so that the same lists are made each time:
+ORACLE_SRC is the folder with the Rust files; tools/oracle is built from it, and asked. The inputs are those of
+tools/compare_definition.py, with a fixed seed, so that the same lists are made each time:
 
-- crates/test_picture/data/pictures.txt: pictures with the Rust's answers; those with P, where it has none, with the answers of
+- picture/pictures.txt: pictures with the Rust's answers; those with P, where it has none, with the answers of
   tools/layout_list.py, a reading by documents 01 and 02.
-- crates/test_picture/data/document.txt: pictures with the answers of documents 01 and 02 that the Rust cannot give, written here by hand.
-- crates/test_reader/data/texts.txt: copybook texts with the answers of tools/reader_list.py, a reading by document 01. Where the Rust has
-  an answer, the two are compared: its refusals 10 to 13, and where it accepts a copybook without REDEFINES, the names, the nesting, the
-  counts and the DEPENDING ON names. It has none where a literal holds a period that would end a statement, or `*>`,
-  or is left open; nor of the usage that holds where a group names one, DISPLAY stands after another usage word or a
-  word names a float.
-- crates/test_layout/data/layouts1.txt to layouts4.txt: copybook texts with the answers of tools/layout_list.py, a layout by document 01. Each answer is compared
-  with the Rust's: the listing, read back into the oracle's numbers, or the number of the refusal. Where the answer is a refusal that document
-  01 adds, the Rust's is held against the reason as far as it shows. Copybooks with P in a picture, with a usage on a
-  group, with DISPLAY after another usage word or with floats are not compared with the Rust.
-- crates/test_layout/data/document.txt: the copybooks that documents 01 and 02 speak of, and their traps, with answers written here by hand.
-- crates/test_layout/data/cards.txt: copybooks on cards with the answers of tools/layout_list.py, which reads the code from its columns. The
-  Rust has no cards.
-- crates/test_owner/data/records.txt and asked.txt: copybooks with the owners of their bytes by tools/owner_list.py, which lays each record by
-  document 01's owner rule; its length is compared with that of tools/layout_list.py. The Rust has no owners. `tools/make_lists.py` with no
-  argument writes these two lists and that of cards alone.
+- picture/document.txt: pictures with the answers of documents 01 and 02 that the Rust cannot give, written here by
+  hand.
+- reader/texts.txt: copybook texts with the answers of tools/reader_list.py, a reading by document 01. Where the Rust
+  has an answer, the two are compared: its refusals 10 to 13, and where it accepts a copybook without REDEFINES, the
+  names, the nesting, the counts and the DEPENDING ON names. It has none where a literal holds a period that would end a
+  statement, or `*>`, or is left open; nor of the usage that holds where a group names one, DISPLAY stands after another
+  usage word or a word names a float.
+- layout/layouts1.txt to layouts4.txt: copybook texts with the answers of tools/layout_list.py, a layout by document 01.
+  Each answer is compared with the Rust's: the listing, read back into the oracle's numbers, or the number of the
+  refusal. Where the answer is a refusal that document 01 adds, the Rust's is held against the reason as far as it
+  shows. Copybooks with P in a picture, with a usage on a group, with DISPLAY after another usage word or with floats
+  are not compared with the Rust.
+- layout/document.txt: the copybooks that documents 01 and 02 speak of, and their traps, with answers written here by
+  hand.
 
-A list has the lexical form of a copybook: a case is the words up to a period. An input is one word: %XX stands for a byte, and % alone for
-the empty input. What follows are decimal numbers.
+The Rust has none of what the others ask for; without ORACLE_SRC these alone are written:
+
+- layout/cards.txt: copybooks on cards with the answers of tools/layout_list.py, which reads the code from its columns.
+- owner/records.txt and asked.txt: copybooks with the owners of their bytes by tools/owner_list.py, which lays each
+  record by document 01's owner rule; its length is compared with that of tools/layout_list.py.
+- details/details.txt: copybooks, some on cards, with the details of their entries by tools/details_list.py.
+- reasons/reasons.txt: the same copybooks with the reasons of some entries by tools/reasons_list.py.
+- extract/extracts.txt: copybooks with weights, a limit and a budget, and the extract by tools/extract_list.py.
+- key/keys.txt: sets of copybooks with a name, and the key by tools/keys_list.py. Of the last two lists the first cases
+  are written by hand with their answers, which are compared.
+- limits.txt in each folder: the longest text and one byte more, and work memory that is short, with the same readings.
+
+A list has the lexical form of a copybook: a case is the words up to a period. An input is one word: %XX stands for a
+byte, and % alone for the empty input. What follows are decimal numbers.
 """
 
 import argparse
@@ -38,13 +48,18 @@ import struct
 import sys
 
 import compare_definition as compare
+import details_list
+import extract_list
 import inputs as generator
+import keys_list
 import layout_list
 import owner_list
 import reader_list
+import reasons_list
 from inputs import Input
 
-CRATES = compare.HERE.parent / "crates"
+ROOT = compare.HERE.parent
+DATA = ROOT / "crates/test_lists/data"
 SEED = 1
 PLAIN = set(b"ABCDEFGHIJKLMNOPQRSTUVWXYZabcdefghijklmnopqrstuvwxyz0123456789()+-,/$")
 LIST_BYTES = 400_000  # the room that a program has for a list
@@ -55,15 +70,15 @@ def escaped(text):
     return "".join(chr(b) if b in PLAIN else f"%{b:02X}" for b in text) or "%"
 
 
-def write(crate, name, comment, cases):
+def write(name, comment, cases):
     lines = ["* " + line for line in comment.strip().split("\n")] + [" ".join(map(str, case)) + "." for case in cases]
-    path = CRATES / crate / "data" / name
+    path = DATA / name
     path.parent.mkdir(parents=True, exist_ok=True)
     text = "\n".join(lines) + "\n"
     if len(text) > LIST_BYTES:
         sys.exit(f"{path}: {len(text)} bytes, and the program reads {LIST_BYTES}")
     path.write_text(text)
-    print(f"{path.relative_to(CRATES.parent)}: {len(cases)} cases, {len(text)} bytes")
+    print(f"{path.relative_to(ROOT)}: {len(cases)} cases, {len(text)} bytes")
 
 
 # ---------------------------------------------------------------- pictures
@@ -77,8 +92,8 @@ COUNTS = [s + f"({n})" for s in "X9ZSPV$" for n in (0, 1, 4, 5, 9, 10, 17, 18, 1
 
 
 def picture_inputs():
-    """Every symbol and pair of symbols; floats; CR and DB split by repeats; zero repeats; counts; stray brackets; white space; lower case;
-    every usage and sign; then random ones."""
+    """Every symbol and pair of symbols; floats; CR and DB split by repeats; zero repeats; counts; stray brackets; white
+    space; lower case; every usage and sign; then random ones."""
     m = generator.Maker(SEED)
     pairs = [a + b for a, b in itertools.product(SYMBOLS, repeat=2)]
     for text in itertools.chain(generator.alone(), pairs, FLOATS, HALVES, ZEROS, COUNTS, generator.PICTURES, generator.SPACED):
@@ -213,7 +228,8 @@ DOCUMENT = [
     (DISPLAY, NONE, "S(65279)V(1)/(255)", ROOM, *edited(255, 1, 0, 1, "/" * 255)),
     (DISPLAY, NONE, "S(65279)V(1)/(256)", ROOM, *both(24)),
     (DISPLAY, NONE, "S(65278)V(1)/(256)", ROOM, *both(27)),
-    # 65,535 symbols and one more, during expansion: before a symbol that is none and before a text mixed with digits, after a bad count
+    # 65,535 symbols and one more, during expansion: before a symbol that is none and before a text mixed with digits,
+    # after a bad count
     (DISPLAY, NONE, "X(65535)", ROOM, *plain(65535, TEXT)),
     (DISPLAY, NONE, "X(65536)", ROOM, *both(24)),
     (DISPLAY, NONE, "X(65535)X(0)", ROOM, *plain(65535, TEXT)),
@@ -390,8 +406,8 @@ def texts(oracle):
 # ---------------------------------------------------------------- layouts
 
 LAYOUTS, USAGE_LAYOUTS, FLOAT_LAYOUTS, LAYOUT_LISTS = 2500, 200, 200, 4
-# Groups in groups, each with a redefiner: around an item of a list of depth 64 stand 64 groups and 65 folds. Names that are all one make the groups
-# count as already folded.
+# Groups in groups, each with a redefiner: around an item of a list of depth 64 stand 64 groups and 65 folds. Names that
+# are all one make the groups count as already folded.
 FOLDED_CHAINS = [" ".join(f"{k} {g(k)}." for k in range(1, n)) + f" {n} A PIC X. " + " ".join(f"{k} H REDEFINES {'A' if k == n else g(k)} PIC X(2)." for k in range(n, 1, -1))
                  for n in (4, 66, 67) for g in ("G{}".format, "G".format)]
 MANY = ["1 A PIC X.\n" * 800, "1 A PIC X.\n" * 801, "1 A PIC Z9. " + "1 B REDEFINES A PIC $9. " * 799, "1 R. " + "2 G. 3 G PIC X. " * 399 + "2 Z PIC 9(9) COMP SYNC."]
@@ -454,7 +470,8 @@ GROUP, FLOAT = 6, 7
 
 
 def item(name, offset, width, kind, *details, occurs=None, depending=None, redefines=None):
-    """An entry. A name, a picture or a number of members is as it stands; a name `A#2` is the second word A of the text."""
+    """An entry. A name, a picture or a number of members is as it stands; a name `A#2` is the second word A of the
+    text."""
     return name, offset, width, kind, details, occurs, depending, redefines
 
 
@@ -528,7 +545,8 @@ def layout_document():
         one("05 A PIC S9P(4) COMP-3.", 0, 1, DECIMAL, 5, 4, STORED_COMP3, 1),
         one("05 A PIC 9(9)P COMP.", 0, 4, BINARY, 0),
         one("05 A PIC zp(2)9.9.", 0, 4, EDITED, 5, 3, 0, "zp(2)9.9"),
-        # the traps: a statement that ends at every period, the cursor past a wide redefiner, COMP-3 digits modulo 256, an aligned group
+        # the traps: a statement that ends at every period, the cursor past a wide redefiner, COMP-3 digits modulo 256,
+        # an aligned group
         (dots, listed(dots, 4, 0, 2, item("A", 0, 3, EDITED, 2, 1, 0, "9.9"), item("B.C", 3, 1, TEXT))),
         (wide, listed(wide, 5, 0, 2, item("A", 0, 5, GROUP, 2), item("A", 0, 2, TEXT), item("B", 0, 5, TEXT), item("C", 2, 1, TEXT))),
         one("05 A PIC 9(31) COMP-3.", 0, 16, DECIMAL, 31, 0, STORED_COMP3, 1),
@@ -590,6 +608,8 @@ def layout_document():
     return [[escaped(text.encode("latin-1")), *answer] for text, answer in cases]
 
 
+# ---------------------------------------------------------------- what the Rust has not
+
 CARD_TEXTS = 500
 
 
@@ -604,34 +624,228 @@ def cards():
     return [[escaped(text), *layout_list.answer(text)] for text in texts]
 
 
-def owners():
-    """The lists of owners."""
-    made = "Made by tools/make_lists.py: copybook texts with the owners of their bytes by tools/owner_list.py.\n"
-    for name, form, cases in (("records.txt", "Text, number of runs; for each run its mark (1 a piece, 2 slack), its entry, its bytes.", owner_list.records()),
-                              ("asked.txt", "Text, position and its answer: 1, entry, first byte, place inside; 2, entry; or a refusal.", owner_list.asked())):
-        write("test_owner", name, made + form, [[escaped(text), *numbers] for text, *numbers in cases])
+def owners(cases):
+    """The cases of a list of owners."""
+    return [[escaped(text), *numbers] for text, *numbers in cases]
+
+
+REPORTED, SHORT = 420, 260  # the copybooks of details and reasons, and how many bytes a generated one has at most
+MAKERS = ["nested", "folded", "cards", "fillers", "usages", "floats", "cards", "copybook"]
+PAST = 2 ** 64 - 1
+
+
+def reported():
+    """Copybooks, and whether they are on cards: the limits, what is written by hand, then random ones."""
+    deep = [chain(66), chain(67), FOLDED_CHAINS[0], MANY[0], "1.\n" * 801, "05 A PIC X.\x80", "05 A PIC X VALUE 'open"]
+    plain = [deep, generator.FOLDS, generator.ROOTS, generator.LARGE, generator.ORDER, generator.GOOD,
+             generator.USAGES[::4], generator.FLOATS[::3]]
+    yield from itertools.product(itertools.chain(*plain), [False])
+    yield from itertools.product(generator.CARDS[:24] + generator.CARDS[24::9], [True])
+    maker = generator.Maker(SEED + 2)
+    for name in itertools.cycle(MAKERS):
+        text = getattr(maker, name)()[1]
+        if len(text) <= SHORT:
+            yield text, name == "cards"
+
+
+def reported_texts():
+    """So many different ones."""
+    texts = {}
+    for question in reported():
+        texts.setdefault(question)
+        if len(texts) == REPORTED:
+            break
+    return [(on_cards, (reader_list.Cards if on_cards else bytes)(text.encode("latin-1"))) for text, on_cards in texts]
+
+
+def counted(cases, answers):
+    """Prints how many of the answers there are of each kind."""
+    kinds = collections.Counter("accepted" if a[0] else f"refused {a[1]}" for a in answers)
+    print(", ".join(f"{k}: {n}" for k, n in sorted(kinds.items())))
+    return cases
+
+
+def details():
+    texts = reported_texts()
+    answers = [details_list.answer(text) for _, text in texts]
+    return counted([[int(on), escaped(text), *a] for (on, text), a in zip(texts, answers)], answers)
+
+
+def asked_entries(number, made):
+    """The first entry, the last and one between; now and then the number after the last, or the greatest there is."""
+    count = len(made or [])
+    return sorted({0, count // 2, max(count - 1, 0), *([count, PAST] if number % 8 == 0 else [])})
+
+
+def reasons():
+    cases, answers = [], []
+    for number, (on_cards, text) in enumerate(reported_texts()):
+        made, _ = reasons_list.answers(text)
+        for entry in asked_entries(number, made):
+            answers.append(reasons_list.answer(text, entry))
+            cases.append([int(on_cards), entry, escaped(text), *answers[-1]])
+    return counted(cases, answers)
+
+
+EXTRACTS, KEYS, SMALL = 400, 400, 400  # questions of each, and how many bytes a generated one has at most
+
+
+def same(question, due, made):
+    """The answer that a reading has made; ends the program where another was written by hand."""
+    if list(due) != made:
+        sys.exit(f"{question!r}: {made} is made, where {due} is written")
+    return made
+
+
+def extracts():
+    """Those of extract_list.WRITTEN first."""
+    questions = {}
+    for text, weights, limit, budget, due in extract_list.WRITTEN:
+        question = text.encode("latin-1"), weights, limit, budget
+        questions[question] = same(question, due, extract_list.answer(*question))
+    for question in extract_list.questions(2 * EXTRACTS, SEED):
+        if len(question[0]) <= SMALL and question not in questions and len(questions) < EXTRACTS:
+            questions[question] = extract_list.answer(*question)
+    cases = [[escaped(text), len(weights), *weights, limit, budget, *answer]
+             for (text, weights, limit, budget), answer in questions.items()]
+    return counted(cases, questions.values())
+
+
+def keys():
+    """Those of keys_list.WRITTEN first."""
+    questions, maker = {}, keys_list.Maker(SEED)
+    for texts, lengths, name, due in keys_list.WRITTEN:
+        question = texts.encode("latin-1"), lengths, name.encode("latin-1")
+        questions[question] = same(question, due, keys_list.answer(*question))
+    while len(questions) < KEYS:
+        question = maker.lent()
+        if len(question[0]) <= SMALL and len(question[2]) <= SMALL and question not in questions:
+            questions[question] = keys_list.answer(*question)
+    cases = [[len(lengths), *lengths, escaped(texts), escaped(name), *answer]
+             for (texts, lengths, name), answer in questions.items()]
+    return counted(cases, questions.values())
+
+
+# ---------------------------------------------------------------- limits
+
+WORK, MOST = 16384, 65535  # the work memory that a call needs, and the most bytes of a text
+MORE_WORK = 17000
+TAIL = "5 A PIC X(7)"
+
+
+def ended(length, tail, byte=" "):
+    """A text of this length, all of one byte before its end: how many these are, and the end."""
+    return length - len(tail), tail, (byte * (length - len(tail)) + tail).encode("latin-1")
+
+
+def lent(work, made):
+    """The answer with so much work memory: 3 where it is short, after 1 and 2."""
+    return refused(3) if work < WORK and made[:2] not in ([0, 1], [0, 2]) else made
+
+
+def limit_texts():
+    """Work memory, and a text: the longest and one byte more, a byte over 127 at its end, nothing."""
+    for text in (ended(MOST, TAIL), ended(MOST + 1, TAIL + " "), ended(MOST, "\x80"), ended(0, "")):
+        yield from ((work, *text) for work in (WORK, WORK - 1))
+    yield MORE_WORK, *ended(0, "")
+
+
+def limits(read, before=(), after=()):
+    """Cases with these numbers before and after the text."""
+    return [[work, blanks, *before, escaped(tail.encode("latin-1")), *after, *lent(work, read(text))]
+            for work, blanks, tail, text in limit_texts()]
+
+
+def picture_limits():
+    """65,535 bytes and one more, right and wrong; a picture needs no work memory."""
+    cases = ((ended(MOST, "", "X"), plain(MOST, TEXT)), (ended(MOST + 1, "", "X"), both(1)),
+             (ended(MOST, "\x80", "X"), both(2, MOST - 1)), (ended(MOST + 1, "\x80X", "X"), both(1)),
+             (ended(MOST, "(", "X"), both(22)), (ended(MOST + 1, "Q", "X"), both(1)))
+    return [[0, count, DISPLAY, NONE, escaped(tail.encode("latin-1")), ROOM, *picture, *mask]
+            for (count, tail, _), (picture, mask) in cases]
+
+
+def owner_limits():
+    texts = ((WORK - 1, "5 A PIC X."), (WORK - 1, "5\x80"), (MORE_WORK, "5 A PIC X."))
+    return [[work, 0, escaped(text.encode("latin-1")), 0, *lent(work, owner_list.answer(text.encode("latin-1"), 0))]
+            for work, text in texts]
+
+
+def key_limits():
+    """The first copybook of blanks, its length at the limit and one more; 56 before 3, 3 before 57, 2 before 3."""
+    key, n = "5 A PIC X.", 10
+    cases = ((WORK, MOST, (MOST, n), key, [0, 57, 0, 0]), (WORK, MOST + 1, (MOST + 1, n), key, [0, 1, 0, 0]),
+             (WORK - 1, MOST + 1, (MOST + 1, n), key, [0, 1, 0, 0]), (WORK - 1, 0, (n, n), key * 2, [0, 3, 0, 0]),
+             (WORK - 1, 0, (n, n + 1), key * 2, [0, 56, 0, 0]), (WORK - 1, 0, (2, n), "5\x80" + key, [0, 2, 1, 0]),
+             (WORK - 1, 0, (n, 2), key + "5\x80", [0, 3, 0, 0]), (MORE_WORK, 0, (n, n), key * 2, [1, 0, 1]))
+    return [[work, blanks, len(lengths), *lengths, escaped(texts.encode("latin-1")), "A", *answer]
+            for work, blanks, lengths, texts, answer in cases]
+
+
+def limit_lists():
+    """Each folder with its limits."""
+    yield "picture", picture_limits()
+    yield "reader", limits(reader_list.reading)[:8]
+    yield "layout", limits(layout_list.answer)
+    yield "owner", owner_limits()
+    yield "details", limits(details_list.answer, before=[0])
+    yield "reasons", limits(lambda text: reasons_list.answer(text, 0), before=[0, 0])
+    yield "extract", limits(lambda text: extract_list.answer(text, (1,), 7, 2), after=[1, 1, 7, 2])
+    yield "key", key_limits()
+
+
+# ---------------------------------------------------------------- the lists
+
+MADE = "Made by tools/make_lists.py: "
+RUST = "\nWhere the Rust has an answer, the two were compared."
+REFUSAL = "\nA refusal is 0, its number, its position and the needed length."
+
+
+def write_others():
+    """The lists that need no Rust."""
+    owned = MADE + "copybook texts with the owners of their bytes by tools/owner_list.py.\n"
+    write("owner/records.txt", owned + "Text, number of runs; for each run its mark (1 a piece, 2 slack), its entry, "
+          "its bytes.", owners(owner_list.records()))
+    write("owner/asked.txt", owned + "Text, position and its answer: 1, entry, first byte, place inside; 2, entry; "
+          "or a refusal.", owners(owner_list.asked()))
+    write("layout/cards.txt", MADE + "copybooks on cards with the answers of tools/layout_list.py.", cards())
+    write("details/details.txt", MADE + "copybooks with the details of their entries by tools/details_list.py.\n"
+          "1 for cards or 0, text; 1, length and bytes of the details, or a refusal." + REFUSAL, details())
+    write("reasons/reasons.txt", MADE + "copybooks with the reasons of entries by tools/reasons_list.py.\n"
+          "1 for cards or 0, number of the entry, text; 1, length and bytes of the reasons, or a refusal." + REFUSAL,
+          reasons())
+    write("extract/extracts.txt", MADE + "copybooks with an extract by tools/extract_list.py.\n"
+          "Text, number of weights, weights, limit, budget; 1, subset, weight, number looked at, how far off; or a "
+          "refusal." + REFUSAL, extracts())
+    write("key/keys.txt", MADE + "sets of copybooks with their key by tools/keys_list.py.\n"
+          "Number of lengths, lengths, texts, name; 1, offset, width; or a refusal." + REFUSAL, keys())
+    for folder, cases in limit_lists():
+        write(f"{folder}/limits.txt", MADE + "texts at the limits.\nWork memory, the number of bytes before the text "
+              "(blanks, or X before a picture); then as the other cases here.", cases)
+
+
+def write_compared(oracle):
+    """The lists that the Rust answers, or was compared with."""
+    write("picture/pictures.txt", MADE + "pictures with the answers of the Rust.\n"
+          "Usage, sign, picture, and the numbers that tools/oracle answers.", pictures(oracle))
+    write("picture/document.txt", MADE + "pictures with the answers of document 01.\n"
+          "Usage, sign, picture, length of the output; the answer of parse_pic; the answer of mask." + REFUSAL,
+          document())
+    write("reader/texts.txt", MADE + "copybook texts with the answers of tools/reader_list.py." + RUST, texts(oracle))
+    for n, cases in enumerate(parts(layouts(oracle), LAYOUT_LISTS), 1):
+        write(f"layout/layouts{n}.txt", MADE + "copybook texts with the answers of tools/layout_list.py." + RUST, cases)
+    write("layout/document.txt", MADE + "the copybooks of documents 01 and 02 with their answers, written by hand.",
+          layout_document())
 
 
 def main():
-    parser = argparse.ArgumentParser(description="Writes the lists that the test programs replay.")
-    parser.add_argument("oracle_src", type=pathlib.Path, nargs="?", help="the folder with the Rust files; without it, only the lists that need no Rust")
+    parser = argparse.ArgumentParser(description="Writes the lists that the program test_lists replays.")
+    parser.add_argument("oracle_src", type=pathlib.Path, nargs="?",
+                        help="the folder with the Rust files; without it, only the lists that need no Rust")
     o = parser.parse_args()
-    owners()
-    write("test_layout", "cards.txt", "Made by tools/make_lists.py: copybooks on cards with the answers of tools/layout_list.py.", cards())
-    if o.oracle_src is None:
-        return
-    oracle = compare.Oracle(o.oracle_src)
-    write("test_picture", "pictures.txt", "Made by tools/make_lists.py: pictures with the answers of the Rust.\n"
-          "Usage, sign, picture, and the numbers that tools/oracle answers.", pictures(oracle))
-    write("test_picture", "document.txt", "Made by tools/make_lists.py: pictures with the answers of document 01.\n"
-          "Usage, sign, picture, length of the output; the answer of parse_pic; the answer of mask.\n"
-          "A refusal is 0, its number, its position and the needed length.", document())
-    write("test_reader", "texts.txt", "Made by tools/make_lists.py: copybook texts with the answers of tools/reader_list.py.\n"
-          "Where the Rust has an answer, the two were compared.", texts(oracle))
-    for n, cases in enumerate(parts(layouts(oracle), LAYOUT_LISTS), 1):
-        write("test_layout", f"layouts{n}.txt", "Made by tools/make_lists.py: copybook texts with the answers of tools/layout_list.py.\n"
-              "Where the Rust has an answer, the two were compared.", cases)
-    write("test_layout", "document.txt", "Made by tools/make_lists.py: the copybooks of documents 01 and 02 with their answers, written by hand.", layout_document())
+    write_others()
+    if o.oracle_src is not None:
+        write_compared(compare.Oracle(o.oracle_src))
 
 
 if __name__ == "__main__":

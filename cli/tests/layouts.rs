@@ -1,6 +1,6 @@
 //! `copybook layout` prints the same bytes as the small program, the crate `copybook_layout`, which is written in
-//! Rattle over the same library: on every copybook of the lists that the test programs replay, on the examples, and on
-//! damaged copies of these.
+//! Rattle over the same library: on every copybook of the lists of layouts that crates/test_lists replays, but those at
+//! the limits, on the examples, and on damaged copies of these.
 
 use std::io::Write;
 use std::path::{Path, PathBuf};
@@ -33,8 +33,12 @@ fn cases(list: &str) -> Vec<&str> {
 /// The copybooks of the lists, and the examples.
 fn copybooks() -> Vec<Vec<u8>> {
     let mut texts = Vec::new();
-    for entry in fs::read_dir(root().join("crates/test_layout/data")).expect("the lists") {
-        let list = fs::read_to_string(entry.expect("a list").path()).expect("a list is text");
+    for entry in fs::read_dir(root().join("crates/test_lists/data/layout")).expect("the lists") {
+        let path = entry.expect("a list").path();
+        if path.ends_with("limits.txt") {
+            continue;
+        }
+        let list = fs::read_to_string(path).expect("a list is text");
         texts.extend(cases(&list).into_iter().map(decoded));
     }
     for entry in fs::read_dir(root().join("examples")).expect("the examples") {

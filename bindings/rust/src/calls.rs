@@ -12,6 +12,15 @@ fn sign_asked(sign: Option<SignKind>) -> u8 {
 /// The parameters of `copybook_layout` and of every call that answers a copybook in bytes.
 type Written = unsafe extern "C" fn(*const u8, usize, *mut u32, usize, *mut u8, usize, *mut u64, usize) -> u32;
 
+/// The number of bytes that a call for a copybook says it has written, or its refusal.
+fn counted(form: Form, number: u32, answer: [u64; 2], text: &[u8]) -> Result<usize, Refusal> {
+    let [first, second] = answer.map(|n| n as usize);
+    match number {
+        0 => Ok(first),
+        _ => Err(Refusal::of_copybook(form, number, first, second, text)),
+    }
+}
+
 /// The number of bytes written to `out`, by the call for the form.
 fn written(
     form: Form,
@@ -27,10 +36,7 @@ fn written(
     let number = unsafe {
         call(text.as_ptr(), text.len(), work.as_mut_ptr(), w, out.as_mut_ptr(), m, answer.as_mut_ptr(), answer.len())
     };
-    match number {
-        0 => Ok(answer[0] as usize),
-        _ => Err(Refusal::of_copybook(form, number, answer[0] as usize, answer[1] as usize, text)),
-    }
+    counted(form, number, answer, text)
 }
 
 /// The number of bytes of the listing.
@@ -50,10 +56,7 @@ pub fn reasons(form: Form, text: &[u8], entry: usize, work: &mut [u32], out: &mu
     let (work, out) = (work.as_mut_ptr(), out.as_mut_ptr());
     // SAFETY: slices, see above.
     let number = unsafe { call(text.as_ptr(), text.len(), entry, work, w, out, m, answer.as_mut_ptr(), answer.len()) };
-    match number {
-        0 => Ok(answer[0] as usize),
-        _ => Err(Refusal::of_copybook(form, number, answer[0] as usize, answer[1] as usize, text)),
-    }
+    counted(form, number, answer, text)
 }
 
 pub fn owner(form: Form, text: &[u8], position: usize, work: &mut [u32]) -> Result<Owner, Refusal> {

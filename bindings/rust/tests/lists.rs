@@ -1,6 +1,6 @@
-//! The lists that crates/test_layout replays, through this crate: the bytes of every listing are made again from its
-//! entries, so that an entry has all that the listing says and its names are the very places of the text; the details
-//! of every entry go with it; every refusal is told.
+//! The lists of layouts that crates/test_lists replays, through this crate: the bytes of every listing are made again
+//! from its entries, so that an entry has all that the listing says and its names are the very places of the text; the
+//! details of every entry go with it; every refusal is told.
 
 use copybook::{Details, Entry, FieldKind, Layout, Reader, Refusal};
 use std::fs;
@@ -36,7 +36,7 @@ fn case(line: &str) -> Case {
 }
 
 fn cases(list: &str) -> Vec<Case> {
-    let path = format!("{}/../../crates/test_layout/data/{list}.txt", env!("CARGO_MANIFEST_DIR"));
+    let path = format!("{}/../../crates/test_lists/data/layout/{list}.txt", env!("CARGO_MANIFEST_DIR"));
     let lines = fs::read_to_string(path).unwrap();
     lines.lines().filter(|line| !line.starts_with('*')).map(case).collect()
 }

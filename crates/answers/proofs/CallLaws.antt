@@ -19,7 +19,7 @@ use Rattle.definition.specs.Details.{entriesDetails, height}
 use Rattle.definition.specs.Record.{layout}
 use Rattle.definition.specs.Reasons.{chains, chainAt, flat, numbered, reasonsIn, reasonsBytes}
 use Rattle.definition.specs.Tree.{Forest}
-use Rattle.layout.proofs.BareLaws.{layout-is}
+use Rattle.record.proofs.LaidLaws.{layout-is}
 use Rattle.definition.proofs.DetailLaws.{listing-height}
 use Rattle.places.specs.Places.{rowsForest}
 use Rattle.unions.specs.Shown.{listIn}

@@ -3,7 +3,10 @@ ghost use mathlib.Core.Path.{_≡_};
 ghost use Rattle.definition.specs.Basic.{uppers, absent, count};
 ghost use Rattle.definition.specs.Statement.{noClauses, withPicture, withUsage, withSign, withSync, withOccurs};
 ghost use Rattle.definition.specs.Statement.{withDepending, withRedefines, usageOf};
-ghost use Rattle.definition.specs.Statement.{counted as countedOf, begin as beginOf, onClause, onDepending, onTimes, onSign, clauseStep, separately as separatelyOf, separated as separatedOf, step as stepOf};
+ghost use Rattle.definition.specs.Statement.{counted as countedOf, begin as beginOf, onClause, onDepending};
+ghost use Rattle.definition.specs.Statement.{onTimes, onSign, separately as separatelyOf, separated as separatedOf};
+ghost use Rattle.definition.specs.Statement.{step as stepOf};
+ghost use Rattle.clauses.specs.Moves.{doing, Does, Moves};
 ghost use Rattle.definition.specs.declared.Expect.the-variants.{IsPicture, To, OnName, UsageIs, SignIs, Side};
 use definition::Clauses;
 use definition::Expect;
@@ -185,144 +188,173 @@ fn begin(k: Keyword, c: Clauses) -> Step
     }
 }
 
+// What a word does to a statement: a clause begins; the word is the picture, the target of REDEFINES or the name of
+// DEPENDING ON; it is a count, or the word of SIGN, which says LEADING or not; it does nothing, or it is refused. Where
+// more than one thing may come next, that is said too.
+pub enum Move {
+    Begin(Keyword),
+    Picture,
+    Target,
+    Depending,
+    Count(u64, Expect),
+    Sign(bool),
+    Next(Expect),
+    Fail(u32),
+}
+
 // A word where a clause may begin.
-fn on_clause(word: &[u8], c: Clauses) -> Step
-    ensures { λ r. ⌜ r ≡ onClause (uppers (now (word .entry))) c ⌝ }
+fn on_clause(word: &[u8]) -> Move
+    ensures { λ r. ⌜ Does (onClause (uppers (now (word .entry)))) r ⌝ }
 {
-    begin(keywords::keyword_of(word), c)
+    Move::Begin(keywords::keyword_of(word))
 }
 
 // A word where DEPENDING or a clause may stand.
-fn on_depending(word: &[u8], c: Clauses) -> Step
-    ensures { λ r. ⌜ r ≡ onDepending (uppers (now (word .entry))) c ⌝ }
+fn on_depending(word: &[u8]) -> Move
+    ensures { λ r. ⌜ Does (onDepending (uppers (now (word .entry)))) r ⌝ }
 {
     if text::same_key(word, b"DEPENDING") {
-        return Step::Go(Expect::OnName, c);
+        return Move::Next(Expect::OnName);
     }
-    on_clause(word, c)
+    on_clause(word)
 }
 
 // A word where TIMES, DEPENDING or a clause may stand.
-fn on_times(word: &[u8], c: Clauses) -> Step
-    ensures { λ r. ⌜ r ≡ onTimes (uppers (now (word .entry))) c ⌝ }
+fn on_times(word: &[u8]) -> Move
+    ensures { λ r. ⌜ Does (onTimes (uppers (now (word .entry)))) r ⌝ }
 {
     if text::same_key(word, b"TIMES") {
-        return Step::Go(Expect::DependingOn, c);
+        return Move::Next(Expect::DependingOn);
     }
-    on_depending(word, c)
+    on_depending(word)
 }
 
 // The word of SIGN: LEADING or not.
-fn on_sign(word: &[u8], c: Clauses) -> Step
-    ensures { λ r. ⌜ r ≡ onSign (uppers (now (word .entry))) c ⌝ }
+fn on_sign(word: &[u8]) -> Move
+    ensures { λ r. ⌜ Does (onSign (uppers (now (word .entry)))) r ⌝ }
 {
-    let leading = text::same_key(word, b"LEADING");
-    Step::Go(
-        Expect::Clause,
-        with_sign(
-            c,
-            SignWords::Said {
-                leading: leading,
-                separate: false,
-            },
-        ),
-    )
+    Move::Sign(text::same_key(word, b"LEADING"))
 }
 
 // IS or the picture, after PIC.
-fn after_picture(w: Span, word: &[u8], c: Clauses) -> Step
-    ensures { λ r. ⌜ r ≡ clauseStep IsPicture w (uppers (now (word .entry))) c ⌝ }
+fn after_picture(word: &[u8]) -> Move
+    ensures { λ r. ⌜ Moves IsPicture (uppers (now (word .entry))) r ⌝ }
 {
     if text::same_key(word, b"IS") {
-        return Step::Go(Expect::APicture, c);
+        return Move::Next(Expect::APicture);
     }
-    Step::Go(Expect::Clause, with_picture(c, w))
+    Move::Picture
 }
 
 // TO, TIMES, DEPENDING or a clause, after a count.
-fn after_count(w: Span, word: &[u8], c: Clauses) -> Step
-    ensures { λ r. ⌜ r ≡ clauseStep To w (uppers (now (word .entry))) c ⌝ }
+fn after_count(word: &[u8]) -> Move
+    ensures { λ r. ⌜ Moves To (uppers (now (word .entry))) r ⌝ }
 {
     if text::same_key(word, b"TO") {
-        return Step::Go(Expect::Bound, c);
+        return Move::Next(Expect::Bound);
     }
-    on_times(word, c)
+    on_times(word)
 }
 
 // ON or the name, after DEPENDING.
-fn after_depending(w: Span, word: &[u8], c: Clauses) -> Step
-    ensures { λ r. ⌜ r ≡ clauseStep OnName w (uppers (now (word .entry))) c ⌝ }
+fn after_depending(word: &[u8]) -> Move
+    ensures { λ r. ⌜ Moves OnName (uppers (now (word .entry))) r ⌝ }
 {
     if text::same_key(word, b"ON") {
-        return Step::Go(Expect::AName, c);
+        return Move::Next(Expect::AName);
     }
-    Step::Go(Expect::Clause, with_depending(c, w))
+    Move::Depending
 }
 
 // IS or a clause, after USAGE.
-fn after_usage(w: Span, word: &[u8], c: Clauses) -> Step
-    ensures { λ r. ⌜ r ≡ clauseStep UsageIs w (uppers (now (word .entry))) c ⌝ }
+fn after_usage(word: &[u8]) -> Move
+    ensures { λ r. ⌜ Moves UsageIs (uppers (now (word .entry))) r ⌝ }
 {
     if text::same_key(word, b"IS") {
-        return Step::Go(Expect::Clause, c);
+        return Move::Next(Expect::Clause);
     }
-    on_clause(word, c)
+    on_clause(word)
 }
 
 // IS or the word of SIGN, after SIGN.
-fn after_sign(w: Span, word: &[u8], c: Clauses) -> Step
-    ensures { λ r. ⌜ r ≡ clauseStep SignIs w (uppers (now (word .entry))) c ⌝ }
+fn after_sign(word: &[u8]) -> Move
+    ensures { λ r. ⌜ Moves SignIs (uppers (now (word .entry))) r ⌝ }
 {
     if text::same_key(word, b"IS") {
-        return Step::Go(Expect::SignWord, c);
+        return Move::Next(Expect::SignWord);
     }
-    on_sign(word, c)
+    on_sign(word)
 }
 
 // LEFT, RIGHT or a clause, after SYNC.
-fn after_sync(w: Span, word: &[u8], c: Clauses) -> Step
-    ensures { λ r. ⌜ r ≡ clauseStep Side w (uppers (now (word .entry))) c ⌝ }
+fn after_sync(word: &[u8]) -> Move
+    ensures { λ r. ⌜ Moves Side (uppers (now (word .entry))) r ⌝ }
 {
     if text::same_key(word, b"LEFT") {
-        return Step::Go(Expect::Clause, c);
+        return Move::Next(Expect::Clause);
     }
     if text::same_key(word, b"RIGHT") {
-        return Step::Go(Expect::Clause, c);
+        return Move::Next(Expect::Clause);
     }
-    on_clause(word, c)
+    on_clause(word)
 }
 
 // A word that has to be a count: it is the number of occurrences, and `e` is expected next; else the refusal.
-fn counted(number: u32, e: Expect, word: &[u8], c: Clauses) -> Step
-    ensures { λ r. ⌜ r ≡ countedOf number e c (count (uppers (now (word .entry)))) ⌝ }
+fn counted(number: u32, e: Expect, word: &[u8]) -> Move
+    ensures { λ r. ⌜ Does (λ c. countedOf number e c (count (uppers (now (word .entry))))) r ⌝ }
 {
     match text::count_of(word) {
-        Number::Value(n) => Step::Go(e, with_occurs(c, n)),
-        Number::Bad => Step::Fail(number),
+        Number::Value(n) => Move::Count(n, e),
+        Number::Bad => Move::Fail(number),
     }
 }
 
-// A word, by what is expected.
-fn clause_step(e: Expect, w: Span, word: &[u8], c: Clauses) -> Step
-    ensures { λ r. ⌜ r ≡ clauseStep e w (uppers (now (word .entry))) c ⌝ }
+// What a word does, by what is expected.
+fn move_of(e: Expect, word: &[u8]) -> Move
+    ensures { λ r. ⌜ Moves e (uppers (now (word .entry))) r ⌝ }
 {
     match e {
-        Expect::Clause => on_clause(word, c),
-        Expect::IsPicture => after_picture(w, word, c),
-        Expect::APicture => Step::Go(Expect::Clause, with_picture(c, w)),
-        Expect::Target => Step::Go(Expect::Clause, with_redefines(c, w)),
-        Expect::ACount => counted(11, Expect::To, word, c),
-        Expect::To => after_count(w, word, c),
-        Expect::Bound => counted(12, Expect::Times, word, c),
-        Expect::Times => on_times(word, c),
-        Expect::DependingOn => on_depending(word, c),
-        Expect::OnName => after_depending(w, word, c),
-        Expect::AName => Step::Go(Expect::Clause, with_depending(c, w)),
-        Expect::UsageIs => after_usage(w, word, c),
-        Expect::SignIs => after_sign(w, word, c),
-        Expect::SignWord => on_sign(word, c),
-        Expect::Side => after_sync(w, word, c),
-        Expect::Nothing => Step::Go(Expect::Nothing, c),
+        Expect::Clause => on_clause(word),
+        Expect::IsPicture => after_picture(word),
+        Expect::APicture => Move::Picture,
+        Expect::Target => Move::Target,
+        Expect::ACount => counted(11, Expect::To, word),
+        Expect::To => after_count(word),
+        Expect::Bound => counted(12, Expect::Times, word),
+        Expect::Times => on_times(word),
+        Expect::DependingOn => on_depending(word),
+        Expect::OnName => after_depending(word),
+        Expect::AName => Move::Depending,
+        Expect::UsageIs => after_usage(word),
+        Expect::SignIs => after_sign(word),
+        Expect::SignWord => on_sign(word),
+        Expect::Side => after_sync(word),
+        Expect::Nothing => Move::Next(Expect::Nothing),
+    }
+}
+
+// What that makes of the clauses, where the word stands at `w`.
+fn moved(m: Move, w: Span, c: Clauses) -> Step
+    ensures { λ r. ⌜ r ≡ doing m w c ⌝ }
+{
+    match m {
+        Move::Begin(k) => begin(k, c),
+        Move::Picture => Step::Go(Expect::Clause, with_picture(c, w)),
+        Move::Target => Step::Go(Expect::Clause, with_redefines(c, w)),
+        Move::Depending => Step::Go(Expect::Clause, with_depending(c, w)),
+        Move::Count(n, e) => Step::Go(e, with_occurs(c, n)),
+        Move::Sign(leading) => Step::Go(
+            Expect::Clause,
+            with_sign(
+                c,
+                SignWords::Said {
+                    leading: leading,
+                    separate: false,
+                },
+            ),
+        ),
+        Move::Next(e) => Step::Go(e, c),
+        Move::Fail(number) => Step::Fail(number),
     }
 }
 
@@ -364,5 +396,5 @@ fn separated(word: &[u8], s: Step) -> Step
 pub fn step(e: Expect, w: Span, word: &[u8], c: Clauses) -> Step
     ensures { λ r. ⌜ r ≡ stepOf e w (uppers (now (word .entry))) c ⌝ }
 {
-    separated(word, clause_step(e, w, word, c))
+    separated(word, moved(move_of(e, word), w, c))
 }

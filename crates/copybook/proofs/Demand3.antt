@@ -28,7 +28,6 @@ use Rattle.definition.specs.Demand.{ownerOn}
 use Rattle.definition.proofs.Answers.{give-next, through, given-same}
 use Rattle.definition.proofs.CallsLaws.{called-as}
 use Rattle.definition.proofs.Demand3.{demand3 as defined, read-fields, refuses-40, refuses-41}
-use Rattle.layout.proofs.BareLaws.{bind-bind}
 use Rattle.copybook.specs.Answered.{Listing, Owns, Accepted, Answered}
 
 -- ---------------------------------------------------------------- the byte owner
@@ -167,9 +166,13 @@ not-read form text out work q e (Writing.Refused r) h o = (o, inr (e ∙ ap refu
 called-then :
     {A B : Type 0} (form : Form) (call : List ℕ → Answer A) (f : A → Answer B) (text : List ℕ) (n : ℕ) →
     called form (λ t. call t >>= f) text n ≡ (called form call text n >>= f)
-unfolding onCards
+unfolding onCards _>>=_
 called-then freeText call f text n = refl
-called-then cardText call f text n = sym (bind-bind (cardChecks text n) (λ _. call (view text)) f)
+called-then cardText call f text n = go (cardChecks text n)
+  where
+    go : (a : Answer (Unit {0})) → (a >>= λ _. call (view text) >>= f) ≡ ((a >>= λ _. call (view text)) >>= f)
+    go (refuse r) = refl
+    go (give u) = refl
 
 -- Every call for the layout listing keeps demand 3.
 pub demand3 :

@@ -21,13 +21,15 @@ use definition::Usage;
 use definition::Writing;
 
 // The layout listing of a copybook: how many bytes were written. Refusals, in this order: 1 text over 65,535 bytes; 2 a
-// byte over 127, at the first one; 3 work memory under 16,384 numbers; 50 a literal that its line does not close, at the
-// opening mark of the first one; each statement's 10 to 14; each sibling list's, item's and fold's 20 to 30, a float's 52
-// in the place of 21; 29 for a top-level end; 31, with the length of the listing, if the output is shorter. A refusal
-// changes no byte of the output, bytes past the listing keep their values, and work memory is zero after every call.
-// The contract rules out a program that starts every item at its list's beginning, and one that refuses every copybook.
+// byte over 127, at the first one; 3 work memory under 16,384 numbers; 50 a literal that its line does not close, at
+// the opening mark of the first one; each statement's 10 to 14; each sibling list's, item's and fold's 20 to 30, a
+// float's 52 in the place of 21; 29 for a top-level end; 31, with the length of the listing, if the output is shorter.
+// A refusal changes no byte of the output, bytes past the listing keep their values, and work memory is zero after
+// every call. The contract rules out a program that starts every item at its list's beginning, and one that refuses
+// every copybook.
 pub fn layout_listing(text: &[u8], work: &mut [u32], out: &mut [u8]) -> Writing
-    ensures { λ r. ⌜ left (writingOf r) (now (out .exit)) (now (work .exit)) ≡ layoutCall (now (text .entry)) (now (out .entry)) (now (work .entry)) ⌝ }
+    ensures { λ r. ⌜ left (writingOf r) (now (out .exit)) (now (work .exit))
+        ≡ layoutCall (now (text .entry)) (now (out .entry)) (now (work .entry)) ⌝ }
 {
     answers::report(text, work, Report::Listing, out)
 }
@@ -41,18 +43,21 @@ pub fn layout_listing(text: &[u8], work: &mut [u32], out: &mut [u8]) -> Writing
 // The contract rules out a program that takes an entry's offset for its first byte, and one that gives a fold its
 // base's slack.
 pub fn layout_details(text: &[u8], work: &mut [u32], out: &mut [u8]) -> Writing
-    ensures { λ r. ⌜ left (writingOf r) (now (out .exit)) (now (work .exit)) ≡ detailsCall (now (text .entry)) (now (out .entry)) (now (work .entry)) ⌝ }
+    ensures { λ r. ⌜ left (writingOf r) (now (out .exit)) (now (work .exit))
+        ≡ detailsCall (now (text .entry)) (now (out .entry)) (now (work .entry)) ⌝ }
 {
     answers::report(text, work, Report::Details, out)
 }
 
-// The owner of the byte at a position of the record: an occurrence of an elementary item, with its entry's number in the listing,
-// its first byte in the record and the place inside it, or slack, with the number of the entry it stands before. Refusals: those of
-// the layout listing but 31, then 40 for a REDEFINES or DEPENDING ON, a dropped root's own aside, and 41 for a position that is not
-// below the record length. Work memory is zero after every call.
-// The contract rules out a program that answers with the next occurrence, and one that measures slack from the record's start.
+// The owner of the byte at a position of the record: an occurrence of an elementary item, with its entry's number in
+// the listing, its first byte in the record and the place inside it, or slack, with the number of the entry it stands
+// before. Refusals: those of the layout listing but 31, then 40 for a REDEFINES or DEPENDING ON, a dropped root's own
+// aside, and 41 for a position that is not below the record length. Work memory is zero after every call.
+// The contract rules out a program that answers with the next occurrence, and one that measures slack from the record's
+// start.
 pub fn byte_owner(text: &[u8], position: usize, work: &mut [u32]) -> OwnerAnswer
-    ensures { λ r. ⌜ left (ownerAnswerOf r) [] (now (work .exit)) ≡ ownerCall (now (text .entry)) position (now (work .entry)) ⌝ }
+    ensures { λ r. ⌜ left (ownerAnswerOf r) [] (now (work .exit))
+        ≡ ownerCall (now (text .entry)) position (now (work .entry)) ⌝ }
 {
     answers::owner(text, position, work)
 }
@@ -79,7 +84,8 @@ pub fn entry_reasons(text: &[u8], number: usize, work: &mut [u32], out: &mut [u8
 // none of those and no blank; then as `layout_listing`. Positions and places are those in the card text.
 // The contract rules out a program that reads column 73, and one whose positions count columns of code alone.
 pub fn layout_cards(cards: &[u8], work: &mut [u32], out: &mut [u8]) -> Writing
-    ensures { λ r. ⌜ left (writingOf r) (now (out .exit)) (now (work .exit)) ≡ layoutCardsCall (now (cards .entry)) (now (out .entry)) (now (work .entry)) ⌝ }
+    ensures { λ r. ⌜ left (writingOf r) (now (out .exit)) (now (work .exit))
+        ≡ layoutCardsCall (now (cards .entry)) (now (out .entry)) (now (work .entry)) ⌝ }
 {
     answers::report_cards(cards, work, Report::Listing, out)
 }
@@ -88,14 +94,15 @@ pub fn layout_cards(cards: &[u8], work: &mut [u32], out: &mut [u8]) -> Writing
 // length of the details.
 // The contract rules out a program that gives a position in the code alone, and one that takes column 7 for code.
 pub fn layout_details_cards(cards: &[u8], work: &mut [u32], out: &mut [u8]) -> Writing
-    ensures { λ r. ⌜ left (writingOf r) (now (out .exit)) (now (work .exit)) ≡ detailsCardsCall (now (cards .entry)) (now (out .entry)) (now (work .entry)) ⌝ }
+    ensures { λ r. ⌜ left (writingOf r) (now (out .exit)) (now (work .exit))
+        ≡ detailsCardsCall (now (cards .entry)) (now (out .entry)) (now (work .entry)) ⌝ }
 {
     answers::report_cards(cards, work, Report::Details, out)
 }
 
 // The reasons of an entry of cards: `entry_reasons` of what the reader sees. Refusals: those of `layout_cards` but 31,
 // then 53, then 31.
-// The contract rules out a program that gives a name's place in the code alone, and one that looks for 53 before 51.
+// The contract rules out a program that gives a name's place in the code alone, and one that takes column 7 for code.
 pub fn entry_reasons_cards(cards: &[u8], number: usize, work: &mut [u32], out: &mut [u8]) -> Writing
     ensures { λ r. ⌜ left (writingOf r) (now (out .exit)) (now (work .exit))
         ≡ reasonsCardsCall (now (cards .entry)) number (now (out .entry)) (now (work .entry)) ⌝ }
@@ -105,9 +112,10 @@ pub fn entry_reasons_cards(cards: &[u8], number: usize, work: &mut [u32], out: &
 
 // The owner of a byte of the record that cards describe: `byte_owner` of what the reader sees. Refusals: those of
 // `layout_cards` but 31, then 40 and 41.
-// The contract rules out a program that takes an indicator for code, and one that looks for 51 after 50.
+// The contract rules out a program that takes a hyphen line for code, and one that reads column 73.
 pub fn byte_owner_cards(cards: &[u8], position: usize, work: &mut [u32]) -> OwnerAnswer
-    ensures { λ r. ⌜ left (ownerAnswerOf r) [] (now (work .exit)) ≡ ownerCardsCall (now (cards .entry)) position (now (work .entry)) ⌝ }
+    ensures { λ r. ⌜ left (ownerAnswerOf r) [] (now (work .exit))
+        ≡ ownerCardsCall (now (cards .entry)) position (now (work .entry)) ⌝ }
 {
     answers::owner_cards(cards, position, work)
 }
@@ -142,8 +150,8 @@ pub fn extract(
 // of another size, or whose lengths, added up, are not those bytes; then the reader's (1 to 3, 50, 10 to 14, 20 to 30,
 // 52) of the first copybook that is refused, its position counted in that copybook; then 57 where there is no such key.
 // 56 and 57 are at 0. The name is only compared. Work memory is zero after every call.
-// The contract rules out a program that takes the first of two entries of the name, and one that says 57 before it has
-// read the last copybook.
+// The contract rules out a program that takes the last of two entries of the name, and one that adds the lengths up
+// modulo 2^64.
 pub fn set_key(texts: &[u8], lengths: &[u64], name: &[u8], work: &mut [u32]) -> KeyAnswer
     ensures { λ r. ⌜ left (keyAnswerOf r) [] (now (work .exit))
         ≡ keyCall (now (texts .entry)) (now (lengths .entry)) (now (name .entry)) (now (work .entry)) ⌝ }
@@ -151,10 +159,11 @@ pub fn set_key(texts: &[u8], lengths: &[u64], name: &[u8], work: &mut [u32]) -> 
     family::set_key(texts, lengths, name, work)
 }
 
-// Kind, its details and width of one picture with a usage and a sign. Refusals, in this order: 1 over 65,535 bytes; 2 a byte over 127, at the first
-// one; then symbol by symbol 22 no `)`, 23 no repeat count, 24 over 65,535 symbols; then 25 no symbol, 26 text mixed with a digit or editing, 27 over
-// 31 digits, P included, or an edited DISPLAY mask over 255; at 0 except 2.
-// The contract rules out a program that counts `$$$9` as four digits, and one that gives a P a byte under some usage.
+// Kind, its details and width of one picture with a usage and a sign. Refusals, in this order: 1 over 65,535 bytes; 2 a
+// byte over 127, at the first one; then symbol by symbol 22 no `)`, 23 no repeat count, 24 over 65,535 symbols; then 25
+// no symbol, 26 text mixed with a digit or editing, 27 over 31 digits, P included, or an edited DISPLAY mask over 255;
+// at 0 except 2. The contract rules out a program that counts `$$$9` as four digits, and one that gives a P a byte
+// under some usage.
 pub fn parse_pic(pic: &[u8], usage: Usage, sign: SignClause) -> PicAnswer
     ensures { λ r. ⌜ pictureOf r ≡ pictureAnswer usage sign (now (pic .entry)) ⌝ }
 {
@@ -168,18 +177,19 @@ pub fn parse_pic(pic: &[u8], usage: Usage, sign: SignClause) -> PicAnswer
     }
 }
 
-// Writes the mask of a picture that is edited under the usage, and answers its length; 0 of any other picture. Refusals: those of `parse_pic`, in its
-// order; then 31, with the length of the mask, if it is longer than the output. A refusal changes no byte of the output, and bytes past the mask keep
-// their values.
-// The contract rules out a program that writes before it knows that the mask has room, and one that writes S or V, or leaves P out.
+// Writes the mask of a picture that is edited under the usage, and answers its length; 0 of any other picture.
+// Refusals: those of `parse_pic`, in its order; then 31, with the length of the mask, if it is longer than the output.
+// A refusal changes no byte of the output, and bytes past the mask keep their values.
+// The contract rules out a program that writes before it knows that the mask has room, and one that writes S or V, or
+// leaves P out.
 pub fn mask(pic: &[u8], usage: Usage, out: &mut [u8]) -> Writing
     ensures { λ r. ⌜ left (writingOf r) (now (out .exit)) [] ≡ maskCall usage (now (pic .entry)) (now (out .entry)) ⌝ }
 {
     mask::picture_mask(pic, usage, out)
 }
 
-// Whether a record of `len` bytes is long enough for a layout of `record_len` bytes: 42, at 0, where it is shorter and the record
-// is not variable.
+// Whether a record of `len` bytes is long enough for a layout of `record_len` bytes: 42, at 0, where it is shorter and
+// the record is not variable.
 // The contract rules out a program that refuses a record of just the length, and one that checks a variable record.
 pub fn check_record_len(record_len: usize, variable: bool, len: usize) -> Check
     ensures { λ r. ⌜ checkOf r ≡ recordCheck record_len variable len ⌝ }

@@ -1,5 +1,6 @@
-// The public entries for C: `include/copybook.h` declares them. A slice is a pointer and a length. Each call returns 0 or the number of its
-// refusal, and writes the other numbers of its answer to a lent slice, as `numbers` says. Leans on `copybook`, `numbers` and `definition`.
+// The public entries for C: `include/copybook.h` declares them. A slice is a pointer and a length. Each call returns 0
+// or the number of its refusal, and writes the other numbers of its answer to a lent slice, as `numbers` says. Leans on
+// `copybook`, `numbers` and `definition`.
 ghost use mathlib.Core.Path.{_≡_};
 ghost use mathlib.Core.Bool.{_||_};
 ghost use Rattle.definition.specs.Basic.{if_then_else_};
@@ -13,9 +14,10 @@ ghost use Rattle.numbers.specs.Numbers.{returned, writingNumbers, pictureNumber
 ghost use Rattle.numbers.specs.Numbers.{extractNumbers, keyNumbers};
 use definition::Check;
 
-// The layout listing of a copybook, as `copybook::layout_listing` says. To `answer`, 2 numbers: the bytes written, and 0; or position and
-// needed length.
-// The contract rules out a call that writes to an `answer` of one number, and one that puts the needed length before the position.
+// The layout listing of a copybook, as `copybook::layout_listing` says. To `answer`, 2 numbers: the bytes written, and
+// 0; or position and needed length.
+// The contract rules out a call that writes to an `answer` of one number, and one that puts the needed length before
+// the position.
 #[no_mangle]
 pub extern "C" fn copybook_layout(
     text: &[u8],
@@ -24,7 +26,9 @@ pub extern "C" fn copybook_layout(
     answer: &mut [u64],
 ) -> u32
     ensures { λ r. ⌜ r ≡ returned (layoutCall (now (text .entry)) (now (out .entry)) (now (work .entry)) .answer) ⌝ }
-    ensures { λ _. ⌜ now (answer .exit) ≡ answered (writingNumbers (layoutCall (now (text .entry)) (now (out .entry)) (now (work .entry)) .answer)) (now (answer .entry)) ⌝ }
+    ensures { λ _. ⌜ now (answer .exit)
+        ≡ answered (writingNumbers (layoutCall (now (text .entry)) (now (out .entry)) (now (work .entry)) .answer))
+        (now (answer .entry)) ⌝ }
     ensures { λ _. ⌜ now (out .exit) ≡ layoutCall (now (text .entry)) (now (out .entry)) (now (work .entry)) .output ⌝ }
     ensures { λ _. ⌜ now (work .exit) ≡ layoutCall (now (text .entry)) (now (out .entry)) (now (work .entry)) .work ⌝ }
 {
@@ -43,8 +47,11 @@ pub extern "C" fn copybook_details(
     answer: &mut [u64],
 ) -> u32
     ensures { λ r. ⌜ r ≡ returned (detailsCall (now (text .entry)) (now (out .entry)) (now (work .entry)) .answer) ⌝ }
-    ensures { λ _. ⌜ now (answer .exit) ≡ answered (writingNumbers (detailsCall (now (text .entry)) (now (out .entry)) (now (work .entry)) .answer)) (now (answer .entry)) ⌝ }
-    ensures { λ _. ⌜ now (out .exit) ≡ detailsCall (now (text .entry)) (now (out .entry)) (now (work .entry)) .output ⌝ }
+    ensures { λ _. ⌜ now (answer .exit)
+        ≡ answered (writingNumbers (detailsCall (now (text .entry)) (now (out .entry)) (now (work .entry)) .answer))
+        (now (answer .entry)) ⌝ }
+    ensures { λ _. ⌜ now (out .exit)
+        ≡ detailsCall (now (text .entry)) (now (out .entry)) (now (work .entry)) .output ⌝ }
     ensures { λ _. ⌜ now (work .exit) ≡ detailsCall (now (text .entry)) (now (out .entry)) (now (work .entry)) .work ⌝ }
 {
     let w = copybook::layout_details(text, work, out);
@@ -86,10 +93,16 @@ pub extern "C" fn copybook_layout_cards(
     out: &mut [u8],
     answer: &mut [u64],
 ) -> u32
-    ensures { λ r. ⌜ r ≡ returned (layoutCardsCall (now (cards .entry)) (now (out .entry)) (now (work .entry)) .answer) ⌝ }
-    ensures { λ _. ⌜ now (answer .exit) ≡ answered (writingNumbers (layoutCardsCall (now (cards .entry)) (now (out .entry)) (now (work .entry)) .answer)) (now (answer .entry)) ⌝ }
-    ensures { λ _. ⌜ now (out .exit) ≡ layoutCardsCall (now (cards .entry)) (now (out .entry)) (now (work .entry)) .output ⌝ }
-    ensures { λ _. ⌜ now (work .exit) ≡ layoutCardsCall (now (cards .entry)) (now (out .entry)) (now (work .entry)) .work ⌝ }
+    ensures { λ r. ⌜ r
+        ≡ returned (layoutCardsCall (now (cards .entry)) (now (out .entry)) (now (work .entry)) .answer) ⌝ }
+    ensures { λ _. ⌜ now (answer .exit)
+        ≡ answered
+        (writingNumbers (layoutCardsCall (now (cards .entry)) (now (out .entry)) (now (work .entry)) .answer))
+        (now (answer .entry)) ⌝ }
+    ensures { λ _. ⌜ now (out .exit)
+        ≡ layoutCardsCall (now (cards .entry)) (now (out .entry)) (now (work .entry)) .output ⌝ }
+    ensures { λ _. ⌜ now (work .exit)
+        ≡ layoutCardsCall (now (cards .entry)) (now (out .entry)) (now (work .entry)) .work ⌝ }
 {
     let w = copybook::layout_cards(cards, work, out);
     numbers::hand_on(w, answer)
@@ -105,10 +118,16 @@ pub extern "C" fn copybook_details_cards(
     out: &mut [u8],
     answer: &mut [u64],
 ) -> u32
-    ensures { λ r. ⌜ r ≡ returned (detailsCardsCall (now (cards .entry)) (now (out .entry)) (now (work .entry)) .answer) ⌝ }
-    ensures { λ _. ⌜ now (answer .exit) ≡ answered (writingNumbers (detailsCardsCall (now (cards .entry)) (now (out .entry)) (now (work .entry)) .answer)) (now (answer .entry)) ⌝ }
-    ensures { λ _. ⌜ now (out .exit) ≡ detailsCardsCall (now (cards .entry)) (now (out .entry)) (now (work .entry)) .output ⌝ }
-    ensures { λ _. ⌜ now (work .exit) ≡ detailsCardsCall (now (cards .entry)) (now (out .entry)) (now (work .entry)) .work ⌝ }
+    ensures { λ r. ⌜ r
+        ≡ returned (detailsCardsCall (now (cards .entry)) (now (out .entry)) (now (work .entry)) .answer) ⌝ }
+    ensures { λ _. ⌜ now (answer .exit)
+        ≡ answered
+        (writingNumbers (detailsCardsCall (now (cards .entry)) (now (out .entry)) (now (work .entry)) .answer))
+        (now (answer .entry)) ⌝ }
+    ensures { λ _. ⌜ now (out .exit)
+        ≡ detailsCardsCall (now (cards .entry)) (now (out .entry)) (now (work .entry)) .output ⌝ }
+    ensures { λ _. ⌜ now (work .exit)
+        ≡ detailsCardsCall (now (cards .entry)) (now (out .entry)) (now (work .entry)) .work ⌝ }
 {
     let w = copybook::layout_details_cards(cards, work, out);
     numbers::hand_on(w, answer)
@@ -142,7 +161,8 @@ pub extern "C" fn copybook_reasons_cards(
 
 // The key of a set of copybooks, as `copybook::set_key` says. To `answer`, 2 numbers: its offset and its width; or
 // position and needed length.
-// The contract rules out a call that puts the width before the offset, and one that writes to an `answer` of one number.
+// The contract rules out a call that puts the width before the offset, and one that writes to an `answer` of one
+// number.
 #[no_mangle]
 pub extern "C" fn copybook_key(
     texts: &[u8],
@@ -152,10 +172,12 @@ pub extern "C" fn copybook_key(
     answer: &mut [u64],
 ) -> u32
     ensures { λ r. ⌜ r
-        ≡ returned (keyCall (now (texts .entry)) (now (lengths .entry)) (now (name .entry)) (now (work .entry)) .answer) ⌝ }
+        ≡ returned
+        (keyCall (now (texts .entry)) (now (lengths .entry)) (now (name .entry)) (now (work .entry)) .answer) ⌝ }
     ensures { λ _. ⌜ now (answer .exit)
         ≡ answered
-        (keyNumbers (keyCall (now (texts .entry)) (now (lengths .entry)) (now (name .entry)) (now (work .entry)) .answer))
+        (keyNumbers
+        (keyCall (now (texts .entry)) (now (lengths .entry)) (now (name .entry)) (now (work .entry)) .answer))
         (now (answer .entry)) ⌝ }
     ensures { λ _. ⌜ now (work .exit)
         ≡ keyCall (now (texts .entry)) (now (lengths .entry)) (now (name .entry)) (now (work .entry)) .work ⌝ }
@@ -164,14 +186,21 @@ pub extern "C" fn copybook_key(
     numbers::hand_on_key(key, answer)
 }
 
-// Kind, its details and width of a picture with a usage and a sign, as `copybook::parse_pic` says. To `answer`, 7 numbers: kind, width, signed,
-// sign, precision, scale, storage, each 0 where the kind has none; or position, needed length and zeros. 255, and nothing touched, for a usage
-// above 2 or a sign above 4.
+// Kind, its details and width of a picture with a usage and a sign, as `copybook::parse_pic` says. To `answer`, 7
+// numbers: kind, width, signed, sign, precision, scale, storage, each 0 where the kind has none; or position, needed
+// length and zeros. 255, and nothing touched, for a usage above 2 or a sign above 4.
 // The contract rules out a call that takes sign 4 for leading separate, and one that takes usage 3 for COMP.
 #[no_mangle]
 pub extern "C" fn copybook_picture(pic: &[u8], usage: u8, sign: u8, answer: &mut [u64]) -> u32
-    ensures { λ r. ⌜ r ≡ (if noUsage usage || noSign sign then 255 else returned (pictureAnswer (usageAt usage) (signClauseAt sign) (now (pic .entry)))) ⌝ }
-    ensures { λ _. ⌜ now (answer .exit) ≡ (if noUsage usage || noSign sign then now (answer .entry) else answered (pictureNumbers (pictureAnswer (usageAt usage) (signClauseAt sign) (now (pic .entry)))) (now (answer .entry))) ⌝ }
+    ensures { λ r. ⌜ r
+        ≡
+        (if noUsage usage || noSign sign then 255
+        else returned (pictureAnswer (usageAt usage) (signClauseAt sign) (now (pic .entry)))) ⌝ }
+    ensures { λ _. ⌜ now (answer .exit)
+        ≡
+        (if noUsage usage || noSign sign then now (answer .entry)
+        else answered (pictureNumbers (pictureAnswer (usageAt usage) (signClauseAt sign) (now (pic .entry))))
+        (now (answer .entry))) ⌝ }
 {
     if numbers::no_usage(usage) {
         return 255;
@@ -183,14 +212,24 @@ pub extern "C" fn copybook_picture(pic: &[u8], usage: u8, sign: u8, answer: &mut
     numbers::hand_on_picture(p, answer)
 }
 
-// The mask of a picture that is edited under the usage, as `copybook::mask` says. To `answer`, 2 numbers, as `copybook_layout`. 255, and nothing
-// touched, for a usage above 2.
+// The mask of a picture that is edited under the usage, as `copybook::mask` says. To `answer`, 2 numbers, as
+// `copybook_layout`. 255, and nothing touched, for a usage above 2.
 // The contract rules out a call that says 0 bytes of a mask that it wrote, and one that takes usage 3 for COMP.
 #[no_mangle]
 pub extern "C" fn copybook_mask(pic: &[u8], usage: u8, out: &mut [u8], answer: &mut [u64]) -> u32
-    ensures { λ r. ⌜ r ≡ (if noUsage usage then 255 else returned (maskCall (usageAt usage) (now (pic .entry)) (now (out .entry)) .answer)) ⌝ }
-    ensures { λ _. ⌜ now (answer .exit) ≡ (if noUsage usage then now (answer .entry) else answered (writingNumbers (maskCall (usageAt usage) (now (pic .entry)) (now (out .entry)) .answer)) (now (answer .entry))) ⌝ }
-    ensures { λ _. ⌜ now (out .exit) ≡ (if noUsage usage then now (out .entry) else maskCall (usageAt usage) (now (pic .entry)) (now (out .entry)) .output) ⌝ }
+    ensures { λ r. ⌜ r
+        ≡
+        (if noUsage usage then 255
+        else returned (maskCall (usageAt usage) (now (pic .entry)) (now (out .entry)) .answer)) ⌝ }
+    ensures { λ _. ⌜ now (answer .exit)
+        ≡
+        (if noUsage usage then now (answer .entry)
+        else answered (writingNumbers (maskCall (usageAt usage) (now (pic .entry)) (now (out .entry)) .answer))
+        (now (answer .entry))) ⌝ }
+    ensures { λ _. ⌜ now (out .exit)
+        ≡
+        (if noUsage usage then now (out .entry)
+        else maskCall (usageAt usage) (now (pic .entry)) (now (out .entry)) .output) ⌝ }
 {
     if numbers::no_usage(usage) {
         return 255;
@@ -199,9 +238,10 @@ pub extern "C" fn copybook_mask(pic: &[u8], usage: u8, out: &mut [u8], answer: &
     numbers::hand_on(w, answer)
 }
 
-// The owner of a byte of the record, as `copybook::byte_owner` says. To `answer`, 4 numbers: 0, the entry's number, the piece's first byte and the place inside
-// it; or 1 for slack, the number of the entry it precedes, and zeros; or position, needed length and zeros.
-// The contract rules out a call that says slack of a piece, and one that takes the piece's first byte for the place inside it.
+// The owner of a byte of the record, as `copybook::byte_owner` says. To `answer`, 4 numbers: 0, the entry's number, the
+// piece's first byte and the place inside it; or 1 for slack, the number of the entry it precedes, and zeros; or
+// position, needed length and zeros. The contract rules out a call that says slack of a piece, and one that takes the
+// piece's first byte for the place inside it.
 #[no_mangle]
 pub extern "C" fn copybook_owner(
     text: &[u8],
@@ -210,7 +250,9 @@ pub extern "C" fn copybook_owner(
     answer: &mut [u64],
 ) -> u32
     ensures { λ r. ⌜ r ≡ returned (ownerCall (now (text .entry)) position (now (work .entry)) .answer) ⌝ }
-    ensures { λ _. ⌜ now (answer .exit) ≡ answered (ownerNumbers (ownerCall (now (text .entry)) position (now (work .entry)) .answer)) (now (answer .entry)) ⌝ }
+    ensures { λ _. ⌜ now (answer .exit)
+        ≡ answered (ownerNumbers (ownerCall (now (text .entry)) position (now (work .entry)) .answer))
+        (now (answer .entry)) ⌝ }
     ensures { λ _. ⌜ now (work .exit) ≡ ownerCall (now (text .entry)) position (now (work .entry)) .work ⌝ }
 {
     let o = copybook::byte_owner(text, position as usize, work);
@@ -228,7 +270,9 @@ pub extern "C" fn copybook_owner_cards(
     answer: &mut [u64],
 ) -> u32
     ensures { λ r. ⌜ r ≡ returned (ownerCardsCall (now (cards .entry)) position (now (work .entry)) .answer) ⌝ }
-    ensures { λ _. ⌜ now (answer .exit) ≡ answered (ownerNumbers (ownerCardsCall (now (cards .entry)) position (now (work .entry)) .answer)) (now (answer .entry)) ⌝ }
+    ensures { λ _. ⌜ now (answer .exit)
+        ≡ answered (ownerNumbers (ownerCardsCall (now (cards .entry)) position (now (work .entry)) .answer))
+        (now (answer .entry)) ⌝ }
     ensures { λ _. ⌜ now (work .exit) ≡ ownerCardsCall (now (cards .entry)) position (now (work .entry)) .work ⌝ }
 {
     let o = copybook::byte_owner_cards(cards, position as usize, work);
@@ -252,7 +296,8 @@ pub extern "C" fn copybook_extract(
         ≡ returned (extractCall (now (text .entry)) (now (weights .entry)) limit budget (now (work .entry)) .answer) ⌝ }
     ensures { λ _. ⌜ now (answer .exit)
         ≡ answered
-        (extractNumbers (extractCall (now (text .entry)) (now (weights .entry)) limit budget (now (work .entry)) .answer))
+        (extractNumbers
+        (extractCall (now (text .entry)) (now (weights .entry)) limit budget (now (work .entry)) .answer))
         (now (answer .entry)) ⌝ }
     ensures { λ _. ⌜ now (work .exit)
         ≡ extractCall (now (text .entry)) (now (weights .entry)) limit budget (now (work .entry)) .work ⌝ }
@@ -261,8 +306,8 @@ pub extern "C" fn copybook_extract(
     numbers::hand_on_extract(a, answer)
 }
 
-// Whether a record of `len` bytes is long enough for a layout of `record_len` bytes, as `copybook::check_record_len` says: 0, or 42. `variable` is 0
-// for a fixed record, and any other number for a variable one.
+// Whether a record of `len` bytes is long enough for a layout of `record_len` bytes, as `copybook::check_record_len`
+// says: 0, or 42. `variable` is 0 for a fixed record, and any other number for a variable one.
 // The contract rules out a call that checks a variable record, and one that takes the two lengths for each other.
 #[no_mangle]
 pub extern "C" fn copybook_check_record(record_len: u64, variable: u8, len: u64) -> u32

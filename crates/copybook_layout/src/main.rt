@@ -1,5 +1,6 @@
-// Reads a copybook from standard input and prints its layout: a line for the record, then a line for each entry of the listing. A refusal is
-// one line. Document 01 says what the lines hold; the depth is the number of groups around an entry.
+// Reads a copybook from standard input and prints its layout: a line for the record, then a line for each entry of the
+// listing. A refusal is one line. Document 01 says what the lines hold; the depth is the number of groups around an
+// entry.
 ghost use Prim.Native.Nat.{_+_, _≤_, _<_};
 ghost use lib.ListN.{length};
 use definition::Writing;
@@ -73,7 +74,8 @@ fn print_listing(text: &[u8], listing: &[u8]) {
     print_entries(text, listing, 10, top);
 }
 
-// Prints the layout of a copybook, or why it has none. A listing is never longer than the output; the test spares the proof of it here.
+// Prints the layout of a copybook, or why it has none. A listing is never longer than the output; the test spares the
+// proof of it here.
 fn print_layout(text: &[u8]) {
     let mut work = [0u32; 16384];
     let mut out = [0u8; MOST];

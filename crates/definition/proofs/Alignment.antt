@@ -1,10 +1,12 @@
--- One fact of alignment, over the width: what `fewest` gives is below the width, brings the place to a multiple of it, and is the smallest such number.
+-- One fact of alignment, over the width: what `fewest` gives is below the width, brings the place to a multiple of it,
+-- and is the smallest such number.
 -- Assumes nothing.
 use Prim.Native.Nat.{ℕ, zero, suc, _+_, _*_, _-_, _/_, _%_, _≤_, _<_}
 use mathlib.Core.Path.{_≡_, refl, sym, _∙_, ap}
 use mathlib.Core.Logic.{_⊎_, inl, inr, ⊎-elim}
 use native.Mathlib.Omega.{arith}
-use native.Mathlib.Nat.{mod-lt, mod-eq-of-lt, mod-self, add-mod, add-mod-mod, mod-add-mod, div-add-mod', zero-mod, sub-zero, add-zero}
+use native.Mathlib.Nat.{mod-lt, mod-eq-of-lt, mod-self, add-mod, add-mod-mod, mod-add-mod, div-add-mod', zero-mod}
+use native.Mathlib.Nat.{sub-zero, add-zero}
 use Rattle.definition.specs.Basic.{fewest}
 use Rattle.definition.specs.Demand.{Fewest}
 use Rattle.definition.proofs.Lists.{order}

@@ -12,13 +12,16 @@ use Rattle.definition.specs.declared.Statement.{Statement}
 use Rattle.definition.specs.declared.Entry.{Entry}
 use Rattle.definition.specs.Basic.{if_then_else_, given, fewest, Answer, refuse, give, _>>=_}
 use Rattle.definition.specs.Tree.{Forest, leaf, item}
-use Rattle.definition.specs.Fold.{Entries, end, entry, Place, placeOf, times, total, entryEnd, sameName, redefiners, withRedefiners, foldCheck, foldedList, foldedBelow, foldedAll}
+use Rattle.definition.specs.Fold.{Entries, end, entry, Place, placeOf, times, total, entryEnd, sameName}
+use Rattle.definition.specs.Fold.{redefiners, withRedefiners, foldCheck, foldedList, foldedBelow, foldedAll}
 use Rattle.definition.specs.Layout.{Laid, content, start, slackFrom, entryOf, tooLarge, advance, shallow, lay}
 use Rattle.definition.specs.Record.{recordLength, unfolded, layout}
-use Rattle.definition.specs.Owner.{slack, Piece, piece, extent, repeated, size, orNone, storage, isAligned, slackBefore, once, laidItem, laid, overlaid}
+use Rattle.definition.specs.Owner.{slack, Piece, piece, extent, repeated, size, orNone, storage, isAligned}
+use Rattle.definition.specs.Owner.{slackBefore, once, laidItem, laid, overlaid}
 use Rattle.definition.specs.Placed.{contentOf, entryAt, placed}
 use Rattle.definition.proofs.Answers.{through, given-same, not-refused, or-false}
-use Rattle.definition.proofs.LayoutLaws.{redefiners-none, redefiners-ends, redefiners-next, folded-none, folded-base, below-none, below-entry}
+use Rattle.definition.proofs.LayoutLaws.{redefiners-none, redefiners-ends, redefiners-next, folded-none}
+use Rattle.definition.proofs.LayoutLaws.{folded-base, below-none, below-entry}
 use Rattle.definition.proofs.Pieces.{extent-append, extent-repeated}
 
 -- ---------------------------------------------------------------- plain forests
@@ -177,7 +180,8 @@ module _ (text : List ℕ) where
       ap (λ (b : Bool). if b then 0 else r .offset - place) (ps .redefines) ∙ omega (arith, same-offset) in
       (λ i. entryOf s (same-has i) (same-offset i) (between i))
 
-  -- a plain forest: the layout's entries are those that the owner rule places, and its width is what the owner rule lays
+  -- a plain forest: the layout's entries are those that the owner rule places, and its width is what the owner rule
+  -- lays
   pub lay-placed :
       (f : Forest) (depth : ℕ) (seen : List Place) (k place : ℕ) (l : Laid) →
       Plain f →

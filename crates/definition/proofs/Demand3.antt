@@ -42,8 +42,8 @@ module _ (text : List ℕ) (f : Forest) (es : Entries) (laidOut : layout text f 
   refuses-40 o q = rw (laidOut, o)
 
 module _ (text : List ℕ) (f : Forest) (es : Entries) (laidOut : layout text f ≡ give es) (free : overlaid f ≡ false) where
-  -- The entries of the listing are those that the owner rule places: each offset is the place that its sibling list has reached after
-  -- the earlier items and the entry's own slack, and a group's width is the length of its list laid once.
+  -- The entries of the listing are those that the owner rule places: each offset is the place that its sibling list has
+  -- reached after the earlier items and the entry's own slack, and a group's width is the length of its list laid once.
   pub offsets : es ≡ placed text 0 0 f
   offsets = layout-placed text f es (plain f free) laidOut
 

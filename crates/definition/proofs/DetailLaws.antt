@@ -16,13 +16,18 @@ use Rattle.definition.specs.declared.Statement.{Statement}
 use Rattle.definition.specs.Basic.{if_then_else_, given, fewest, give, orRefuse}
 use Rattle.definition.specs.Tree.{Forest, leaf, item}
 use Rattle.definition.specs.Picture.{isAlignable}
-use Rattle.definition.specs.Fold.{Entries, end, entry, append, entryEnd, sameName, Place, placeOf, find, hasMember, rebased, redefiners, withRedefiners, foldedList, foldedBelow, foldedAll}
+use Rattle.definition.specs.Fold.{Entries, end, entry, append, entryEnd, sameName, Place, placeOf, find}
+use Rattle.definition.specs.Fold.{hasMember, rebased, redefiners, withRedefiners, foldedList, foldedBelow}
+use Rattle.definition.specs.Fold.{foldedAll}
 use Rattle.definition.specs.Layout.{Laid, start, slackFrom, entryOf, shallow, advance, lay}
 use Rattle.definition.specs.Record.{unfolded}
 use Rattle.definition.specs.Search.{entries#}
-use Rattle.definition.specs.Details.{Detail, detail, detailsIn, detailBytes, detailsBytes, entriesDetails, around, firstOf, FirstBytes, Following, height}
+use Rattle.definition.specs.Details.{Detail, detail, detailsIn, detailBytes, detailsBytes, entriesDetails, around}
+use Rattle.definition.specs.Details.{firstOf, FirstBytes, Following, height}
 use Rattle.definition.proofs.Answers.{through, given-same, not-refused}
-use Rattle.definition.proofs.LayoutLaws.{redefiners-none, redefiners-hit, redefiners-miss, redefiners-ends, redefiners-next, folded-none, folded-base, folded-alone, folded-under, below-none, below-entry, append-none, append-entry}
+use Rattle.definition.proofs.LayoutLaws.{redefiners-none, redefiners-hit, redefiners-miss, redefiners-ends}
+use Rattle.definition.proofs.LayoutLaws.{redefiners-next, folded-none, folded-base, folded-alone, folded-under}
+use Rattle.definition.proofs.LayoutLaws.{below-none, below-entry, append-none, append-entry}
 use Rattle.definition.proofs.Cover.{item-laid}
 
 -- ---------------------------------------------------------------- how many

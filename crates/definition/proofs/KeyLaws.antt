@@ -1,5 +1,6 @@
--- The theorem of a set's key: the answered offset and width are those of the one top-level entry of that name in each
--- copybook, and its kind and details are the same in all.
+-- The theorems of a set's key: the answered offset and width are those of the one top-level entry of that name in each
+-- copybook, and its kind and details are the same in all; and where all copybooks of a set have one key, it is
+-- answered.
 -- Assumes nothing.
 use Prim.Native.Nat.{ℕ, _+_}
 use mathlib.Core.Path.{_≡_, refl, sym, _∙_, ap, subst}
@@ -8,8 +9,8 @@ use mathlib.Core.List.{List, [], _∷_}
 use mathlib.Core.Option.{Option, none, some}
 use native.Mathlib.Omega.{arith}
 use lib.Dec.{eqb}
-use lib.ListN.{length, getD}
-use borrow.Author.Tests.{eqb-true}
+use lib.ListN.{length, getD, drop}
+use borrow.Author.Tests.{eqb-true, eq-eqb}
 use Rattle.definition.specs.declared.Occurs.{Occurs}
 use Rattle.definition.specs.declared.SignKind.{SignKind}
 use Rattle.definition.specs.declared.NumRepr.{NumRepr}
@@ -24,7 +25,7 @@ use Rattle.definition.specs.Key.{isNamed, Named, named, namedIn, isOnce,
 use Rattle.definition.specs.Key.{oneKey, keyAmong, keyIn, kindDetails, sameKey, agree, allAgree, common, keysIn}
 use Rattle.definition.specs.Key.{copybooks, isSet, setKey, NoneNamed, IsKey, HasKey, AllHave, Shared}
 use Rattle.definition.proofs.Answers.{through, given-same, or-false}
-use Rattle.definition.proofs.WordLaws.{never, and-both, same-equal}
+use Rattle.definition.proofs.WordLaws.{never, and-both, same-equal, same-self}
 
 -- ---------------------------------------------------------------- a kind from its details
 
@@ -264,6 +265,36 @@ module _ (text name : List ℕ) where
         mask-is = ap (λ (x : Key). x .mask) s;
       }
 
+  -- ---------------------------------------------------------------- and back
+
+  none-in : (es : Entries) (v : Bool) → NoneNamed text name es → namedIn text name v es ≡ []
+  unfolding namedIn
+  none-in end v h = refl
+  none-in (entry e ms later) v h =
+      rw (h .0) (none-in later (v || (given (e .depending) || variable ms)) (h .1))
+
+  one-in :
+      (before : Entries) (own : Entry) (members after : Entries) →
+      NoneNamed text name before →
+      variable before ≡ false →
+      isNamed text name own ≡ true →
+      NoneNamed text name after →
+      namedIn text name false (append before (entry own members after)) ≡ named own false ∷ []
+  unfolding namedIn append variable
+  one-in end own members after nb vb is na =
+      rw is (ap (named own false ∷_) (none-in after (given (own .depending) || variable members) na))
+  one-in (entry e ms later) own members after nb vb is na =
+      let v = or-false (given (e .depending) || variable ms) (variable later) vb in
+      rw (nb .0, v .0) (one-in later own members after (nb .1) (v .1) is na)
+
+  key-among : (es : Entries) (k : Key) → IsKey text name es k → keyAmong text name es ≡ some k
+  key-among es k h =
+      let one = one-in (h .before) (h .own) (h .members) (h .after) (h .none-before) (h .fixed) (h .name-is) (h .none-after) in
+      ap (keyAmong text name) (h .stands)
+      ∙ ap (oneKey text) one
+      ∙ rw (h .once, h .plain, h .no-group)
+      (λ i. some (record { offset = h .offset-is i; width = h .width-is i; kind = h .kind-is i; mask = h .mask-is i }))
+
 -- ---------------------------------------------------------------- the key of a set
 
 module _ (work : ℕ) (name : List ℕ) where
@@ -339,3 +370,41 @@ shared texts lengths name work h =
       width-is = sym (ap (λ (x : ℕ × ℕ). x .1) p);
       all = all-common work name k (copybooks lengths texts) ks read (found-some 57 0 (common ks) found);
     }
+
+-- ---------------------------------------------------------------- and back
+
+key-agrees : (k : Key) → sameKey k k ≡ true
+key-agrees k =
+    rw (eq-eqb (k .offset) (k .offset) refl, eq-eqb (k .width) (k .width) refl)
+    (rw (same-self (kindDetails (k .kind))) (same-self (k .mask)))
+
+-- the keys of copybooks that all have k
+abbrev each : Key → List (List ℕ) → List (Option Key)
+each k [] = []
+each k (text ∷ texts) = some k ∷ each k texts
+
+each-agrees : (k : Key) (texts : List (List ℕ)) → allAgree (some k) (each k texts) ≡ true
+unfolding allAgree
+each-agrees k [] = refl
+each-agrees k (text ∷ texts) = rw (key-agrees k) (each-agrees k texts)
+
+module _ (work : ℕ) (name : List ℕ) (k : Key) where
+  key-read : (text : List ℕ) → HasKey work name k text → keyIn work name text ≡ give (some k)
+  unfolding keyIn _>>=_
+  key-read text h = rw (h .read) (ap give (key-among text name (h .listing) k (h .key)))
+
+  keys-read : (texts : List (List ℕ)) → AllHave work name k texts → keysIn work name texts ≡ give (each k texts)
+  unfolding keysIn _>>=_
+  keys-read [] h = refl
+  keys-read (text ∷ texts) h = rw (key-read text (h .0), keys-read texts (h .1))
+
+-- where all copybooks of a set have one key, its offset and width are answered
+pub answered :
+    (texts lengths name : List ℕ) (work : ℕ) (k : Key) →
+    isSet lengths texts ≡ true →
+    AllHave work name k (copybooks lengths texts) →
+    setKey texts lengths name work ≡ give (k .offset, k .width)
+unfolding setKey _>>=_ copybooks
+answered texts [] name work k s h = never s
+answered texts (n ∷ ns) name work k s h =
+    rw (s, keys-read work name k (copybooks (n ∷ ns) texts) h, each-agrees k (copybooks ns (drop n texts)))

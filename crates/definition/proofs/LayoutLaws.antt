@@ -128,7 +128,7 @@ module _ (text : List ℕ) where
 
           pub folded-alone : foldedList text bases (entry e members later) ≡ entry e members (foldedList text bases later)
           unfolding foldedList
-          folded-alone = rw (h, g, foldedList)
+          folded-alone = rw (g, h, foldedList)
 
         -- one that stands with its base, and one that starts before it
         module _ {base : ℕ} (h : find text (e .redefines) bases ≡ some base) where
@@ -142,7 +142,7 @@ module _ (text : List ℕ) where
 
           pub folded-under : foldedList text bases (entry e members later) ≡ foldedList text bases later
           unfolding foldedList
-          folded-under = rw (h, g, foldedList)
+          folded-under = rw (g, h, foldedList)
 
   pub below-none : foldedBelow text end ≡ end
   unfolding foldedBelow

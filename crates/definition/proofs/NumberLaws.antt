@@ -1,4 +1,5 @@
--- Laws of the numbers that words spell: one more digit, a byte that is none, the end, and a number that is too large already.
+-- Laws of the numbers that words spell: one more digit, a byte that is none, the end, and a number that is too large
+-- already.
 -- Assumes nothing.
 use Prim.Native.Nat.{ℕ, _+_, _*_, _-_, _≤_, _<_}
 use mathlib.Core.Path.{_≡_, refl, sym, _∙_}

@@ -1,5 +1,6 @@
--- What `Demand` comes to, occurrence by occurrence: the bytes from the sum of offset + number × width along the groups around an elementary
--- entry on, for each choice of occurrence numbers below the counts, are its piece; each piece is one of these; there are as many as the counts multiply to.
+-- What `Demand` comes to, occurrence by occurrence: the bytes from the sum of offset + number × width along the groups
+-- around an elementary entry on, for each choice of occurrence numbers below the counts, are its piece; each piece is
+-- one of these; there are as many as the counts multiply to.
 -- Assumes nothing.
 use Prim.Native.Nat.{ℕ, zero, suc, _+_, _*_, _-_, _≤_, _<_}
 use mathlib.Core.Path.{_≡_, refl, sym, _∙_, ap, subst}
@@ -20,12 +21,13 @@ use Rattle.definition.specs.Record.{recordLength}
 use Rattle.definition.specs.Owner.{Holder, occurrence, slack, storage, isAligned, pieces}
 use Rattle.definition.specs.Placed.{contentOf}
 use Rattle.definition.specs.Search.{entries#}
-use Rattle.definition.specs.Demand.{Fewest, Starts, aligned, Tells, Spot, spot, gap, each, single, told, Among, naming, Demand}
+use Rattle.definition.specs.Demand.{Fewest, Starts, aligned, Tells, Spot, spot, gap, each, single, told, Among}
+use Rattle.definition.specs.Demand.{naming, Demand}
 use Rattle.definition.proofs.Answers.{given-same}
 use Rattle.definition.proofs.Pieces.{among-append, among-left, among-right, laid-before}
 
--- an occurrence of the elementary entry of number n, so many bytes wide, starts at the byte `first`: by the entries' offsets, widths and counts.
--- The first entry of the list has number k, and the list starts at the byte `base`
+-- an occurrence of the elementary entry of number n, so many bytes wide, starts at the byte `first`: by the entries'
+-- offsets, widths and counts. The first entry of the list has number k, and the list starts at the byte `base`
 abbrev Within : ℕ → ℕ → Entries → ℕ → Spot → Type 0 → Type 0
 Within k width end start y inner = y ≡ spot (occurrence k) start width
 Within k width (entry e members later) start y inner = inner
@@ -162,8 +164,9 @@ module _ {text : List ℕ} {owner : ℕ → Answer Owner} {f : Forest} {es : Ent
 
 -- ---------------------------------------------------------------- slack
 
--- slack stands directly before the place of an entry of its list, which is that of an elementary SYNC binary or float item, and is the fewest bytes that
--- align it: the list starts at the byte `base`, and its earlier items end `reached` bytes after that
+-- slack stands directly before the place of an entry of its list, which is that of an elementary SYNC binary or float
+-- item, and is the fewest bytes that align it: the list starts at the byte `base`, and its earlier items end `reached`
+-- bytes after that
 pub record Slackened (text : List ℕ) (first width : ℕ) : Type 0 where
   pub statement : Statement
   pub slackened : Entry

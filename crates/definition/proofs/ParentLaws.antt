@@ -1,5 +1,5 @@
--- The open statements give the parents of the forest: one step of closing and of the parents; open statements stay few, and earlier; and the parent
--- that a statement gets from the open ones is the one that it stands under in the forest.
+-- The open statements give the parents of the forest: one step of closing and of the parents; open statements stay few,
+-- and earlier; and the parent that a statement gets from the open ones is the one that it stands under in the forest.
 -- Assumes nothing.
 use Prim.Native.Nat.{ℕ, suc, _+_, _≤_, _<_}
 use mathlib.Core.Path.{_≡_, refl, sym, ap, _∙_}
@@ -8,7 +8,8 @@ use native.Mathlib.Omega.{arith}
 use lib.ListN.{length, length-append}
 use borrow.Author.Tests.{lt-ltb, le-ltb}
 use Rattle.definition.specs.declared.Statement.{Statement}
-use Rattle.definition.specs.Tree.{Forest, item, above, notAbove, forest, Open, opened, stillOpen, innermost, parents, parentsIn}
+use Rattle.definition.specs.Tree.{Forest, item, above, notAbove, forest, Open, opened, stillOpen, innermost}
+use Rattle.definition.specs.Tree.{parents, parentsIn}
 use Rattle.definition.proofs.Lists.{tested}
 
 -- ---------------------------------------------------------------- one step
@@ -54,7 +55,8 @@ open-fit n k (o ∷ os) h = tested (o .level) n (λ p _. simp p h) (λ p _. simp
 
 -- ---------------------------------------------------------------- the parents of a forest
 
--- the parents of a forest where these are open: what is above the innermost stands under it, and the others under the outer ones
+-- the parents of a forest where these are open: what is above the innermost stands under it, and the others under the
+-- outer ones
 abbrev under : List Open → ℕ → Forest → List ℕ
 under [] k f = parentsIn 0 k f
 under (o ∷ os) k f = let inner = parentsIn (o .number) k (above (o .level) f) in inner ++ under os (k + length inner) (notAbove (o .level) f)

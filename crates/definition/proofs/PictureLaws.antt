@@ -1,5 +1,6 @@
--- Laws of the picture's symbols: tallies, the point and a list without some symbols, of two lists and of a run, each once over the set, the byte and the count;
--- and of its repeats: the first `)`, the trimmed ends, one more symbol of the expansion.
+-- Laws of the picture's symbols: tallies, the point and a list without some symbols, of two lists and of a run, each
+-- once over the set, the byte and the count; and of its repeats: the first `)`, the trimmed ends, one more symbol of
+-- the expansion.
 -- Assumes nothing.
 use Prim.Native.Nat.{ℕ, zero, suc, _+_, _-_, _≤_, _<_}
 use Prim.Native.String.{String}
@@ -15,8 +16,10 @@ use lib.Seq.{take-all, take-suc, drop-drop}
 use borrow.Author.Tests.{eq-eqb, ne-eqb, eqb-true, lt-ltb, le-ltb}
 use Rattle.definition.specs.declared.Refusal.{Refusal}
 use Rattle.definition.specs.Limits.{mostSymbols}
-use Rattle.definition.specs.Basic.{if_then_else_, among, white, upper, count, Answer, refuse, give, _>>=_, refused, orRefuse}
-use Rattle.definition.specs.Picture.{trimStart, trim, inFront, beforeClose, repeat, expand, tally, beforePoint, afterPoint, without, mask}
+use Rattle.definition.specs.Basic.{if_then_else_, among, white, upper, count, Answer, refuse, give, _>>=_}
+use Rattle.definition.specs.Basic.{refused, orRefuse}
+use Rattle.definition.specs.Picture.{trimStart, trim, inFront, beforeClose, repeat, expand, tally, beforePoint}
+use Rattle.definition.specs.Picture.{afterPoint, without, mask}
 use Rattle.definition.proofs.Lists.{drop-next, take-next}
 
 -- ---------------------------------------------------------------- tallies

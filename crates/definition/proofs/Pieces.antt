@@ -1,15 +1,18 @@
--- Laws of a list of pieces: exactly one piece covers a position, a record is cut and joined, pieces laid many times are looked up by a division.
+-- Laws of a list of pieces: exactly one piece covers a position, a record is cut and joined, pieces laid many times are
+-- looked up by a division.
 -- Assumes nothing.
 use Prim.Native.Nat.{ℕ, zero, suc, _+_, _*_, _-_, _/_, _%_, _≤_, _<_}
 use mathlib.Core.Path.{_≡_, refl, sym, _∙_, ap, ap₂}
 use mathlib.Core.List.{List, [], _∷_, _++_, append-assoc}
 use mathlib.Core.Logic.{_⊎_, inl, inr, ⊎-elim}
 use native.Mathlib.Omega.{arith}
-use native.Mathlib.Nat.{mod-eq-of-lt, div-eq-of-lt, div-eq-sub-div, mod-eq-sub-mod, mul-suc, mul-zero, zero-mul, add-mul}
+use native.Mathlib.Nat.{mod-eq-of-lt, div-eq-of-lt, div-eq-sub-div, mod-eq-sub-mod, mul-suc, mul-zero, zero-mul}
+use native.Mathlib.Nat.{add-mul}
 use lib.ListN.{length, take, drop, length-drop, take-append-drop}
 use borrow.Author.Tests.{lt-ltb, le-ltb}
 use Rattle.definition.specs.declared.Owner.{Owner}
-use Rattle.definition.specs.Owner.{Holder, occurrence, slack, Piece, extent, repeated, answer, ownerFrom, cut, join}
+use Rattle.definition.specs.Owner.{Holder, occurrence, slack, Piece, extent, repeated, answer, ownerFrom, cut}
+use Rattle.definition.specs.Owner.{join}
 use Rattle.definition.specs.Demand.{Spot, spot, each, spotOf, spots, Among, One, naming}
 use Rattle.definition.proofs.Lists.{order}
 
@@ -162,7 +165,8 @@ pub positive : (w n q : ℕ) → q < w * n → 0 < w
 positive zero n q h = absurd (omega (arith, zero-mul n))
 positive (suc w) n q h = omega arith
 
--- pieces of w bytes, laid n times: the byte q falls into occurrence q / w, which starts at q / w * w, at the place q % w
+-- pieces of w bytes, laid n times: the byte q falls into occurrence q / w, which starts at q / w * w, at the place q %
+-- w
 pub owner-repeated :
     (first n : ℕ) (ps : List Piece) (q : ℕ) →
     q < extent ps * n →

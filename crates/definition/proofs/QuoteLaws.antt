@@ -1,5 +1,5 @@
--- Laws of literals: a text in which no literal holds a period that would end a statement, or `*>`, and none is left open, has the words that it
--- had without literals, and no refusal 50.
+-- Laws of literals: a text in which no literal holds a period that would end a statement, or `*>`, and none is left
+-- open, has the words that it had without literals, and no refusal 50.
 -- Assumes nothing.
 use Prim.Native.Nat.{ℕ, _+_}
 use mathlib.Core.Path.{_≡_, refl, _∙_, ap}
@@ -14,7 +14,8 @@ use Rattle.definition.specs.declared.Said.{Said}
 use Rattle.definition.specs.declared.Said.the-variants.{Before, Value, Literal}
 use Rattle.definition.specs.declared.Token.{Token}
 use Rattle.definition.specs.Basic.{give}
-use Rattle.definition.specs.Words.{byteKind, next, completed, completedEnd, seen, saidNext, unlessOpen, tokens, tokensOf, firstOpen, sentences, statementWords}
+use Rattle.definition.specs.Words.{byteKind, next, completed, completedEnd, seen, saidNext, unlessOpen, tokens}
+use Rattle.definition.specs.Words.{tokensOf, firstOpen, sentences, statementWords}
 use Rattle.definition.specs.Unquoted.{bareTokens, bareWords, harmless, harmlessFrom, plainText}
 use Rattle.definition.specs.Calls.{literalCheck}
 use Rattle.definition.proofs.WordLaws.{and-both, never, closed-on}

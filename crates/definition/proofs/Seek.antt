@@ -15,11 +15,13 @@ use Rattle.definition.specs.declared.Owner.{Owner}
 use Rattle.definition.specs.Basic.{if_then_else_, fewest}
 use Rattle.definition.specs.Tree.{Forest, leaf, item}
 use Rattle.definition.specs.Fold.{Entries, end, entry, times, total}
-use Rattle.definition.specs.Owner.{slack, occurrence, Piece, piece, extent, repeated, size, storage, isAligned, slackBefore, once, laidItem, laid, ownerFrom}
+use Rattle.definition.specs.Owner.{slack, occurrence, Piece, piece, extent, repeated, size, storage, isAligned}
+use Rattle.definition.specs.Owner.{slackBefore, once, laidItem, laid, ownerFrom}
 use Rattle.definition.specs.Placed.{entryAt, placed}
 use Rattle.definition.specs.Search.{entries#, startIn, placeIn, inside, seek}
 use Rattle.definition.proofs.Lists.{order}
-use Rattle.definition.proofs.Pieces.{extent-append, extent-repeated, owner-here, owner-left, owner-right, owner-repeated, positive}
+use Rattle.definition.proofs.Pieces.{extent-append, extent-repeated, owner-here, owner-left, owner-right}
+use Rattle.definition.proofs.Pieces.{owner-repeated, positive}
 use Rattle.definition.proofs.Cover.{once-width}
 
 -- the three cases of the search

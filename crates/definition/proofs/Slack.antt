@@ -1,5 +1,5 @@
--- A picture that makes an item binary gives it a width, and a float has one, so that the slack of either is the fewest bytes that bring a place
--- to a multiple of that width.
+-- A picture that makes an item binary gives it a width, and a float has one, so that the slack of either is the fewest
+-- bytes that bring a place to a multiple of that width.
 -- Assumes nothing.
 use Prim.Native.Nat.{ℕ, _<_}
 use mathlib.Core.Path.{_≡_, refl, sym, _∙_}
@@ -16,7 +16,9 @@ use Rattle.definition.specs.declared.Pictured.{Pictured}
 use Rattle.definition.specs.declared.Statement.{Statement}
 use Rattle.definition.specs.Basic.{if_then_else_, given, part, Answer, refuse, give, _>>=_, refuseIf}
 use Rattle.definition.specs.Statement.{signOf}
-use Rattle.definition.specs.Picture.{pictured, isAlignable, resolveSign, isEmbedded, isText, isMasked, allDigits, storedDigits, fraction, isSigned, storageWidth, numeric, kinded, symbols, picture}
+use Rattle.definition.specs.Picture.{pictured, isAlignable, resolveSign, isEmbedded, isText, isMasked, allDigits}
+use Rattle.definition.specs.Picture.{storedDigits, fraction, isSigned, storageWidth, numeric, kinded, symbols}
+use Rattle.definition.specs.Picture.{picture}
 use Rattle.definition.specs.Layout.{underUsage}
 use Rattle.definition.specs.Owner.{orNone, storage}
 

@@ -12,7 +12,8 @@ use Rattle.definition.specs.Tree.{Forest, leaf, item}
 use Rattle.definition.specs.Fold.{times}
 use Rattle.definition.specs.Layout.{entryOf}
 use Rattle.definition.specs.Record.{recordLength}
-use Rattle.definition.specs.Owner.{slack, occurrence, piece, extent, repeated, size, storage, isAligned, slackBefore, once, laid}
+use Rattle.definition.specs.Owner.{slack, occurrence, piece, extent, repeated, size, storage, isAligned}
+use Rattle.definition.specs.Owner.{slackBefore, once, laid}
 use Rattle.definition.specs.Placed.{contentOf, placed}
 use Rattle.definition.specs.Search.{entries#}
 use Rattle.definition.specs.Demand.{Starts, aligned, Tells, Spot, spot, gap, each, single, told, spots}

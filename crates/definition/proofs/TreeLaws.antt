@@ -1,5 +1,5 @@
--- Laws of the forest: one step of each definition; and a list of statements, or an index range of it, splits into a statement, its children and
--- the rest.
+-- Laws of the forest: one step of each definition; and a list of statements, or an index range of it, splits into a
+-- statement, its children and the rest.
 -- Assumes nothing.
 use Prim.Native.Nat.{ℕ, zero, suc, _+_, _-_, _≤_, _<_}
 use mathlib.Core.Path.{_≡_, refl, sym, _∙_, ap, ap₂}
@@ -109,7 +109,8 @@ pub forest-cons : (s : Statement) (ss : List Statement) → forest (s ∷ ss) �
 unfolding forest
 forest-cons s ss = cc (above-forest (s .level) ss, notAbove-forest (s .level) ss)
 
--- the forest of the statements from index i up to, not including, j: the statement i, its children up to the index e, and the rest
+-- the forest of the statements from index i up to, not including, j: the statement i, its children up to the index e,
+-- and the rest
 module _ (ss : List Statement) (d : Statement) (i j : ℕ) (h : i < j) (fits : j ≤ length ss) where
   abbrev pub childrenEnd : ℕ
   childrenEnd = suc i + higher (getD ss i d .level) (slice (suc i) j ss)

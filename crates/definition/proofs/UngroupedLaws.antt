@@ -29,8 +29,10 @@ use Rattle.definition.specs.Basic.{if_then_else_, bytes, same, uppers, g
 use Rattle.definition.specs.Basic.{Answer, refuse, give, _>>=_, refused, refuseIf, orRefuse}
 use Rattle.definition.specs.Words.{statementWords}
 use Rattle.definition.specs.Statement.{key, Spelling, spellings, pick, meaning, keywordOf, clausesOf, noClauses}
-use Rattle.definition.specs.Statement.{withPicture, withUsage, withSign, withDepending, withRedefines, counted, begin}
-use Rattle.definition.specs.Statement.{onClause, onDepending, onTimes, onSign, clauseStep, separately, separated, step}
+use Rattle.definition.specs.Statement.{withPicture, withUsage, withSign, withDepending, withRedefines, counted}
+use Rattle.definition.specs.Statement.{begin}
+use Rattle.definition.specs.Statement.{onClause, onDepending, onTimes, onSign, clauseStep, separately, separated}
+use Rattle.definition.specs.Statement.{step}
 use Rattle.definition.specs.Statement.{finish, clauses, usageOf, outermost, statementOf, named, statement}
 use Rattle.definition.specs.Statement.{statements}
 use Rattle.definition.specs.Tree.{Forest, leaf, item, above, notAbove, forest, fields}
@@ -42,7 +44,8 @@ use Rattle.definition.specs.Record.{endsFit, unfolded, layout}
 use Rattle.definition.specs.Calls.{entryChecks, literalCheck, keptStatements, recordFields, entries}
 use Rattle.definition.specs.Ungrouped.{isOneOf, newWords, asSeen, clausesAlone, namedAlone, statementAlone}
 use Rattle.definition.specs.Ungrouped.{statementsAlone, entriesAlone, isOther, lasts, lasting, isSkipped}
-use Rattle.definition.specs.Ungrouped.{lastingIn, lastingAll, isNamed, isPlain, plainGroups, plainRead, plainUsages}
+use Rattle.definition.specs.Ungrouped.{lastingIn, lastingAll, isNamed, isPlain, plainGroups, plainRead}
+use Rattle.definition.specs.Ungrouped.{plainUsages}
 use Rattle.definition.proofs.Answers.{or-false}
 use Rattle.definition.proofs.Lists.{tested}
 use Rattle.definition.proofs.WordLaws.{never, and-both, same-equal}

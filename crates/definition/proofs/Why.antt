@@ -34,7 +34,7 @@ use Rattle.definition.specs.Reasons.{reasonsBytes}
 use Rattle.definition.specs.Explained.{NoneHas, Latest, Turn, Because, Explains, added, isPlacing, placings#}
 use Rattle.definition.specs.Explained.{insides, every, fromStart, placedFor, groupsAround, Reasoned, Explained}
 use Rattle.definition.proofs.Lists.{order}
-use Rattle.definition.proofs.WordLaws.{same-equal}
+use Rattle.definition.proofs.WordLaws.{same-equal, same-self}
 use Rattle.definition.proofs.CallsLaws.{called-as}
 use Rattle.definition.proofs.Answers.{give-next, through, given-same}
 use Rattle.definition.proofs.LayoutLaws.{find-none, find-hit, find-miss, redefiners-none, redefiners-hit}
@@ -64,12 +64,6 @@ some-same e = cc
 
 refused-give : {A B : Type 0} {n p : ℕ} {b : B} → refused n p ≡ give b → A
 refused-give e = absurd (let z : _≡_ {A = ℕ} 0 1 = cc in omega arith)
-
--- a word is the same as itself
-same-self : (l : List ℕ) → same l l ≡ true
-unfolding same
-same-self [] = refl
-same-self (x ∷ l) = rw (eq-eqb x x refl) (same-self l)
 
 flat-length : (es : Entries) (b : ℕ) → length (flat es) ≡ length (fromStart b es)
 flat-length end b = refl

@@ -18,7 +18,9 @@ use Rattle.definition.specs.declared.Said.the-variants.{Before, Value, L
 use Rattle.definition.specs.declared.Token.{Token}
 use Rattle.definition.specs.declared.Token.the-variants.{Word, Stop, Open}
 use Rattle.definition.specs.Basic.{if_then_else_, is, white, same, span, part}
-use Rattle.definition.specs.Words.{cutHere, ends, byteKind, next, upTo, completed, completedEnd, seen, marked, isValue, heard, saidNext, unlessOpen, tokens, firstOpen, firstWords, afterStop, onFirst, sentences}
+use Rattle.definition.specs.Words.{cutHere, ends, byteKind, next, upTo, completed, completedEnd, seen, marked}
+use Rattle.definition.specs.Words.{isValue, heard, saidNext, unlessOpen, tokens, firstOpen, firstWords, afterStop}
+use Rattle.definition.specs.Words.{onFirst, sentences}
 use Rattle.definition.specs.Unquoted.{closed}
 use Rattle.definition.proofs.Lists.{drop-next}
 
@@ -45,6 +47,12 @@ same-equal (x ∷ xs) [] h = never h
 same-equal (x ∷ xs) (y ∷ ys) h =
     let both = and-both (eqb x y) (same xs ys) h in
     λ i. eqb-true x y (both .0) i ∷ same-equal xs ys (both .1) i
+
+-- a word is the same as itself
+pub same-self : (l : List ℕ) → same l l ≡ true
+unfolding same
+same-self [] = refl
+same-self (x ∷ l) = rw (eq-eqb x x refl) (same-self l)
 
 -- words of other lengths are other words
 pub same-long : (a b : List ℕ) → (length a ≡ length b → ⊥) → same a b ≡ false

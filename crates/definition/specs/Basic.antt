@@ -1,4 +1,5 @@
--- Bytes, numbers, spans and answers: the small words of every stage. A text is the list of its bytes, and a byte is a number below 256.
+-- Bytes, numbers, spans and answers: the small words of every stage. A text is the list of its bytes, and a byte is a
+-- number below 256.
 -- Assumes nothing.
 use Prim.Native.Nat.{ℕ, zero, suc, _+_, _*_, _-_, _/_, _%_}
 use Prim.Native.Char.{Char, code}

@@ -83,7 +83,8 @@ entries text work = do
 
 -- the bytes to be written, or 31 and their number where the lent output has only `room` bytes
 abbrev pub fitting : ℕ → List ℕ → Answer (List ℕ)
-fitting room bs = if ltb room (length bs) then refuse (record { number = 31; position = 0; needed = length bs }) else give bs
+fitting room bs =
+    if ltb room (length bs) then refuse (record { number = 31; position = 0; needed = length bs }) else give bs
 
 -- the layout listing
 unfoldable pub layoutListing : List ℕ → ℕ → ℕ → Answer (List ℕ)
@@ -123,7 +124,8 @@ pictureMask usage bs room = do
   l ← symbols 0 usage bs
   fitting room (if isMasked usage l then mask l else [])
 
--- the owner of a position in a record of these fields: 40 for a kept REDEFINES or DEPENDING ON, 41 for a position not below record length
+-- the owner of a position in a record of these fields: 40 for a kept REDEFINES or DEPENDING ON, 41 for a position not
+-- below record length
 unfoldable pub ownerIn : List ℕ → Forest → ℕ → Answer Owner
 ownerIn text f position = do
   es ← layout text f

@@ -17,7 +17,8 @@ use Rattle.definition.specs.Tree.{Forest, leaf, item}
 use Rattle.definition.specs.Fold.{Entries, end, entry, times, total}
 use Rattle.definition.specs.Layout.{entryOf}
 use Rattle.definition.specs.Record.{recordLength, layout}
-use Rattle.definition.specs.Owner.{Holder, occurrence, slack, Piece, extent, isAligned, pieces, overlaid, cut, join}
+use Rattle.definition.specs.Owner.{Holder, occurrence, slack, Piece, extent, isAligned, pieces, overlaid, cut}
+use Rattle.definition.specs.Owner.{join}
 use Rattle.definition.specs.Placed.{contentOf}
 use Rattle.definition.specs.Search.{entries#}
 use Rattle.definition.specs.Cards.{Form, viewIn}
@@ -80,13 +81,15 @@ abbrev pub single : ℕ → ℕ → Entries → ℕ → List Spot → List Spot
 single k width end first inner = spot (occurrence k) first width ∷ []
 single k width (entry e members later) first inner = inner
 
--- what a listing says of the record, in copybook order: the slack before each entry and each of its occurrences. The first entry of the list
--- has number k; the list starts at the byte `base`, and the entry before, if any, ends `reached` bytes after that
+-- what a listing says of the record, in copybook order: the slack before each entry and each of its occurrences. The
+-- first entry of the list has number k; the list starts at the byte `base`, and the entry before, if any, ends
+-- `reached` bytes after that
 unfoldable pub told : ℕ → ℕ → ℕ → Entries → List Spot
 told k base reached end = []
 told k base reached (entry e members later) =
     gap k (base + reached) (e .offset - reached)
-    ++ each (times (e .occurs)) (base + e .offset) (e .width) (λ first. single k (e .width) members first (told (suc k) first 0 members))
+    ++ each (times (e .occurs)) (base + e .offset) (e .width)
+    (λ first. single k (e .width) members first (told (suc k) first 0 members))
     ++ told (suc k + entries# members) base (e .offset + total e) later
 
 -- what pieces lay from the byte `first` on
@@ -116,7 +119,8 @@ pub record One (xs : List Spot) (q : ℕ) : Type 0 where
   pub has : Has owner q
   pub only : (y : Spot) → Among y xs → Has y q → y ≡ owner
 
--- the answer that names it: a piece by its entry, its first byte and the byte's place in it, slack by the entry that it precedes
+-- the answer that names it: a piece by its entry, its first byte and the byte's place in it, slack by the entry that it
+-- precedes
 abbrev pub naming : Holder → ℕ → ℕ → Owner
 naming (occurrence k) first q = Owner.Piece k first (q - first)
 naming (slack k) first q = Owner.Slack k
@@ -147,7 +151,8 @@ pub record Demand (text : List ℕ) (owner : ℕ → Answer Owner) (f : Forest) 
   -- the listing tells the items; slack is the fewest bytes, and stands only before an elementary SYNC binary or float
   -- item, one with OCCURS 0 included
   pub items : Tells text 0 f es
-  -- the record is, in copybook order, one piece for each occurrence of each elementary item, where the listing says, and that slack,
+  -- the record is, in copybook order, one piece for each occurrence of each elementary item, where the listing says,
+  -- and that slack,
   pub in-order : spots 0 (pieces text f) ≡ told 0 0 0 es
   -- with nothing left over
   pub covered : extent (pieces text f) ≡ recordLength es

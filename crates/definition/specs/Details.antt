@@ -64,7 +64,8 @@ firstOf (some g) = g .first
 -- the first byte of a member is its group's plus its offset, and that of an entry at the top is its offset
 abbrev pub FirstBytes : List Detail → List Detail → Type 0
 FirstBytes before [] = Unit {0}
-FirstBytes before (x ∷ xs) = (x .first ≡ firstOf (around (x .depth) before) + x .own .offset) × FirstBytes (x ∷ before) xs
+FirstBytes before (x ∷ xs) =
+    (x .first ≡ firstOf (around (x .depth) before) + x .own .offset) × FirstBytes (x ∷ before) xs
 
 -- how many lists deep a list is, itself included: for a listing at most 130, so a depth takes one byte
 abbrev pub height : Entries → ℕ

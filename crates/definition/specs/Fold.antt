@@ -1,5 +1,5 @@
--- Entries of the listing, and folding: each base stands with the entries that redefine it in one group: `fold_redefines`, `rebase` and
--- `is_synthetic_union` of the Rust, odd corners included.
+-- Entries of the listing, and folding: each base stands with the entries that redefine it in one group:
+-- `fold_redefines`, `rebase` and `is_synthetic_union` of the Rust, odd corners included.
 -- Assumes nothing.
 use Prim.Native.Nat.{ℕ, zero, suc, _+_, _*_, _-_, max}
 use mathlib.Core.Bool.{Bool, true, false}
@@ -10,7 +10,8 @@ use Rattle.definition.specs.declared.Span.{Span}
 use Rattle.definition.specs.declared.Occurs.{Occurs}
 use Rattle.definition.specs.declared.FieldKind.{FieldKind}
 use Rattle.definition.specs.declared.Entry.{Entry}
-use Rattle.definition.specs.Basic.{if_then_else_, bytes, same, uppers, absent, given, part, Answer, refuse, give, _>>=_, refused, refuseIf}
+use Rattle.definition.specs.Basic.{if_then_else_, bytes, same, uppers, absent, given, part, Answer, refuse, give}
+use Rattle.definition.specs.Basic.{_>>=_, refused, refuseIf}
 
 -- ---------------------------------------------------------------- entries
 
@@ -91,14 +92,29 @@ hasMember text w (entry e members later) = if sameSpelling text w (e .name) then
 -- an entry as a member of the group that starts at the offset
 abbrev pub rebased : ℕ → Entry → Entry
 rebased start e =
-    record { at = e .at; level = e .level; name = e .name; offset = e .offset - start; width = e .width; kind = e .kind; picture = e .picture; occurs = e .occurs; depending = e .depending; redefines = absent; over = e .over; slack = e .slack; folded = e .folded }
+    record {
+      at = e .at;
+      level = e .level;
+      name = e .name;
+      offset = e .offset - start;
+      width = e .width;
+      kind = e .kind;
+      picture = e .picture;
+      occurs = e .occurs;
+      depending = e .depending;
+      redefines = absent;
+      over = e .over;
+      slack = e .slack;
+      folded = e .folded;
+    }
 
 -- the entries that redefine a base: those of its name before the next base of that name
 unfoldable pub redefiners : List ℕ → Place → Entries → Entries
 redefiners text base end = end
 redefiners text base (entry e members later) =
     if given (e .redefines) then
-    (if sameName text (base .name) (e .redefines) then entry (rebased (base .offset) e) members (redefiners text base later)
+    (if sameName text (base .name) (e .redefines)
+    then entry (rebased (base .offset) e) members (redefiners text base later)
     else redefiners text base later)
     else if sameName text (base .name) (e .name) then end
     else redefiners text base later
@@ -111,7 +127,21 @@ widest (entry e members later) = max (total e) (widest later)
 -- the group that stands for a base and its redefiners: it has its base's place, and no clause or slack of its own
 abbrev pub union : Entry → ℕ → Entry
 union e width =
-    record { at = e .at; level = e .level; name = e .name; offset = e .offset; width = width; kind = FieldKind.Group; picture = absent; occurs = Occurs.Once; depending = absent; redefines = absent; over = absent; slack = 0; folded = true }
+    record {
+      at = e .at;
+      level = e .level;
+      name = e .name;
+      offset = e .offset;
+      width = width;
+      kind = FieldKind.Group;
+      picture = absent;
+      occurs = Occurs.Once;
+      depending = absent;
+      redefines = absent;
+      over = absent;
+      slack = 0;
+      folded = true;
+    }
 
 -- the members of that group: the base, or its own members where it counts as already folded, then the redefiners
 abbrev pub unionMembers : List ℕ → Entry → Entries → Entries → Entries
@@ -148,14 +178,19 @@ hasBase (some base) = true
 unfoldable pub foldedList : List ℕ → List Place → Entries → Entries
 foldedList text bases end = end
 foldedList text bases (entry e members later) =
-    if given (e .redefines) then
-    (if hasBase (find text (e .redefines) bases) then foldedList text bases later else entry e members (foldedList text bases later))
-    else withRedefiners text e members (redefiners text (placeOf e) later) (foldedList text (placeOf e ∷ bases) later)
+    elim (given (e .redefines)) [
+      | true ↦
+          if hasBase (find text (e .redefines) bases) then foldedList text bases later
+          else entry e members (foldedList text bases later)
+      | false ↦ withRedefiners text e members (redefiners text (placeOf e) later)
+          (foldedList text (placeOf e ∷ bases) later)
+    ]
 
 -- every list below folded, and not this one
 unfoldable pub foldedBelow : List ℕ → Entries → Entries
 foldedBelow text end = end
-foldedBelow text (entry e members later) = entry e (foldedList text [] (foldedBelow text members)) (foldedBelow text later)
+foldedBelow text (entry e members later) =
+    entry e (foldedList text [] (foldedBelow text members)) (foldedBelow text later)
 
 -- every list folded
 abbrev pub foldedAll : List ℕ → Entries → Entries

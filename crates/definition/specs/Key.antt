@@ -181,7 +181,8 @@ NoneNamed text name end = Unit {0}
 NoneNamed text name (entry e members later) = (isNamed text name e ≡ false) × NoneNamed text name later
 
 -- k is the key of a listing: it is that of the one entry of its name at the top, which stands between those before and
--- those after it, is no group, and has neither OCCURS nor REDEFINES; nothing before it, at any depth, has a DEPENDING ON
+-- those after it, is no group, and has neither OCCURS nor REDEFINES; nothing before it, at any depth, has a DEPENDING
+-- ON
 pub record IsKey (text name : List ℕ) (es : Entries) (k : Key) : Type 0 where
   pub own : Entry
   pub before : Entries
@@ -210,7 +211,8 @@ abbrev pub AllHave : ℕ → List ℕ → Key → List (List ℕ) → Type 0
 AllHave work name k [] = Unit {0}
 AllHave work name k (text ∷ texts) = HasKey work name k text × AllHave work name k texts
 
--- the answered offset and width are those of one key that every copybook of the set has
+-- the answered offset and width are those of one key that every copybook of the set has; and where all copybooks of a
+-- set have one key, its offset and width are answered, so that 57 is not said too often (`KeyLaws.answered`)
 pub record Shared (texts lengths name : List ℕ) (work offset width : ℕ) : Type 0 where
   pub key : Key
   pub offset-is : offset ≡ key .offset

@@ -21,7 +21,6 @@ pub mod Calls
 pub mod Key
 pub mod Ungrouped
 pub mod Computing
-pub mod Catches
 pub mod Placed
 pub mod Demand
 pub mod Explained

@@ -1,4 +1,5 @@
--- The bytes of the layout listing: one byte of kind, then a body whose length the kind fixes. Numbers are little-endian, 4 bytes unless said.
+-- The bytes of the layout listing: one byte of kind, then a body whose length the kind fixes. Numbers are
+-- little-endian, 4 bytes unless said.
 -- Assumes nothing.
 use Prim.Native.Nat.{ℕ, zero, suc, _+_}
 use mathlib.Core.Bool.{Bool, true, false}
@@ -61,7 +62,8 @@ details (FieldKind.Edited precision scale signed) pic n = precision ∷ scale �
 details FieldKind.Group pic n = le4 n
 details (FieldKind.Float bits) pic n = bits ∷ []
 
--- an entry with n members: name start and length; offset; width; occurs; DEPENDING ON name and REDEFINES name, start and length; details
+-- an entry with n members: name start and length; offset; width; occurs; DEPENDING ON name and REDEFINES name, start
+-- and length; details
 unfoldable pub entryBytes : Entry → ℕ → List ℕ
 entryBytes e n =
     kindByte (e .kind) ∷ spanBytes (e .name) ++ le4 (e .offset) ++ le4 (e .width) ++ occursBytes (e .occurs)

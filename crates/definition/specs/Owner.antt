@@ -1,7 +1,8 @@
--- The owner rule: which piece of a record each byte belongs to. It uses the kept statements and the widths of elementary items, and no offset.
--- A sibling list is laid from place 0, item by item in copybook order. An elementary SYNC binary or float item first lays slack: the smallest
--- number of bytes, 0 included, that brings the place to a multiple of its width. Then each item is laid count times: an elementary item as one piece of
--- its width, a group as its whole list, slack and all. With OCCURS 0 no piece is laid, but the slack stays.
+-- The owner rule: which piece of a record each byte belongs to. It uses the kept statements and the widths of
+-- elementary items, and no offset. A sibling list is laid from place 0, item by item in copybook order. An elementary
+-- SYNC binary or float item first lays slack: the smallest number of bytes, 0 included, that brings the place to a
+-- multiple of its width. Then each item is laid count times: an elementary item as one piece of its width, a group as
+-- its whole list, slack and all. With OCCURS 0 no piece is laid, but the slack stays.
 -- Assumes nothing.
 use Prim.Native.Nat.{ℕ, zero, suc, _+_, _-_}
 use mathlib.Core.Bool.{Bool, true, false, _&&_, _||_}
@@ -20,7 +21,8 @@ use Rattle.definition.specs.Layout.{elementary}
 
 -- ---------------------------------------------------------------- pieces
 
--- whose bytes they are: one occurrence of the elementary item whose entry has that number, or the slack before that entry
+-- whose bytes they are: one occurrence of the elementary item whose entry has that number, or the slack before that
+-- entry
 pub data Holder : Type 0 where
   occurrence : ℕ → Holder
   slack : ℕ → Holder
@@ -65,7 +67,8 @@ isAligned text s = s .clauses .sync && isAlignable (storage text s .kind)
 -- the slack before an item whose entry has number k: an elementary SYNC binary or float item lays it
 abbrev pub slackBefore : List ℕ → ℕ → ℕ → Statement → Forest → List Piece
 slackBefore text k place s (item t kids later) = []
-slackBefore text k place s leaf = if isAligned text s then piece (slack k) (fewest (storage text s .width) place) ∷ [] else []
+slackBefore text k place s leaf =
+    if isAligned text s then piece (slack k) (fewest (storage text s .width) place) ∷ [] else []
 
 -- one occurrence of an item: an elementary one is a piece, a group its whole list `inner`
 abbrev pub once : List ℕ → ℕ → Statement → Forest → List Piece → List Piece
@@ -74,7 +77,8 @@ once text k s leaf inner = piece (occurrence k) (storage text s .width) ∷ []
 
 -- an item: its slack, then each occurrence
 abbrev pub laidItem : List ℕ → ℕ → ℕ → Statement → Forest → List Piece → List Piece
-laidItem text k place s kids inner = slackBefore text k place s kids ++ repeated (times (s .clauses .occurs)) (once text k s kids inner)
+laidItem text k place s kids inner =
+    slackBefore text k place s kids ++ repeated (times (s .clauses .occurs)) (once text k s kids inner)
 
 -- a sibling list, of which `place` bytes are laid already, and whose next item has the entry number k
 unfoldable pub laid : List ℕ → ℕ → ℕ → Forest → List Piece
@@ -97,7 +101,8 @@ answer (slack k) first place = Owner.Slack k
 -- the owner of the byte before which q bytes of the pieces are laid, and `first` bytes before the pieces
 unfoldable pub ownerFrom : ℕ → List Piece → ℕ → Owner
 ownerFrom first [] q = Owner.Unowned
-ownerFrom first (p ∷ ps) q = if ltb q (p .width) then answer (p .holder) first q else ownerFrom (first + p .width) ps (q - p .width)
+ownerFrom first (p ∷ ps) q =
+    if ltb q (p .width) then answer (p .holder) first q else ownerFrom (first + p .width) ps (q - p .width)
 
 -- a byte's owner is the piece or slack that laid it
 abbrev pub ownerOf : List Piece → ℕ → Owner
@@ -106,7 +111,8 @@ ownerOf ps q = ownerFrom 0 ps q
 -- some statement, at any depth, has a REDEFINES or a DEPENDING ON
 unfoldable pub overlaid : Forest → Bool
 overlaid leaf = false
-overlaid (item s kids later) = given (s .clauses .redefines) || given (s .clauses .depending) || overlaid kids || overlaid later
+overlaid (item s kids later) =
+    given (s .clauses .redefines) || given (s .clauses .depending) || overlaid kids || overlaid later
 
 -- ---------------------------------------------------------------- records
 

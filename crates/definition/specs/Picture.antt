@@ -1,7 +1,7 @@
--- The picture answer: kind and width of a picture with a usage and a sign: `parse_pic` of the Rust; and the mask of an edited picture.
--- Symbols are repeated by `(n)`, then judged one by one: X A text; 9 Z * digit; P fraction digit; V and `.` start the fraction; S sign;
--- `, / B 0 $ + - CR DB` editing, as Z, * and `.` are too; `+ - CR DB` also mean signed, as S does.
--- Refusals 22 to 27 carry the position that the caller names.
+-- The picture answer: kind and width of a picture with a usage and a sign: `parse_pic` of the Rust; and the mask of an
+-- edited picture. Symbols are repeated by `(n)`, then judged one by one: X A text; 9 Z * digit; P fraction digit; V and
+-- `.` start the fraction; S sign; `, / B 0 $ + - CR DB` editing, as Z, * and `.` are too; `+ - CR DB` also mean signed,
+-- as S does. Refusals 22 to 27 carry the position that the caller names.
 -- P holds no byte: the storage width counts digits without it, the edited width the mask without it (A.3).
 -- Departures from COBOL: symbols may stand in any order and number; P is a fraction digit wherever it stands.
 -- Assumes nothing.
@@ -19,7 +19,8 @@ use Rattle.definition.specs.declared.NumRepr.{NumRepr}
 use Rattle.definition.specs.declared.FieldKind.{FieldKind}
 use Rattle.definition.specs.declared.Pictured.{Pictured}
 use Rattle.definition.specs.Limits.{mostSymbols, mostDigits, longestMask}
-use Rattle.definition.specs.Basic.{if_then_else_, is, among, white, upper, count, Answer, refuse, give, _>>=_, refused, refuseIf, orRefuse}
+use Rattle.definition.specs.Basic.{if_then_else_, is, among, white, upper, count, Answer, refuse, give, _>>=_}
+use Rattle.definition.specs.Basic.{refused, refuseIf, orRefuse}
 
 -- ---------------------------------------------------------------- repeats
 
@@ -198,8 +199,10 @@ unfoldable pub kinded : Usage → SignClause → List ℕ → Pictured
 kinded usage clause l =
     let sign = resolveSign (isSigned l) clause in
     if isText l then pictured FieldKind.Text (tally "XA" l)
-    else if isMasked usage l then pictured (FieldKind.Edited (max 1 (allDigits l)) (fraction l) (isSigned l)) (length (without "P" (mask l)))
-    else pictured (numeric usage (allDigits l) (fraction l) (isSigned l) sign) (storageWidth usage sign (storedDigits l))
+    else if isMasked usage l
+    then pictured (FieldKind.Edited (max 1 (allDigits l)) (fraction l) (isSigned l)) (length (without "P" (mask l)))
+    else pictured (numeric usage (allDigits l) (fraction l) (isSigned l) sign)
+    (storageWidth usage sign (storedDigits l))
 
 -- 26: text with a digit or editing
 abbrev pub mixed : List ℕ → Bool
@@ -207,7 +210,8 @@ mixed l = isText l && (ltb 0 (allDigits l) || isEdited l)
 
 -- 27: non-text with over 31 digits, P included, or an edited DISPLAY mask over 255
 abbrev pub tooLong : Usage → List ℕ → Bool
-tooLong usage l = not (isText l) && (ltb mostDigits (allDigits l) || isMasked usage l && ltb longestMask (length (mask l)))
+tooLong usage l =
+    not (isText l) && (ltb mostDigits (allDigits l) || isMasked usage l && ltb longestMask (length (mask l)))
 
 -- the symbols of a picture, if it is not refused; white space around it is trimmed
 unfoldable pub symbols : ℕ → Usage → List ℕ → Answer (List ℕ)

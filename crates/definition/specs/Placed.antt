@@ -1,5 +1,5 @@
--- The entries as the owner rule places them: an entry's offset is the place that its sibling list has reached after the earlier items and the
--- entry's own slack, and a group is as wide as its list laid once.
+-- The entries as the owner rule places them: an entry's offset is the place that its sibling list has reached after the
+-- earlier items and the entry's own slack, and a group is as wide as its list laid once.
 -- Assumes nothing.
 use Prim.Native.Nat.{ℕ, zero, suc, _+_}
 use mathlib.Core.List.{List}

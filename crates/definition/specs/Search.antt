@@ -1,5 +1,6 @@
--- The owner of a byte, found among the entries of a listing with no piece laid: by a search through the tree of entries, and by a walk over
--- their rows. (`Seek` and `Walk`, of the proofs, say that both find the owner that the laid pieces have.)
+-- The owner of a byte, found among the entries of a listing with no piece laid: by a search through the tree of
+-- entries, and by a walk over their rows. (`Seek` and `Walk`, of the proofs, say that both find the owner that the laid
+-- pieces have.)
 -- Assumes nothing.
 use Prim.Native.Nat.{ℕ, zero, suc, _+_, _*_, _-_, _/_, _%_}
 use mathlib.Core.Bool.{Bool, true, false}
@@ -15,25 +16,29 @@ abbrev pub entries# : Entries → ℕ
 entries# end = 0
 entries# (entry e members later) = suc (entries# members + entries# later)
 
--- the first byte of the occurrence that the place q of a list falls into, where the list starts at the byte `first`; and the place in it
+-- the first byte of the occurrence that the place q of a list falls into, where the list starts at the byte `first`;
+-- and the place in it
 abbrev pub startIn : ℕ → Entry → ℕ → ℕ
 startIn first e q = first + e .offset + (q - e .offset) / e .width * e .width
 
 abbrev pub placeIn : Entry → ℕ → ℕ
 placeIn e q = (q - e .offset) % e .width
 
--- in an occurrence that starts at the byte `first`: an elementary entry is one piece, in a group it is what was found among its members
+-- in an occurrence that starts at the byte `first`: an elementary entry is one piece, in a group it is what was found
+-- among its members
 abbrev pub inside : ℕ → ℕ → ℕ → Entries → Owner → Owner
 inside k first place end found = Owner.Piece k first place
 inside k first place (entry e members later) found = found
 
--- the owner of the byte at place q of a list of entries, whose first has number k, and which starts at the byte `first` of the record:
--- what stands before an entry's offset, and after the earlier items, is its slack; in an entry, a division finds the occurrence
+-- the owner of the byte at place q of a list of entries, whose first has number k, and which starts at the byte `first`
+-- of the record: what stands before an entry's offset, and after the earlier items, is its slack; in an entry, a
+-- division finds the occurrence
 unfoldable pub seek : ℕ → ℕ → Entries → ℕ → Owner
 seek k first end q = Owner.Unowned
 seek k first (entry e members later) q =
     if ltb q (e .offset) then Owner.Slack k
-    else if ltb q (e .offset + total e) then inside k (startIn first e q) (placeIn e q) members (seek (suc k) (startIn first e q) members (placeIn e q))
+    else if ltb q (e .offset + total e)
+    then inside k (startIn first e q) (placeIn e q) members (seek (suc k) (startIn first e q) members (placeIn e q))
     else seek (suc k + entries# members) first later q
 
 -- ---------------------------------------------------------------- rows
@@ -61,5 +66,6 @@ walk zero k first (r ∷ rs) q =
     let start = first + r .offset + (q - r .offset) / r .width * r .width in
     let place = (q - r .offset) % r .width in
     if ltb q (r .offset) then Owner.Slack k
-    else if ltb q (r .offset + r .width * r .count) then (if eqb (r .below) 0 then Owner.Piece k start place else walk zero (suc k) start rs place)
+    else if ltb q (r .offset + r .width * r .count)
+    then (if eqb (r .below) 0 then Owner.Piece k start place else walk zero (suc k) start rs place)
     else walk (r .below) (suc k) first rs q

@@ -1,9 +1,9 @@
--- What the words of one statement say: `parse_stmt` of the Rust. The reader goes word by word, and expects something at each.
--- First word: level, 0 to 255. Level 88 is skipped. Second word: name, whatever it says. Then clauses.
+-- What the words of one statement say: `parse_stmt` of the Rust. The reader goes word by word, and expects something at
+-- each. First word: level, 0 to 255. Level 88 is skipped. Second word: name, whatever it says. Then clauses.
 -- The last OCCURS gives the count, the TO bound if present; an earlier DEPENDING ON name stays. VALUE ends the reading.
 -- Of several usage words the last holds.
--- Departures from COBOL: words that begin no clause are passed over; a clause said again replaces the earlier one; a bare PIC or REDEFINES
--- at the end takes an earlier one back; levels 66 and 77 are levels like any other.
+-- Departures from COBOL: words that begin no clause are passed over; a clause said again replaces the earlier one; a
+-- bare PIC or REDEFINES at the end takes an earlier one back; levels 66 and 77 are levels like any other.
 -- Assumes nothing.
 use Prim.Native.Nat.{ℕ, zero, suc}
 use Prim.Native.String.{String}
@@ -22,12 +22,15 @@ use Rattle.definition.specs.declared.Occurs.{Occurs}
 use Rattle.definition.specs.declared.Clauses.{Clauses}
 use Rattle.definition.specs.declared.Keyword.{Keyword}
 use Rattle.definition.specs.declared.Expect.{Expect}
-use Rattle.definition.specs.declared.Expect.the-variants.{Clause, IsPicture, APicture, Target, ACount, To, Bound, Times, DependingOn, OnName, AName, UsageIs, SignIs, SignWord, Side, Nothing}
+use Rattle.definition.specs.declared.Expect.the-variants.{Clause, IsPicture, APicture, Target, ACount, To, Bound}
+use Rattle.definition.specs.declared.Expect.the-variants.{Times, DependingOn, OnName, AName, UsageIs, SignIs}
+use Rattle.definition.specs.declared.Expect.the-variants.{SignWord, Side, Nothing}
 use Rattle.definition.specs.declared.Step.{Step}
 use Rattle.definition.specs.declared.Step.the-variants.{Go, Fail}
 use Rattle.definition.specs.declared.Statement.{Statement}
 use Rattle.definition.specs.Limits.{mostStatements}
-use Rattle.definition.specs.Basic.{if_then_else_, bytes, same, uppers, absent, part, number, count, Answer, refuse, give, _>>=_, refused, refuseIf, orRefuse}
+use Rattle.definition.specs.Basic.{if_then_else_, bytes, same, uppers, absent, part, number, count, Answer}
+use Rattle.definition.specs.Basic.{refuse, give, _>>=_, refused, refuseIf, orRefuse}
 
 -- ---------------------------------------------------------------- keywords
 
@@ -87,7 +90,8 @@ keywordOf u = meaning u spellings Keyword.Other
 -- ---------------------------------------------------------------- the clauses, one replaced at a time
 
 abbrev pub clausesOf : Span → UsageClause → SignWords → Bool → Occurs → Span → Span → Clauses
-clausesOf p u s y o d r = record { picture = p; usage = u; sign = s; sync = y; occurs = o; depending = d; redefines = r }
+clausesOf p u s y o d r =
+    record { picture = p; usage = u; sign = s; sync = y; occurs = o; depending = d; redefines = r }
 
 abbrev pub noClauses : Clauses
 noClauses = clausesOf absent UsageClause.Absent SignWords.Absent false Occurs.Once absent absent
@@ -96,7 +100,8 @@ abbrev pub withPicture : Span → Clauses → Clauses
 withPicture v c = clausesOf v (c .usage) (c .sign) (c .sync) (c .occurs) (c .depending) (c .redefines)
 
 abbrev pub withUsage : ItemUsage → Clauses → Clauses
-withUsage v c = clausesOf (c .picture) (UsageClause.Given v) (c .sign) (c .sync) (c .occurs) (c .depending) (c .redefines)
+withUsage v c =
+    clausesOf (c .picture) (UsageClause.Given v) (c .sign) (c .sync) (c .occurs) (c .depending) (c .redefines)
 
 abbrev pub withSign : SignWords → Clauses → Clauses
 withSign v c = clausesOf (c .picture) (c .usage) v (c .sync) (c .occurs) (c .depending) (c .redefines)
@@ -169,7 +174,8 @@ clauseStep SignWord w u c = onSign u c
 clauseStep Side w u c = if key "LEFT" u || key "RIGHT" u then Go Clause c else onClause u c
 clauseStep Nothing w u c = Go Nothing c
 
--- SEPARATE counts anywhere at or after the word following SIGN [IS]: at the latest SIGN, whatever was expected, and after VALUE too
+-- SEPARATE counts anywhere at or after the word following SIGN [IS]: at the latest SIGN, whatever was expected, and
+-- after VALUE too
 abbrev pub separately : SignWords → SignWords
 separately SignWords.Absent = SignWords.Absent
 separately (SignWords.Said leading separate) = SignWords.Said leading true

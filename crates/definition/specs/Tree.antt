@@ -1,6 +1,7 @@
--- The kept statements as a forest, by their levels: `build_tree` of the Rust. A statement's parent is the nearest earlier open one with a
--- smaller level, so its children are the first following statements of higher levels, up to the first of no higher level.
--- Departure from COBOL: siblings may have different levels, and a level may be any number below 256.
+-- The kept statements as a forest, by their levels: `build_tree` of the Rust. A statement's parent is the nearest
+-- earlier open one with a smaller level, so its children are the first following statements of higher levels, up to the
+-- first of no higher level. Departure from COBOL: siblings may have different levels, and a level may be any number
+-- below 256.
 -- Assumes nothing.
 use Prim.Native.Nat.{ℕ, suc, _+_}
 use mathlib.Core.Bool.{Bool, true, false}
@@ -57,19 +58,20 @@ abbrev pub innermost : List Open → ℕ
 innermost [] = 0
 innermost (o ∷ os) = o .number
 
--- the parent of each statement, its number and 1, or 0 for none, from statement k on, where these are open before it: the nearest earlier open one
--- with a smaller level. Each closes those that are not smaller, and opens itself
+-- the parent of each statement, its number and 1, or 0 for none, from statement k on, where these are open before it:
+-- the nearest earlier open one with a smaller level. Each closes those that are not smaller, and opens itself
 unfoldable pub parents : List Open → ℕ → List Statement → List ℕ
 parents os k [] = []
 parents os k (s ∷ ss) =
     let outer = stillOpen (s .level) os in
     innermost outer ∷ parents (opened (s .level) (suc k) (s .usage) ∷ outer) (suc k) ss
 
--- the parent of each statement of a forest, in copybook order from statement k on, where p is that of the first list (`ParentLaws`, of the proofs,
--- says that the open statements give the same)
+-- the parent of each statement of a forest, in copybook order from statement k on, where p is that of the first list
+-- (`ParentLaws`, of the proofs, says that the open statements give the same)
 unfoldable pub parentsIn : ℕ → ℕ → Forest → List ℕ
 parentsIn p k leaf = []
-parentsIn p k (item s kids later) = let inner = parentsIn (suc k) (suc k) kids in p ∷ (inner ++ parentsIn p (suc k + length inner) later)
+parentsIn p k (item s kids later) =
+    let inner = parentsIn (suc k) (suc k) kids in p ∷ (inner ++ parentsIn p (suc k + length inner) later)
 
 -- the fields of the record: if the only root has children, it is dropped with its clauses
 unfoldable pub fields : Forest → Forest

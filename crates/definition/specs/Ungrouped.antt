@@ -1,6 +1,6 @@
 -- The entries as they were while neither DISPLAY nor the words of floats named a usage and each statement had its own
--- usage alone, as in the Rust; and the test on a copybook under which they are those of `Calls` (`UngroupedLaws`, of the
--- proofs, says so): no group names a usage, no DISPLAY stands after another usage word, and no word names a float.
+-- usage alone, as in the Rust; and the test on a copybook under which they are those of `Calls` (`UngroupedLaws`, of
+-- the proofs, says so): no group names a usage, no DISPLAY stands after another usage word, and no word names a float.
 -- Assumes nothing.
 use Prim.Native.Nat.{ℕ, suc}
 use Prim.Native.String.{String}

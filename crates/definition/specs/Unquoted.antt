@@ -1,6 +1,6 @@
--- The words as the Rust finds them, where a period and `*>` count inside a literal too; and the test on a text under which
--- they are those of `Words` (`QuoteLaws`, of the proofs, says so): no literal holds a period that would end a statement, or
--- `*>`, and none is left open.
+-- The words as the Rust finds them, where a period and `*>` count inside a literal too; and the test on a text under
+-- which they are those of `Words` (`QuoteLaws`, of the proofs, says so): no literal holds a period that would end a
+-- statement, or `*>`, and none is left open.
 -- Assumes nothing.
 use Prim.Native.Nat.{ℕ, _+_}
 use mathlib.Core.Bool.{Bool, true, false, _&&_}

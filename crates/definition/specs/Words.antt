@@ -1,9 +1,9 @@
 -- The words of a copybook text, statement by statement: `tokenize` and `split_statements` of the Rust.
--- Lines end at byte 10. A line whose first non-blank is `*` is dropped; from `*>` on, a line is cut; each line ends in a blank.
--- A period ends a statement only before white space or the end: that of the text, of a line, or of what is left of a cut line.
--- After a word VALUE or VALUES that is third or later in its statement, each quote or apostrophe up to the statement's end
--- opens a literal that closes at the same mark. Neither a period nor `*>` counts inside it. A literal must close on its own
--- line.
+-- Lines end at byte 10. A line whose first non-blank is `*` is dropped; from `*>` on, a line is cut; each line ends in
+-- a blank. A period ends a statement only before white space or the end: that of the text, of a line, or of what is
+-- left of a cut line. After a word VALUE or VALUES that is third or later in its statement, each quote or apostrophe up
+-- to the statement's end opens a literal that closes at the same mark. Neither a period nor `*>` counts inside it. A
+-- literal must close on its own line.
 -- Free text has no columns; `Cards` says what is seen so of a text that has them.
 -- Departures from COBOL: white space inside a literal separates words; a quote or an apostrophe before VALUE is a byte
 -- like any other.
@@ -50,10 +50,14 @@ byteKind b bs =
 
 -- the mode after a byte at position p
 abbrev pub next : Mode → ℕ → ByteKind → Mode
-next Dropped p = elim [ Newline ↦ Fresh | Blank ↦ Dropped | Cut ↦ Dropped | Star ↦ Dropped | Period ↦ Dropped | Other ↦ Dropped ]
-next Fresh p = elim [ Newline ↦ Fresh | Blank ↦ Fresh | Cut ↦ Dropped | Star ↦ Dropped | Period ↦ Between | Other ↦ Within p ]
-next Between p = elim [ Newline ↦ Fresh | Blank ↦ Between | Cut ↦ Dropped | Star ↦ Within p | Period ↦ Between | Other ↦ Within p ]
-next (Within s) p = elim [ Newline ↦ Fresh | Blank ↦ Between | Cut ↦ Dropped | Star ↦ Within s | Period ↦ Between | Other ↦ Within s ]
+next Dropped p =
+    elim [ Newline ↦ Fresh | Blank ↦ Dropped | Cut ↦ Dropped | Star ↦ Dropped | Period ↦ Dropped | Other ↦ Dropped ]
+next Fresh p =
+    elim [ Newline ↦ Fresh | Blank ↦ Fresh | Cut ↦ Dropped | Star ↦ Dropped | Period ↦ Between | Other ↦ Within p ]
+next Between p =
+    elim [ Newline ↦ Fresh | Blank ↦ Between | Cut ↦ Dropped | Star ↦ Within p | Period ↦ Between | Other ↦ Within p ]
+next (Within s) p =
+    elim [ Newline ↦ Fresh | Blank ↦ Between | Cut ↦ Dropped | Star ↦ Within s | Period ↦ Between | Other ↦ Within s ]
 
 -- a word from s up to p
 abbrev pub upTo : ℕ → ℕ → Token
@@ -65,7 +69,14 @@ completed Dropped p = λ _. []
 completed Fresh p = elim [ Newline ↦ [] | Blank ↦ [] | Cut ↦ [] | Star ↦ [] | Period ↦ Stop ∷ [] | Other ↦ [] ]
 completed Between p = elim [ Newline ↦ [] | Blank ↦ [] | Cut ↦ [] | Star ↦ [] | Period ↦ Stop ∷ [] | Other ↦ [] ]
 completed (Within s) p =
-    elim [ Newline ↦ upTo s p ∷ [] | Blank ↦ upTo s p ∷ [] | Cut ↦ upTo s p ∷ [] | Star ↦ [] | Period ↦ upTo s p ∷ Stop ∷ [] | Other ↦ [] ]
+    elim [
+      | Newline ↦ upTo s p ∷ []
+      | Blank ↦ upTo s p ∷ []
+      | Cut ↦ upTo s p ∷ []
+      | Star ↦ []
+      | Period ↦ upTo s p ∷ Stop ∷ []
+      | Other ↦ []
+    ]
 
 -- the token that the end of the text at position p completes: a last statement may lack its period
 abbrev pub completedEnd : Mode → ℕ → List Token
@@ -159,8 +170,8 @@ sentences (Open p ∷ ts) = []
 unfoldable pub statementWords : List ℕ → List (List Span)
 statementWords text = sentences (tokensOf text)
 
--- the words of the first statement, and the tokens after it, where an unclosed literal stays: a reader goes statement by
--- statement (`WordLaws`, of the proofs, says how)
+-- the words of the first statement, and the tokens after it, where an unclosed literal stays: a reader goes statement
+-- by statement (`WordLaws`, of the proofs, says how)
 abbrev pub firstWords : List Token → List Span
 firstWords [] = []
 firstWords (Stop ∷ ts) = []

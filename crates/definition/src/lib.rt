@@ -184,7 +184,8 @@ pub enum Keyword {
 
 // What the reader of a statement expects: a clause; IS or a picture; a picture; a REDEFINES target; a count; TO, TIMES,
 // DEPENDING or a clause; a TO bound; TIMES, DEPENDING or a clause; DEPENDING or a clause; ON or a name; a name; IS or a
-// clause after USAGE; IS or the word of SIGN; the word of SIGN; LEFT, RIGHT or a clause after SYNC; nothing after VALUE.
+// clause after USAGE; IS or the word of SIGN; the word of SIGN; LEFT, RIGHT or a clause after SYNC; nothing after
+// VALUE.
 pub enum Expect {
     Clause,
     IsPicture,
@@ -247,9 +248,9 @@ pub struct Reason {
     pub adds: usize,
 }
 
-// What a byte of a record belongs to: a piece, that is one occurrence of the elementary item whose entry has that number,
-// with the piece's first byte in the record and the byte's place inside it; slack before the entry of that number; or
-// nothing.
+// What a byte of a record belongs to: a piece, that is one occurrence of the elementary item whose entry has that
+// number, with the piece's first byte in the record and the byte's place inside it; slack before the entry of that
+// number; or nothing.
 pub enum Owner {
     Piece {
         entry: usize,

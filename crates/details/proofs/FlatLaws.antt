@@ -18,7 +18,8 @@ use Rattle.listing.specs.Puts.{Put}
 use Rattle.table.specs.Items.{itemsFrom}
 use Rattle.table.specs.Entered.{Shown, flatIn, shownAll}
 use Rattle.table.proofs.FlatLaws.{flat-length}
-use Rattle.details.specs.Detailed.{standingBytes, clausePlaces, flatDetails, Within, AllThere, detailsOf, RecordTabled}
+use Rattle.details.specs.Detailed.{standingBytes, clausePlaces, flatDetails, Within, AllThere, detailsOf}
+use Rattle.details.specs.Detailed.{RecordTabled}
 
 -- the parts of an entry's details, in the order in which they are put
 pub detail-parts : (x : Detail) → detailBytes x ≡ standingBytes x ++ le8 (x .first) ++ le4 (x .own .slack) ++ clausePlaces (x .own)

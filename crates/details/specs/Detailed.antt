@@ -34,7 +34,8 @@ detailIn first x = detail (x .own) (x .depth) (x .below) first
 -- the details of entries; each opens a list one deeper, which starts at its first byte
 unfoldable pub flatDetails : List ℕ → List Shown → List ℕ
 flatDetails starts [] = []
-flatDetails starts (x ∷ xs) = detailBytes (detailIn (firstIn starts x) x) ++ flatDetails (set starts (x .depth + 1) (firstIn starts x)) xs
+flatDetails starts (x ∷ xs) =
+    detailBytes (detailIn (firstIn starts x) x) ++ flatDetails (set starts (x .depth + 1) (firstIn starts x)) xs
 
 -- none stands deeper than the lists of a listing nest
 abbrev pub Within : List Shown → Type 0

@@ -9,7 +9,8 @@ ghost use Rattle.definition.specs.Details.{detail, detailBytes};
 ghost use Rattle.listing.specs.Puts.{Countable, Put};
 ghost use Rattle.table.specs.Items.{itemAt, itemsFrom};
 ghost use Rattle.table.specs.Entered.{shownOf, shownAll};
-ghost use Rattle.details.specs.Detailed.{standingBytes, clausePlaces, farthest, FirstByte, detailIn, flatDetails, There, AllThere, detailsOf, RecordTabled};
+ghost use Rattle.details.specs.Detailed.{standingBytes, clausePlaces, farthest, FirstByte, detailIn, flatDetails};
+ghost use Rattle.details.specs.Detailed.{There, AllThere, detailsOf, RecordTabled};
 use definition::Entry;
 use definition::Refusal;
 use definition::Writing;
@@ -69,7 +70,8 @@ fn depth_of(entries: &[u32], k: usize) -> usize
 // The first byte of entry k, by the starts of the open lists.
 fn first_of(work: &[u32], entries: &[u32], k: usize, starts: &[usize; DEPTHS]) -> usize
     requires { ⌜ There (now work) (now entries) k × (getD (now starts) (itemAt (now entries) k .depth) 0 ≤ farthest) ⌝ }
-    ensures { λ r. ⌜ FirstByte (now (starts .entry)) (shownOf (now (work .entry)) (itemAt (now (entries .entry)) k)) r ⌝ }
+    ensures { λ r. ⌜ FirstByte (now (starts .entry))
+        (shownOf (now (work .entry)) (itemAt (now (entries .entry)) k)) r ⌝ }
 {
     let x = table::item_at(entries, k);
     let depth = x.depth;
@@ -87,7 +89,9 @@ fn put_own(
     at: usize,
 ) -> usize
     requires { ⌜ There (now work) (now entries) k × (at ≤ 4294967295) ⌝ }
-    ensures { λ r. ⌜ Put (now (out .entry)) at (detailBytes (detailIn first (shownOf (now (work .entry)) (itemAt (now (entries .entry)) k)))) r (now (out .exit)) ⌝ }
+    ensures { λ r. ⌜ Put (now (out .entry)) at
+        (detailBytes (detailIn first (shownOf (now (work .entry)) (itemAt (now (entries .entry)) k)))) r
+        (now (out .exit)) ⌝ }
 {
     let x = table::item_at(entries, k);
     put_detail(
@@ -103,7 +107,9 @@ fn put_own(
 // Puts the details of the first n entries.
 fn put_details(work: &[u32], entries: &[u32], n: usize, out: &mut [u8]) -> usize
     requires { ⌜ AllThere (now work) (now entries) n ⌝ }
-    ensures { λ r. ⌜ Put (now (out .entry)) 0 (flatDetails (replicate 131 0) (shownAll (now (work .entry)) (itemsFrom (now (entries .entry)) 0 n))) r (now (out .exit)) ⌝ }
+    ensures { λ r. ⌜ Put (now (out .entry)) 0
+        (flatDetails (replicate 131 0) (shownAll (now (work .entry)) (itemsFrom (now (entries .entry)) 0 n))) r
+        (now (out .exit)) ⌝ }
 {
     let mut starts = [0usize; DEPTHS];
     let mut place = 0;
@@ -130,7 +136,10 @@ pub fn write_details(
     out: &mut [u8],
 ) -> Writing
     requires { ⌜ RecordTabled (now text) (now work) (now entries) from to count ⌝ }
-    ensures { λ r. ⌜ left (writingOf r) (now (out .exit)) [] ≡ afterWriting (fitting (length (now (out .entry))) (detailsOf (now (text .entry)) (now (work .entry)) from to)) (now (out .entry)) [] ⌝ }
+    ensures { λ r. ⌜ left (writingOf r) (now (out .exit)) []
+        ≡ afterWriting
+        (fitting (length (now (out .entry))) (detailsOf (now (text .entry)) (now (work .entry)) from to))
+        (now (out .entry)) [] ⌝ }
 {
     let needed = 47 * count;
     if out.len() < needed {

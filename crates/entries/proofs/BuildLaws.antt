@@ -1,4 +1,5 @@
--- Laws of the table's blocks, over plain variables: an item closed; entries after others; an entry before its members; room for the rest.
+-- Laws of the table's blocks, over plain variables: an item closed; entries after others; an entry before its members;
+-- room for the rest.
 -- Assumes nothing.
 use Prim.Native.Nat.{ℕ, zero, suc, _+_, _*_, _-_, max, _≤_, _<_}
 use mathlib.Core.Path.{_≡_, refl, sym, ap, ap₂, subst, _∙_}
@@ -24,7 +25,8 @@ use Rattle.entries.specs.declared.Block.{Block}
 use Rattle.table.specs.Items.{itemCells, allCells}
 use Rattle.table.specs.Entered.{Shown, flatIn, ownOf, shownOf, shownAll, Sound, Rows, Inside}
 use Rattle.table.specs.Items.{ItemSmall}
-use Rattle.entries.specs.Building.{standsAs, block, within, TableRoom, Built, ownItem, unionItem, ItemOpen, ItemClosed}
+use Rattle.entries.specs.Building.{standsAs, block, within, TableRoom, Built, ownItem, unionItem, ItemOpen}
+use Rattle.entries.specs.Building.{ItemClosed}
 use Rattle.table.proofs.FlatLaws.{flat-append, flat-length, size-append, members-few}
 
 -- ---------------------------------------------------------------- an item closed

@@ -25,7 +25,7 @@ use Rattle.table.specs.Entered.{Shown, flatIn, shownAll, Rows, Inside, Entered}
 use Rattle.table.specs.Entered.{listed}
 use Rattle.entries.specs.Building.{block, TableRoom, Built, Roomy}
 use Rattle.entries.proofs.BuildLaws.{built-many, built-length}
-use Rattle.layout.proofs.SizeLaws.{folded-size}
+use Rattle.table.proofs.SizeLaws.{folded-size}
 
 -- ---------------------------------------------------------------- what was put is read back
 

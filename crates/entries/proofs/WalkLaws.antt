@@ -1,5 +1,5 @@
--- What the functions that build the table need and learn, over plain variables: what a row comes to, the members of a union, the loop along the
--- rows of a list and the loop along the redefiners of a row.
+-- What the functions that build the table need and learn, over plain variables: what a row comes to, the members of a
+-- union, the loop along the rows of a list and the loop along the redefiners of a row.
 -- Assumes nothing.
 use Prim.Native.Nat.{ℕ, zero, suc, _+_, _-_, _≤_, _<_}
 use mathlib.Core.Path.{_≡_, refl, sym, ap, subst, _∙_}
@@ -9,7 +9,8 @@ use native.Mathlib.Numerals.{add-one}
 use native.Mathlib.Omega.{arith}
 use Rattle.definition.specs.declared.Entry.{Entry}
 use Rattle.definition.specs.Basic.{if_then_else_}
-use Rattle.definition.specs.Fold.{Entries, end, entry, append, rebased, redefiners, widest, union, unionMembers, withRedefiners, foldedBelow, foldedAll}
+use Rattle.definition.specs.Fold.{Entries, end, entry, append, rebased, redefiners, widest, union, unionMembers}
+use Rattle.definition.specs.Fold.{withRedefiners, foldedBelow, foldedAll}
 use Rattle.definition.specs.Search.{entries#}
 use Rattle.rows.specs.Columns.{OFFSET, NEXT}
 use Rattle.rows.specs.Table.{cell}
@@ -21,7 +22,9 @@ use Rattle.unions.specs.declared.Standing.{Standing}
 use Rattle.unions.specs.Shown.{standing, shownAs, listIn, redefinersIn, foldedRest, shownAt, Tree, Base, SizedRow}
 use Rattle.unions.proofs.FoldedLaws.{append-end, append-append, redefiners-below}
 use Rattle.unions.proofs.ShownLaws.{walking-here, walking-ends}
-use Rattle.unions.proofs.WidthLaws.{Along, along-starts, along-on, Next, Onward, Following, following-starts, following-none, following-next, next-numbered, next-sized, next-tree, next-is, next-on}
+use Rattle.unions.proofs.WidthLaws.{Along, along-starts, along-on, Next, Onward, Following, following-starts}
+use Rattle.unions.proofs.WidthLaws.{following-none, following-next, next-numbered, next-sized, next-tree, next-is}
+use Rattle.unions.proofs.WidthLaws.{next-on}
 use Rattle.entries.specs.declared.Block.{Block}
 use Rattle.table.specs.Entered.{listed}
 use Rattle.entries.specs.Building.{itemIn, redefined, unionIn, ownMember, TableRoom, Built}
@@ -156,7 +159,8 @@ module _ {t w out₀ out : List ℕ} {from to : ℕ} {b₀ : Block} {d i last : 
 
 -- ---------------------------------------------------------------- the redefiners
 
--- what the loop keeps: what is done is built, and those of the rows from `at` on, of which k names the first, are the rest
+-- what the loop keeps: what is done is built, and those of the rows from `at` on, of which k names the first, are the
+-- rest
 pub record Redefining (t w out₀ out : List ℕ) (i j to : ℕ) (b₀ : Block) (d : ℕ) (b : Block) (k : ℕ) : Type 0 where
   pub at : ℕ
   pub following : Following t w i j to at k

@@ -8,7 +8,8 @@ use lib.ListN.{length}
 use lib.Seq.{sets}
 use Rattle.definition.specs.declared.Entry.{Entry}
 use Rattle.definition.specs.Limits.{mostStatements, largest}
-use Rattle.definition.specs.Fold.{Entries, end, entry, hasMember, rebased, redefiners, unionMembers, union, widest, foldedBelow, foldedAll}
+use Rattle.definition.specs.Fold.{Entries, end, entry, hasMember, rebased, redefiners, unionMembers, union, widest}
+use Rattle.definition.specs.Fold.{foldedBelow, foldedAll}
 use Rattle.definition.specs.Listing.{flag, members#}
 use Rattle.definition.specs.Search.{entries#}
 use Rattle.rows.specs.Columns.{NAME, OFFSET, WIDTH}
@@ -39,7 +40,8 @@ redefined text w i j to = foldedBelow text (redefinersIn text w i j to)
 -- the members of the union of row i, whose children end at j, with its redefiners
 abbrev pub unionIn : List ℕ → List ℕ → ℕ → ℕ → ℕ → Entries
 unionIn text w i j to =
-    unionMembers text (entryIn w i) (foldedAll text (listIn w (suc i) j)) (redefiners text (placeAt w i) (foldedBelow text (listIn w j to)))
+    unionMembers text (entryIn w i) (foldedAll text (listIn w (suc i) j))
+    (redefiners text (placeAt w i) (foldedBelow text (listIn w j to)))
 
 -- a member of row i has its name
 abbrev pub ownMember : List ℕ → List ℕ → ℕ → ℕ → Bool
@@ -64,7 +66,8 @@ pub record TableRoom (out : List ℕ) (b : Block) (depth n to : ℕ) : Type 0 wh
   pub rows : to ≤ mostStatements
 
 -- the entries of the list es, of rows from `from` up to `to`, were put behind the block b
-pub record Built (from to : ℕ) (w out : List ℕ) (b : Block) (depth : ℕ) (es : Entries) (r : Block) (after : List ℕ) : Type 0 where
+pub record Built
+    (from to : ℕ) (w out : List ℕ) (b : Block) (depth : ℕ) (es : Entries) (r : Block) (after : List ℕ) : Type 0 where
   pub items : List Item
   pub rows : Rows w items
   pub inside : Inside from to items
@@ -80,12 +83,28 @@ pub record Built (from to : ℕ) (w out : List ℕ) (b : Block) (depth : ℕ) (e
 -- row i by itself or as a member of the union that starts there
 abbrev pub ownItem : List ℕ → ℕ → Bool → ℕ → Block → Block → ℕ → Item
 ownItem w i member start b inner depth =
-    record { row = i; mark = flag member; offset = cell w i OFFSET - start; width = cell w i WIDTH; members = inner .count; below = inner .next - b .next - 1; depth = depth }
+    record {
+      row = i;
+      mark = flag member;
+      offset = cell w i OFFSET - start;
+      width = cell w i WIDTH;
+      members = inner .count;
+      below = inner .next - b .next - 1;
+      depth = depth;
+    }
 
 -- the union of row i with its redefiners
 abbrev pub unionItem : List ℕ → ℕ → Block → Block → ℕ → Item
 unionItem w i b inner depth =
-    record { row = i; mark = UNION; offset = cell w i OFFSET; width = inner .widest; members = inner .count; below = inner .next - b .next - 1; depth = depth }
+    record {
+      row = i;
+      mark = UNION;
+      offset = cell w i OFFSET;
+      width = inner .widest;
+      members = inner .count;
+      below = inner .next - b .next - 1;
+      depth = depth;
+    }
 
 -- what is needed to close it
 pub record ItemOpen (out : List ℕ) (b inner : Block) (depth i : ℕ) : Type 0 where
@@ -99,7 +118,8 @@ pub record ItemOpen (out : List ℕ) (b inner : Block) (depth i : ℕ) : Type 0 
   pub row : i < mostStatements
 
 -- the item x of that width stands before its members
-pub record ItemClosed (out : List ℕ) (b inner : Block) (x : Item) (width : ℕ) (r : Block) (after : List ℕ) : Type 0 where
+pub record ItemClosed
+    (out : List ℕ) (b inner : Block) (x : Item) (width : ℕ) (r : Block) (after : List ℕ) : Type 0 where
   pub put : after ≡ sets out (ITEM * b .next) (itemCells x)
   pub next : r .next ≡ inner .next
   pub count : r .count ≡ b .count + 1

@@ -1,5 +1,5 @@
-// The table of entries made: the folded listing of a laid and marked record, in the order of the listing, in one walk over
-// the rows.
+// The table of entries made: the folded listing of a laid and marked record, in the order of the listing, in one walk
+// over the rows.
 ghost use mathlib.Core.Path.{_≡_};
 ghost use Prim.Native.Nat.{_+_, _*_, _-_, _≤_, _<_};
 ghost use lib.ListN.{length};
@@ -11,7 +11,8 @@ ghost use Rattle.places.specs.Places.{entryIn};
 ghost use Rattle.unions.specs.Shown.{shownAt, Known, Tree, Branch, Base, SizedRow};
 ghost use Rattle.table.specs.Items.{ITEM, ItemSmall};
 ghost use Rattle.table.specs.Entered.{listed, Entered};
-ghost use Rattle.entries.specs.Building.{itemIn, redefined, unionIn, ownMember, TableRoom, Built, ownItem, unionItem, ItemOpen, ItemClosed, Roomy};
+ghost use Rattle.entries.specs.Building.{itemIn, redefined, unionIn, ownMember, TableRoom, Built, ownItem};
+ghost use Rattle.entries.specs.Building.{unionItem, ItemOpen, ItemClosed, Roomy};
 ghost use Rattle.rows.specs.Columns.{ROW};
 use rows::NAME;
 use rows::NEXT;
@@ -24,7 +25,8 @@ use table::OWN;
 use table::UNION;
 use unions::Standing;
 
-// What a part of the table comes to: the place after it, how many of its entries stand at its own depth, and the widest of them.
+// What a part of the table comes to: the place after it, how many of its entries stand at its own depth, and the widest
+// of them.
 pub struct Block {
     pub next: usize,
     pub count: usize,
@@ -53,7 +55,8 @@ fn mark_of(member: bool) -> usize
 
 // An item closed: it is put before its members, which are there, and counts in its own list.
 fn close(entries: &mut [u32], b: Block, inner: Block, x: Item, width: usize) -> Block
-    requires { ⌜ (ITEM * b .next + ITEM ≤ length (now entries)) × ItemSmall x × (b .count < 4294967296) × (b .widest ≤ largest) × (width ≤ largest) ⌝ }
+    requires { ⌜ (ITEM * b .next + ITEM ≤ length (now entries)) × ItemSmall x × (b .count < 4294967296)
+        × (b .widest ≤ largest) × (width ≤ largest) ⌝ }
     ensures { λ r. ⌜ ItemClosed (now (entries .entry)) b inner x width r (now (entries .exit)) ⌝ }
 {
     table::put_item(entries, b.next, x);
@@ -76,7 +79,9 @@ fn close_item(
     depth: usize,
 ) -> Block
     requires { ⌜ SizedRow (now work) i × ItemOpen (now entries) b inner depth i ⌝ }
-    ensures { λ r. ⌜ ItemClosed (now (entries .entry)) b inner (ownItem (now (work .entry)) i member start b inner depth) (total (entryIn (now (work .entry)) i)) r (now (entries .exit)) ⌝ }
+    ensures { λ r. ⌜ ItemClosed (now (entries .entry)) b inner
+        (ownItem (now (work .entry)) i member start b inner depth) (total (entryIn (now (work .entry)) i)) r
+        (now (entries .exit)) ⌝ }
 {
     let width = unions::row_total(work, i);
     let x = Item {
@@ -101,7 +106,8 @@ fn close_union(
     depth: usize,
 ) -> Block
     requires { ⌜ (ROW * i + ROW ≤ length (now work)) × ItemOpen (now entries) b inner depth i ⌝ }
-    ensures { λ r. ⌜ ItemClosed (now (entries .entry)) b inner (unionItem (now (work .entry)) i b inner depth) (inner .widest) r (now (entries .exit)) ⌝ }
+    ensures { λ r. ⌜ ItemClosed (now (entries .entry)) b inner (unionItem (now (work .entry)) i b inner depth)
+        (inner .widest) r (now (entries .exit)) ⌝ }
 {
     let x = Item {
         row: i,
@@ -129,8 +135,10 @@ fn build_item(
     b: Block,
     depth: usize,
 ) -> Block
-    requires { ⌜ (i < j) × SizedRow (now work) i × Tree (now text) (now work) (i + 1) j × TableRoom (now entries) b depth (entries# (itemIn (now text) (now work) i j member start)) j ⌝ }
-    ensures { λ r. ⌜ Built i j (now (work .entry)) (now (entries .entry)) b depth (itemIn (now (text .entry)) (now (work .entry)) i j member start) r (now (entries .exit)) ⌝ }
+    requires { ⌜ (i < j) × SizedRow (now work) i × Tree (now text) (now work) (i + 1) j
+        × TableRoom (now entries) b depth (entries# (itemIn (now text) (now work) i j member start)) j ⌝ }
+    ensures { λ r. ⌜ Built i j (now (work .entry)) (now (entries .entry)) b depth
+        (itemIn (now (text .entry)) (now (work .entry)) i j member start) r (now (entries .exit)) ⌝ }
 {
     let at = b.next + 1;
     let inner = build_list(
@@ -160,8 +168,10 @@ fn build_redefiners(
     b: Block,
     depth: usize,
 ) -> Block
-    requires { ⌜ Base (now text) (now work) i j to × TableRoom (now entries) b depth (entries# (redefined (now text) (now work) i j to)) to ⌝ }
-    ensures { λ r. ⌜ Built i to (now (work .entry)) (now (entries .entry)) b depth (redefined (now (text .entry)) (now (work .entry)) i j to) r (now (entries .exit)) ⌝ }
+    requires { ⌜ Base (now text) (now work) i j to
+        × TableRoom (now entries) b depth (entries# (redefined (now text) (now work) i j to)) to ⌝ }
+    ensures { λ r. ⌜ Built i to (now (work .entry)) (now (entries .entry)) b depth
+        (redefined (now (text .entry)) (now (work .entry)) i j to) r (now (entries .exit)) ⌝ }
 {
     let start = rows::wide(work[ROW * i + OFFSET]);
     let mut r = b;
@@ -184,8 +194,8 @@ fn has_own(text: &[u8], work: &[u32], i: usize, j: usize, to: usize) -> bool
     unions::has_member(text, work, i + 1, j, name)
 }
 
-// Builds the members of the union of row i with its redefiners: those of row i, where one of them has its name, or row i
-// itself, and then the redefiners.
+// Builds the members of the union of row i with its redefiners: those of row i, where one of them has its name, or row
+// i itself, and then the redefiners.
 fn build_members(
     text: &[u8],
     work: &[u32],
@@ -196,8 +206,10 @@ fn build_members(
     b: Block,
     depth: usize,
 ) -> Block
-    requires { ⌜ Base (now text) (now work) i j to × TableRoom (now entries) b depth (entries# (unionIn (now text) (now work) i j to)) to ⌝ }
-    ensures { λ r. ⌜ Built i to (now (work .entry)) (now (entries .entry)) b depth (unionIn (now (text .entry)) (now (work .entry)) i j to) r (now (entries .exit)) ⌝ }
+    requires { ⌜ Base (now text) (now work) i j to
+        × TableRoom (now entries) b depth (entries# (unionIn (now text) (now work) i j to)) to ⌝ }
+    ensures { λ r. ⌜ Built i to (now (work .entry)) (now (entries .entry)) b depth
+        (unionIn (now (text .entry)) (now (work .entry)) i j to) r (now (entries .exit)) ⌝ }
 {
     if has_own(text, work, i, j, to) {
         let next = build_list(text, work, i + 1, j, entries, b, depth);
@@ -220,8 +232,10 @@ fn build_shown(
     b: Block,
     depth: usize,
 ) -> Block
-    requires { ⌜ Branch (now text) (now work) i j to × Known (now text) (now work) i last × TableRoom (now entries) b depth (entries# (shownAt (now text) (now work) i j to last)) to ⌝ }
-    ensures { λ r. ⌜ Built i to (now (work .entry)) (now (entries .entry)) b depth (shownAt (now (text .entry)) (now (work .entry)) i j to last) r (now (entries .exit)) ⌝ }
+    requires { ⌜ Branch (now text) (now work) i j to × Known (now text) (now work) i last
+        × TableRoom (now entries) b depth (entries# (shownAt (now text) (now work) i j to last)) to ⌝ }
+    ensures { λ r. ⌜ Built i to (now (work .entry)) (now (entries .entry)) b depth
+        (shownAt (now (text .entry)) (now (work .entry)) i j to last) r (now (entries .exit)) ⌝ }
 {
     match unions::standing_of(text, work, i, last) {
         Standing::Under => {
@@ -264,8 +278,10 @@ fn build_list(
     b: Block,
     depth: usize,
 ) -> Block
-    requires { ⌜ Tree (now text) (now work) from to × TableRoom (now entries) b depth (entries# (listed (now text) (now work) from to)) to ⌝ }
-    ensures { λ r. ⌜ Built from to (now (work .entry)) (now (entries .entry)) b depth (listed (now (text .entry)) (now (work .entry)) from to) r (now (entries .exit)) ⌝ }
+    requires { ⌜ Tree (now text) (now work) from to
+        × TableRoom (now entries) b depth (entries# (listed (now text) (now work) from to)) to ⌝ }
+    ensures { λ r. ⌜ Built from to (now (work .entry)) (now (entries .entry)) b depth
+        (listed (now (text .entry)) (now (work .entry)) from to) r (now (entries .exit)) ⌝ }
 {
     let mut r = b;
     let mut i = from;
@@ -281,11 +297,12 @@ fn build_list(
 
 // ---------------------------------------------------------------- the table of a record
 
-// Makes the table of the record in the rows from `from` up to `to`. Answers how many entries it has, how many of them stand at the top, and
-// how wide the widest of those is.
+// Makes the table of the record in the rows from `from` up to `to`. Answers how many entries it has, how many of them
+// stand at the top, and how wide the widest of those is.
 pub fn make_entries(text: &[u8], work: &[u32], from: usize, to: usize, entries: &mut [u32]) -> Block
     requires { ⌜ Tree (now text) (now work) from to × (to ≤ mostStatements) × Roomy (now entries) to ⌝ }
-    ensures { λ r. ⌜ Entered (now (text .entry)) (now (work .entry)) from to (now (entries .exit)) (r .next) × (r .count ≡ members# (listed (now (text .entry)) (now (work .entry)) from to)) ⌝ }
+    ensures { λ r. ⌜ Entered (now (text .entry)) (now (work .entry)) from to (now (entries .exit)) (r .next)
+        × (r .count ≡ members# (listed (now (text .entry)) (now (work .entry)) from to)) ⌝ }
 {
     build_list(
         text,

@@ -21,7 +21,7 @@ use Rattle.definition.specs.Listing.{members#}
 use Rattle.definition.specs.Owner.{size, overlaid}
 use Rattle.definition.specs.Record.{layout, unfolded}
 use Rattle.definition.specs.Tree.{Forest}
-use Rattle.layout.proofs.BareLaws.{layout-is}
+use Rattle.record.proofs.LaidLaws.{layout-is}
 use Rattle.places.specs.Places.{entryIn, rowsForest}
 use Rattle.places.proofs.EntriesLaws.{size-stretch}
 use Rattle.unions.specs.Shown.{listIn}

@@ -13,7 +13,7 @@ use Rattle.definition.specs.Fold.{Entries, foldedAll}
 use Rattle.definition.specs.Key.{Key, keyAmong, keyIn}
 use Rattle.definition.specs.Record.{layout}
 use Rattle.definition.specs.Tree.{Forest}
-use Rattle.layout.proofs.BareLaws.{layout-is}
+use Rattle.record.proofs.LaidLaws.{layout-is}
 use Rattle.unions.specs.Shown.{listIn}
 use Rattle.table.specs.Items.{itemsFrom}
 use Rattle.table.specs.Entered.{Shown, shownAll, Entered}

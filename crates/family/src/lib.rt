@@ -259,8 +259,8 @@ fn key_or_none(texts: &[u8], lengths: &[u64], name: &[u8], work: &mut [u32]) -> 
     })
 }
 
-// The offset and width of the key of that name that all copybooks have: `texts` has their bytes one after the other, and
-// `lengths` says how many each has.
+// The offset and width of the key of that name that all copybooks have: `texts` has their bytes one after the other,
+// and `lengths` says how many each has.
 pub fn set_key(texts: &[u8], lengths: &[u64], name: &[u8], work: &mut [u32]) -> KeyAnswer
     ensures { λ r. ⌜ left (keyAnswerOf r) [] (now (work .exit))
         ≡ keyCall (now (texts .entry)) (now (lengths .entry)) (now (name .entry)) (now (work .entry)) ⌝ }

@@ -14,7 +14,8 @@ use Rattle.definition.specs.declared.UsageClause.{UsageClause}
 use Rattle.definition.specs.declared.SignWords.{SignWords}
 use Rattle.definition.specs.Listing.{flag, signByte, storageByte}
 use Rattle.kinds.specs.declared.KindNumbers.{KindNumbers}
-use Rattle.kinds.specs.Kinds.{signAt, storageAt, kindNumbers, numbersOf, kindOf, packed, unpacked, kindCode, kindAt, Bytes}
+use Rattle.kinds.specs.Kinds.{signAt, storageAt, kindNumbers, numbersOf, kindOf, packed, unpacked, kindCode}
+use Rattle.kinds.specs.Kinds.{kindAt, Bytes}
 use Rattle.kinds.specs.Usages.{itemUsageByte, itemUsageAt, usageCode, usageClauseAt, signCode, signWordsAt}
 
 pub flag-back : (b : Bool) → eqb (flag b) 1 ≡ b

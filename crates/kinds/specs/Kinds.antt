@@ -1,4 +1,5 @@
--- The numbers of a kind, and the kind of its numbers. The listing's numbers of kinds, signs and storages are the definition's (`Listing`).
+-- The numbers of a kind, and the kind of its numbers. The listing's numbers of kinds, signs and storages are the
+-- definition's (`Listing`).
 -- Assumes nothing.
 use Prim.Native.Nat.{ℕ, _+_, _*_, _/_, _%_, _<_}
 use lib.Dec.{eqb}
@@ -33,7 +34,8 @@ abbrev pub numbersOf : FieldKind → KindNumbers
 numbersOf FieldKind.Text = kindNumbers 1 0 0 0 0 0
 numbersOf (FieldKind.Int signed sign) = kindNumbers 2 (flag signed) (signByte sign) 0 0 0
 numbersOf (FieldKind.Binary signed) = kindNumbers 3 (flag signed) 0 0 0 0
-numbersOf (FieldKind.Decimal precision scale repr sign) = kindNumbers 4 0 (signByte sign) precision scale (storageByte repr)
+numbersOf (FieldKind.Decimal precision scale repr sign) =
+    kindNumbers 4 0 (signByte sign) precision scale (storageByte repr)
 numbersOf (FieldKind.Edited precision scale signed) = kindNumbers 5 (flag signed) 0 precision scale 0
 numbersOf FieldKind.Group = kindNumbers 6 0 0 0 0 0
 numbersOf (FieldKind.Float bits) = kindNumbers 7 0 0 bits 0 0
@@ -56,7 +58,8 @@ abbrev pub packed : KindNumbers → ℕ
 packed n = n .kind + 8 * (n .signed + 2 * (n .sign + 4 * (n .storage + 4 * (n .precision + 256 * n .scale))))
 
 abbrev pub unpacked : ℕ → KindNumbers
-unpacked code = kindNumbers (code % 8) (code / 8 % 2) (code / 16 % 4) (code / 256 % 256) (code / 65536 % 256) (code / 64 % 4)
+unpacked code =
+    kindNumbers (code % 8) (code / 8 % 2) (code / 16 % 4) (code / 256 % 256) (code / 65536 % 256) (code / 64 % 4)
 
 abbrev pub kindCode : FieldKind → ℕ
 kindCode k = packed (numbersOf k)

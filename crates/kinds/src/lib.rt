@@ -1,5 +1,5 @@
-// The numbers of kinds, signs, storages and usages, both ways. What the listing writes, what a row holds and what C is handed are these; no
-// other crate has a number of its own for them. Leans on `definition`.
+// The numbers of kinds, signs, storages and usages, both ways. What the listing writes, what a row holds and what C is
+// handed are these; no other crate has a number of its own for them. Leans on `definition`.
 ghost use mathlib.Core.Path.{_≡_};
 ghost use Prim.Native.Nat.{_≤_};
 ghost use Rattle.definition.specs.Listing.{flag, signByte, storageByte, kindByte};

@@ -19,7 +19,9 @@ use Rattle.definition.specs.declared.Statement.{Statement}
 use Rattle.definition.specs.Limits.{mostBytes, mostDigits, longestMask}
 use Rattle.definition.specs.Basic.{if_then_else_, upper, give, _>>=_}
 use Rattle.definition.specs.Tree.{Forest, leaf, item}
-use Rattle.definition.specs.Picture.{expand, allDigits, storedDigits, fraction, isText, isMasked, mask, pictured, isEmbedded, signBytes, storageWidth, display, numeric, kinded, tooLong, symbols, picture}
+use Rattle.definition.specs.Picture.{expand, allDigits, storedDigits, fraction, isText, isMasked, mask, pictured}
+use Rattle.definition.specs.Picture.{isEmbedded, signBytes, storageWidth, display, numeric, kinded, tooLong, symbols}
+use Rattle.definition.specs.Picture.{picture}
 use Rattle.definition.specs.Layout.{underUsage, content}
 use Rattle.definition.proofs.Answers.{through, given-same, not-refused, or-false}
 use Rattle.definition.proofs.PictureLaws.{tally-le, without-length, mask-width}

@@ -1,4 +1,5 @@
--- Laws of the layout in the table: a list goes on after its first item; an item is its inner list and then its own place.
+-- Laws of the layout in the table: a list goes on after its first item; an item is its inner list and then its own
+-- place.
 -- Assumes nothing.
 use Prim.Native.Nat.{ℕ, suc, _+_, _*_, _-_, max, _≤_, _<_}
 use mathlib.Core.Path.{_≡_, refl, sym, ap, subst, _∙_}
@@ -27,12 +28,14 @@ use Rattle.places.specs.Places.{putPlaces, lastOf, entriesIn, rowsForest}
 use Rattle.redefines.specs.Targets.{placeAt, seenFrom, seenAt}
 use Rattle.redefines.specs.Prints.{Printed}
 use Rattle.places.specs.Children.{ChildrenEnd}
-use Rattle.places.proofs.PlaceLaws.{kept-places, before-places, statement-places, statements-places, first-offset, first-last, seen-low, seen-in, seen-same, printed-places}
+use Rattle.places.proofs.PlaceLaws.{kept-places, before-places, statement-places, statements-places, first-offset}
+use Rattle.places.proofs.PlaceLaws.{first-last, seen-low, seen-in, seen-same, printed-places}
 use Rattle.places.proofs.RowLaws.{forest-empty, forest-split, children-end}
 use Rattle.places.proofs.EntriesLaws.{size-stretch, rows-forest, Held, places-held, next-row, of-size}
 use Rattle.limits.proofs.EndLaws.{within}
 use Rattle.layout.specs.Bare.{ItemLaid, placedEntry, bareItem}
-use Rattle.layout.specs.Outcomes.{stopped, ready, after, layRest, layTable, halted, placing, afterItem, layItem, afterOwn, placeRow}
+use Rattle.layout.specs.Outcomes.{stopped, ready, after, layRest, layTable, halted, placing, afterItem, layItem}
+use Rattle.layout.specs.Outcomes.{afterOwn, placeRow}
 use Rattle.layout.proofs.ContentLaws.{leaf-bounded}
 use Rattle.layout.proofs.ListLaws.{restAfter, bare-split, item-is, bare-is}
 

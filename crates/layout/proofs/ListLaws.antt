@@ -17,10 +17,18 @@ use Rattle.definition.proofs.Answers.{through, given-same, not-refused}
 use Rattle.places.proofs.EntriesLaws.{EntryOf, Of}
 use Rattle.limits.proofs.EndLaws.{within}
 use Rattle.layout.specs.Bare.{ItemLaid, placedEntry, bareItem}
-use Rattle.layout.proofs.BareLaws.{bind-along}
 use Rattle.layout.proofs.ContentLaws.{content-bytes}
 
 -- ---------------------------------------------------------------- the first item, and the rest
+
+-- the same first step, and then ways of going on that agree up to `fin`
+bind-along :
+    {A B C : Type 0} (a : Answer A) (f : A → Answer C) (g : A → Answer B) (fin : B → Answer C) →
+    ((x : A) → f x ≡ (g x >>= fin)) →
+    (a >>= f) ≡ ((a >>= g) >>= fin)
+unfolding _>>=_
+bind-along (refuse r) f g fin h = refl
+bind-along (give x) f g fin h = h x
 
 -- a place, its check, and what comes next
 place-along :

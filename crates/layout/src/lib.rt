@@ -4,17 +4,11 @@ ghost use Prim.Native.Nat.{_+_, _*_, _-_, _≤_, _<_};
 ghost use lib.ListN.{length};
 ghost use Rattle.definition.specs.Limits.{deepest, largest};
 ghost use Rattle.definition.specs.Basic.{if_then_else_, given, fewest};
-ghost use Rattle.definition.specs.Layout.{slackFrom};
-ghost use Rattle.definition.specs.Calls.{checkOf};
-ghost use Rattle.redefines.specs.Targets.{offsetOf, plainAfter};
+ghost use Rattle.definition.specs.Layout.{start, slackFrom};
+ghost use Rattle.redefines.specs.Targets.{seenAt, targetFrom, startOf, targetIn};
 ghost use Rattle.redefines.specs.Prints.{Printed};
-ghost use Rattle.places.specs.Places.{entriesIn, Linked, rowsForest};
-ghost use Rattle.layout.specs.Outcomes.{placeRow, layItem, layTable};
-ghost use Rattle.layout.specs.Steps.{startAt, startOf, itemOf, listOf, Room, checkRow};
-ghost use Rattle.definition.specs.Fold.{foldCheck};
-ghost use mathlib.Core.List.{[]};
-ghost use Rattle.rows.specs.Columns.{ROW, BASE};
-ghost use Rattle.rows.specs.Table.{cell};
+ghost use Rattle.layout.specs.Outcomes.{placeRow, layItem, layTable, itemOf, listOf, Room};
+ghost use Rattle.rows.specs.Columns.{ROW};
 use definition::Check;
 use definition::FieldKind;
 use definition::PicAnswer;
@@ -23,11 +17,8 @@ use definition::Refusal;
 use definition::Span;
 use definition::Statement;
 use limits::Ending;
+use redefines::Start;
 use rows::AT;
-use rows::BASE;
-use rows::OFFSET;
-use rows::PLACERS;
-use rows::REDEFINES;
 use rows::ROW;
 
 // The first multiple of the width from the cursor on.
@@ -41,38 +32,41 @@ fn aligned(cursor: usize, width: usize) -> usize
     cursor + (width - cursor % width) % width
 }
 
-// Where an item starts, or why it cannot be placed.
-pub enum Start {
-    At(usize),
-    Refused(Refusal),
-}
-
-// Where an item starts that redefines the row `target` (a row and 1, or 0 for none): 28 for a REDEFINES that names no
-// earlier sibling.
-fn start_of(work: &[u32], s: Statement, c: Pictured, target: usize, cursor: usize) -> Start
-    requires { ⌜ (ROW * target ≤ length (now work)) × (cursor ≤ largest) × (c .width ≤ largest) ⌝ }
-    ensures { λ r. ⌜ startOf r ≡ startAt s c (offsetOf (now (work .entry)) target) cursor ⌝ }
+// Where an item starts: over the sibling that it redefines (28), or at the cursor, or where SYNC aligns it from there.
+fn start_of(
+    text: &[u8],
+    work: &[u32],
+    s: Statement,
+    c: Pictured,
+    last: usize,
+    cursor: usize,
+) -> Start
+    requires { ⌜ (ROW * last ≤ length (now work))
+        × Printed (now text) (now work) last
+        × (cursor ≤ largest)
+        × (c .width ≤ largest) ⌝ }
+    ensures { λ r. ⌜ (startOf r ≡ start (now (text .entry)) s c (seenAt (now (work .entry)) last) cursor)
+        × (targetIn r ≡ targetFrom (now (text .entry)) (s .clauses .redefines) (now (work .entry)) last)
+        × (targetIn r ≤ last) ⌝ }
 {
     let clauses = s.clauses;
     let redefines = clauses.redefines;
     if 0 < redefines.len {
-        if 0 < target {
-            let row = target - 1;
-            return Start::At(rows::wide(work[ROW * row + OFFSET]));
-        }
-        return Start::Refused(Refusal {
-            number: 28,
-            position: s.at,
-            needed: 0,
-        });
+        return redefines::start_over(text, work, redefines, s.at, last);
     }
     if clauses.sync {
         let kind = c.kind;
         if kinds::is_alignable(kind) {
-            return Start::At(aligned(cursor, c.width));
+            return Start::At {
+                target: 0,
+                offset: aligned(cursor, c.width),
+            };
         }
     }
-    Start::At(cursor)
+    Start::At {
+        target: 0,
+        offset: cursor,
+    }
 }
 
 // The slack directly before an item: the bytes from the cursor to the item, and none before a redefiner.
@@ -112,30 +106,6 @@ pub enum LaidList {
     Refused(Refusal),
 }
 
-// The latest sibling without REDEFINES from `last` back: that one, or the one that it names.
-fn plain_after(work: &[u32], last: usize) -> usize
-    requires { ⌜ (ROW * last ≤ length (now work)) × (last < 65536) ⌝ }
-    ensures { λ r. ⌜ (r ≡ plainAfter (now (work .entry)) last) × (r < 65536) ⌝ }
-{
-    if 0 < last {
-        let row = last - 1;
-        let redefines = rows::span_at(work[ROW * row + REDEFINES]);
-        if 0 < redefines.len {
-            return rows::wide(work[ROW * row + PLACERS]) / 65536;
-        }
-        return last;
-    }
-    0
-}
-
-// The siblings that may place an item, in one number.
-fn placers_of(work: &[u32], last: usize, target: usize) -> u32
-    requires { ⌜ (ROW * last ≤ length (now work)) × (last < 65536) × (target < 65536) ⌝ }
-    ensures { λ r. ⌜ r ≡ plainAfter (now (work .entry)) last * 65536 + target ⌝ }
-{
-    (plain_after(work, last) * 65536 + target) as u32
-}
-
 // The item of row i placed, after `below` rows below it: 28, then 29.
 fn place(
     text: &[u8],
@@ -146,33 +116,29 @@ fn place(
     cursor: usize,
     c: Pictured,
 ) -> ItemAnswer
-    requires { ⌜ (ROW * i + ROW ≤ length (now work)) × (last ≤ i) × (i < 65536) × (below < 4294967296) × (cursor ≤ largest) × (c .width ≤ largest) × Printed (now text) (now work) i ⌝ }
-    ensures { λ r. ⌜ itemOf r (now (work .exit)) ≡ placeRow (now (text .entry)) (now (work .entry)) i below last cursor c ⌝ }
+    requires { ⌜ (ROW * i + ROW ≤ length (now work)) × (last ≤ i) × (i < 65536) × (below < 4294967296)
+        × (cursor ≤ largest) × (c .width ≤ largest) × Printed (now text) (now work) i ⌝ }
+    ensures { λ r. ⌜ itemOf r (now (work .exit))
+        ≡ placeRow (now (text .entry)) (now (work .entry)) i below last cursor c ⌝ }
 {
     let s = rows::statement_at(work, i);
     let clauses = s.clauses;
     let redefines = clauses.redefines;
-    let found = redefines::target_of(text, work, redefines, last);
-    let target = found.row;
-    match start_of(work, s, c, target, cursor) {
-        Start::At(offset) => {
+    match start_of(text, work, s, c, last, cursor) {
+        Start::At { target, offset } => {
             let e = places::entry_of(s, c, offset, slack_from(cursor, s, offset));
             match limits::entry_end(e) {
                 Ending::At(end) => {
                     let base = redefines::base_of(text, work, redefines, target);
-                    let placers = placers_of(work, last, target);
+                    let placers = redefines::placers_of(work, last, target);
                     places::put_place(work, i, last, below, base, placers, e);
                     return ItemAnswer::Done {
                         cursor: advanced(cursor, redefines, end),
                         end,
                     };
                 }
-                Ending::TooLarge => {
-                    return ItemAnswer::Refused(Refusal {
-                        number: 29,
-                        position: s.at,
-                        needed: 0,
-                    });
+                Ending::Refused(r) => {
+                    return ItemAnswer::Refused(r);
                 }
             }
         }
@@ -182,47 +148,8 @@ fn place(
     }
 }
 
-// Refusal 30 for row i: a redefiner that starts before its base.
-fn check_row(work: &[u32], i: usize) -> Check
-    requires { ⌜ (ROW * i + ROW ≤ length (now work)) × (cell (now work) i BASE ≤ i) ⌝ }
-    ensures { λ r. ⌜ checkOf r ≡ checkRow (now (work .entry)) i ⌝ }
-{
-    let base = rows::wide(work[ROW * i + BASE]);
-    if 0 < base {
-        let row = base - 1;
-        if work[ROW * i + OFFSET] < work[ROW * row + OFFSET] {
-            return Check::Refused(Refusal {
-                number: 30,
-                position: rows::wide(work[ROW * i + AT]),
-                needed: 0,
-            });
-        }
-        return Check::Passed;
-    }
-    Check::Passed
-}
-
-// Refusal 30 for the list in the rows from `from` up to `to`, as it is laid: its first redefiner that starts before its base.
-pub fn fold_check(text: &[u8], work: &[u32], from: usize, to: usize) -> Check
-    requires { ⌜ (ROW * to ≤ length (now work)) × Linked (now text) (now work) from 0 (rowsForest (now work) from to) ⌝ }
-    ensures { λ r. ⌜ checkOf r ≡ foldCheck (now (text .entry)) [] (entriesIn (now (work .entry)) from (rowsForest (now (work .entry)) from to)) ⌝ }
-{
-    let mut i = from;
-    while i < to {
-        match check_row(work, i) {
-            Check::Passed => {
-                i = places::next_of(work, i, to);
-            }
-            Check::Refused(r) => {
-                return Check::Refused(r);
-            }
-        }
-    }
-    Check::Passed
-}
-
-// Lays out row i, whose children are the rows up to j, after the sibling `last`. 20 for an inner list that is too deep; then
-// the inner list and its check; then the item's own checks.
+// Lays out row i, whose children are the rows up to j, after the sibling `last`. 20 for an inner list that is too deep;
+// then the inner list and its check; then the item's own checks.
 fn lay_item(
     text: &[u8],
     work: &mut [u32],
@@ -233,7 +160,8 @@ fn lay_item(
     cursor: usize,
 ) -> ItemAnswer
     requires { ⌜ (i < j) × Room (now text) (now work) j × («depth_left» ≤ deepest) × (last ≤ i) × (cursor ≤ largest) ⌝ }
-    ensures { λ r. ⌜ itemOf r (now (work .exit)) ≡ layItem (now (text .entry)) (now (work .entry)) i j (deepest - «depth_left») last cursor ⌝ }
+    ensures { λ r. ⌜ itemOf r (now (work .exit))
+        ≡ layItem (now (text .entry)) (now (work .entry)) i j (deepest - «depth_left») last cursor ⌝ }
 {
     let first = i + 1;
     if first < j {
@@ -245,7 +173,12 @@ fn lay_item(
             });
         }
         match lay_list(text, work, first, j, depth_left - 1) {
-            LaidList::Done { width, last: inner } => match fold_check(text, work, first, j) {
+            LaidList::Done { width, last: inner } => match unions::fold_check(
+                text,
+                work,
+                first,
+                j,
+            ) {
                 Check::Passed => {
                     return place(
                         text,
@@ -280,11 +213,12 @@ fn lay_item(
     }
 }
 
-// Lays out the siblings in the rows from `from` up to `to`: each starts where the cursor is, and the list is as wide as its
-// largest end. The remaining depth falls at each group.
+// Lays out the siblings in the rows from `from` up to `to`: each starts where the cursor is, and the list is as wide as
+// its largest end. The remaining depth falls at each group.
 pub fn lay_list(text: &[u8], work: &mut [u32], from: usize, to: usize, depth_left: u32) -> LaidList
     requires { ⌜ Room (now text) (now work) to × («depth_left» ≤ deepest) ⌝ }
-    ensures { λ r. ⌜ listOf r (now (work .exit)) ≡ layTable (now (text .entry)) (now (work .entry)) from to (deepest - «depth_left») ⌝ }
+    ensures { λ r. ⌜ listOf r (now (work .exit))
+        ≡ layTable (now (text .entry)) (now (work .entry)) from to (deepest - «depth_left») ⌝ }
 {
     let mut i = from;
     let mut last = 0;

@@ -1,13 +1,14 @@
-// Where an entry ends, or that one of its numbers is above the largest: refusal 29. Leans on `definition`.
+// Refusal 29, and where an entry ends unless one of its numbers is above the largest. Leans on `definition`.
 ghost use mathlib.Core.Path.{_≡_};
 ghost use Prim.Native.Nat.{_+_, _*_, _≤_, _<_, max};
 ghost use Rattle.definition.specs.Limits.{largest};
 ghost use Rattle.definition.specs.Fold.{times, total};
-ghost use Rattle.limits.specs.Ends.{endOf, endingOf};
+ghost use Rattle.limits.specs.Ends.{refusal29, endOf, endingOf};
 use definition::Entry;
 use definition::LARGEST;
 use definition::LARGEST_COUNT;
 use definition::Occurs;
+use definition::Refusal;
 
 // How often an item stands.
 pub fn times_of(o: Occurs) -> u64
@@ -19,13 +20,24 @@ pub fn times_of(o: Occurs) -> u64
     }
 }
 
-// Where an entry ends, or that one of its numbers is too large.
-pub enum Ending {
-    At(usize),
-    TooLarge,
+// Refusal 29 for the item at that position.
+pub fn too_large(at: usize) -> Refusal
+    ensures { λ r. ⌜ r ≡ refusal29 at ⌝ }
+{
+    Refusal {
+        number: 29,
+        position: at,
+        needed: 0,
+    }
 }
 
-// Where an entry ends: 29 is due where its count, offset, bytes or end are above 2,147,483,647.
+// Where an entry ends, or why it is refused.
+pub enum Ending {
+    At(usize),
+    Refused(Refusal),
+}
+
+// Where an entry ends: 29 where its count, offset, bytes or end are above 2,147,483,647.
 pub fn entry_end(e: Entry) -> Ending
     requires { ⌜ e .width ≤ largest ⌝ }
     ensures { λ r. ⌜ endingOf r ≡ endOf e ⌝ }
@@ -33,22 +45,22 @@ pub fn entry_end(e: Entry) -> Ending
     let occurs = e.occurs;
     let n = times_of(occurs);
     if LARGEST_COUNT < n {
-        return Ending::TooLarge;
+        return Ending::Refused(too_large(e.at));
     }
     let offset = e.offset;
     if LARGEST < offset {
-        return Ending::TooLarge;
+        return Ending::Refused(too_large(e.at));
     }
     let total = e.width * n as usize;
     if LARGEST < total {
-        return Ending::TooLarge;
+        return Ending::Refused(too_large(e.at));
     }
     let depending = e.depending;
     if 0 < depending.len {
         return Ending::At(offset);
     }
     if LARGEST < offset + total {
-        return Ending::TooLarge;
+        return Ending::Refused(too_large(e.at));
     }
     Ending::At(offset + total)
 }

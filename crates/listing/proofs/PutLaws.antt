@@ -1,4 +1,5 @@
--- Laws of bytes that were put: some after others, what stands in the output then, and how long it is; the parts of an entry and of the listing.
+-- Laws of bytes that were put: some after others, what stands in the output then, and how long it is; the parts of an
+-- entry and of the listing.
 -- Assumes nothing.
 use Prim.Native.Nat.{ℕ, suc, _+_, _≤_, _<_}
 use mathlib.Core.Path.{_≡_, refl, ap, _∙_}
@@ -17,7 +18,8 @@ use Rattle.definition.specs.Record.{recordLength, variable}
 use Rattle.definition.specs.Listing.{members#, spanBytes, occursBytes, details, entryBytes, entriesBytes, listing}
 use Rattle.definition.proofs.Lists.{sets-append}
 use Rattle.definition.proofs.ListingLaws.{details#, entry-length}
-use Rattle.listing.specs.Puts.{Countable, Put, headBytes, placeBytes}
+use Rattle.listing.specs.Puts.{Countable, Put, headBytes, placeBytes, lineOf, lineBytes}
+use Rattle.listing.specs.declared.Line.{Line}
 
 -- nothing is put
 pub put-none : (out : List ℕ) (at : ℕ) → Put out at [] at out
@@ -65,7 +67,7 @@ module _ (bs out : List ℕ) {n : ℕ} (e : n ≡ length bs) where
 -- ---------------------------------------------------------------- the listing's parts
 
 -- the most that a kind adds
-details-most : (k : FieldKind) → details# k ≤ 11
+pub details-most : (k : FieldKind) → details# k ≤ 11
 details-most FieldKind.Text = omega arith
 details-most (FieldKind.Int signed sign) = omega arith
 details-most (FieldKind.Binary signed) = omega arith
@@ -74,19 +76,29 @@ details-most (FieldKind.Edited precision scale signed) = omega arith
 details-most FieldKind.Group = omega arith
 details-most (FieldKind.Float bits) = omega arith
 
-module _ (e : Entry) (n : ℕ) where
-  -- the parts of an entry, in the order in which they are put
-  pub entry-parts : entryBytes e n ≡ placeBytes e ++ occursBytes (e .occurs) ++ spanBytes (e .depending) ++ spanBytes (e .redefines) ++ details (e .kind) (e .picture) n
-  unfolding entryBytes
-  entry-parts = refl
+module _ (l : Line) (n : ℕ) where
+  -- the parts of what is said of an entry, in the order in which they are put
+  pub line-parts :
+      lineBytes l n
+      ≡ placeBytes l ++ occursBytes (l .occurs) ++ spanBytes (l .depending) ++ spanBytes (l .redefines)
+      ++ details (l .kind) (l .picture) n
+  unfolding lineBytes
+  line-parts = refl
 
   -- how many bytes the parts have
-  pub entry-sizes : length (entryBytes e n) ≡ 33 + length (occursBytes (e .occurs)) + length (details (e .kind) (e .picture) n)
-  entry-sizes = rw entry-parts (simp length-append (omega arith))
+  pub line-sizes :
+      length (lineBytes l n) ≡ 33 + length (occursBytes (l .occurs)) + length (details (l .kind) (l .picture) n)
+  line-sizes = rw line-parts (simp length-append (omega arith))
 
-  -- an entry can be counted from any place that four bytes hold
-  pub entry-countable : (at : ℕ) → at ≤ 4294967295 → Countable at (entryBytes e n)
-  entry-countable at h = omega (arith, entry-length e n, details-most (e .kind))
+module _ (e : Entry) (n : ℕ) where
+  -- an entry is what is said of it
+  pub entry-line : entryBytes e n ≡ lineBytes (lineOf e) n
+  unfolding entryBytes lineBytes
+  entry-line = refl
+
+  -- it can be counted from any place that four bytes hold
+  pub entry-countable : (at : ℕ) → at ≤ 4294967295 → Countable at (lineBytes (lineOf e) n)
+  entry-countable at h = omega (arith, ap length entry-line, entry-length e n, details-most (e .kind))
 
 -- the listing is the record's head, then the entries
 pub listing-parts : (es : Entries) → listing es ≡ headBytes (recordLength es) (variable es) (members# es) ++ entriesBytes es

@@ -1,14 +1,14 @@
-// The bytes of the layout listing, put into a lent output from a place on: numbers, places, the record's head, one entry. A byte
-// past the output's end is counted and not written, so that on an empty output the same functions only count. Each answers
-// the place after its bytes. Leans on `definition` and `kinds`.
+// The bytes of the layout listing, put into a lent output from a place on: numbers, places, the record's head, one
+// entry. A byte past the output's end is counted and not written, so that on an empty output the same functions only
+// count. Each answers the place after its bytes. Leans on `definition` and `kinds`.
 ghost use Prim.Native.Nat.{_%_};
 ghost use mathlib.Core.Path.{_≡_};
 ghost use mathlib.Core.List.{[], _∷_};
 ghost use lib.ListN.{set};
 ghost use Rattle.definition.specs.Basic.{le4, le8};
 ghost use Rattle.definition.specs.Fold.{union};
-ghost use Rattle.definition.specs.Listing.{flag, signByte, storageByte, spanBytes, occursBytes, details, entryBytes};
-ghost use Rattle.listing.specs.Puts.{Countable, Put, headBytes, placeBytes};
+ghost use Rattle.definition.specs.Listing.{flag, signByte, storageByte, spanBytes, occursBytes, details};
+ghost use Rattle.listing.specs.Puts.{Countable, Put, headBytes, placeBytes, lineBytes};
 use definition::Entry;
 use definition::FieldKind;
 use definition::NumRepr;
@@ -44,8 +44,8 @@ fn put_low(out: &mut [u8], at: usize, x: usize) -> usize
     put_byte(out, at, (x % 256) as u8)
 }
 
-// A number in four bytes, the lowest first.
-pub fn put4(out: &mut [u8], at: usize, x: usize) -> usize
+// A number in four bytes, the lowest first, each where the output has its place.
+fn put4_each(out: &mut [u8], at: usize, x: usize) -> usize
     requires { ⌜ Countable at (le4 x) ⌝ }
     ensures { λ r. ⌜ Put (now (out .entry)) at (le4 x) r (now (out .exit)) ⌝ }
 {
@@ -53,6 +53,22 @@ pub fn put4(out: &mut [u8], at: usize, x: usize) -> usize
     let third = put_low(out, second, x / 256);
     let fourth = put_low(out, third, x / 65536);
     put_low(out, fourth, x / 16777216)
+}
+
+// The same. Where the output has room for all four they are stored without a test between them, so that the compiler
+// makes one store of them.
+pub fn put4(out: &mut [u8], at: usize, x: usize) -> usize
+    requires { ⌜ Countable at (le4 x) ⌝ }
+    ensures { λ r. ⌜ Put (now (out .entry)) at (le4 x) r (now (out .exit)) ⌝ }
+{
+    if out.len() < at + 4 {
+        return put4_each(out, at, x);
+    }
+    out[at] = (x % 256) as u8;
+    out[at + 1] = (x / 256 % 256) as u8;
+    out[at + 2] = (x / 65536 % 256) as u8;
+    out[at + 3] = (x / 16777216 % 256) as u8;
+    at + 4
 }
 
 // A number in eight bytes, the lowest first.
@@ -142,7 +158,8 @@ fn put_decimal(
     sign: SignKind,
 ) -> usize
     requires { ⌜ Countable at (precision ∷ scale ∷ storageByte repr ∷ signByte sign ∷ []) ⌝ }
-    ensures { λ r. ⌜ Put (now (out .entry)) at (precision ∷ scale ∷ storageByte repr ∷ signByte sign ∷ []) r (now (out .exit)) ⌝ }
+    ensures { λ r. ⌜ Put (now (out .entry)) at (precision ∷ scale ∷ storageByte repr ∷ signByte sign ∷ []) r
+        (now (out .exit)) ⌝ }
 {
     let next = put_pair(out, at, precision, scale);
     put_pair(out, next, kinds::storage_byte(repr), kinds::sign_byte(sign))
@@ -158,7 +175,8 @@ fn put_edited(
     picture: Span,
 ) -> usize
     requires { ⌜ Countable at (precision ∷ scale ∷ flag signed ∷ spanBytes picture) ⌝ }
-    ensures { λ r. ⌜ Put (now (out .entry)) at (precision ∷ scale ∷ flag signed ∷ spanBytes picture) r (now (out .exit)) ⌝ }
+    ensures { λ r. ⌜ Put (now (out .entry)) at (precision ∷ scale ∷ flag signed ∷ spanBytes picture) r
+        (now (out .exit)) ⌝ }
 {
     let third = put_pair(out, at, precision, scale);
     let place = put_byte(out, third, kinds::flag_byte(signed));
@@ -215,30 +233,43 @@ pub fn put_head(out: &mut [u8], at: usize, length: usize, variable: bool, top: u
     put_marked(out, next, kinds::flag_byte(variable), top)
 }
 
-// An entry's kind, name, offset and width.
-fn put_place(out: &mut [u8], at: usize, e: Entry) -> usize
-    requires { ⌜ Countable at (placeBytes e) ⌝ }
-    ensures { λ r. ⌜ Put (now (out .entry)) at (placeBytes e) r (now (out .exit)) ⌝ }
-{
-    let kind = e.kind;
-    let name = e.name;
-    let second = put_byte(out, at, kinds::kind_byte(kind));
-    let offset = put_span(out, second, name);
-    let width = put4(out, offset, e.offset);
-    put4(out, width, e.width)
+// What the listing says of an entry: its kind, name, offset and width, how often it stands, the names of DEPENDING ON
+// and REDEFINES, and its picture.
+pub struct Line {
+    pub kind: FieldKind,
+    pub name: Span,
+    pub offset: usize,
+    pub width: usize,
+    pub occurs: Occurs,
+    pub depending: Span,
+    pub redefines: Span,
+    pub picture: Span,
 }
 
-// An entry with n members.
-pub fn put_entry(out: &mut [u8], at: usize, e: Entry, n: usize) -> usize
-    requires { ⌜ Countable at (entryBytes e n) ⌝ }
-    ensures { λ r. ⌜ Put (now (out .entry)) at (entryBytes e n) r (now (out .exit)) ⌝ }
+// An entry's kind, name, offset and width.
+fn put_place(out: &mut [u8], at: usize, l: Line) -> usize
+    requires { ⌜ Countable at (placeBytes l) ⌝ }
+    ensures { λ r. ⌜ Put (now (out .entry)) at (placeBytes l) r (now (out .exit)) ⌝ }
 {
-    let kind = e.kind;
-    let picture = e.picture;
-    let occurs = e.occurs;
-    let depending = e.depending;
-    let redefines = e.redefines;
-    let third = put_place(out, at, e);
+    let kind = l.kind;
+    let name = l.name;
+    let second = put_byte(out, at, kinds::kind_byte(kind));
+    let offset = put_span(out, second, name);
+    let width = put4(out, offset, l.offset);
+    put4(out, width, l.width)
+}
+
+// The line of an entry with n members.
+pub fn put_line(out: &mut [u8], at: usize, l: Line, n: usize) -> usize
+    requires { ⌜ Countable at (lineBytes l n) ⌝ }
+    ensures { λ r. ⌜ Put (now (out .entry)) at (lineBytes l n) r (now (out .exit)) ⌝ }
+{
+    let kind = l.kind;
+    let picture = l.picture;
+    let occurs = l.occurs;
+    let depending = l.depending;
+    let redefines = l.redefines;
+    let third = put_place(out, at, l);
     let fourth = put_occurs(out, third, occurs);
     let fifth = put_span(out, fourth, depending);
     let last = put_span(out, fifth, redefines);

@@ -72,10 +72,11 @@ fn write_mask(picture: &[u8], out: &mut [u8])
     }
 }
 
-// Writes the mask of a picture whose text was checked, where it is edited under the usage, and answers its length; 0 of any other picture. Refusals
-// are the picture's, then 31, with the length of the mask, if it is longer than the output.
+// Writes the mask of a picture whose text was checked, where it is edited under the usage, and answers its length; 0 of
+// any other picture. Refusals are the picture's, then 31, with the length of the mask, if it is longer than the output.
 pub fn mask_of(pic: &[u8], usage: Usage, out: &mut [u8]) -> Writing
-    ensures { λ r. ⌜ maskAfter (writingOf r) (now (out .exit)) ≡ afterWriting (maskIn usage (now (pic .entry)) (length (now (out .entry)))) (now (out .entry)) [] ⌝ }
+    ensures { λ r. ⌜ maskAfter (writingOf r) (now (out .exit))
+        ≡ afterWriting (maskIn usage (now (pic .entry)) (length (now (out .entry)))) (now (out .entry)) [] ⌝ }
 {
     match picture::read_shape(pic, 0, usage) {
         Shaped::Shape(s) => {

@@ -1,4 +1,5 @@
--- The fingerprint of a name: its length and its last three bytes, case aside, as one number of 32 bits. Names that are the same have the same one.
+-- The fingerprint of a name: its length and its last three bytes, case aside, as one number of 32 bits. Names that are
+-- the same have the same one.
 -- Assumes nothing.
 use Prim.Native.Nat.{ℕ, suc, _+_, _*_, _-_, _%_}
 use mathlib.Core.List.{List}

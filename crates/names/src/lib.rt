@@ -1,5 +1,5 @@
-// Names in a text: the part that a span fills, whether two names are the same, case aside or case included, and a name's fingerprint; an absent name
-// means FILLER. Leans on `definition` and `text`.
+// Names in a text: the part that a span fills, whether two names are the same, case aside or case included, and a
+// name's fingerprint; an absent name means FILLER. Leans on `definition` and `text`.
 ghost use mathlib.Core.Path.{_≡_};
 ghost use Prim.Native.Nat.{_+_, _<_};
 ghost use Rattle.definition.specs.Basic.{part, uppers};

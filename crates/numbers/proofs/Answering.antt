@@ -1,4 +1,5 @@
--- Laws of what a call writes to the lent `answer`: stores at its front, where it has room, and nothing where it has not.
+-- Laws of what a call writes to the lent `answer`: stores at its front, where it has room, and nothing where it has
+-- not.
 -- Assumes nothing.
 use Prim.Native.Nat.{ℕ, _<_, _≤_}
 use mathlib.Core.Path.{_≡_, refl}

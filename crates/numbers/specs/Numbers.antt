@@ -1,5 +1,6 @@
--- How answers become numbers for C: the number that a call returns, and the numbers that it writes to the lent `answer`. Every call writes as many
--- numbers as its definition here has, 2, 4 or 7, whatever it answers; where `answer` has fewer, it keeps its values.
+-- How answers become numbers for C: the number that a call returns, and the numbers that it writes to the lent
+-- `answer`. Every call writes as many numbers as its definition here has, 2, 4 or 7, whatever it answers; where
+-- `answer` has fewer, it keeps its values.
 -- Assumes nothing.
 use Prim.Native.Nat.{ℕ}
 use mathlib.Core.Bool.{Bool, not}
@@ -48,8 +49,9 @@ abbrev pub pictureNumbers : Answer Pictured → List ℕ
 pictureNumbers (refuse r) = r .position ∷ r .needed ∷ 0 ∷ 0 ∷ 0 ∷ 0 ∷ 0 ∷ []
 pictureNumbers (give p) = kindByte (p .kind) ∷ p .width ∷ kindParts (numbersOf (p .kind))
 
--- the four numbers of a byte's owner: 0, the entry's number, the piece's first byte and the place inside it; or 1 and the number of the entry that the slack
--- precedes; or position and needed length. A byte below the record length has an owner
+-- the four numbers of a byte's owner: 0, the entry's number, the piece's first byte and the place inside it; or 1 and
+-- the number of the entry that the slack precedes; or position and needed length. A byte below the record length has an
+-- owner
 abbrev pub ownerNumbers : Answer Owner → List ℕ
 ownerNumbers (refuse r) = r .position ∷ r .needed ∷ 0 ∷ 0 ∷ []
 ownerNumbers (give (Owner.Piece entry first place)) = 0 ∷ entry ∷ first ∷ place ∷ []
@@ -69,4 +71,5 @@ keyNumbers (give k) = k .0 ∷ k .1 ∷ []
 
 -- the lent `answer` after a call that writes these numbers to it
 unfoldable pub answered : List ℕ → List ℕ → List ℕ
-answered numbers answer = if ltb (length answer) (length numbers) then answer else numbers ++ drop (length numbers) answer
+answered numbers answer =
+    if ltb (length answer) (length numbers) then answer else numbers ++ drop (length numbers) answer

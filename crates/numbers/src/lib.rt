@@ -1,10 +1,11 @@
-// How the answers become numbers for C, and what numbers come in: a usage, a sign, and the numbers that a call returns and writes to a lent slice
-// (`specs/Numbers`). Leans on `definition` and `kinds`.
+// How the answers become numbers for C, and what numbers come in: a usage, a sign, and the numbers that a call returns
+// and writes to a lent slice (`specs/Numbers`). Leans on `definition` and `kinds`.
 ghost use mathlib.Core.Path.{_≡_};
 ghost use mathlib.Core.List.{[], _∷_};
 ghost use Rattle.definition.specs.Calls.{pictureOf, writingOf, ownerAnswerOf, extractAnswerOf};
 ghost use Rattle.definition.specs.Key.{keyAnswerOf};
-ghost use Rattle.numbers.specs.Numbers.{noUsage, returned, writingNumbers, kindParts, pictureNumbers, ownerNumbers};
+ghost use Rattle.numbers.specs.Numbers.{noUsage, returned, writingNumbers, kindParts, pictureNumbers};
+ghost use Rattle.numbers.specs.Numbers.{ownerNumbers};
 ghost use Rattle.numbers.specs.Numbers.{extractNumbers, keyNumbers, answered};
 use definition::ExtractAnswer;
 use definition::KeyAnswer;

@@ -1,5 +1,5 @@
--- Laws of the byte owner over the table: a flat search for the clauses that it does not take; the rows of the table are those of the listing;
--- one law for each way through the walk; and what the walk finds is the definition's owner.
+-- Laws of the byte owner over the table: a flat search for the clauses that it does not take; the rows of the table are
+-- those of the listing; one law for each way through the walk; and what the walk finds is the definition's owner.
 -- Assumes nothing.
 use Prim.Native.Nat.{ℕ, zero, suc, _+_, _*_, _-_, _/_, _%_, _≤_, _<_}
 use mathlib.Core.Path.{_≡_, refl, sym, _∙_, ap, ap₂, subst}
@@ -32,7 +32,7 @@ use Rattle.definition.proofs.Walk.{walk-slack, walk-piece, walk-in, walk-later,
 use Rattle.rows.specs.Columns.{ROW, DEPENDING, REDEFINES, OFFSET, WIDTH, BELOW}
 use Rattle.rows.specs.Table.{cell, statementAt, statementsFrom}
 use Rattle.places.specs.Places.{entryIn, entriesIn, rowsForest}
-use Rattle.layout.proofs.BareLaws.{layout-is}
+use Rattle.record.proofs.LaidLaws.{layout-is}
 use Rattle.places.proofs.EntriesLaws.{size-stretch, Rows, rows-forest}
 use Rattle.places.proofs.RowLaws.{stretch-cons, stretch-none}
 use Rattle.unions.proofs.ShownLaws.{entries-size}

@@ -31,7 +31,8 @@ tableRows w k (suc n) = rowAt w k ∷ tableRows w (suc k) n
 -- each row of a list, from row k on, and of the lists below it counts the rows below it
 abbrev pub BelowCounted : List ℕ → ℕ → Forest → Type 0
 BelowCounted w k leaf = Unit {0}
-BelowCounted w k (item s kids later) = (cell w k BELOW ≡ size kids) × BelowCounted w (suc k) kids × BelowCounted w (suc k + size kids) later
+BelowCounted w k (item s kids later) =
+    (cell w k BELOW ≡ size kids) × BelowCounted w (suc k) kids × BelowCounted w (suc k + size kids) later
 
 -- the rows of a list and of those below it are there, none is too large, and each counts the rows below it
 pub record Walkable (w : List ℕ) (from to : ℕ) : Type 0 where

@@ -1,4 +1,5 @@
-// The byte owner over a record laid out in work memory: which piece or slack a byte belongs to, found from row to row with no piece laid.
+// The byte owner over a record laid out in work memory: which piece or slack a byte belongs to, found from row to row
+// with no piece laid.
 ghost use mathlib.Core.Path.{_≡_};
 ghost use Prim.Native.Nat.{_+_, _*_, _≤_, _<_};
 ghost use lib.ListN.{length};
@@ -53,8 +54,8 @@ pub fn is_overlaid(work: &[u32], from: usize, to: usize) -> bool
     false
 }
 
-// The owner of the byte at a position of the record in the rows from `from` up to `to`: slack before a row's offset; else an occurrence of the
-// row, or of a row below it; else the next row that is not below it.
+// The owner of the byte at a position of the record in the rows from `from` up to `to`: slack before a row's offset;
+// else an occurrence of the row, or of a row below it; else the next row that is not below it.
 pub fn walk_rows(work: &[u32], from: usize, to: usize, position: usize) -> Owner
     requires { ⌜ Walkable (now work) from to ⌝ }
     ensures { λ r. ⌜ r ≡ walk 0 0 0 (rows (listIn (now (work .entry)) from to)) position ⌝ }
@@ -91,8 +92,8 @@ pub fn walk_rows(work: &[u32], from: usize, to: usize, position: usize) -> Owner
     Owner::Unowned
 }
 
-// The byte owner of a position in the record that was laid in the rows from `from` up to `to`: 40 for a REDEFINES or a DEPENDING ON, 41 for a
-// position that is not below the record's length.
+// The byte owner of a position in the record that was laid in the rows from `from` up to `to`: 40 for a REDEFINES or a
+// DEPENDING ON, 41 for a position that is not below the record's length.
 pub fn owner_of(
     text: &[u8],
     work: &[u32],

@@ -9,7 +9,8 @@ use lib.ListN.{length}
 use Rattle.definition.specs.declared.Refusal.{Refusal}
 use Rattle.definition.specs.declared.Usage.{Usage}
 use Rattle.definition.specs.Basic.{Answer, refuse, give, _>>=_, refuseIf}
-use Rattle.definition.specs.Picture.{trim, expand, tally, beforePoint, fraction, allDigits, storedDigits, without, mask, mixed, tooLong, symbols}
+use Rattle.definition.specs.Picture.{trim, expand, tally, beforePoint, fraction, allDigits, storedDigits, without, mask}
+use Rattle.definition.specs.Picture.{mixed, tooLong, symbols}
 use Rattle.definition.proofs.Answers.{bound, through, given-same, map-refused}
 use Rattle.definition.proofs.PictureLaws.{tally-sides, without-length, mask-width}
 use Rattle.symbols.specs.declared.Tallies.{Tallies}

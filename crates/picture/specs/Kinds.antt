@@ -12,7 +12,8 @@ use Rattle.definition.specs.declared.FieldKind.{FieldKind}
 use Rattle.definition.specs.declared.Pictured.{Pictured}
 use Rattle.definition.specs.Limits.{mostDigits, longestMask}
 use Rattle.definition.specs.Basic.{if_then_else_, Answer, refuse, give, _>>=_, refuseIf}
-use Rattle.definition.specs.Picture.{tally, without, mask, fraction, allDigits, storedDigits, isSigned, isEdited, pictured, isDisplay, resolveSign, storageWidth, numeric, symbols}
+use Rattle.definition.specs.Picture.{tally, without, mask, fraction, allDigits, storedDigits, isSigned, isEdited}
+use Rattle.definition.specs.Picture.{pictured, isDisplay, resolveSign, storageWidth, numeric, symbols}
 use Rattle.symbols.specs.declared.Tallies.{Tallies}
 use Rattle.symbols.specs.declared.Half.{Half}
 use Rattle.picture.specs.declared.PicShape.{PicShape}

@@ -1,10 +1,12 @@
-// The picture reader: kind and width of a picture with a usage and a sign; `parse_pic` of the Rust. Leans on `definition` and `symbols`.
+// The picture reader: kind and width of a picture with a usage and a sign; `parse_pic` of the Rust. Leans on
+// `definition` and `symbols`.
 ghost use Prim.Native.Nat.{ℕ, _+_, _-_, _≤_, max};
 ghost use mathlib.Core.Path.{_≡_};
 ghost use mathlib.Core.Bool.{_&&_};
 ghost use Rattle.definition.specs.Limits.{mostDigits};
 ghost use Rattle.definition.specs.Picture.{isDisplay, resolveSign, isEmbedded, signBytes};
-ghost use Rattle.definition.specs.Picture.{compWidth, byteWidth, storageWidth, display as displayOf, numeric as numericOf, picture as pictureIn};
+ghost use Rattle.definition.specs.Picture.{compWidth, byteWidth, storageWidth, display as displayOf};
+ghost use Rattle.definition.specs.Picture.{numeric as numericOf, picture as pictureIn};
 ghost use Rattle.definition.specs.Calls.{pictureOf};
 ghost use Rattle.symbols.specs.Shape.{Small};
 ghost use Rattle.picture.specs.Kinds.{shapeOf, maskedBy, mixedBy, longBy, kindedBy, Fit, Judged, Reads};
@@ -24,8 +26,8 @@ use symbols::Tallies;
 
 // ---------------------------------------------------------------- the shape, and the last checks
 
-// What kind and width depend on: the number of X and A, of digits, of digits without P, of digits of the fraction, whether there is
-// a sign symbol, whether there is an editing symbol, and the length of the mask with P and without it.
+// What kind and width depend on: the number of X and A, of digits, of digits without P, of digits of the fraction,
+// whether there is a sign symbol, whether there is an editing symbol, and the length of the mask with P and without it.
 pub struct PicShape {
     pub text: usize,
     pub digits: usize,
@@ -47,7 +49,8 @@ fn less_one(n: u32) -> u32
     n - 1
 }
 
-// The shape by the tallies: each of `$`, `+`, `-` adds its count less one to the digits; P is a digit of the fraction that holds no byte.
+// The shape by the tallies: each of `$`, `+`, `-` adds its count less one to the digits; P is a digit of the fraction
+// that holds no byte.
 fn shape_of(t: Tallies) -> PicShape
     requires { ⌜ Small t ⌝ }
     ensures { λ r. ⌜ r ≡ shapeOf t ⌝ }

@@ -21,14 +21,18 @@ use Rattle.definition.specs.Owner.{size}
 use Rattle.definition.specs.Search.{entries#}
 use Rattle.definition.proofs.Lists.{tested}
 use Rattle.kinds.specs.Kinds.{kindCode, kindAt, Bytes}
-use Rattle.rows.specs.Columns.{ROW, LEVEL, AT, NAME, PICTURE, DEPENDING, REDEFINES, SAID, LOW, HIGH, OFFSET, WIDTH, KIND, BEFORE, BELOW, SLACK, BASE, PLACERS, NEXT}
+use Rattle.rows.specs.Columns.{ROW, LEVEL, AT, NAME, PICTURE, DEPENDING, REDEFINES, SAID, LOW, HIGH, OFFSET, WIDTH}
+use Rattle.rows.specs.Columns.{KIND, BEFORE, BELOW, SLACK, BASE, PLACERS, NEXT}
 use Rattle.rows.specs.Table.{cell, spanAt, statementAt, statementsFrom}
 use Rattle.rows.proofs.TableLaws.{statement-same, length-statements}
 use Rattle.places.specs.Places.{putPlaces, entryIn, rowsForest, entriesIn, RowLinked, Linked}
 use Rattle.redefines.specs.Targets.{isTarget, baseAfter, plainAfter, placersAfter}
 use Rattle.places.specs.Children.{ChildrenEnd, Numbered}
 use Rattle.kinds.proofs.Back.{kind-back}
-use Rattle.places.proofs.PlaceLaws.{length-place, kept-place, before-place, after-place, membersPut, firstPut, length-places, kept-places, before-places, statement-places, first-offset, first-width, first-kind, first-last, first-below, first-slack, first-base, first-placers}
+use Rattle.places.proofs.PlaceLaws.{length-place, kept-place, before-place, after-place, membersPut, firstPut}
+use Rattle.places.proofs.PlaceLaws.{length-places, kept-places, before-places, statement-places, first-offset}
+use Rattle.places.proofs.PlaceLaws.{first-width, first-kind, first-last, first-below, first-slack, first-base}
+use Rattle.places.proofs.PlaceLaws.{first-placers}
 use Rattle.redefines.proofs.SearchLaws.{found, found-none, found-step, after-same, placers-as, plain-next, placers-same}
 use Rattle.places.proofs.RowLaws.{children-end, forest-split}
 

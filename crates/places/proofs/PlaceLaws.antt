@@ -16,7 +16,8 @@ use Rattle.definition.specs.Fold.{Entries, end, entry}
 use Rattle.definition.specs.Search.{entries#}
 use Rattle.definition.proofs.Lists.{order}
 use Rattle.kinds.specs.Kinds.{kindCode}
-use Rattle.rows.specs.Columns.{ROW, NAME, REDEFINES, OFFSET, WIDTH, KIND, BEFORE, BELOW, SLACK, BASE, PLACERS, NEXT, PRINT}
+use Rattle.rows.specs.Columns.{ROW, NAME, REDEFINES, OFFSET, WIDTH, KIND, BEFORE, BELOW, SLACK, BASE, PLACERS, NEXT}
+use Rattle.rows.specs.Columns.{PRINT}
 use Rattle.rows.specs.Table.{cell, statementAt, statementsFrom}
 use Rattle.rows.proofs.TableLaws.{getD-below, getD-above, getD-in, statement-same}
 use Rattle.places.specs.Places.{placeCells, putPlace, putPlaces}

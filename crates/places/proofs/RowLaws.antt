@@ -1,5 +1,5 @@
--- Laws of the rows as a forest: the statements of a stretch of rows, and the forest of a stretch split into its first item, the item's children
--- and the rest.
+-- Laws of the rows as a forest: the statements of a stretch of rows, and the forest of a stretch split into its first
+-- item, the item's children and the rest.
 -- Assumes nothing.
 use Prim.Native.Nat.{ℕ, zero, suc, _+_, _-_, _≤_, _<_}
 use mathlib.Core.Path.{_≡_, refl, sym, ap, _∙_}

@@ -71,7 +71,8 @@ rowsForest w a b = forest (statementsFrom w a (b - a))
 -- the entries in the rows from k on, in the shape of the forest of their statements
 unfoldable pub entriesIn : List ℕ → ℕ → Forest → Entries
 entriesIn w k leaf = end
-entriesIn w k (item s kids later) = entry (entryIn w k) (entriesIn w (suc k) kids) (entriesIn w (suc k + size kids) later)
+entriesIn w k (item s kids later) =
+    entry (entryIn w k) (entriesIn w (suc k) kids) (entriesIn w (suc k + size kids) later)
 
 -- row k, after the sibling `last` and over the forest of its children, names that sibling, its base and what may place
 -- it, and counts the rows below it

@@ -17,8 +17,8 @@ use rows::ROW;
 use rows::SLACK;
 use rows::WIDTH;
 
-// An item's place into row k: its offset, width and kind, the sibling before it, the rows below it, its slack, its base,
-// the siblings that may place it, and no next row of its union.
+// An item's place into row k: its offset, width and kind, the sibling before it, the rows below it, its slack, its
+// base, the siblings that may place it, and no next row of its union.
 pub fn put_place(
     work: &mut [u32],
     k: usize,
@@ -28,7 +28,8 @@ pub fn put_place(
     placers: u32,
     e: Entry,
 )
-    requires { ⌜ (ROW * k + ROW ≤ length (now work)) × (last < 4294967296) × (below < 4294967296) × (base < 4294967296) × (e .offset < 4294967296) × (e .width < 4294967296) × (e .slack < 4294967296) ⌝ }
+    requires { ⌜ (ROW * k + ROW ≤ length (now work)) × (last < 4294967296) × (below < 4294967296)
+        × (base < 4294967296) × (e .offset < 4294967296) × (e .width < 4294967296) × (e .slack < 4294967296) ⌝ }
     ensures { λ _. ⌜ now (work .exit) ≡ putPlace (now (work .entry)) k last below base placers e ⌝ }
 {
     let at = ROW * k + OFFSET;

@@ -1,5 +1,5 @@
-// What the programs print on standard output, and how they read the bytes of a layout listing back. A place past the end of a listing
-// reads as 0, so nothing is asked of the bytes.
+// What the programs print on standard output, and how they read the bytes of a layout listing back. A place past the
+// end of a listing reads as 0, so nothing is asked of the bytes.
 ghost use Prim.Native.Nat.{_+_, _≤_, _<_};
 ghost use lib.ListN.{length};
 use definition::Refusal;
@@ -136,8 +136,8 @@ pub fn entry_size(kind: u8) -> usize
 
 // ---------------------------------------------------------------- depths
 
-// `left` says how many entries are still to come in each open list, the top list first. A listing has at most 130 lists in one another: 65 of
-// statements, and a fold in each.
+// `left` says how many entries are still to come in each open list, the top list first. A listing has at most 130 lists
+// in one another: 65 of statements, and a fold in each.
 
 // The depth of the next entry: that of the innermost list, up to this depth, in which one is still to come.
 pub fn still_open(left: &[u64; 256], depth: usize) -> usize

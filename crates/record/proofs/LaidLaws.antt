@@ -28,14 +28,13 @@ use Rattle.rows.specs.Columns.{ROW, PARENT, OFFSET, NEXT}
 use Rattle.rows.specs.Table.{cell, statementAt, statementsFrom, parentsFrom}
 use Rattle.tree.proofs.ReadingLaws.{Stored}
 use Rattle.definition.specs.Calls.{checkOf, recordFields}
-use Rattle.definition.specs.Record.{recordLength, endsFit, unfolded}
+use Rattle.definition.specs.Record.{recordLength, endsFit, unfolded, layout}
 use Rattle.places.specs.Places.{putPlaces, entryIn, entriesIn, rowsForest}
 use Rattle.redefines.specs.Targets.{seenFrom}
 use Rattle.redefines.specs.Prints.{PrintsPut}
-use Rattle.layout.specs.Outcomes.{layTable}
+use Rattle.layout.specs.Outcomes.{layTable, listOf, Room}
 use Rattle.layout.specs.declared.LaidList.{LaidList}
 use Rattle.places.specs.Children.{ChildrenEnd}
-use Rattle.layout.specs.Steps.{listOf, Room}
 use Rattle.places.proofs.EntriesLaws.{size-forest, size-stretch}
 use Rattle.layout.proofs.ListLaws.{bare-split, item-is}
 use Rattle.layout.proofs.LayLaws.{LaidRows, laid-rows, stopped-was}
@@ -173,6 +172,11 @@ few-rows w n h =
     }
 
 -- ---------------------------------------------------------------- the record
+
+-- the layout is the record laid and then folded
+pub layout-is : (text : List ℕ) (f : Forest) → layout text f ≡ (unfolded text f >>= λ es. give (foldedAll text es))
+unfolding layout
+layout-is text f = refl
 
 module _ (text w : List ℕ) (a b : ℕ) where
   module _ {x : LaidList} (w₁ : List ℕ) (p : listOf x w₁ ≡ layTable text w a b 0) where

@@ -16,7 +16,7 @@ use Rattle.definition.specs.Fold.{Entries, foldedAll}
 use Rattle.definition.specs.Record.{recordLength, unfolded}
 use Rattle.places.specs.Places.{rowsForest}
 use Rattle.tree.specs.declared.RowsRead.{RowsRead}
-use Rattle.layout.specs.Steps.{Room}
+use Rattle.layout.specs.Outcomes.{Room}
 use Rattle.record.specs.declared.RecordLaid.{RecordLaid}
 use Rattle.definition.specs.Listing.{members#}
 use Rattle.unions.specs.Shown.{listIn, Tree}
@@ -71,4 +71,5 @@ pub record Listed (text : List ℕ) (read : Answer Forest) (w : List ℕ) (from 
 abbrev pub RecordIs : List ℕ → Answer Forest → RecordLaid → List ℕ → List ℕ → Type 0
 RecordIs text read (RecordLaid.Refused r) w t = laidOf text read ≡ refuse r
 RecordIs text read (RecordLaid.Record from to length count top) w t =
-    Listed text read w from to length × Entered text w from to t count × (top ≡ members# (foldedAll text (listIn w from to)))
+    Listed text read w from to length × Entered text w from to t count
+    × (top ≡ members# (foldedAll text (listIn w from to)))

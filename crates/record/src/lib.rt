@@ -6,7 +6,7 @@ ghost use Rattle.definition.specs.Limits.{mostStatements};
 ghost use Rattle.definition.specs.Basic.{give};
 ghost use Rattle.definition.specs.Calls.{recordFields};
 ghost use Rattle.places.specs.Places.{rowsForest};
-ghost use Rattle.layout.specs.Steps.{Room};
+ghost use Rattle.layout.specs.Outcomes.{Room};
 ghost use Rattle.rows.specs.Columns.{ROW};
 ghost use Rattle.entries.specs.Building.{Roomy};
 ghost use Rattle.record.specs.Laying.{Under, FieldsFrom, RecordIs, Read, CopybookRows};
@@ -50,7 +50,8 @@ pub const ENTRIES: usize = 8400;
 
 // ---------------------------------------------------------------- a record
 
-// The rows that hold a record, its length, and how many entries its table has, in all and at the top; or why it is refused.
+// The rows that hold a record, its length, and how many entries its table has, in all and at the top; or why it is
+// refused.
 pub enum RecordLaid {
     Record {
         from: usize,
@@ -84,11 +85,13 @@ pub fn lay_fields(
     from: usize,
     to: usize,
 ) -> RecordLaid
-    requires { ⌜ (from ≤ to) × Room (now text) (now work) to × (to ≤ mostStatements) × Roomy (now entries) to × Under (now work) from from (rowsForest (now work) from to) ⌝ }
-    ensures { λ r. ⌜ RecordIs (now (text .entry)) (give (rowsForest (now (work .entry)) from to)) r (now (work .exit)) (now (entries .exit)) ⌝ }
+    requires { ⌜ (from ≤ to) × Room (now text) (now work) to × (to ≤ mostStatements) × Roomy (now entries) to
+        × Under (now work) from from (rowsForest (now work) from to) ⌝ }
+    ensures { λ r. ⌜ RecordIs (now (text .entry)) (give (rowsForest (now (work .entry)) from to)) r
+        (now (work .exit)) (now (entries .exit)) ⌝ }
 {
     match layout::lay_list(text, work, from, to, DEEPEST) {
-        LaidList::Done { width, last } => match layout::fold_check(text, work, from, to) {
+        LaidList::Done { width, last } => match unions::fold_check(text, work, from, to) {
             Check::Passed => {
                 unions::link_unions(work, from, to);
                 let made = entries::make_entries(text, work, from, to, entries);
@@ -118,10 +121,12 @@ pub fn lay_fields(
     }
 }
 
-// Lays out the record that was read into n rows, or says why not: 20 to 30 and 52. The table has room for the entries of so many rows.
+// Lays out the record that was read into n rows, or says why not: 20 to 30 and 52. The table has room for the entries
+// of so many rows.
 pub fn lay_record(text: &[u8], work: &mut [u32], n: usize, entries: &mut [u32]) -> RecordLaid
     requires { ⌜ Read (now text) (now work) n × Roomy (now entries) n ⌝ }
-    ensures { λ r. ⌜ RecordIs (now (text .entry)) (recordFields (now (text .entry)) (length (now (work .entry)))) r (now (work .exit)) (now (entries .exit)) ⌝ }
+    ensures { λ r. ⌜ RecordIs (now (text .entry)) (recordFields (now (text .entry)) (length (now (work .entry)))) r
+        (now (work .exit)) (now (entries .exit)) ⌝ }
 {
     let from = first_field(work, n);
     lay_fields(text, work, entries, from, n)

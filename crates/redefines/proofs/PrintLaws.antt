@@ -1,4 +1,5 @@
--- Laws of the fingerprints in the rows: a row with another one is not searched for, so a search may pass over it; what leaves them alone.
+-- Laws of the fingerprints in the rows: a row with another one is not searched for, so a search may pass over it; what
+-- leaves them alone.
 -- Assumes nothing.
 use Prim.Native.Nat.{ℕ, zero, suc, _+_, _*_, _-_, _≤_, _<_}
 use mathlib.Core.Path.{_≡_, refl, sym, ap, subst, _∙_}

@@ -9,11 +9,12 @@ use mathlib.Core.List.{List, [], _∷_}
 use mathlib.Core.Option.{Option, none, some}
 use lib.Dec.{eqb}
 use Rattle.definition.specs.declared.Span.{Span}
-use Rattle.definition.specs.Basic.{if_then_else_, given}
+use Rattle.definition.specs.Basic.{if_then_else_, given, Answer, refuse, give}
 use Rattle.definition.specs.Fold.{sameName, Place, Search, searchBack}
 use Rattle.rows.specs.Columns.{NAME, REDEFINES, OFFSET, BEFORE, PLACERS}
 use Rattle.rows.specs.Table.{spanAt, cell}
 use Rattle.redefines.specs.declared.SearchEnd.{SearchEnd}
+use Rattle.redefines.specs.declared.Start.{Start}
 
 -- the name and the offset of the entry in row k
 abbrev pub placeAt : List ℕ → ℕ → Place
@@ -28,7 +29,8 @@ unfoldable pub seenFrom : Bool → List ℕ → ℕ → ℕ → List Place
 seenFrom bases w zero last = []
 seenFrom bases w (suc k) last =
     if eqb last (suc k) then
-    (if leftOut bases w k then seenFrom bases w k (cell w k BEFORE) else placeAt w k ∷ seenFrom bases w k (cell w k BEFORE))
+    (if leftOut bases w k then seenFrom bases w k (cell w k BEFORE)
+    else placeAt w k ∷ seenFrom bases w k (cell w k BEFORE))
     else seenFrom bases w k last
 
 -- the siblings from `last` back
@@ -47,7 +49,8 @@ isTarget text target bases w k = if leftOut bases w k then false else sameName t
 unfoldable pub rowFrom : List ℕ → Span → Bool → List ℕ → ℕ → ℕ → ℕ
 rowFrom text target bases w zero last = 0
 rowFrom text target bases w (suc k) last =
-    if eqb last (suc k) then (if isTarget text target bases w k then suc k else rowFrom text target bases w k (cell w k BEFORE))
+    if eqb last (suc k)
+    then (if isTarget text target bases w k then suc k else rowFrom text target bases w k (cell w k BEFORE))
     else rowFrom text target bases w k last
 
 -- how many siblings it looked at to get there, those left out too
@@ -85,6 +88,15 @@ noSearch = record { found = none; compared = 0 }
 abbrev pub targetSearch : List ℕ → Span → List Place → Search
 targetSearch text redefines seen = if given redefines then searchBack text redefines seen else noSearch
 
+-- a start as the definition's answer, and the row that the item redefines: its row and 1, or 0 for none
+abbrev pub startOf : Start → Answer ℕ
+startOf (Start.At target offset) = give offset
+startOf (Start.Refused r) = refuse r
+
+abbrev pub targetIn : Start → ℕ
+targetIn (Start.At target offset) = target
+targetIn (Start.Refused r) = 0
+
 -- the row that a search for a name ended at, if any, has that name
 abbrev pub Named : List ℕ → Span → List ℕ → ℕ → Type 0
 Named text target w zero = Unit {0}
@@ -96,7 +108,8 @@ baseFrom text target w n last = rowFrom text target true w n last
 
 -- the base that row k redefines, after the sibling `last`: its row and 1, or 0 for none
 abbrev pub baseAfter : List ℕ → List ℕ → ℕ → ℕ → ℕ
-baseAfter text w k last = if given (spanAt (cell w k REDEFINES)) then baseFrom text (spanAt (cell w k REDEFINES)) w last last else 0
+baseAfter text w k last =
+    if given (spanAt (cell w k REDEFINES)) then baseFrom text (spanAt (cell w k REDEFINES)) w last last else 0
 
 -- ---------------------------------------------------------------- what places an item
 

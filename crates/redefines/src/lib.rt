@@ -1,17 +1,21 @@
 // The search that a REDEFINES makes among the earlier siblings in the rows, backward from the item: for its target (28
-// is due where none has the name), with the count of names compared, and for its base. Fingerprints of the names are
-// put into the rows first: where they differ, the names do. Leans on `definition`, `names` and `rows`.
+// where none has the name), with the count of names compared, and for its base; and the siblings that may place it.
+// Fingerprints of the names are put into the rows first: where they differ, the names do.
 ghost use mathlib.Core.Path.{_≡_};
 ghost use Prim.Native.Nat.{_+_, _*_, _≤_, _<_};
 ghost use lib.ListN.{length};
+ghost use Rattle.definition.specs.Basic.{orRefuse};
 ghost use Rattle.redefines.specs.Targets.{leftOut, isTarget, Ended, seenAt, searchOf, targetSearch, targetFrom};
-ghost use Rattle.redefines.specs.Targets.{Named, baseFrom};
+ghost use Rattle.redefines.specs.Targets.{startOf, targetIn, Named, baseFrom, plainAfter};
 ghost use Rattle.redefines.specs.Prints.{Printed, PrintedRow, PrintsPut, PassedBack};
 ghost use Rattle.names.specs.Prints.{namePrint};
 ghost use Rattle.rows.specs.Columns.{ROW};
+use definition::Refusal;
 use definition::Span;
 use rows::BEFORE;
 use rows::NAME;
+use rows::OFFSET;
+use rows::PLACERS;
 use rows::PRINT;
 use rows::REDEFINES;
 use rows::ROW;
@@ -43,7 +47,8 @@ fn passed_over(work: &[u32], k: usize, bases: bool) -> bool
 
 // Whether row k is what a search for this name, with this fingerprint, ends at.
 fn is_target(text: &[u8], work: &[u32], target: Span, print: u32, k: usize, bases: bool) -> bool
-    requires { ⌜ (ROW * k + ROW ≤ length (now work)) × PrintedRow (now text) (now work) k × (print ≡ namePrint (now text) target) ⌝ }
+    requires { ⌜ (ROW * k + ROW ≤ length (now work)) × PrintedRow (now text) (now work) k
+        × (print ≡ namePrint (now text) target) ⌝ }
     ensures { λ r. ⌜ r ≡ isTarget (now (text .entry)) target bases (now (work .entry)) k ⌝ }
 {
     if passed_over(work, k, bases) {
@@ -127,6 +132,36 @@ pub fn target_of(text: &[u8], work: &[u32], redefines: Span, last: usize) -> Sea
     }
 }
 
+// Where an item starts, and the row that it redefines (a row and 1, or 0 for none); or why it cannot be placed.
+pub enum Start {
+    At { target: usize, offset: usize },
+    Refused(Refusal),
+}
+
+// Where an item with this REDEFINES starts: where its target does, or 28, at the item's position, where it has none.
+pub fn start_over(text: &[u8], work: &[u32], redefines: Span, at: usize, last: usize) -> Start
+    requires { ⌜ (ROW * last ≤ length (now work)) × Printed (now text) (now work) last ⌝ }
+    ensures { λ r. ⌜ (startOf r
+        ≡ orRefuse 28 at (targetSearch (now (text .entry)) redefines (seenAt (now (work .entry)) last) .found))
+        × (targetIn r ≡ targetFrom (now (text .entry)) redefines (now (work .entry)) last)
+        × (targetIn r ≤ last) ⌝ }
+{
+    let found = target_of(text, work, redefines, last);
+    let target = found.row;
+    if 0 < target {
+        let row = target - 1;
+        return Start::At {
+            target,
+            offset: rows::wide(work[ROW * row + OFFSET]),
+        };
+    }
+    Start::Refused(Refusal {
+        number: 28,
+        position: at,
+        needed: 0,
+    })
+}
+
 // The base of that name, where the search for the target ended at the row `target`: that row itself, or where it is a
 // redefiner, what a second search finds from there back. A row and 1, or 0 for none.
 pub fn base_of(text: &[u8], work: &[u32], redefines: Span, target: usize) -> usize
@@ -148,4 +183,28 @@ pub fn base_of(text: &[u8], work: &[u32], redefines: Span, target: usize) -> usi
         return found.row;
     }
     target
+}
+
+// The latest sibling without REDEFINES from `last` back: that one, or the one that it names.
+fn plain_after(work: &[u32], last: usize) -> usize
+    requires { ⌜ (ROW * last ≤ length (now work)) × (last < 65536) ⌝ }
+    ensures { λ r. ⌜ (r ≡ plainAfter (now (work .entry)) last) × (r < 65536) ⌝ }
+{
+    if 0 < last {
+        let row = last - 1;
+        let redefines = rows::span_at(work[ROW * row + REDEFINES]);
+        if 0 < redefines.len {
+            return rows::wide(work[ROW * row + PLACERS]) / 65536;
+        }
+        return last;
+    }
+    0
+}
+
+// The siblings that may place an item, in one number.
+pub fn placers_of(work: &[u32], last: usize, target: usize) -> u32
+    requires { ⌜ (ROW * last ≤ length (now work)) × (last < 65536) × (target < 65536) ⌝ }
+    ensures { λ r. ⌜ r ≡ plainAfter (now (work .entry)) last * 65536 + target ⌝ }
+{
+    (plain_after(work, last) * 65536 + target) as u32
 }

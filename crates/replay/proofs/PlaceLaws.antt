@@ -4,7 +4,8 @@ use Prim.Native.Nat.{ℕ, _+_, _-_, _<_, _≤_, _^_}
 use mathlib.Core.Path.{_≡_}
 use mathlib.Core.List.{List}
 use native.Mathlib.Omega.{arith}
-use lib.ListN.{length}
+use lib.ListN.{length, take, length-take}
+use Rattle.io.specs.Counts.{Counts}
 use mir.Val.{Fits}
 use mir.Syntax.{w64}
 use Rattle.definition.specs.declared.Token.{Token}
@@ -17,7 +18,8 @@ use Rattle.replay.specs.Places.{Later, WordIn, Bounded, Inside, Holds}
 
 -- a token of the text lies within the list
 pub bounded : (all : List Token) (list : List ℕ) (at : ℕ) (r : Next) → First all list at r → Bounded list at r
-bounded all list at (Next.Word start len next) f = record { fits = f .fits; after = record { up = f .up; within = f .within } }
+bounded all list at (Next.Word start len next) f =
+    record { fits = f .fits; after = record { up = f .up; within = f .within } }
 bounded all list at (Next.Stop next) f = record { up = f .up; within = f .within }
 bounded all list at (Next.End next) f = tt
 
@@ -41,3 +43,7 @@ module _ (list : List ℕ) (at : ℕ) (r : Next) (b : Bounded list at r) where
 -- no word holds as well
 pub none-holds : {list : List ℕ} {w : Word} → w ≡ record { start = 0; len = 0; place = Reached.Differs } → Holds list w
 none-holds e = rw e (record { fits = omega arith; inside = tt })
+
+-- so many bytes stand at the start of an output that has as many
+pub counts : (n : ℕ) (out : List ℕ) → n ≤ length out → Counts n out
+counts n out h = (h, simp length-take (omega arith))

@@ -46,7 +46,7 @@ pub record Filled (list : List ℕ) (r : Input) (out : List ℕ) : Type 0 where
   pub counts : Counts (r .len) out
   pub inside : Inside list (r .place)
 
--- no more than so many cases, and of these no more agree than there are
-pub record Fair (most : ℕ) (t : Tally) : Type 0 where
-  pub few : t .cases ≤ most
+-- a tally of at most a million cases, of which no more agree than there are
+pub record Fair (t : Tally) : Type 0 where
+  pub few : t .cases ≤ 1000000
   pub part : t .agree ≤ t .cases

@@ -1,13 +1,15 @@
-// Lists of cases, for the programs that replay answers. A list has the lexical form of a copybook: a case is the words up to a period that
-// ends a statement, and a line that begins with `*` is a comment. An input is one word, in which %XX stands for a byte; the word % is the
-// empty input. An expected answer is a word for each of its numbers. A case is read word by word, and the reading goes on from one word to
-// the next as long as each is the expected one.
+// Lists of cases, for the program that replays answers, and the memory that a call is lent there. A list has the
+// lexical form of a copybook: a case is the words up to a period that ends a statement, and a line that begins with `*`
+// is a comment. An input is one word, in which %XX stands for a byte; the word % is the empty input. An expected answer
+// is a word for each of its numbers. A case is read word by word, and the reading goes on from one word to the next as
+// long as each is the expected one.
 ghost use mathlib.Core.Path.{_≡_};
 ghost use Prim.Native.Nat.{_+_, _≤_, _<_};
 ghost use lib.ListN.{length};
 ghost use Rattle.io.specs.Counts.{Counts};
 ghost use Rattle.replay.specs.Places.{Later, Bounded, Inside, Holds, Decodes, Filled, Fair};
 use definition::Refusal;
+use definition::Writing;
 use libc::STDOUT_FILENO;
 use text::Number;
 use tokens::Next;
@@ -21,7 +23,8 @@ pub enum Reached {
     Differs,
 }
 
-// The first token at a place or after it. Place 0 begins a line; any other place that is asked for stands after a word or a period.
+// The first token at a place or after it. Place 0 begins a line; any other place that is asked for stands after a word
+// or a period.
 fn token(list: &[u8], at: usize) -> Next
     requires { ⌜ at ≤ length (now list) ⌝ }
     ensures { λ r. ⌜ Bounded (now (list .entry)) at r ⌝ }
@@ -267,11 +270,13 @@ pub struct Input {
     pub place: Reached,
 }
 
-// Writes the input that a word stands for to the start of the output: its length, and on to the place, if there is room.
-fn decode(word: &[u8], place: Reached, out: &mut [u8]) -> Input
+// Writes the input that a word stands for to the output from a place on: how many bytes there are then, and on to the
+// place of the list, if there is room.
+fn decode(word: &[u8], place: Reached, out: &mut [u8], from: usize) -> Input
+    requires { ⌜ from ≤ length (now out) ⌝ }
     ensures { λ r. ⌜ Decodes place r (now (out .exit)) ⌝ }
 {
-    let mut n = 0;
+    let mut n = from;
     let mut i = 0;
     while i < word.len() {
         if out.len() <= n {
@@ -288,8 +293,9 @@ fn decode(word: &[u8], place: Reached, out: &mut [u8]) -> Input
     Input { len: n, place }
 }
 
-// Writes the input that the next word stands for to the start of the output.
-pub fn take_input(list: &[u8], p: Reached, out: &mut [u8]) -> Input
+// Writes the input that the next word stands for to the output from a place on. The bytes before it are part of the
+// input, as they stand.
+pub fn take_input(list: &[u8], p: Reached, out: &mut [u8], from: usize) -> Input
     requires { ⌜ Inside (now list) p ⌝ }
     ensures { λ r. ⌜ Filled (now (list .entry)) r (now (out .exit)) ⌝ }
 {
@@ -297,10 +303,104 @@ pub fn take_input(list: &[u8], p: Reached, out: &mut [u8]) -> Input
     let start = w.start;
     let end = w.start + w.len;
     let place = w.place;
-    if text::same_spelling(&list[start..end], b"%") {
-        return Input { len: 0, place };
+    if out.len() < from {
+        return Input {
+            len: 0,
+            place: Reached::Differs,
+        };
     }
-    decode(&list[start..end], place, out)
+    if text::same_spelling(&list[start..end], b"%") {
+        return Input { len: from, place };
+    }
+    decode(&list[start..end], place, out, from)
+}
+
+// ---------------------------------------------------------------- the memory that a call is lent
+
+// What stands in work memory before a call.
+const FILL: u32 = 4294967295;
+
+// Writes that to all of it.
+pub fn fill(work: &mut [u32])
+    ensures { λ _. ⌜ length (now (work .exit)) ≡ length (now (work .entry)) ⌝ }
+{
+    let mut i = 0;
+    while i < work.len() {
+        work[i] = FILL;
+        i += 1;
+    }
+}
+
+// Whether work memory is zero.
+pub fn is_cleared(work: &[u32]) -> bool {
+    let mut i = 0;
+    while i < work.len() {
+        if work[i] != 0 {
+            return false;
+        }
+        i += 1;
+    }
+    true
+}
+
+// What stands at a place of the output before a call.
+fn pattern(i: usize) -> u8 {
+    (i % 251) as u8
+}
+
+// Writes the pattern to the whole output.
+pub fn write_pattern(out: &mut [u8])
+    ensures { λ _. ⌜ length (now (out .exit)) ≡ length (now (out .entry)) ⌝ }
+{
+    let mut i = 0;
+    while i < out.len() {
+        out[i] = pattern(i);
+        i += 1;
+    }
+}
+
+// Whether the output holds the pattern from a place on.
+pub fn is_untouched(out: &[u8], from: usize) -> bool {
+    let mut i = from;
+    while i < out.len() {
+        if out[i] != pattern(i) {
+            return false;
+        }
+        i += 1;
+    }
+    true
+}
+
+// Goes on where the next words are the length and the bytes of what was written to the start of the output, which is
+// else untouched.
+pub fn written(list: &[u8], p: Reached, out: &[u8], n: usize) -> Reached
+    requires { ⌜ Inside (now list) p ⌝ }
+    ensures { λ r. ⌜ Inside (now (list .entry)) r ⌝ }
+{
+    if out.len() < n {
+        return Reached::Differs;
+    }
+    let p = number(list, p, n as u64);
+    let p = bytes(list, p, &out[0..n]);
+    only(list, p, is_untouched(out, n))
+}
+
+// Goes on where the next words are the answer of a call that writes bytes: 1, their length and the bytes; or a refusal,
+// and then the whole output is untouched.
+pub fn writing(list: &[u8], p: Reached, w: Writing, out: &[u8]) -> Reached
+    requires { ⌜ Inside (now list) p ⌝ }
+    ensures { λ r. ⌜ Inside (now (list .entry)) r ⌝ }
+{
+    match w {
+        Writing::Written(n) => {
+            let p = number(list, p, 1);
+            return written(list, p, out, n);
+        }
+        Writing::Refused(r) => {
+            let p = refusal(list, p, r);
+            return only(list, p, is_untouched(out, 0));
+        }
+    }
 }
 
 // ---------------------------------------------------------------- files, and what is printed
@@ -321,36 +421,30 @@ pub fn read_list(name: &[u8], buf: &mut [u8]) -> usize
     n
 }
 
-// Whether work memory is zero.
-pub fn is_cleared(work: &[u32]) -> bool {
-    let mut i = 0;
-    while i < work.len() {
-        if work[i] != 0 {
-            return false;
-        }
-        i += 1;
-    }
-    true
-}
-
 // How many cases there were, and how many agreed.
 pub struct Tally {
     pub cases: u64,
     pub agree: u64,
 }
 
+// The most cases that are counted.
+const MOST_CASES: u64 = 1000000;
+
 // No case yet.
 pub fn no_cases() -> Tally
-    ensures { λ r. ⌜ Fair 0 r ⌝ }
+    ensures { λ r. ⌜ Fair r ⌝ }
 {
     Tally { cases: 0, agree: 0 }
 }
 
-// One case more; where it differs, its number is printed, counted from 1.
-pub fn add_case(t: Tally, agrees: bool) -> Tally
-    requires { ⌜ Fair (18446744073709551614) t ⌝ }
-    ensures { λ r. ⌜ Fair (t .cases + 1) r ⌝ }
+// One case more, up to the most that are counted; the first that differs is named, counted from 1.
+pub fn add_case(what: &[u8], t: Tally, agrees: bool) -> Tally
+    requires { ⌜ Fair t ⌝ }
+    ensures { λ r. ⌜ Fair r ⌝ }
 {
+    if MOST_CASES <= t.cases {
+        return t;
+    }
     let cases = t.cases + 1;
     if agrees {
         return Tally {
@@ -358,13 +452,23 @@ pub fn add_case(t: Tally, agrees: bool) -> Tally
             agree: t.agree + 1,
         };
     }
-    io::write_all(STDOUT_FILENO, b"differs: ");
-    io::print_decimal(STDOUT_FILENO, cases);
-    io::write_all(STDOUT_FILENO, b"\n");
+    if t.agree == t.cases {
+        io::write_all(STDOUT_FILENO, what);
+        io::write_all(STDOUT_FILENO, b": the first that differs is ");
+        io::print_decimal(STDOUT_FILENO, cases);
+        io::write_all(STDOUT_FILENO, b"\n");
+    }
     Tally {
         cases,
         agree: t.agree,
     }
+}
+
+// Prints what the next lines are about.
+pub fn print_heading(what: &[u8]) {
+    io::write_all(STDOUT_FILENO, b"of ");
+    io::write_all(STDOUT_FILENO, what);
+    io::write_all(STDOUT_FILENO, b"\n");
 }
 
 // Prints how many of the cases agreed.

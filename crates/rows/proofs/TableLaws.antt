@@ -1,5 +1,5 @@
--- Laws of the table: each part of a statement is read back from its number, a statement from its row, and the statements from their rows; what a
--- row leaves alone; lengths are kept.
+-- Laws of the table: each part of a statement is read back from its number, a statement from its row, and the
+-- statements from their rows; what a row leaves alone; lengths are kept.
 -- Assumes nothing.
 use Prim.Native.Nat.{ℕ, zero, suc, _+_, _*_, _/_, _%_, _≤_, _<_}
 use mathlib.Core.Path.{_≡_, refl, ap, ap₂, _∙_}
@@ -23,7 +23,8 @@ use Rattle.definition.proofs.Lists.{order}
 use Rattle.kinds.specs.Usages.{itemUsageAt, itemUsageByte, usageCode, usageClauseAt, signCode, signWordsAt}
 use Rattle.kinds.proofs.Back.{flag-back, flag-few, usage-back, usage-few, usage-clause-back, usage-clause-few}
 use Rattle.kinds.proofs.Back.{sign-words-back, sign-words-few}
-use Rattle.rows.specs.Columns.{ROW, LEVEL, PARENT, AT, NAME, PICTURE, DEPENDING, REDEFINES, SAID, LOW, HIGH, OFFSET}
+use Rattle.rows.specs.Columns.{ROW, LEVEL, PARENT, AT, NAME, PICTURE, DEPENDING, REDEFINES, SAID, LOW, HIGH}
+use Rattle.rows.specs.Columns.{OFFSET}
 use Rattle.rows.specs.Table.{spanCode, spanAt, markOf, countOf, occursAt, levelCode, saidCode}
 use Rattle.rows.specs.Table.{Short, Storable, Storables, cells, putRow, putRows, cell, parentAt, usageIn}
 use Rattle.rows.specs.Table.{clausesAt, statementAt, statementsFrom, parentsFrom}

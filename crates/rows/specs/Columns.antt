@@ -1,5 +1,5 @@
--- The columns of the table of rows, each with its one meaning. Row k of ROW numbers stands at ROW * k. Columns LEVEL to HIGH hold the
--- statement, the others what the layout found. Each stands for its number.
+-- The columns of the table of rows, each with its one meaning. Row k of ROW numbers stands at ROW * k. Columns LEVEL to
+-- HIGH hold the statement, the others what the layout found. Each stands for its number.
 -- Assumes nothing.
 use Prim.Native.Nat.{ℕ}
 

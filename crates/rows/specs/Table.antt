@@ -1,5 +1,5 @@
--- A table of rows in lent work memory: row k stands at ROW * k, one row for each kept statement, in copybook order (`Columns` names what stands
--- where). A statement is stored in its columns, and read back from them.
+-- A table of rows in lent work memory: row k stands at ROW * k, one row for each kept statement, in copybook order
+-- (`Columns` names what stands where). A statement is stored in its columns, and read back from them.
 -- A span is one number, for a text has at most 65,535 bytes; a count takes two.
 -- Assumes nothing.
 use Prim.Native.Nat.{ℕ, zero, suc, _+_, _*_, _/_, _%_, _≤_, _<_}

@@ -62,7 +62,8 @@ pub record ClausesDone (text : List ℕ) (at : ℕ) (from : Stand) (c : Clauses)
 -- what an answer says of the clauses from a place on, of the statement that begins at a position
 abbrev pub ClausesAre : List ℕ → ℕ → Stand → ClausesRead → Type 0
 ClausesAre text at from (ClausesRead.Done c next) = ClausesDone text at from c next
-ClausesAre text at from (ClausesRead.Refused r) = clauses text at Expect.Clause noClauses (wordsFrom text from) ≡ refuse r
+ClausesAre text at from (ClausesRead.Refused r) =
+    clauses text at Expect.Clause noClauses (wordsFrom text from) ≡ refuse r
 
 -- the statement of the name and the clauses from a place on, and where they end
 pub record NamedDone (text : List ℕ) (at level : ℕ) (from : Stand) (s : Statement) (next : Stand) : Type 0 where

@@ -208,8 +208,8 @@ fn read_named(text: &[u8], at: usize, level: u8, from: Stand) -> NamedRead
     }
 }
 
-// A kept statement and where the reader stands after it; where it stands after one that is skipped; a refusal; or the end
-// of the tokens, and where the reader stands there.
+// A kept statement and where the reader stands after it; where it stands after one that is skipped; a refusal; or the
+// end of the tokens, and where the reader stands there.
 pub enum StatementRead {
     Kept(Statement, Stand),
     Skipped(Stand),
@@ -220,7 +220,8 @@ pub enum StatementRead {
 // The statement whose first word is given, and goes on at `from`: its level, then the rest.
 fn read_levelled(text: &[u8], start: usize, len: usize, from: Stand) -> StatementRead
     requires { ⌜ (start < length (now text)) × (start + len ≤ length (now text)) × (from .at ≤ length (now text)) ⌝ }
-    ensures { λ r. ⌜ FirstStatement (Word (span start len) ∷ tokensAt (now (text .entry)) from) (now (text .entry)) (from .at) r ⌝ }
+    ensures { λ r. ⌜ FirstStatement (Word (span start len) ∷ tokensAt (now (text .entry)) from) (now (text .entry))
+        (from .at) r ⌝ }
 {
     match text::level_of(&text[start..start + len]) {
         Level::Value(level) => {

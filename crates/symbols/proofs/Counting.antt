@@ -12,7 +12,8 @@ use borrow.Author.Tests.{eqb-true}
 use Rattle.definition.specs.Limits.{mostSymbols}
 use Rattle.definition.specs.Basic.{if_then_else_, among}
 use Rattle.definition.specs.Picture.{tally, beforePoint}
-use Rattle.definition.proofs.PictureLaws.{tally-append, tally-run, tally-le, before-append, before-run, tally-sides, without-length, mask-width}
+use Rattle.definition.proofs.PictureLaws.{tally-append, tally-run, tally-le, before-append, before-run, tally-sides}
+use Rattle.definition.proofs.PictureLaws.{without-length, mask-width}
 use Rattle.symbols.specs.Shape.{tallied, timesIn, tallies, runOf, unless, joined, Small}
 
 -- a point is no digit

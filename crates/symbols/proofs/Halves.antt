@@ -1,4 +1,5 @@
--- Laws of what is awaited of CR or DB: no state changes after a byte's second copy, and a list is legal if nothing is awaited at its end.
+-- Laws of what is awaited of CR or DB: no state changes after a byte's second copy, and a list is legal if nothing is
+-- awaited at its end.
 -- Assumes nothing.
 use Prim.Native.Nat.{ℕ, zero, suc}
 use mathlib.Core.Path.{_≡_, refl, sym, _∙_}

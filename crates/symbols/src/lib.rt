@@ -1,11 +1,11 @@
-// The symbols of a picture: each with its repeat `(n)`, and their count, run by run: a symbol with its repeat is one step,
-// whatever n is. Leans on `definition` and `text`.
-ghost use Prim.Native.Nat.{ℕ, _≤_};
+// The symbols of a picture: each with its repeat `(n)`, and their count, run by run: a symbol with its repeat is one
+// step, whatever n is. Leans on `definition` and `text`.
+ghost use Prim.Native.Nat.{_<_};
 ghost use mathlib.Core.Path.{_≡_};
 ghost use mathlib.Core.List.{[], _∷_, reverse};
 ghost use lib.ListN.{length, replicate, drop};
 ghost use Rattle.definition.specs.Picture.{trimStart, trim as trimmed, symbol};
-ghost use Rattle.symbols.specs.Repeats.{ClosedAt, Repeated};
+ghost use Rattle.symbols.specs.Repeats.{ClosedAt, Repeated, Alike, Run};
 ghost use Rattle.symbols.specs.Shape.{tallies, runOf, unless, joined, Adds, awaits, halves, nothing, Counts};
 use definition::MOST_SYMBOLS;
 use definition::Refusal;
@@ -70,7 +70,8 @@ pub enum Repeat {
     Refused(Refusal),
 }
 
-// How often a symbol stands, by the text after its `(`: 22 if no `)` follows, 23 for a count that is none, both at `at`.
+// How often a symbol stands, by the text after its `(`: 22 if no `)` follows, 23 for a count that is none, both at
+// `at`.
 fn repeat_in(inside: &[u8], at: usize) -> Repeat
     ensures { λ r. ⌜ Repeated at (40 ∷ now (inside .entry)) r ⌝ }
 {
@@ -114,24 +115,50 @@ pub fn repeat_at(picture: &[u8], next: usize, at: usize) -> Repeat
     Repeat::Times { n: 1, skip: 0 }
 }
 
-// The same, for the loop that counts: most symbols have no `(` after them, and `repeat_at`, which others call too, stays out of
-// that loop.
-fn repeat_after(picture: &[u8], next: usize, at: usize) -> Repeat
-    ensures { λ r. ⌜ Repeated at (drop next (now (picture .entry))) r ⌝ }
+// How many bytes after the one at a place are the same as it, one after the other.
+fn alike_after(picture: &[u8], i: usize) -> usize
+    requires { ⌜ i < length (now picture) ⌝ }
+    ensures { λ r. ⌜ Alike (now (picture .entry)) i r ⌝ }
 {
+    let b = picture[i];
+    let mut d = 0;
+    while d < picture.len() - (i + 1) {
+        if picture[i + 1 + d] == b {
+            d += 1;
+        } else {
+            return d;
+        }
+    }
+    d
+}
+
+// A run of one symbol from a place on: how often it stands, and how many bytes after the first say so. A symbol written
+// out many times is one run, up to one with a `(` after it, which is a run by itself.
+fn run_at(picture: &[u8], i: usize, at: usize) -> Repeat
+    requires { ⌜ i < length (now picture) ⌝ }
+    ensures { λ r. ⌜ Run at (now (picture .entry)) i r ⌝ }
+{
+    if picture[i] == b'(' {
+        return repeat_at(picture, i + 1, at);
+    }
+    let d = alike_after(picture, i);
+    let next = i + 1 + d;
     if next < picture.len() {
         if picture[next] == b'(' {
-            return repeat_at(picture, next, at);
+            if 0 < d {
+                return Repeat::Times { n: d, skip: d - 1 };
+            }
+            return repeat_at(picture, i + 1, at);
         }
-        return Repeat::Times { n: 1, skip: 0 };
+        return Repeat::Times { n: d + 1, skip: d };
     }
-    Repeat::Times { n: 1, skip: 0 }
+    Repeat::Times { n: d + 1, skip: d }
 }
 
 // ---------------------------------------------------------------- symbols, judged run by run
 
-// How often the symbols of each set stand in a list of symbols: X A; 9 Z *; those of 9 Z * before the point; P; V and `.`; `$`;
-// `+`; `-`; the signs S + - C D; the editing symbols; S and V, which take no byte of a mask; and all symbols.
+// How often the symbols of each set stand in a list of symbols: X A; 9 Z *; those of 9 Z * before the point; P; V and
+// `.`; `$`; `+`; `-`; the signs S + - C D; the editing symbols; S and V, which take no byte of a mask; and all symbols.
 pub struct Tallies {
     pub text: u32,
     pub digits: u32,
@@ -177,8 +204,9 @@ fn before_point(points: u32, n: u32) -> u32
     0
 }
 
-// The tallies of some symbols and of one more that stands n times: only those that it touches change. Neighbours, as `/` and `0`,
-// have arms of their own here and in `is_symbol`: in one arm they would be a range, of which its proof has two cases.
+// The tallies of some symbols and of one more that stands n times: only those that it touches change. Neighbours, as
+// `/` and `0`, have arms of their own here and in `is_symbol`: in one arm they would be a range, of which its proof has
+// two cases.
 fn add_run(s: Tallies, b: u8, n: u32) -> Tallies
     requires { ⌜ Adds s n ⌝ }
     ensures { λ r. ⌜ r ≡ joined s (runOf b n) ⌝ }
@@ -373,7 +401,7 @@ pub fn count_symbols(picture: &[u8], at: usize) -> Counted
     while i < picture.len() {
         let b = text::upper(picture[i]);
         let next = i + 1;
-        match repeat_after(picture, next, at) {
+        match run_at(picture, i, at) {
             Repeat::Times { n, skip } => {
                 let left = (MOST_SYMBOLS - s.symbols) as usize;
                 if left < n {

@@ -1,4 +1,5 @@
--- Laws of the listing's entries one after the other: two lists, how many there are; what is asked of the folded listing is asked of them.
+-- Laws of the listing's entries one after the other: two lists, how many there are; what is asked of the folded listing
+-- is asked of them.
 -- Assumes nothing.
 use Prim.Native.Nat.{ℕ, zero, suc, _+_, _*_, max, _≤_}
 use mathlib.Core.Path.{_≡_, refl, sym, ap, ap₂, _∙_}
@@ -9,12 +10,11 @@ use lib.Dec.{eqb, ltb}
 use lib.ListN.{length, length-append}
 use borrow.Author.Tests.{ne-eqb}
 use Rattle.definition.specs.Limits.{largest}
-use Rattle.definition.specs.Basic.{if_then_else_, given, Answer, give, _>>=_, refuseIf}
+use Rattle.definition.specs.Basic.{if_then_else_, given, Answer, refuse, give, _>>=_, refuseIf}
 use Rattle.definition.specs.Fold.{Entries, end, entry, append, entryEnd}
 use Rattle.definition.specs.Record.{recordLength, variable, endsFit}
 use Rattle.definition.specs.Listing.{members#, entryBytes, entriesBytes}
 use Rattle.definition.specs.Search.{entries#}
-use Rattle.layout.proofs.BareLaws.{bind-bind}
 use Rattle.table.specs.Entered.{Shown, flatIn, flatBytes, flatVaries, topEnd, flatLength, flatFits}
 
 -- ---------------------------------------------------------------- two lists
@@ -89,9 +89,14 @@ flat-long (entry e ms later) = omega (arith, length-both (flatIn 1 ms) (flatIn 0
 fits-both : (a b : List Shown) → flatFits (a ++ b) ≡ (flatFits a >>= λ _. flatFits b)
 unfolding flatFits _>>=_
 fits-both [] b = refl
-fits-both (x ∷ a) b =
-    let here = refuseIf (ltb largest (topEnd x)) 29 (x .own .at) in
-    ap (λ (z : Answer (Unit {0})). here >>= λ _. z) (fits-both a b) ∙ sym (bind-bind here (λ _. flatFits a) (λ _. flatFits b))
+fits-both (x ∷ a) b = go (refuseIf (ltb largest (topEnd x)) 29 (x .own .at)) (fits-both a b)
+  where
+    go :
+        (here : Answer (Unit {0})) →
+        flatFits (a ++ b) ≡ (flatFits a >>= λ _. flatFits b) →
+        (here >>= λ _. flatFits (a ++ b)) ≡ ((here >>= λ _. flatFits a) >>= λ _. flatFits b)
+    go (refuse r) ih = refl
+    go (give u) ih = ih
 
 fits-none : (es : Entries) (d : ℕ) → flatFits (flatIn (d + 1) es) ≡ give tt
 unfolding flatIn flatFits _>>=_

@@ -1,4 +1,5 @@
--- What the table says of the record: its bytes, whether it varies, its length and its ends; and the listing is the head and then the entries.
+-- What the table says of the record: its bytes, whether it varies, its length and its ends; and the listing is the head
+-- and then the entries.
 -- Assumes nothing.
 use Prim.Native.Nat.{ℕ, _+_, _*_, _≤_, _<_}
 use mathlib.Core.Path.{_≡_, sym, _∙_, ap, subst}
@@ -12,7 +13,6 @@ use Rattle.definition.specs.Listing.{members#, entriesBytes, listing}
 use Rattle.definition.specs.Record.{recordLength, variable, endsFit}
 use Rattle.places.specs.Places.{rowsForest}
 use Rattle.places.proofs.EntriesLaws.{size-stretch}
-use Rattle.layout.proofs.SizeLaws.{listing-few}
 use Rattle.listing.specs.Puts.{Put, headBytes}
 use Rattle.listing.proofs.PutLaws.{_and_, listing-parts}
 use Rattle.unions.specs.Shown.{listIn}
@@ -20,6 +20,7 @@ use Rattle.unions.proofs.ShownLaws.{entries-size}
 use Rattle.table.specs.Items.{itemsFrom}
 use Rattle.table.specs.Entered.{flatBytes, flatVaries, flatLength, flatFits, shownAll, Entered}
 use Rattle.table.specs.Entered.{listed}
+use Rattle.table.proofs.SizeLaws.{listing-few}
 use Rattle.table.proofs.FlatLaws.{flat-bytes, flat-varies, flat-long, flat-fits}
 
 module _ {text w : List ℕ} {from to : ℕ} {t : List ℕ} {n : ℕ} (h : Entered text w from to t n) where

@@ -9,16 +9,19 @@ use native.Mathlib.Omega.{arith}
 use lib.ListN.{length, length-append}
 use Rattle.definition.specs.declared.Entry.{Entry}
 use Rattle.definition.specs.declared.Check.{Check}
+use Rattle.definition.specs.declared.Refusal.{Refusal}
 use Rattle.definition.specs.Limits.{largest}
 use Rattle.definition.specs.Basic.{given, Answer, give, _>>=_, refused, refuseIf}
 use Rattle.definition.specs.Calls.{checkOf}
 use borrow.Author.Tests.{lt-ltb, le-ltb}
 use Rattle.definition.specs.Listing.{entryBytes}
+use Rattle.limits.specs.Ends.{refusal29}
 use Rattle.listing.specs.Puts.{Put}
 use Rattle.listing.proofs.PutLaws.{put-none, _and_}
 use Rattle.table.specs.declared.Item.{Item}
 use Rattle.table.specs.Items.{itemAt, itemsFrom}
-use Rattle.table.specs.Entered.{Shown, flatBytes, flatVaries, topEnd, flatLength, flatFits, ownOf, shownOf, shownAll, Sound, Rows}
+use Rattle.table.specs.Entered.{Shown, flatBytes, flatVaries, topEnd, flatLength, flatFits, ownOf, shownOf}
+use Rattle.table.specs.Entered.{shownAll, Sound, Rows}
 
 -- ---------------------------------------------------------------- the rest of a table
 
@@ -177,9 +180,11 @@ module _ {w t : List ℕ} {n k : ℕ} (inv : Fitting w t n k) where
         largest < a →
         {q : ℕ} →
         q ≡ ownOf w (itemAt t k) .at →
-        checkOf (Check.Refused (record { number = 29; position = q; needed = 0 })) ≡ flatFits (shownAll w (itemsFrom t 0 n))
+        {r : Refusal} →
+        r ≡ refusal29 q →
+        checkOf (Check.Refused r) ≡ flatFits (shownAll w (itemsFrom t 0 n))
     unfolding flatFits _>>=_
-    fitting-over l q = sym (inv .same ∙ ap flatFits (rest-next (inv .here) h) ∙ rw (← p, lt-ltb largest a l, q))
+    fitting-over l q e = sym (inv .same ∙ ap flatFits (rest-next (inv .here) h) ∙ rw (← p, lt-ltb largest a l, e, q))
 
     pub fitting-on : a ≤ largest → Fitting w t n (k + 1)
     unfolding flatFits _>>=_

@@ -20,9 +20,11 @@ use Rattle.places.specs.Places.{entryIn}
 use Rattle.unions.specs.Shown.{SizedRow, Measured}
 use Rattle.table.specs.declared.Item.{Item}
 use Rattle.definition.specs.Listing.{entryBytes}
-use Rattle.listing.specs.Puts.{Put}
+use Rattle.listing.specs.declared.Line.{Line}
+use Rattle.listing.specs.Puts.{Countable, Put, lineOf, lineBytes}
+use Rattle.listing.proofs.PutLaws.{entry-line, entry-countable}
 use Rattle.table.specs.Items.{itemAt}
-use Rattle.table.specs.Entered.{topEnd, moved, ownOf, shownOf, Sound}
+use Rattle.table.specs.Entered.{topEnd, moved, memberLine, unionLine, ownOf, shownOf, Sound}
 
 -- seven numbers are the item
 pub item-read :
@@ -50,6 +52,20 @@ module _ (w : List ℕ) (x : Item) {e : Entry} (q : e ≡ entryIn w (x .row)) wh
     pub own-union : (x .mark ≡ 1 → ⊥) → r ≡ union e (x .width) → r ≡ ownOf w x
     own-union m p = rw (ne-eqb (x .mark) 0 n, ne-eqb (x .mark) 1 m) (p ∙ ap (λ (y : Entry). union y (x .width)) q)
 
+-- the same of what the listing says of it
+module _ (w : List ℕ) (x : Item) {l : Line} (q : l ≡ lineOf (entryIn w (x .row))) where
+  pub line-row : x .mark ≡ 0 → l ≡ lineOf (ownOf w x)
+  line-row h = rw (eq-eqb (x .mark) 0 h) q
+
+  module _ (n : x .mark ≡ 0 → ⊥) {r : Line} where
+    pub line-member : x .mark ≡ 1 → r ≡ memberLine l (x .offset) → r ≡ lineOf (ownOf w x)
+    line-member h p =
+        rw (ne-eqb (x .mark) 0 n, eq-eqb (x .mark) 1 h) (p ∙ ap (λ (y : Line). memberLine y (x .offset)) q)
+
+    pub line-union : (x .mark ≡ 1 → ⊥) → r ≡ unionLine l (x .width) → r ≡ lineOf (ownOf w x)
+    line-union m p =
+        rw (ne-eqb (x .mark) 0 n, ne-eqb (x .mark) 1 m) (p ∙ ap (λ (y : Line). unionLine y (x .width)) q)
+
 -- it is at its row's statement
 own-position : (w : List ℕ) (x : Item) → ownOf w x .at ≡ cell w (x .row) AT
 own-position w x = go (eqb (x .mark) 0) (eqb (x .mark) 1)
@@ -66,14 +82,20 @@ module _ (w t : List ℕ) (k : ℕ) {x : Item} (e : (x ≡ itemAt t k) × (x .of
   pub sound-read : Sound w (itemAt t k) → Sound w x
   sound-read s = subst (Sound w) (sym (e .0)) s
 
-  pub put-read :
-      {o : Entry} →
-      o ≡ ownOf w x →
-      {out : List ℕ} {at r : ℕ} {after : List ℕ} →
-      Put out at (entryBytes o (x .members)) r after →
-      Put out at (entryBytes (ownOf w (itemAt t k)) (itemAt t k .members)) r after
-  put-read p {out} {at} {r} {after} h =
-      subst (λ (y : Item). Put out at (entryBytes (ownOf w y) (y .members)) r after) (e .0) (subst (λ (o : Entry). Put out at (entryBytes o (x .members)) r after) p h)
+  module _ {l : Line} (p : l ≡ lineOf (ownOf w x)) where
+    pub countable-read : (at : ℕ) → at ≤ 4294967295 → Countable at (lineBytes l (x .members))
+    countable-read at h =
+        subst (λ (y : Line). Countable at (lineBytes y (x .members))) (sym p)
+        (entry-countable (ownOf w x) (x .members) at h)
+
+    pub put-read :
+        {out : List ℕ} {at r : ℕ} {after : List ℕ} →
+        Put out at (lineBytes l (x .members)) r after →
+        Put out at (entryBytes (ownOf w (itemAt t k)) (itemAt t k .members)) r after
+    put-read {out} {at} {r} {after} h =
+        let said = ap (λ (y : Line). lineBytes y (x .members)) p ∙ sym (entry-line (ownOf w x) (x .members)) in
+        subst (λ (y : Item). Put out at (entryBytes (ownOf w y) (y .members)) r after) (e .0)
+        (subst (λ (bs : List ℕ). Put out at bs r after) said h)
 
   pub top-read : {r : ℕ} → x .depth ≡ 0 → r ≡ entryEnd (ownOf w x) → r ≡ topEnd (shownOf w (itemAt t k))
   top-read {r} h p =

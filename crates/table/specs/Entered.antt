@@ -1,5 +1,5 @@
--- What a table of entries says, by the rows that it names: the folded listing, one entry after the other. `ownOf` reads an
--- entry back.
+-- What a table of entries says, by the rows that it names: the folded listing, one entry after the other. `ownOf` reads
+-- an entry back.
 -- Assumes nothing.
 use Prim.Native.Nat.{ℕ, zero, suc, _+_, _*_, max, _≤_, _<_}
 use mathlib.Core.Path.{_≡_}
@@ -8,6 +8,9 @@ use mathlib.Core.List.{List, [], _∷_, _++_}
 use lib.Dec.{eqb, ltb}
 use lib.ListN.{length}
 use Rattle.definition.specs.declared.Entry.{Entry}
+use Rattle.definition.specs.declared.FieldKind.{FieldKind}
+use Rattle.definition.specs.declared.Occurs.{Occurs}
+use Rattle.listing.specs.declared.Line.{Line}
 use Rattle.definition.specs.Limits.{largest}
 use Rattle.definition.specs.Basic.{if_then_else_, absent, given, Answer, give, _>>=_, refuseIf}
 use Rattle.definition.specs.Fold.{Entries, end, entry, total, entryEnd, union, foldedAll}
@@ -21,7 +24,8 @@ use Rattle.table.specs.Items.{ITEM, OWN, MEMBER, itemsFrom}
 
 -- ---------------------------------------------------------------- the listing's entries, one after the other
 
--- an entry as the listing shows it: itself, how many members it has, how many entries stand below it, and how deep it stands
+-- an entry as the listing shows it: itself, how many members it has, how many entries stand below it, and how deep it
+-- stands
 pub record Shown : Type 0 where
   pub own : Entry
   pub members : ℕ
@@ -31,7 +35,8 @@ pub record Shown : Type 0 where
 -- the entries of a list at a depth, a group before its members
 unfoldable pub flatIn : ℕ → Entries → List Shown
 flatIn d end = []
-flatIn d (entry e ms later) = record { own = e; members = members# ms; below = entries# ms; depth = d } ∷ (flatIn (d + 1) ms ++ flatIn d later)
+flatIn d (entry e ms later) =
+    record { own = e; members = members# ms; below = entries# ms; depth = d } ∷ (flatIn (d + 1) ms ++ flatIn d later)
 
 -- the bytes of the entries
 unfoldable pub flatBytes : List Shown → List ℕ
@@ -63,8 +68,50 @@ flatFits (x ∷ xs) = do
 -- an entry at another offset, as a member of a union
 abbrev pub moved : ℕ → Entry → Entry
 moved offset e =
-    record { at = e .at; level = e .level; name = e .name; offset = offset; width = e .width; kind = e .kind; picture = e .picture; occurs = e .occurs; depending = e .depending; redefines = absent; over = e .over; slack = e .slack; folded = e .folded }
+    record {
+      at = e .at;
+      level = e .level;
+      name = e .name;
+      offset = offset;
+      width = e .width;
+      kind = e .kind;
+      picture = e .picture;
+      occurs = e .occurs;
+      depending = e .depending;
+      redefines = absent;
+      over = e .over;
+      slack = e .slack;
+      folded = e .folded;
+    }
 
+-- the same of what the listing says of it, and of the union of an entry
+abbrev pub memberLine : Line → ℕ → Line
+memberLine l offset =
+    record {
+      kind = l .kind;
+      name = l .name;
+      offset = offset;
+      width = l .width;
+      occurs = l .occurs;
+      depending = l .depending;
+      redefines = absent;
+      picture = l .picture;
+    }
+
+abbrev pub unionLine : Line → ℕ → Line
+unionLine l width =
+    record {
+      kind = FieldKind.Group;
+      name = l .name;
+      offset = l .offset;
+      width = width;
+      occurs = Occurs.Once;
+      depending = absent;
+      redefines = absent;
+      picture = absent;
+    }
+
+-- the entry that an item stands for
 abbrev pub ownOf : List ℕ → Item → Entry
 ownOf w x =
     if eqb (x .mark) OWN then entryIn w (x .row)

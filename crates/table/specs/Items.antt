@@ -1,5 +1,5 @@
--- The table of entries: ITEM numbers for each entry, each number with its name, and an entry's marks. Each name stands for
--- its number.
+-- The table of entries: ITEM numbers for each entry, each number with its name, and an entry's marks. Each name stands
+-- for its number.
 -- Assumes nothing.
 use Prim.Native.Nat.{ℕ, zero, suc, _+_, _*_, _<_}
 use mathlib.Core.List.{List, [], _∷_, _++_}

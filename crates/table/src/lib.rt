@@ -1,5 +1,5 @@
-// The table of entries: the folded listing in work memory, each entry as ITEM numbers that name a row, in the order of the
-// listing. What is asked of the folded listing is asked of the table, by a loop. `entries` makes it.
+// The table of entries: the folded listing in work memory, each entry as ITEM numbers that name a row, in the order of
+// the listing. What is asked of the folded listing is asked of the table, by a loop. `entries` makes it.
 ghost use mathlib.Core.Path.{_≡_};
 ghost use Prim.Native.Nat.{_+_, _*_, _≤_, _<_};
 ghost use lib.ListN.{length};
@@ -8,19 +8,29 @@ ghost use Rattle.definition.specs.Fold.{entryEnd};
 ghost use Rattle.definition.specs.Calls.{checkOf};
 ghost use Rattle.definition.specs.Basic.{given};
 ghost use Rattle.definition.specs.Listing.{entryBytes};
-ghost use Rattle.listing.specs.Puts.{Put};
+ghost use Rattle.listing.specs.Puts.{Put, lineOf};
+ghost use Rattle.places.specs.Places.{entryIn};
 ghost use Rattle.rows.specs.Columns.{ROW};
 ghost use Rattle.table.specs.Items.{ITEM, itemCells, itemAt, itemsFrom, ItemSmall};
-ghost use Rattle.table.specs.Entered.{flatBytes, flatVaries, topEnd, flatLength, flatFits, moved, ownOf, shownOf, shownAll, Sound, Rows};
+ghost use Rattle.table.specs.Entered.{flatBytes, flatVaries, topEnd, flatLength, flatFits, moved, ownOf, shownOf};
+ghost use Rattle.table.specs.Entered.{shownAll, Sound, Rows};
+ghost use Rattle.table.specs.Entered.{memberLine, unionLine};
 use definition::Check;
 use definition::Entry;
+use definition::FieldKind;
 use definition::LARGEST;
-use definition::Refusal;
+use definition::Occurs;
 use definition::Span;
+use listing::Line;
 use rows::AT;
 use rows::DEPENDING;
+use rows::KIND;
+use rows::NAME;
 use rows::OFFSET;
+use rows::PICTURE;
+use rows::REDEFINES;
 use rows::ROW;
+use rows::WIDTH;
 
 // How many numbers an entry has, and which is which.
 pub const ITEM: usize = 7;
@@ -131,19 +141,94 @@ pub fn own_of(work: &[u32], x: Item) -> Entry
     listing::union_of(e, x.width)
 }
 
+// What the listing says of the item in a row, by itself.
+fn row_line(work: &[u32], row: usize) -> Line
+    requires { ⌜ ROW * row + ROW ≤ length (now work) ⌝ }
+    ensures { λ r. ⌜ r ≡ lineOf (entryIn (now (work .entry)) row) ⌝ }
+{
+    Line {
+        kind: kinds::kind_at(work[ROW * row + KIND]),
+        name: rows::span_at(work[ROW * row + NAME]),
+        offset: rows::wide(work[ROW * row + OFFSET]),
+        width: rows::wide(work[ROW * row + WIDTH]),
+        occurs: rows::occurs_in(work, row),
+        depending: rows::span_at(work[ROW * row + DEPENDING]),
+        redefines: rows::span_at(work[ROW * row + REDEFINES]),
+        picture: rows::span_at(work[ROW * row + PICTURE]),
+    }
+}
+
+// The same at another offset, as a member of a union.
+fn member_line(l: Line, offset: usize) -> Line
+    ensures { λ r. ⌜ r ≡ memberLine l offset ⌝ }
+{
+    let kind = l.kind;
+    let name = l.name;
+    let occurs = l.occurs;
+    let depending = l.depending;
+    let picture = l.picture;
+    Line {
+        kind: kind,
+        name: name,
+        offset: offset,
+        width: l.width,
+        occurs: occurs,
+        depending: depending,
+        redefines: Span { start: 0, len: 0 },
+        picture: picture,
+    }
+}
+
+// That of a union of the item.
+fn union_line(l: Line, width: usize) -> Line
+    ensures { λ r. ⌜ r ≡ unionLine l width ⌝ }
+{
+    let name = l.name;
+    Line {
+        kind: FieldKind::Group,
+        name: name,
+        offset: l.offset,
+        width: width,
+        occurs: Occurs::Once,
+        depending: Span { start: 0, len: 0 },
+        redefines: Span { start: 0, len: 0 },
+        picture: Span { start: 0, len: 0 },
+    }
+}
+
+// What the listing says of the entry that an item stands for: `own_of` with the columns that it names alone.
+fn line_of(work: &[u32], x: Item) -> Line
+    requires { ⌜ ROW * x .row + ROW ≤ length (now work) ⌝ }
+    ensures { λ r. ⌜ r ≡ lineOf (ownOf (now (work .entry)) x) ⌝ }
+{
+    let l = row_line(work, x.row);
+    if x.mark == OWN {
+        return l;
+    }
+    if x.mark == MEMBER {
+        return member_line(l, x.offset);
+    }
+    union_line(l, x.width)
+}
+
 // Puts the bytes of entry k.
 fn put_own(work: &[u32], entries: &[u32], k: usize, out: &mut [u8], at: usize) -> usize
-    requires { ⌜ (ITEM * k + ITEM ≤ length (now entries)) × Sound (now work) (itemAt (now entries) k) × (at ≤ 4294967295) ⌝ }
-    ensures { λ r. ⌜ Put (now (out .entry)) at (entryBytes (ownOf (now (work .entry)) (itemAt (now (entries .entry)) k)) (itemAt (now (entries .entry)) k .members)) r (now (out .exit)) ⌝ }
+    requires { ⌜ (ITEM * k + ITEM ≤ length (now entries)) × Sound (now work) (itemAt (now entries) k)
+        × (at ≤ 4294967295) ⌝ }
+    ensures { λ r. ⌜ Put (now (out .entry)) at
+        (entryBytes (ownOf (now (work .entry)) (itemAt (now (entries .entry)) k))
+        (itemAt (now (entries .entry)) k .members)) r (now (out .exit)) ⌝ }
 {
     let x = item_at(entries, k);
-    listing::put_entry(out, at, own_of(work, x), x.members)
+    listing::put_line(out, at, line_of(work, x), x.members)
 }
 
 // Puts the bytes of the first n entries.
 pub fn put_entries(work: &[u32], entries: &[u32], n: usize, out: &mut [u8], at: usize) -> usize
-    requires { ⌜ (ITEM * n ≤ length (now entries)) × Rows (now work) (itemsFrom (now entries) 0 n) × (at + length (flatBytes (shownAll (now work) (itemsFrom (now entries) 0 n))) < 4294967296) ⌝ }
-    ensures { λ r. ⌜ Put (now (out .entry)) at (flatBytes (shownAll (now (work .entry)) (itemsFrom (now (entries .entry)) 0 n))) r (now (out .exit)) ⌝ }
+    requires { ⌜ (ITEM * n ≤ length (now entries)) × Rows (now work) (itemsFrom (now entries) 0 n)
+        × (at + length (flatBytes (shownAll (now work) (itemsFrom (now entries) 0 n))) < 4294967296) ⌝ }
+    ensures { λ r. ⌜ Put (now (out .entry)) at
+        (flatBytes (shownAll (now (work .entry)) (itemsFrom (now (entries .entry)) 0 n))) r (now (out .exit)) ⌝ }
 {
     let mut place = at;
     let mut k = 0;
@@ -253,11 +338,7 @@ pub fn ends_fit(work: &[u32], entries: &[u32], n: usize) -> Check
     let mut k = 0;
     while k < n {
         if LARGEST < top_end(work, entries, k) {
-            return Check::Refused(Refusal {
-                number: 29,
-                position: position_of(work, entries, k),
-                needed: 0,
-            });
+            return Check::Refused(limits::too_large(position_of(work, entries, k)));
         }
         k += 1;
     }

@@ -1,5 +1,5 @@
-// The copybook text: its bytes, words and numbers, and the checks of the text itself. A word is the part of the text that
-// it fills.
+// The copybook text: its bytes, words and numbers, and the checks of the text itself. A word is the part of the text
+// that it fills.
 ghost use mathlib.Core.Path.{_≡_};
 ghost use mathlib.Core.Bool.{_||_};
 ghost use mathlib.Core.List.{map};

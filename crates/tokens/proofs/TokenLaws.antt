@@ -1,5 +1,5 @@
--- What numbers say of literals, where a reader stands, and what a caller of `next_token` learns of the tokens from its answer: each token leaves less
--- of the text.
+-- What numbers say of literals, where a reader stands, and what a caller of `next_token` learns of the tokens from its
+-- answer: each token leaves less of the text.
 -- Assumes nothing.
 use Prim.Native.Nat.{ℕ, _+_, _-_, _<_, _≤_}
 use mathlib.Core.Path.{_≡_, refl, sym, _∙_, ap}
@@ -26,7 +26,8 @@ use Rattle.definition.proofs.Lists.{order}
 use Rattle.definition.proofs.WordLaws.{closed-on}
 use Rattle.tokens.specs.declared.Next.{Next}
 use Rattle.tokens.specs.declared.Stand.{Stand}
-use Rattle.tokens.specs.Tokens.{VALUE, openMark, lastMark, saidOf, saidAt, between, modeAt, tokensAt, FirstWord, FirstStop, FirstEnd, First, openCheck}
+use Rattle.tokens.specs.Tokens.{VALUE, openMark, lastMark, saidOf, saidAt, between, modeAt, tokensAt, FirstWord}
+use Rattle.tokens.specs.Tokens.{FirstStop, FirstEnd, First, openCheck}
 
 -- ---------------------------------------------------------------- marks
 

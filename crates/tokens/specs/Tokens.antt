@@ -40,7 +40,8 @@ lastMark mark text (suc i) = if eqb (getD text i 0) mark then i else lastMark ma
 -- what a number says at a place: so many words, VALUE, or a literal that is open
 abbrev pub saidOf : List ℕ → ℕ → ℕ → Said
 saidOf text n at =
-    if ltb n VALUE then Before n else if eqb n VALUE then Value else Literal (openMark n) (lastMark (openMark n) text at)
+    if ltb n VALUE then Before n else if eqb n VALUE then Value
+    else Literal (openMark n) (lastMark (openMark n) text at)
 
 -- ---------------------------------------------------------------- where a reader stands
 
@@ -103,7 +104,8 @@ pub record WordEnd (text : List ℕ) (at n : ℕ) (r : Stand) : Type 0 where
   pub within : r .at ≤ length text
   pub rest :
       (a : ℕ) →
-      tokensFrom text (saidOf text n at) (Within a) at ≡ upTo a (r .at) ∷ tokensFrom text (saidAt text r) Between (r .at)
+      tokensFrom text (saidOf text n at) (Within a) at ≡ upTo a (r .at)
+      ∷ tokensFrom text (saidAt text r) Between (r .at)
 
 -- the word that begins at i, with n said, ends at r
 pub record WordFrom (text : List ℕ) (i n : ℕ) (r : Stand) : Type 0 where
@@ -156,7 +158,8 @@ pub record InsideWord (text : List ℕ) (at i : ℕ) : Type 0 where
   pub within : i < length text
   pub begins :
       (m a : ℕ) →
-      tokensFrom text (Literal m a) Between i ≡ tokensFrom text (marked (Literal m a) i (getD text i 0)) (Within i) (i + 1)
+      tokensFrom text (Literal m a) Between i
+      ≡ tokensFrom text (marked (Literal m a) i (getD text i 0)) (Within i) (i + 1)
 
 -- or the line ends, and the literal is left open
 pub record InsideEnd (text : List ℕ) (at i : ℕ) : Type 0 where

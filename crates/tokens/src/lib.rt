@@ -10,7 +10,8 @@ ghost use Rattle.definition.specs.declared.Said.the-variants.{Literal};
 ghost use Rattle.definition.specs.Words.{cutHere, ends, byteKind, isValue, seen};
 ghost use Rattle.definition.proofs.WordLaws.{goesIn, seenAt};
 ghost use Rattle.tokens.specs.Tokens.{VALUE, openMark, lastMark, saidOf, atStart, behind as behindOf, tokensAt};
-ghost use Rattle.tokens.specs.Tokens.{NextLine, WordCounted, PlainEnd, MarkSeen, WordEnd, WordFrom, AheadIs, InsideIs};
+ghost use Rattle.tokens.specs.Tokens.{NextLine, WordCounted, PlainEnd, MarkSeen, WordEnd, WordFrom, AheadIs};
+ghost use Rattle.tokens.specs.Tokens.{InsideIs};
 ghost use Rattle.tokens.specs.Tokens.{Looks, First, openCheck};
 use definition::ByteKind;
 use definition::Check;
@@ -30,9 +31,9 @@ const APOSTROPHE: u8 = 39;
 
 const QUOTE: u8 = 34;
 
-// Where a reader stands: the place that it has reached, and what its statement has said, as far as its literals go. That
-// is 0, 1 or 2 words, 2 standing for more, and no VALUE from the third on; VALUE; or VALUE and a literal that is open,
-// with this mark. Place 0 begins a line, and between words any other place stands behind a token.
+// Where a reader stands: the place that it has reached, and what its statement has said, as far as its literals go.
+// That is 0, 1 or 2 words, 2 standing for more, and no VALUE from the third on; VALUE; or VALUE and a literal that is
+// open, with this mark. Place 0 begins a line, and between words any other place stands behind a token.
 pub struct Stand {
     pub at: usize,
     pub said: usize,

@@ -1,4 +1,5 @@
--- Laws of the open levels: how many there are, the innermost, and one more; rows that are stored later leave them alone.
+-- Laws of the open levels: how many there are, the innermost, and one more; rows that are stored later leave them
+-- alone.
 -- Assumes nothing.
 use Prim.Native.Nat.{ℕ, zero, suc, _+_, _-_, _≤_, _<_}
 use mathlib.Core.Path.{_≡_, refl, ap, ap₂, subst, sym, _∙_}

@@ -1,4 +1,5 @@
--- The open levels of the code as the definition's list of open statements, the innermost first; and what closing and opening a level says of them.
+-- The open levels of the code as the definition's list of open statements, the innermost first; and what closing and
+-- opening a level says of them.
 -- Assumes nothing.
 use Prim.Native.Nat.{ℕ, zero, suc, _+_, _-_, _*_, _≤_, _<_}
 use mathlib.Core.Path.{_≡_}
@@ -32,7 +33,8 @@ usageAround w row = if ltb 0 row then usageIn w (row - 1) else outermost
 pub record NoneOpen (o : OpenLevels) : Type 0 where
   pub count : o .count ≡ 0
 
--- each open level is at least the number of those around it, so no more than 256 are open; each is that of one of the first k rows, which are there
+-- each open level is at least the number of those around it, so no more than 256 are open; each is that of one of the
+-- first k rows, which are there
 pub record Nested (w : List ℕ) (k : ℕ) (o : OpenLevels) : Type 0 where
   pub few : o .count ≤ 256
   pub fit : Fit k (stackOf w o)

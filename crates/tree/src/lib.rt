@@ -27,8 +27,8 @@ fn wide(n: u32) -> usize
     n as usize
 }
 
-// The levels that are open, the innermost last, and how many; the row of the innermost and 1, or 0 for none. The rows of the others follow by the
-// parents.
+// The levels that are open, the innermost last, and how many; the row of the innermost and 1, or 0 for none. The rows
+// of the others follow by the parents.
 pub struct OpenLevels {
     pub levels: [u8; 256],
     pub count: usize,
@@ -183,9 +183,9 @@ fn read_statements(text: &[u8], work: &mut [u32]) -> StatementsRead
     }
 }
 
-// The kept statements of a text as rows of work memory, from row 0 on. 50 comes before any other refusal of theirs: where
-// the tokens were read to their end, where the reader stands says whether a literal is open, and else the rest of the text
-// is looked through.
+// The kept statements of a text as rows of work memory, from row 0 on. 50 comes before any other refusal of theirs:
+// where the tokens were read to their end, where the reader stands says whether a literal is open, and else the rest of
+// the text is looked through.
 pub fn read_rows(text: &[u8], work: &mut [u32]) -> RowsRead
     requires { ⌜ (length (now text) ≤ mostBytes) × (leastWork ≤ length (now work)) ⌝ }
     ensures { λ r. ⌜ RowsAre (now (text .entry)) (now (work .entry)) r (now (work .exit)) ⌝ }

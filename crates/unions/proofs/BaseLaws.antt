@@ -1,22 +1,39 @@
--- The search for the base of a name, from a sibling back: what it finds is what the definition finds, and a base is found until the next of its name.
+-- The bases after a row; the search for the base of a name, from a sibling back: what it finds is what the definition
+-- finds, and a base is found until the next of its name.
 -- Assumes nothing.
 use Prim.Native.Nat.{ℕ, zero, suc, _≤_, _<_}
 use mathlib.Core.Path.{_≡_, refl, sym, ap, _∙_}
 use mathlib.Core.Bool.{Bool, true, false}
-use mathlib.Core.List.{List}
+use mathlib.Core.List.{List, _∷_}
 use native.Mathlib.Omega.{arith}
 use lib.Dec.{eqb, ltb}
 use borrow.Author.Tests.{lt-ltb, eq-eqb, ne-eqb}
 use Rattle.definition.specs.declared.Span.{Span}
-use Rattle.definition.specs.Basic.{if_then_else_, given, uppers}
-use Rattle.definition.specs.Fold.{find, sameName, nameOf, hasBase}
+use Rattle.definition.specs.Basic.{if_then_else_, given}
+use Rattle.definition.specs.Fold.{Place, placeOf, find, sameName, hasBase}
 use Rattle.rows.specs.Columns.{NAME, REDEFINES, BEFORE}
 use Rattle.rows.specs.Table.{cell, spanAt}
-use Rattle.redefines.specs.Targets.{seenFrom, offsetOf, baseFrom}
+use Rattle.redefines.specs.Targets.{seenFrom, basesAt, offsetOf, baseFrom}
 use Rattle.redefines.proofs.SearchLaws.{row-most, row-found, back, back-step}
-use Rattle.layout.proofs.SizeLaws.{same-sym, same-first}
-use Rattle.names.proofs.SameLaws.{never}
-use Rattle.unions.specs.Shown.{Findable}
+use Rattle.places.specs.Places.{entryIn}
+use Rattle.places.proofs.PlaceLaws.{seen-low, seen-out, seen-in}
+use Rattle.names.proofs.SameLaws.{never, swapped, same-first}
+use Rattle.unions.specs.Shown.{basesAfter, Findable}
+
+-- the bases after row i
+pub bases-after :
+    (w : List ℕ) (i last : ℕ) → cell w i BEFORE ≡ last → last ≤ i → basesAt w (suc i) ≡ basesAfter (entryIn w i) (basesAt w last)
+bases-after w i last h l = go (given (entryIn w i .redefines)) refl
+  where
+    before : seenFrom true w i (cell w i BEFORE) ≡ basesAt w last
+    before = ap (seenFrom true w i) h ∙ seen-low true w i last l
+
+    go : (b : Bool) → given (entryIn w i .redefines) ≡ b → basesAt w (suc i) ≡ basesAfter (entryIn w i) (basesAt w last)
+    go true g = seen-out true w i g ∙ before ∙ ap (λ (b : Bool). if b then basesAt w last else placeOf (entryIn w i) ∷ basesAt w last) (sym g)
+    go false g =
+        seen-in true w i g
+        ∙ ap (λ (ps : List Place). placeOf (entryIn w i) ∷ ps) before
+        ∙ ap (λ (b : Bool). if b then basesAt w last else placeOf (entryIn w i) ∷ basesAt w last) (sym g)
 
 pub if-not : (b : Bool) {x y z : ℕ} → (x ≡ z → ⊥) → (b ≡ false → y ≡ z → ⊥) → (if b then x else y) ≡ z → ⊥
 if-not true p q e = p e
@@ -35,9 +52,6 @@ module _ (t w : List ℕ) where
         go (suc k) = sym (lt-ltb 0 (suc k) (omega arith))
 
   -- ---------------------------------------------------------------- a base that a search finds
-
-  pub swapped : (a b : Span) → sameName t a b ≡ sameName t b a
-  swapped a b = same-sym (uppers (nameOf t a)) (uppers (nameOf t b))
 
   module _ (i k last : ℕ) (e : cell w k BEFORE ≡ last) (l : last ≤ k) where
     -- the base's own row
@@ -74,7 +88,7 @@ module _ (t w : List ℕ) where
               eqb (if b then suc k else back t w target last) (suc i) ≡ sameName t target (spanAt (cell w i NAME))
           go true q =
               ne-eqb (suc k) (suc i) (λ x. omega arith)
-              ∙ sym (same-first t target (spanAt (cell w k NAME)) (spanAt (cell w i NAME)) q ∙ swapped (spanAt (cell w k NAME)) (spanAt (cell w i NAME)) ∙ d)
+              ∙ sym (same-first t target (spanAt (cell w k NAME)) (spanAt (cell w i NAME)) q ∙ swapped t (spanAt (cell w k NAME)) (spanAt (cell w i NAME)) ∙ d)
           go false q = o target
 
       -- a base of its name closes it

@@ -1,5 +1,5 @@
--- Folded lists, entry by entry: a list is what its first entry comes to and then the rest; what is counted or measured of two lists together;
--- the redefiners of a base.
+-- Folded lists, entry by entry: a list is what its first entry comes to and then the rest; what is counted or measured
+-- of two lists together; the redefiners of a base.
 -- Assumes nothing.
 use Prim.Native.Nat.{ℕ, _+_, max}
 use mathlib.Core.Path.{_≡_, refl, ap, _∙_}
@@ -10,12 +10,11 @@ use native.Mathlib.Omega.{arith}
 use Rattle.definition.specs.declared.Span.{Span}
 use Rattle.definition.specs.declared.Entry.{Entry}
 use Rattle.definition.specs.Basic.{if_then_else_, given}
-use Rattle.definition.specs.Fold.{Entries, end, entry, append, sameName, sameSpelling, Place, placeOf, find, hasMember, rebased, redefiners, widest, withRedefiners, foldedList, foldedBelow, foldedAll}
+use Rattle.definition.specs.Fold.{Entries, end, entry, append, sameName, sameSpelling, Place, placeOf, find, hasMember}
+use Rattle.definition.specs.Fold.{rebased, redefiners, widest, withRedefiners, foldedList, foldedBelow, foldedAll}
 use Rattle.definition.specs.Listing.{members#}
-use Rattle.layout.specs.Bare.{basesAfter}
-use Rattle.layout.proofs.BareLaws.{list-base, list-alone, list-under}
 use Rattle.unions.specs.declared.Standing.{Standing}
-use Rattle.unions.specs.Shown.{standing, shownAs, shownNamed}
+use Rattle.unions.specs.Shown.{standing, basesAfter, shownAs, shownNamed}
 
 -- ---------------------------------------------------------------- two lists together
 
@@ -65,6 +64,27 @@ module _ (text : List ℕ) where
   with-later e members (entry r ms rs) later = refl
 
   module _ (bases : List Place) (e : Entry) (members later : Entries) where
+    pub list-base :
+        given (e .redefines) ≡ false →
+        foldedList text bases (entry e members later)
+        ≡ withRedefiners text e members (redefiners text (placeOf e) later) (foldedList text (placeOf e ∷ bases) later)
+    unfolding foldedList
+    list-base g = rw (g, foldedList)
+
+    module _ (g : given (e .redefines) ≡ true) where
+      pub list-alone :
+          find text (e .redefines) bases ≡ none →
+          foldedList text bases (entry e members later) ≡ entry e members (foldedList text bases later)
+      unfolding foldedList
+      list-alone h = rw (g, h, foldedList)
+
+      pub list-under :
+          {base : ℕ} →
+          find text (e .redefines) bases ≡ some base →
+          foldedList text bases (entry e members later) ≡ foldedList text bases later
+      unfolding foldedList
+      list-under h = rw (g, h, foldedList)
+
     list-found :
         given (e .redefines) ≡ true →
         (o : Option ℕ) →
@@ -72,8 +92,8 @@ module _ (text : List ℕ) where
         foldedList text bases (entry e members later)
         ≡ append (shownAs text (standing text bases e) e members later) (foldedList text (basesAfter e bases) later)
     unfolding append
-    list-found g none h = list-alone text bases e members later g h ∙ rw (g, h)
-    list-found g (some base) h = list-under text bases e members later g h ∙ rw (g, h)
+    list-found g none h = list-alone g h ∙ rw (g, h)
+    list-found g (some base) h = list-under g h ∙ rw (g, h)
 
     list-given :
         (b : Bool) →
@@ -82,7 +102,7 @@ module _ (text : List ℕ) where
         ≡ append (shownAs text (standing text bases e) e members later) (foldedList text (basesAfter e bases) later)
     list-given true g = list-found g (find text (e .redefines) bases) refl
     list-given false g =
-        list-base text bases e members later g
+        list-base g
         ∙ with-later e members (redefiners text (placeOf e) later) (foldedList text (placeOf e ∷ bases) later)
         ∙ rw g
 

@@ -1,4 +1,5 @@
 pub mod BaseLaws
+pub mod CheckLaws
 pub mod FoldedLaws
 pub mod ShownLaws
 pub mod WidthLaws

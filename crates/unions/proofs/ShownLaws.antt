@@ -1,4 +1,5 @@
--- A folded list, row by row along the rows that hold it: what a row comes to, and then the rest; the redefiners of a row.
+-- A folded list, row by row along the rows that hold it: what a row comes to, and then the rest; the redefiners of a
+-- row.
 -- Assumes nothing.
 use Prim.Native.Nat.{ℕ, suc, _+_, _*_, _-_, _≤_, _<_}
 use mathlib.Core.Path.{_≡_, refl, sym, ap, subst, _∙_}
@@ -10,7 +11,8 @@ use Rattle.definition.specs.Basic.{if_then_else_, given}
 use lib.Dec.{ltb}
 use lib.ListN.{length}
 use Rattle.definition.specs.Tree.{Forest, leaf, item, higher}
-use Rattle.definition.specs.Fold.{Entries, end, entry, append, Place, sameName, rebased, redefiners, foldedList, foldedBelow, foldedAll}
+use Rattle.definition.specs.Fold.{Entries, end, entry, append, Place, sameName, rebased, redefiners, foldedList}
+use Rattle.definition.specs.Fold.{foldedBelow, foldedAll}
 use Rattle.definition.specs.Owner.{size}
 use Rattle.definition.specs.Search.{entries#}
 use Rattle.definition.proofs.LayoutLaws.{redefiners-hit, redefiners-miss, redefiners-ends, redefiners-next}
@@ -20,10 +22,9 @@ use Rattle.redefines.specs.Targets.{seenFrom, basesAt, baseFrom, baseAfter, pla
 use Rattle.places.specs.Places.{entryIn, entriesIn, Linked, rowsForest}
 use Rattle.places.specs.Children.{ChildrenEnd, Numbered}
 use Rattle.places.proofs.EntriesLaws.{next-row, entries-step, linked-step, linked-numbered}
-use Rattle.layout.proofs.FoldLaws.{bases-after}
 use Rattle.places.proofs.RowLaws.{children-end, forest-split, forest-empty}
 use Rattle.unions.specs.Shown.{listIn, redefinersIn, foldedRest, shownAt, unionOf, nextIn, IsBase, Known, Marked}
-use Rattle.unions.proofs.BaseLaws.{base-found}
+use Rattle.unions.proofs.BaseLaws.{bases-after, base-found}
 use Rattle.unions.proofs.FoldedLaws.{append-end, append-append, list-step}
 
 -- ---------------------------------------------------------------- one row

@@ -1,4 +1,5 @@
--- How wide the rows are in the folded list, and where they end: a row alone, a base with its redefiners; and the parts of a table of rows.
+-- How wide the rows are in the folded list, and where they end: a row alone, a base with its redefiners; and the parts
+-- of a table of rows.
 -- Assumes nothing.
 use Prim.Native.Nat.{ℕ, zero, suc, _+_, _-_, _≤_, _<_}
 use mathlib.Core.Path.{_≡_, refl, sym, ap, subst, _∙_}
@@ -19,15 +20,18 @@ use Rattle.rows.specs.Columns.{NAME, REDEFINES, OFFSET, BASE, NEXT}
 use Rattle.rows.specs.Table.{cell, spanAt, statementAt, statementsFrom}
 use Rattle.places.proofs.RowLaws.{children-end, forest-empty, forest-split}
 use Rattle.places.proofs.EntriesLaws.{next-row}
-use Rattle.names.proofs.SameLaws.{never}
+use Rattle.names.proofs.SameLaws.{never, swapped}
 use Rattle.redefines.specs.Targets.{isTarget, baseAfter}
 use Rattle.places.specs.Places.{entryIn, rowsForest}
 use Rattle.places.specs.Children.{ChildrenEnd, Numbered}
 use Rattle.redefines.proofs.SearchLaws.{back, back-step}
 use Rattle.unions.specs.declared.Standing.{Standing}
-use Rattle.unions.specs.Shown.{standing, listIn, redefinersIn, shownAt, unionOf, nextIn, Findable, IsBase, Known, Marked, Sized, Tree, Branch, Base, SizedRow}
-use Rattle.unions.proofs.BaseLaws.{if-not, opens, passes, differs, closes, swapped}
-use Rattle.unions.proofs.ShownLaws.{RowIs, marked-step, marked-linked, marked-numbered, marked-known, redefined-none, redefined-hit, redefined-miss, redefined-ends, redefined-next, Walking, walking-starts, walking-on}
+use Rattle.unions.specs.Shown.{standing, listIn, redefinersIn, shownAt, unionOf, nextIn, Findable, IsBase, Known}
+use Rattle.unions.specs.Shown.{Marked, Sized, Tree, Branch, Base, SizedRow}
+use Rattle.unions.proofs.BaseLaws.{if-not, opens, passes, differs, closes}
+use Rattle.unions.proofs.ShownLaws.{RowIs, marked-step, marked-linked, marked-numbered, marked-known}
+use Rattle.unions.proofs.ShownLaws.{redefined-none, redefined-hit, redefined-miss, redefined-ends}
+use Rattle.unions.proofs.ShownLaws.{redefined-next, Walking, walking-starts, walking-on}
 
 -- ---------------------------------------------------------------- parts of a table
 
@@ -252,7 +256,7 @@ module _ (t w : List ℕ) (i to : ℕ) where
               let name = spanAt (cell w i NAME) in
               let r = spanAt (cell w k REDEFINES) in
               let other : sameName t name r ≡ false =
-              swapped t w name r ∙ sym (o r) ∙ ap (λ (n : ℕ). eqb n (suc i)) (sym (row .base ∙ ap (λ (y : Bool). if y then back t w r last else 0) p)) ∙ x in
+              swapped t name r ∙ sym (o r) ∙ ap (λ (n : ℕ). eqb n (suc i)) (sym (row .base ∙ ap (λ (y : Bool). if y then back t w r last else 0) p)) ∙ x in
               onward-from t w i to (nextIn w (suc i) j (rowsForest w j to)) (omega (arith, c .low)) (redefined-miss t w i k to c p other) (rest (passes t w i k last (row .before) l o p))
           by-row j c false x false p a q true s row rest none =
               subst (Onward t w i k to (redefinersIn t w i k to)) (sym (none (closes t w i k last (row .before) l h o p s))) (redefined-ends t w i k to c p s)
@@ -331,7 +335,7 @@ module _ {t w : List ℕ} {i j to k n : ℕ} (inv : Following t w i j to k n) {r
         let name = spanAt (cell w i NAME) in
         let r = spanAt (cell w row REDEFINES) in
         let at : back t w r (x .before) ≡ suc i = sym (ap (λ (g : Bool). if g then back t w r (x .before) else 0) redefines) ∙ found in
-        x .same ∙ redefined-hit t w i row to h redefines (swapped t w name r ∙ sym (x .opened r) ∙ eq-eqb (back t w r (x .before)) (suc i) at)
+        x .same ∙ redefined-hit t w i row to h redefines (swapped t name r ∙ sym (x .opened r) ∙ eq-eqb (back t w r (x .before)) (suc i) at)
 
     -- and names the next
     pub next-on : {n′ : ℕ} → n′ ≡ cell w row NEXT → Following t w i j to m n′

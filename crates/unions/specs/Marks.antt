@@ -34,7 +34,8 @@ pub record Unlinked (w : List ℕ) (from to : ℕ) : Type 0 where
   pub few : to ≤ mostStatements
   pub nexts : (i : ℕ) → from ≤ i → i < to → cell w i NEXT ≡ 0
   pub back : (i : ℕ) → from ≤ i → i < to → cell w i BASE ≤ i
-  pub bases : (i : ℕ) → from ≤ i → i < to → 0 < cell w i BASE → (from < cell w i BASE) × (cell w (cell w i BASE - 1) BASE ≡ 0)
+  pub bases :
+      (i : ℕ) → from ≤ i → i < to → 0 < cell w i BASE → (from < cell w i BASE) × (cell w (cell w i BASE - 1) BASE ≡ 0)
 
 -- each row from `from` up to `to` names the next of its union
 pub record UnionsLinked (w : List ℕ) (from to : ℕ) (w′ : List ℕ) : Type 0 where

@@ -4,14 +4,15 @@ use Prim.Native.Nat.{ℕ, suc, _+_, _*_, _≤_, _<_}
 use mathlib.Core.Path.{_≡_}
 use mathlib.Core.Bool.{Bool, true, false}
 use lib.Dec.{eqb, ltb}
-use mathlib.Core.List.{List}
+use mathlib.Core.List.{List, _∷_}
 use lib.ListN.{length}
 use Rattle.definition.specs.declared.Span.{Span}
 use Rattle.definition.specs.declared.Entry.{Entry}
 use Rattle.definition.specs.Limits.{largest}
 use Rattle.definition.specs.Basic.{if_then_else_, given}
 use Rattle.definition.specs.Tree.{Forest, leaf, item}
-use Rattle.definition.specs.Fold.{Entries, end, entry, total, sameName, sameSpelling, Place, placeOf, find, redefiners, withRedefiners, hasBase, foldedList, foldedBelow, foldedAll}
+use Rattle.definition.specs.Fold.{Entries, end, entry, total, sameName, sameSpelling, Place, placeOf, find, redefiners}
+use Rattle.definition.specs.Fold.{withRedefiners, hasBase, foldedList, foldedBelow, foldedAll}
 use Rattle.definition.specs.Owner.{size}
 use Rattle.rows.specs.Columns.{ROW, NAME, REDEFINES, BASE, NEXT}
 use Rattle.rows.specs.Table.{cell, spanAt}
@@ -26,6 +27,10 @@ abbrev pub standing : List ℕ → List Place → Entry → Standing
 standing text bases e =
     if given (e .redefines) then (if hasBase (find text (e .redefines) bases) then Standing.Under else Standing.Alone)
     else Standing.Base
+
+-- the bases after it
+abbrev pub basesAfter : Entry → List Place → List Place
+basesAfter e bases = if given (e .redefines) then bases else placeOf e ∷ bases
 
 -- what it comes to: nothing, itself, or itself with its redefiners
 abbrev pub shownAs : List ℕ → Standing → Entry → Entries → Entries → Entries
@@ -56,7 +61,8 @@ foldedRest text w i to last = foldedList text (basesAt w last) (foldedBelow text
 -- what row i comes to in it, where its children end at j
 abbrev pub shownAt : List ℕ → List ℕ → ℕ → ℕ → ℕ → ℕ → Entries
 shownAt text w i j to last =
-    shownAs text (standing text (basesAt w last) (entryIn w i)) (entryIn w i) (foldedAll text (listIn w (suc i) j)) (foldedBelow text (listIn w j to))
+    shownAs text (standing text (basesAt w last) (entryIn w i)) (entryIn w i) (foldedAll text (listIn w (suc i) j))
+    (foldedBelow text (listIn w j to))
 
 -- ---------------------------------------------------------------- what the table is to be
 
@@ -71,7 +77,8 @@ nextIn w u k (item s kids later) = if eqb (cell w k BASE) u then suc k else next
 
 -- a search for a name, from the sibling `last` back, finds row i where row i has that name
 abbrev pub Findable : List ℕ → List ℕ → ℕ → ℕ → Type 0
-Findable text w i last = (target : Span) → eqb (baseFrom text target w last last) (suc i) ≡ sameName text target (spanAt (cell w i NAME))
+Findable text w i last =
+    (target : Span) → eqb (baseFrom text target w last last) (suc i) ≡ sameName text target (spanAt (cell w i NAME))
 
 -- row i has no REDEFINES
 abbrev pub IsBase : List ℕ → ℕ → Type 0
@@ -81,7 +88,9 @@ IsBase w i = given (spanAt (cell w i REDEFINES)) ≡ false
 pub record Known (text w : List ℕ) (i last : ℕ) : Type 0 where
   pub fits : ROW * i + ROW ≤ length w
   pub back : last ≤ i
-  pub is : given (spanAt (cell w i REDEFINES)) ≡ true → hasBase (find text (spanAt (cell w i REDEFINES)) (basesAt w last)) ≡ ltb 0 (cell w i BASE)
+  pub is :
+      given (spanAt (cell w i REDEFINES)) ≡ true →
+      hasBase (find text (spanAt (cell w i REDEFINES)) (basesAt w last)) ≡ ltb 0 (cell w i BASE)
 
 -- a row is linked, and names the next row of its union among the later siblings
 pub record RowMarked (text w : List ℕ) (k last : ℕ) (kids later : Forest) : Type 0 where

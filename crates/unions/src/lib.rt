@@ -1,21 +1,72 @@
-// Unions: each base of a laid table linked with its redefiners, and how the rows stand in the folded lists.
+// Unions: no redefiner starts before its base (30); each base of a laid table linked with its redefiners; how the rows
+// stand in the folded lists.
 ghost use mathlib.Core.Path.{_≡_};
 ghost use Prim.Native.Nat.{_+_, _*_, _≤_, _<_};
+ghost use mathlib.Core.List.{[]};
 ghost use lib.ListN.{length};
-ghost use Rattle.definition.specs.Fold.{total, sameSpelling, hasMember, foldedAll};
-ghost use Rattle.places.specs.Places.{entryIn};
+ghost use Rattle.definition.specs.Calls.{checkOf};
+ghost use Rattle.definition.specs.Fold.{total, sameSpelling, foldCheck, hasMember, foldedAll};
+ghost use Rattle.places.specs.Places.{entryIn, Linked, rowsForest};
 ghost use Rattle.redefines.specs.Targets.{basesAt};
 ghost use Rattle.rows.specs.Columns.{ROW, BASE};
 ghost use Rattle.rows.specs.Table.{cell};
+ghost use Rattle.unions.specs.Checks.{checkRow};
 ghost use Rattle.unions.specs.Marks.{linkRow, Unlinked, UnionsLinked};
 ghost use Rattle.unions.specs.Shown.{standing, listIn, shownNamed, Known, Tree, SizedRow, Measured};
+use definition::Check;
+use definition::Refusal;
 use definition::Span;
+use rows::AT;
 use rows::BASE;
 use rows::NAME;
 use rows::NEXT;
+use rows::OFFSET;
 use rows::REDEFINES;
 use rows::ROW;
 use rows::WIDTH;
+
+// ---------------------------------------------------------------- refusal 30
+
+// Refusal 30 for row i: a redefiner that starts before its base.
+fn check_row(work: &[u32], i: usize) -> Check
+    requires { ⌜ (ROW * i + ROW ≤ length (now work)) × (cell (now work) i BASE ≤ i) ⌝ }
+    ensures { λ r. ⌜ checkOf r ≡ checkRow (now (work .entry)) i ⌝ }
+{
+    let base = rows::wide(work[ROW * i + BASE]);
+    if 0 < base {
+        let row = base - 1;
+        if work[ROW * i + OFFSET] < work[ROW * row + OFFSET] {
+            return Check::Refused(Refusal {
+                number: 30,
+                position: rows::wide(work[ROW * i + AT]),
+                needed: 0,
+            });
+        }
+        return Check::Passed;
+    }
+    Check::Passed
+}
+
+// Refusal 30 for the list that is laid in the rows from `from` up to `to`: its first redefiner that starts before its
+// base.
+pub fn fold_check(text: &[u8], work: &[u32], from: usize, to: usize) -> Check
+    requires { ⌜ (ROW * to ≤ length (now work))
+        × Linked (now text) (now work) from 0 (rowsForest (now work) from to) ⌝ }
+    ensures { λ r. ⌜ checkOf r ≡ foldCheck (now (text .entry)) [] (listIn (now (work .entry)) from to) ⌝ }
+{
+    let mut i = from;
+    while i < to {
+        match check_row(work, i) {
+            Check::Passed => {
+                i = places::next_of(work, i, to);
+            }
+            Check::Refused(r) => {
+                return Check::Refused(r);
+            }
+        }
+    }
+    Check::Passed
+}
 
 // ---------------------------------------------------------------- the redefiners linked
 
@@ -58,7 +109,8 @@ pub enum Standing {
 // How the entry of row i stands in the folded list, where the siblings before it go back from `last`.
 pub fn standing_of(text: &[u8], work: &[u32], i: usize, last: usize) -> Standing
     requires { ⌜ Known (now text) (now work) i last ⌝ }
-    ensures { λ r. ⌜ r ≡ standing (now (text .entry)) (basesAt (now (work .entry)) last) (entryIn (now (work .entry)) i) ⌝ }
+    ensures { λ r. ⌜ r
+        ≡ standing (now (text .entry)) (basesAt (now (work .entry)) last) (entryIn (now (work .entry)) i) ⌝ }
 {
     let redefines = rows::span_at(work[ROW * i + REDEFINES]);
     if 0 < redefines.len {
@@ -82,7 +134,10 @@ pub fn row_total(work: &[u32], k: usize) -> usize
 // Whether row i stands in the folded list under that name.
 fn shown_named(text: &[u8], work: &[u32], i: usize, last: usize, name: Span) -> bool
     requires { ⌜ Known (now text) (now work) i last ⌝ }
-    ensures { λ r. ⌜ r ≡ shownNamed (now (text .entry)) name (standing (now (text .entry)) (basesAt (now (work .entry)) last) (entryIn (now (work .entry)) i)) (entryIn (now (work .entry)) i) ⌝ }
+    ensures { λ r. ⌜ r
+        ≡ shownNamed (now (text .entry)) name
+        (standing (now (text .entry)) (basesAt (now (work .entry)) last) (entryIn (now (work .entry)) i))
+        (entryIn (now (work .entry)) i) ⌝ }
 {
     let own = rows::span_at(work[ROW * i + NAME]);
     match standing_of(text, work, i, last) {
@@ -95,7 +150,8 @@ fn shown_named(text: &[u8], work: &[u32], i: usize, last: usize, name: Span) -> 
 // Whether the folded list of the rows from `from` up to `to` has an entry spelled like that name.
 pub fn has_member(text: &[u8], work: &[u32], from: usize, to: usize, name: Span) -> bool
     requires { ⌜ Tree (now text) (now work) from to ⌝ }
-    ensures { λ r. ⌜ r ≡ hasMember (now (text .entry)) name (foldedAll (now (text .entry)) (listIn (now (work .entry)) from to)) ⌝ }
+    ensures { λ r. ⌜ r
+        ≡ hasMember (now (text .entry)) name (foldedAll (now (text .entry)) (listIn (now (work .entry)) from to)) ⌝ }
 {
     let mut i = from;
     let mut last = 0;

@@ -1,6 +1,6 @@
-// A word reader: it holds the copybook text and where it stands in it. The borrow checker covers no function over a struct
-// that holds a slice, so `reader_at` and `word_of` are proved by hand, and so is `word_at`, whose parameters are plain: its
-// callers are covered.
+// A word reader: it holds the copybook text and where it stands in it. The borrow checker covers no function over a
+// struct that holds a slice, so `reader_at` and `word_of` are proved by hand, and so is `word_at`, whose parameters are
+// plain: its callers are covered.
 ghost use mathlib.Core.Path.{_≡_};
 ghost use Prim.Native.Nat.{_≤_};
 ghost use lib.ListN.{length};
@@ -23,7 +23,8 @@ pub fn reader_at<'a>(text: &'a [u8], stand: Stand) -> WordReader<'a>
 // The first token before a reader.
 pub fn word_of<'a>(r: WordReader<'a>) -> Next
     requires { ⌜ r .stand .at ≤ length (now (r .text)) ⌝ }
-    ensures { λ t. ⌜ First (tokensAt (now (r .entry .text)) (r .entry .stand)) (now (r .entry .text)) (r .entry .stand .at) t ⌝ }
+    ensures { λ t. ⌜ First (tokensAt (now (r .entry .text)) (r .entry .stand)) (now (r .entry .text))
+        (r .entry .stand .at) t ⌝ }
 {
     tokens::next_token(r.text, r.stand)
 }

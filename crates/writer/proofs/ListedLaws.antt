@@ -13,7 +13,7 @@ use Rattle.definition.specs.Listing.{members#, entriesBytes, listing}
 use Rattle.definition.specs.Record.{recordLength, variable}
 use Rattle.places.specs.Places.{rowsForest}
 use Rattle.places.proofs.EntriesLaws.{size-stretch}
-use Rattle.layout.proofs.SizeLaws.{listing-few}
+use Rattle.table.proofs.SizeLaws.{listing-few}
 use Rattle.listing.specs.Puts.{Put, headBytes}
 use Rattle.listing.proofs.PutLaws.{_and_, room, listing-parts}
 use Rattle.unions.specs.Shown.{listIn}

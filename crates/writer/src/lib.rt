@@ -1,5 +1,5 @@
-// The listing of a record, written from its table of entries. A byte past the output's end is counted and not written, so that the same
-// loop measures; nothing is written unless all of it has room.
+// The listing of a record, written from its table of entries. A byte past the output's end is counted and not written,
+// so that the same loop measures; nothing is written unless all of it has room.
 ghost use mathlib.Core.Path.{_≡_};
 ghost use mathlib.Core.List.{[]};
 ghost use Prim.Native.Nat.{_≤_};
@@ -10,8 +10,8 @@ ghost use Rattle.writer.specs.Listed.{listingOf, Tabled};
 use definition::Refusal;
 use definition::Writing;
 
-// Puts the listing of the record in the rows from `from` up to `to`, whose table has `count` entries, `top` of them at the top, into the output,
-// where it fits, and answers its length.
+// Puts the listing of the record in the rows from `from` up to `to`, whose table has `count` entries, `top` of them at
+// the top, into the output, where it fits, and answers its length.
 fn put_listing(
     text: &[u8],
     work: &[u32],
@@ -24,7 +24,8 @@ fn put_listing(
     out: &mut [u8],
 ) -> usize
     requires { ⌜ Tabled (now text) (now work) (now entries) from to long count top ⌝ }
-    ensures { λ r. ⌜ Put (now (out .entry)) 0 (listingOf (now (text .entry)) (now (work .entry)) from to) r (now (out .exit)) ⌝ }
+    ensures { λ r. ⌜ Put (now (out .entry)) 0 (listingOf (now (text .entry)) (now (work .entry)) from to) r
+        (now (out .exit)) ⌝ }
 {
     let variable = table::varies(work, entries, count);
     let at = listing::put_head(out, 0, long, variable, top);
@@ -62,7 +63,10 @@ fn write_measured(
     out: &mut [u8],
 ) -> Writing
     requires { ⌜ Tabled (now text) (now work) (now entries) from to long count top ⌝ }
-    ensures { λ r. ⌜ left (writingOf r) (now (out .exit)) [] ≡ afterWriting (fitting (length (now (out .entry))) (listingOf (now (text .entry)) (now (work .entry)) from to)) (now (out .entry)) [] ⌝ }
+    ensures { λ r. ⌜ left (writingOf r) (now (out .exit)) []
+        ≡ afterWriting
+        (fitting (length (now (out .entry))) (listingOf (now (text .entry)) (now (work .entry)) from to))
+        (now (out .entry)) [] ⌝ }
 {
     let needed = measure(text, work, entries, from, to, long, count, top);
     if out.len() < needed {
@@ -89,7 +93,10 @@ pub fn write_listing(
     out: &mut [u8],
 ) -> Writing
     requires { ⌜ Tabled (now text) (now work) (now entries) from to long count top ⌝ }
-    ensures { λ r. ⌜ left (writingOf r) (now (out .exit)) [] ≡ afterWriting (fitting (length (now (out .entry))) (listingOf (now (text .entry)) (now (work .entry)) from to)) (now (out .entry)) [] ⌝ }
+    ensures { λ r. ⌜ left (writingOf r) (now (out .exit)) []
+        ≡ afterWriting
+        (fitting (length (now (out .entry))) (listingOf (now (text .entry)) (now (work .entry)) from to))
+        (now (out .entry)) [] ⌝ }
 {
     if out.len() < 98 * to + 10 {
         return write_measured(text, work, entries, from, to, long, count, top, out);

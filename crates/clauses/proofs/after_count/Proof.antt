@@ -13,14 +13,14 @@ same-key-requires c κs = search needs
 
 returns : tie.Need-returns
 unfolding clauseStep
-returns c = rw (← c .before .same-key .ensures, c .if1 .taken)
+returns c = λ w d. rw (← c .before .same-key .ensures, c .if1 .taken)
 
 on-times-requires : tie.Need-on-times-requires
 on-times-requires c κs = search needs
 
 returns-2 : tie.Need-returns-2
 unfolding clauseStep
-returns-2 c = rw (← c .before .before .same-key .ensures, c .before .if1 .left, c .on-times .ensures)
+returns-2 c = λ w d. rw (← c .before .before .same-key .ensures, c .before .if1 .left) (c .on-times .ensures w d)
 
 pub after-count-spec : {M : Type 1} → statement M
 after-count-spec =

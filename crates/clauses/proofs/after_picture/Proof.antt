@@ -13,16 +13,13 @@ same-key-requires c κs = search needs
 
 returns : tie.Need-returns
 unfolding clauseStep
-returns c = rw (← c .before .same-key .ensures, c .if1 .taken)
-
-with-picture-requires : tie.Need-with-picture-requires
-with-picture-requires c κs = search needs
+returns c = λ w d. rw (← c .before .same-key .ensures, c .if1 .taken)
 
 returns-2 : tie.Need-returns-2
 unfolding clauseStep
-returns-2 c = rw (← c .before .before .same-key .ensures, c .before .if1 .left, c .with-picture .ensures)
+returns-2 c = λ w d. rw (← c .before .same-key .ensures, c .if1 .left)
 
 pub after-picture-spec : {M : Type 1} → statement M
 after-picture-spec =
     tie.close
-    (tie.spec slice-aggregate-same-key same-key-requires returns with-picture-requires returns-2)
+    (tie.spec slice-aggregate-same-key same-key-requires returns returns-2)

@@ -13,14 +13,14 @@ same-key-requires c κs = search needs
 
 returns : tie.Need-returns
 unfolding clauseStep
-returns c = rw (← c .before .same-key .ensures, c .if1 .taken)
+returns c = λ w d. rw (← c .before .same-key .ensures, c .if1 .taken)
 
 on-sign-requires : tie.Need-on-sign-requires
 on-sign-requires c κs = search needs
 
 returns-2 : tie.Need-returns-2
 unfolding clauseStep
-returns-2 c = rw (← c .before .before .same-key .ensures, c .before .if1 .left, c .on-sign .ensures)
+returns-2 c = λ w d. rw (← c .before .before .same-key .ensures, c .before .if1 .left) (c .on-sign .ensures w d)
 
 pub after-sign-spec : {M : Type 1} → statement M
 after-sign-spec =

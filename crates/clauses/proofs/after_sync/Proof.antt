@@ -13,7 +13,7 @@ same-key-requires c κs = search needs
 
 returns : tie.Need-returns
 unfolding clauseStep
-returns c = rw (← c .before .same-key .ensures, c .if1 .taken)
+returns c = λ w d. rw (← c .before .same-key .ensures, c .if1 .taken)
 
 slice-aggregate-same-key-2 : tie.Need-slice-aggregate-same-key-2
 slice-aggregate-same-key-2 c = search needs
@@ -23,14 +23,23 @@ same-key-requires-2 c κs = search needs
 
 returns-2 : tie.Need-returns-2
 unfolding clauseStep
-returns-2 c = rw (← c .before .before .before .before .same-key .ensures, c .before .before .before .if1 .left, ← c .before .same-key2 .ensures, c .if2 .taken)
+returns-2 c =
+    λ w d.
+    let no-left = c .before .before .before in
+    rw (← no-left .before .same-key .ensures, no-left .if1 .left, ← c .before .same-key2 .ensures, c .if2 .taken)
 
 on-clause-requires : tie.Need-on-clause-requires
 on-clause-requires c κs = search needs
 
 returns-3 : tie.Need-returns-3
 unfolding clauseStep
-returns-3 c = rw (← c .before .before .before .before .before .same-key .ensures, c .before .before .before .before .if1 .left, ← c .before .before .same-key2 .ensures, c .before .if2 .left, c .on-clause .ensures)
+returns-3 c =
+    λ w d.
+    let no-right = c .before in
+    let no-left = no-right .before .before .before in
+    rw
+    (← no-left .before .same-key .ensures, no-left .if1 .left, ← no-right .before .same-key2 .ensures, no-right .if2 .left)
+    (c .on-clause .ensures w d)
 
 pub after-sync-spec : {M : Type 1} → statement M
 after-sync-spec =

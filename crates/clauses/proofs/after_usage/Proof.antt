@@ -13,14 +13,14 @@ same-key-requires c κs = search needs
 
 returns : tie.Need-returns
 unfolding clauseStep
-returns c = rw (← c .before .same-key .ensures, c .if1 .taken)
+returns c = λ w d. rw (← c .before .same-key .ensures, c .if1 .taken)
 
 on-clause-requires : tie.Need-on-clause-requires
 on-clause-requires c κs = search needs
 
 returns-2 : tie.Need-returns-2
 unfolding clauseStep
-returns-2 c = rw (← c .before .before .same-key .ensures, c .before .if1 .left, c .on-clause .ensures)
+returns-2 c = λ w d. rw (← c .before .before .same-key .ensures, c .before .if1 .left) (c .on-clause .ensures w d)
 
 pub after-usage-spec : {M : Type 1} → statement M
 after-usage-spec =

@@ -11,19 +11,16 @@ count-of-requires c κs = search needs
 enum-known-n : tie.Need-enum-known-n
 enum-known-n c = search needs
 
-with-occurs-requires : tie.Need-with-occurs-requires
-with-occurs-requires c κs = search needs
-
 enum-told : tie.Need-enum-told
 enum-told c = search needs
 
 returns : tie.Need-returns
-returns c = rw (number-uppers, ← c .before .before .before .before .count-of .ensures, c .before .before .n .given .1, c .with-occurs .ensures)
+returns c = λ w d. rw (number-uppers, ← c .before .before .before .count-of .ensures, c .before .n .given .1)
 
 returns-2 : tie.Need-returns-2
-returns-2 c = rw (number-uppers, ← c .before .before .count-of .ensures, c .enum-told .given .1)
+returns-2 c = λ w d. rw (number-uppers, ← c .before .before .count-of .ensures, c .enum-told .given .1)
 
 pub counted-spec : {M : Type 1} → statement M
 counted-spec =
     tie.close
-    (tie.spec count-of-requires enum-known-n with-occurs-requires enum-told returns returns-2)
+    (tie.spec count-of-requires enum-known-n enum-told returns returns-2)

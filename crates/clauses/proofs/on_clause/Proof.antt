@@ -7,11 +7,8 @@ use Rattle.clauses.proofs.on_clause.Tie as tie
 keyword-of-requires : tie.Need-keyword-of-requires
 keyword-of-requires c κs = search needs
 
-begin-requires : tie.Need-begin-requires
-begin-requires c κs = search needs
-
 returns : tie.Need-returns
-returns c = rw (c .begin .ensures, c .before .keyword-of .ensures)
+returns c = λ w d. rw (c .keyword-of .ensures)
 
 pub on-clause-spec : {M : Type 1} → statement M
-on-clause-spec = tie.close (tie.spec keyword-of-requires begin-requires returns)
+on-clause-spec = tie.close (tie.spec keyword-of-requires returns)

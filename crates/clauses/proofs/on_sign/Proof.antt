@@ -10,12 +10,9 @@ slice-aggregate-same-key c = search needs
 same-key-requires : tie.Need-same-key-requires
 same-key-requires c κs = search needs
 
-with-sign-requires : tie.Need-with-sign-requires
-with-sign-requires c κs = search needs
-
 returns : tie.Need-returns
-returns c = rw (c .with-sign .ensures, c .before .same-key .ensures)
+returns c = λ w d. rw (c .same-key .ensures)
 
 pub on-sign-spec : {M : Type 1} → statement M
 on-sign-spec =
-    tie.close (tie.spec slice-aggregate-same-key same-key-requires with-sign-requires returns)
+    tie.close (tie.spec slice-aggregate-same-key same-key-requires returns)

@@ -11,13 +11,13 @@ same-key-requires : tie.Need-same-key-requires
 same-key-requires c κs = search needs
 
 returns : tie.Need-returns
-returns c = rw (← c .before .same-key .ensures, c .if1 .taken)
+returns c = λ w d. rw (← c .before .same-key .ensures, c .if1 .taken)
 
 on-depending-requires : tie.Need-on-depending-requires
 on-depending-requires c κs = search needs
 
 returns-2 : tie.Need-returns-2
-returns-2 c = rw (← c .before .before .same-key .ensures, c .before .if1 .left, c .on-depending .ensures)
+returns-2 c = λ w d. rw (← c .before .before .same-key .ensures, c .before .if1 .left) (c .on-depending .ensures w d)
 
 pub on-times-spec : {M : Type 1} → statement M
 on-times-spec =

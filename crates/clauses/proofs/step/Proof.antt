@@ -5,15 +5,12 @@ use Rattle.definition.specs.Statement.{step}
 use Rattle.clauses.proofs.step.Statement.{statement}
 use Rattle.clauses.proofs.step.Tie as tie
 
-clause-step-requires : tie.Need-clause-step-requires
-clause-step-requires c κs = search needs
-
-separated-requires : tie.Need-separated-requires
-separated-requires c κs = search needs
-
 returns : tie.Need-returns
 unfolding step
-returns c = rw (c .separated .ensures, c .before .clause-step .ensures)
+returns c =
+    let start = c .before .before .before .before in
+    let move = c .before .before .move-of .ensures (start .args .w) (start .args .c) in
+    rw (c .separated .ensures, c .before .moved .ensures, move)
 
 pub step-spec : {M : Type 1} → statement M
-step-spec = tie.close (tie.spec clause-step-requires separated-requires returns)
+step-spec = tie.close (tie.spec (λ c κs. search needs) (λ c κs. search needs) (λ c κs. search needs) returns)

@@ -1,4 +1,5 @@
--- `copybook_layout::print_entries` is safe and ends: an entry is printed where the listing has all of it, and the next one begins after it.
+-- `copybook_layout::print_entries` is safe and ends: an entry is printed where the listing has all of it, and the next
+-- one begins after it.
 -- Assumes nothing.
 use borrow.Author.Needs.{needs}
 use Prim.Native.Nat.{_-_, _<_}

@@ -14,8 +14,14 @@ use Rattle.unions.specs.Shown.{shownAt, Base}
 use Rattle.unions.proofs.WidthLaws.{branch-tree, branch-row, branch-base, along-numbered, along-known, along-branch}
 use Rattle.table.specs.Entered.{listed}
 use Rattle.entries.specs.Building.{itemIn, redefined, unionIn}
-use Rattle.entries.proofs.BuildLaws.{built-none, built-as, built-wider, built-length, room-part, room-within, room-open, built-own, built-union}
-use Rattle.entries.proofs.WalkLaws.{shown-under, shown-alone, shown-base, shown-union, members-folded, members-based, first-room, second-room, both-built, room-as, Listing, listing-starts, listing-ends, listing-room, listing-on, Redefining, redefining-starts, chainLeft, redefining-ends, redefining-next, redefining-numbered, redefining-row, redefining-tree, redefining-room, redefining-on, redefining-falls}
+use Rattle.entries.proofs.BuildLaws.{built-none, built-as, built-wider, built-length, room-part, room-within}
+use Rattle.entries.proofs.BuildLaws.{room-open, built-own, built-union}
+use Rattle.entries.proofs.WalkLaws.{shown-under, shown-alone, shown-base, shown-union, members-folded}
+use Rattle.entries.proofs.WalkLaws.{members-based, first-room, second-room, both-built, room-as, Listing}
+use Rattle.entries.proofs.WalkLaws.{listing-starts, listing-ends, listing-room, listing-on, Redefining}
+use Rattle.entries.proofs.WalkLaws.{redefining-starts, chainLeft, redefining-ends, redefining-next}
+use Rattle.entries.proofs.WalkLaws.{redefining-numbered, redefining-row, redefining-tree, redefining-room}
+use Rattle.entries.proofs.WalkLaws.{redefining-on, redefining-falls}
 use borrow.Fn.Kinds.{In}
 use borrow.Fn.PlainCycle.{Measures, is, falls, and}
 use Rattle.entries.proofs.build_item.Reads as build-item

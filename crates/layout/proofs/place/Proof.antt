@@ -2,32 +2,30 @@
 -- Assumes nothing.
 use borrow.Author.Needs.{needs}
 use Prim.Native.Nat.{ℕ, _+_, _*_, _-_, _≤_, _<_}
-use mathlib.Core.Bool.{Bool, true, false, _&&_}
-use mathlib.Core.Path.{_≡_, refl, sym, ap, _∙_}
+use mathlib.Core.Bool.{Bool, true, false}
+use mathlib.Core.Path.{_≡_, sym, ap, subst, _∙_}
 use mathlib.Core.List.{List}
 use native.Mathlib.Omega.{arith}
 use Rattle.definition.specs.declared.Refusal.{Refusal}
+use Rattle.definition.specs.declared.Span.{Span}
 use Rattle.definition.specs.declared.Statement.{Statement}
 use Rattle.definition.specs.declared.Entry.{Entry}
 use Rattle.definition.specs.declared.Pictured.{Pictured}
 use Rattle.definition.specs.Limits.{largest}
-use Rattle.definition.specs.Basic.{if_then_else_, given, fewest, Answer, give, orRefuse}
-use Rattle.definition.specs.Picture.{isAlignable}
-use Rattle.definition.specs.Fold.{find}
+use Rattle.definition.specs.Basic.{if_then_else_, given, Answer, give}
 use Rattle.definition.specs.Layout.{start, slackFrom, entryOf, tooLarge}
 use Rattle.rows.specs.Table.{statementAt}
 use Rattle.limits.specs.declared.Ending.{Ending}
 use Rattle.places.specs.Places.{putPlace}
-use Rattle.redefines.specs.Targets.{seenAt, rowFrom, offsetOf, targetFrom, baseFrom, baseAfter}
-use Rattle.redefines.specs.Targets.{plainAfter, placersAfter}
-use Rattle.redefines.proofs.SearchLaws.{row-found, target-named, base-on, back-none}
+use Rattle.redefines.specs.declared.Start.{Start}
+use Rattle.redefines.specs.Targets.{seenAt, rowFrom, targetFrom, startOf, targetIn, baseFrom, baseAfter}
+use Rattle.redefines.specs.Targets.{Named, plainAfter, placersAfter}
+use Rattle.redefines.proofs.SearchLaws.{target-named, base-on, back-none}
 use Rattle.redefines.proofs.PrintLaws.{printed-less}
 use Rattle.limits.specs.Ends.{endOf, endingOf}
-use Rattle.limits.proofs.EndLaws.{ends-at, ends-not}
-use Rattle.layout.specs.declared.Start.{Start}
+use Rattle.limits.proofs.EndLaws.{ends-at}
 use Rattle.layout.specs.Bare.{placedEntry}
 use Rattle.layout.specs.Outcomes.{halted, placing, afterOwn, placeRow}
-use Rattle.layout.specs.Steps.{startAt, startOf}
 use Rattle.layout.proofs.ItemLaws.{placed-refused, placed-large, placed-fits}
 use Rattle.layout.proofs.place.Statement.{statement}
 use Rattle.layout.proofs.place.Tie as tie
@@ -65,20 +63,6 @@ module _ (t w : List ℕ) (i below last cursor : ℕ) (c : Pictured) {s : Statem
   in-row h = sym (ap (λ (x : Statement). afterOwn t w i last below cursor (placedEntry t x c (seenAt w last) cursor)) (sym ps) ∙ ap (afterOwn t w i last below cursor) h)
 
   module _ {k : ℕ} (pk : k ≡ targetFrom t (s .clauses .redefines) w last) where
-    -- the offset of the sibling that the REDEFINES names
-    starts : startAt s c (offsetOf w k) cursor ≡ start t s c (seenAt w last) cursor
-    starts = ap (λ (n : ℕ). startAt s c (offsetOf w n) cursor) pk ∙ go (given (s .clauses .redefines))
-      where
-        other : Answer ℕ
-        other = if s .clauses .sync && isAlignable (c .kind) then give (cursor + fewest (c .width) cursor) else give cursor
-
-        go :
-            (g : Bool) →
-            (if g then orRefuse 28 (s .at) (offsetOf w (if g then rowFrom t (s .clauses .redefines) false w last last else 0)) else other)
-            ≡ (if g then orRefuse 28 (s .at) (find t (s .clauses .redefines) (seenAt w last)) else other)
-        go true = ap (orRefuse 28 (s .at)) (sym (row-found t w (s .clauses .redefines) false last last))
-        go false = refl
-
     -- the base is found from there back
     based : {b : ℕ} → b ≡ baseFrom t (s .clauses .redefines) w k k → b ≡ baseAfter t w i last
     based p =
@@ -101,95 +85,115 @@ module _ (t w : List ℕ) (i below last cursor : ℕ) (c : Pictured) {s : Statem
         ∙ ap (λ (n : ℕ). plainAfter w last * 65536 + n) pk
         ∙ ap (λ (x : Statement). plainAfter w last * 65536 + targetFrom t (x .clauses .redefines) w last) ps
 
-    module _ {o : Start} (po : startOf o ≡ startAt s c (offsetOf w k) cursor) where
-      no-start : {r : Refusal} → o ≡ Start.Refused r → halted r ≡ placeRow t w i below last cursor c
-      no-start e = in-row (placed-refused t s c (seenAt w last) cursor (sym (ap startOf e) ∙ po ∙ starts))
+  module _ {o : Start} (po : startOf o ≡ start t s c (seenAt w last) cursor) where
+    no-start : {r : Refusal} → o ≡ Start.Refused r → halted r ≡ placeRow t w i below last cursor c
+    no-start e = in-row (placed-refused t s c (seenAt w last) cursor (sym (ap startOf e) ∙ po))
 
-      module _ {offset : ℕ} (e : o ≡ Start.At offset) where
-        begins : give offset ≡ start t s c (seenAt w last) cursor
-        begins = sym (ap startOf e) ∙ po ∙ starts
+    module _
+        {k offset : ℕ} (e : o ≡ Start.At k offset)
+        {slack : ℕ} (pl : slack ≡ slackFrom cursor s offset)
+        {d : Entry} (pd : d ≡ entryOf s c offset slack) where
+      begins : give offset ≡ start t s c (seenAt w last) cursor
+      begins = sym (ap startOf e) ∙ po
 
-        module _ {slack : ℕ} (pl : slack ≡ slackFrom cursor s offset) {d : Entry} (pd : d ≡ entryOf s c offset slack) where
-          made : d ≡ entryOf s c offset (slackFrom cursor s offset)
-          made = pd ∙ ap (entryOf s c offset) pl
+      made : d ≡ entryOf s c offset (slackFrom cursor s offset)
+      made = pd ∙ ap (entryOf s c offset) pl
 
-          large :
-              {x : Ending} →
-              endingOf x ≡ endOf d →
-              x ≡ Ending.TooLarge →
-              halted (record { number = 29; position = s .at; needed = 0 }) ≡ placeRow t w i below last cursor c
-          large px q = in-row (placed-large t s c (seenAt w last) cursor begins (sym (ap tooLarge made) ∙ ends-not d (sym (ap endingOf q) ∙ px)))
+      large :
+          {x : Ending} {r : Refusal} →
+          endingOf x ≡ endOf d →
+          x ≡ Ending.Refused r →
+          halted r ≡ placeRow t w i below last cursor c
+      large px q =
+          in-row (placed-large t s c (seenAt w last) cursor begins (sym (ap endingOf q) ∙ px ∙ ap endOf made))
 
-          fits :
-              {x : Ending} {n m b p : ℕ} {w′ : List ℕ} →
-              endingOf x ≡ endOf d →
-              x ≡ Ending.At n →
-              b ≡ baseFrom t (s .clauses .redefines) w k k →
-              p ≡ plainAfter w last * 65536 + k →
-              w′ ≡ putPlace w i last below b p d →
-              m ≡ (if given (s .clauses .redefines) then cursor else n) →
-              placing m n w′ ≡ placeRow t w i below last cursor c
-          fits px q pb pp pw pm =
-              let z = ends-at d (sym (ap endingOf q) ∙ px) in
-              let g = in-row (placed-fits t s c (seenAt w last) cursor begins (sym (ap tooLarge made) ∙ z .fits)) in
-              rw (pm, pw, based pb, placers pp, ← z .is, made) g
+      fits :
+          {x : Ending} {n m b p : ℕ} {w′ : List ℕ} →
+          targetIn o ≡ targetFrom t (s .clauses .redefines) w last →
+          endingOf x ≡ endOf d →
+          x ≡ Ending.At n →
+          b ≡ baseFrom t (s .clauses .redefines) w k k →
+          p ≡ plainAfter w last * 65536 + k →
+          w′ ≡ putPlace w i last below b p d →
+          m ≡ (if given (s .clauses .redefines) then cursor else n) →
+          placing m n w′ ≡ placeRow t w i below last cursor c
+      fits pt px q pb pp pw pm =
+          let pk = sym (ap targetIn e) ∙ pt in
+          let z = ends-at d (sym (ap endingOf q) ∙ px) in
+          let g = in-row (placed-fits t s c (seenAt w last) cursor begins (sym (ap tooLarge made) ∙ z .fits)) in
+          rw (pm, pw, based pk pb, placers pk pp, ← z .is, made) g
+
+-- the row that an item redefines: one before it, and of that name
+module _ {o : Start} {k offset : ℕ} (e : o ≡ Start.At k offset) where
+  earlier : {last : ℕ} → targetIn o ≤ last → k ≤ last
+  earlier {last} h = subst (λ (n : ℕ). n ≤ last) (ap targetIn e) h
+
+  of-name : (t w : List ℕ) (r : Span) (last : ℕ) → targetIn o ≡ targetFrom t r w last → Named t r w k
+  of-name t w r last h = target-named t w r last (sym (ap targetIn e) ∙ h)
 
 entry-end-requires : tie.Need-entry-end-requires
-entry-end-requires c κs = narrow (c .before .before .before .before .before .before .before .before .before .before .before .statement-at .result) (c .entry-of .ensures) (c .before .before .before .before .before .before .before .before .before .before .before .before .before .before .before .pre .5)
+entry-end-requires c κs =
+    let said = c .before .before .before .before .before .before .before .before .before in
+    narrow (said .statement-at .result) (c .entry-of .ensures) (said .before .before .before .before .pre .5)
 
-target-of-requires : tie.Need-target-of-requires
-target-of-requires c κs = let p = c .before .before .before .before .before .before .before .pre in (omega (arith, p .0, p .1), printed-less (p .6) (p .1))
+start-of-requires : tie.Need-start-of-requires
+start-of-requires c κs =
+    let p = c .before .before .before .before .before .before .before .pre in
+    (omega (arith, p .0, p .1), printed-less (p .6) (p .1), p .4, p .5)
 
 base-of-requires : tie.Need-base-of-requires
 base-of-requires c κs =
-    let p = c .before .before .before .before .before .before .before .before .before .before .before .before .before .before .before .before .before .before .before .before .pre in
-    let c6 = c .before .before .before .before .before .before in
-    let target = c6 .before .before .before .before .before .before .target-of .ensures in (
-      omega (arith, target .2, p .0, p .1),
-      printed-less (p .6) (omega (arith, target .2, p .1)),
-      target-named _ _ _ _ (target .1),
+    let start = c .before .before .before .before .before .before .before .before in
+    let found = start .before .before .start-of .ensures in
+    let p = start .before .before .before .before .before .before .before .before .before .before .pre in
+    let before = earlier (start .target .given .1) (found .2) in (
+      omega (arith, before, p .0, p .1),
+      printed-less (p .6) (omega (arith, before, p .1)),
+      of-name (start .target .given .1) _ _ _ _ (found .1),
     )
 
 placers-of-requires : tie.Need-placers-of-requires
 placers-of-requires c κs =
-    let p = c .before .before .before .before .before .before .before .before .before .before .before .before .before .before .before .before .before .before .before .before .before .before .pre in
-    let target = c .before .before .before .before .before .before .before .before .before .before .before .before .before .before .target-of .ensures .2 in
-    (omega (arith, p .0, p .1), omega (arith, p .1, p .2), omega (arith, target, p .1, p .2))
+    let start = c .before .before .before .before .before .before .before .before .before .before in
+    let p = start .before .before .before .before .before .before .before .before .before .before .pre in
+    let before = earlier (start .target .given .1) (start .before .before .start-of .ensures .2) in
+    (omega (arith, p .0, p .1), omega (arith, p .1, p .2), omega (arith, before, p .1, p .2))
 
 put-place-requires : tie.Need-put-place-requires
 put-place-requires c κs =
     let f = c .before .before in
-    let s = f .before .before .before .before .before .before .before .before .before .before .before .before .before .before .before .before .before .before .before .before .before .before in
-    let p = s .pre in
-    let said = f .before .before .before .before .before .before .before .before .before .before .before .before .before .before .before .before .before .before .statement-at .result in
-    let slack = f .before .before .before .before .before .before .before .before in
-    let d = f .before .before .before .before .before .before .before .entry-of in
     let ends = f .before .before .before .before .before .before .entry-end .ensures in
     let end = f .before .before .before .before .end .given .1 in
-    let target = slack .before .before .before .before .before .before .target-of .ensures in (
+    let d = f .before .before .before .before .before .before .before .entry-of in
+    let slack = f .before .before .before .before .before .before .before .before .slack-from .ensures in
+    let start = f .before .before .before .before .before .before .before .before .before .before in
+    let said = start .before .before .before .before .before .before .statement-at .result in
+    let s = start .before .before .before .before .before .before .before .before .before .before in
+    let p = s .pre in
+    let before = earlier (start .target .given .1) (start .before .before .start-of .ensures .2) in (
       p .0,
       omega (arith, p .1, p .2),
       p .3,
-      omega (arith, f .before .base-of .ensures .1, target .2, p .1, p .2),
+      omega (arith, f .before .base-of .ensures .1, before, p .1, p .2),
       near (d .result) ends end,
       slim said (d .ensures) (p .5),
-      close said (d .ensures) (s .args .cursor) (slack .slack-from .ensures) ends end,
+      close said (d .ensures) (s .args .cursor) slack ends end,
     )
 
 returns : tie.Need-returns
 returns c =
-    let a = c .before .before .before .before .before .before .before .before .before .before .before .before .before .before .before .before .before .before .before .before .before .before .before .before .before .before .before .before .args in
     let placed = c .before .before .before in
     let reached = placed .before .before in
     let found = reached .before .before in
     let end = found .before .before .before in
     let made = end .before .before .before in
     let start = made .before .before .before in
-    let target = start .before .before .before .before in
-    let said = target .before .before .before .before .statement-at .ensures in
-    let row = target .target-of .ensures .1 in
-    fits (a .text .now) (a .work .now) (a .i) (a .below) (a .last) (a .cursor) (a .c) said row
-    (start .before .before .start-of .ensures) (start .offset .given .1) (made .before .slack-from .ensures) (made .entry-of .ensures) (end .before .before .entry-end .ensures) (end .end .given .1)
+    let over = start .before .before .start-of .ensures in
+    let said = start .before .before .before .before .before .before in
+    let a = said .before .before .before .before .args in
+    fits (a .text .now) (a .work .now) (a .i) (a .below) (a .last) (a .cursor) (a .c) (said .statement-at .ensures)
+    (over .0) (start .target .given .1) (made .before .slack-from .ensures) (made .entry-of .ensures)
+    (over .1) (end .before .before .entry-end .ensures) (end .end .given .1)
     (found .base-of .ensures .0) (reached .placers-of .ensures) (placed .put-place .ensures) (c .advanced .ensures)
 
 returns-2 : tie.Need-returns-2
@@ -203,8 +207,7 @@ place-spec =
     tie.close
     (tie.spec
     (λ c κs. search needs)
-    target-of-requires
-    (λ c κs. search needs)
+    start-of-requires
     (λ c. search needs)
     (λ c κs. search needs)
     (λ c κs. search needs)

@@ -3,40 +3,49 @@
 use borrow.Author.Needs.{needs}
 use Prim.Native.Nat.{ℕ, _+_, _*_, _≤_, _<_}
 use mathlib.Core.Path.{_≡_, refl}
-use mathlib.Core.Option.{none, some}
 use native.Mathlib.Nat.{mul-le-mul, add-zero}
 use native.Mathlib.Omega.{arith}
 use borrow.Author.Tests.{lt-ltb, le-ltb}
 use Rattle.definition.specs.declared.Entry.{Entry}
+use Rattle.definition.specs.declared.Refusal.{Refusal}
 use Rattle.definition.specs.Limits.{largest}
+use Rattle.definition.specs.Basic.{refuse, give}
 use Rattle.definition.specs.Fold.{times}
-use Rattle.limits.specs.Ends.{endOf}
+use Rattle.limits.specs.Ends.{refusal29, endOf}
 use Rattle.limits.proofs.entry_end.Statement.{statement}
 use Rattle.limits.proofs.entry_end.Tie as tie
 
 module _ (e : Entry) {n : ℕ} (p : n ≡ times (e .occurs)) where
-  many : largest < n → none ≡ endOf e
-  many h = rw (← p, lt-ltb largest n h)
+  many : largest < n → {r : Refusal} → r ≡ refusal29 (e .at) → refuse r ≡ endOf e
+  many h q = rw (q, ← p, lt-ltb largest n h)
 
   module _ (few : n ≤ largest) where
-    far : largest < e .offset → none ≡ endOf e
-    far h = rw (← p, le-ltb largest n few, lt-ltb largest (e .offset) h)
+    far : largest < e .offset → {r : Refusal} → r ≡ refusal29 (e .at) → refuse r ≡ endOf e
+    far h q = rw (q, ← p, le-ltb largest n few, lt-ltb largest (e .offset) h)
 
     module _ (near : e .offset ≤ largest) where
-      wide : largest < e .width * n → none ≡ endOf e
-      wide h = rw (← p, le-ltb largest n few, le-ltb largest (e .offset) near, lt-ltb largest (e .width * n) h)
+      wide : largest < e .width * n → {r : Refusal} → r ≡ refusal29 (e .at) → refuse r ≡ endOf e
+      wide h q = rw (q, ← p, le-ltb largest n few, le-ltb largest (e .offset) near, lt-ltb largest (e .width * n) h)
 
       module _ (narrow : e .width * n ≤ largest) where
-        none-reserved : 0 < e .depending .len → some (e .offset) ≡ endOf e
+        none-reserved : 0 < e .depending .len → give (e .offset) ≡ endOf e
         none-reserved g =
             rw (← p, le-ltb largest n few, le-ltb largest (e .offset) near, le-ltb largest (e .width * n) narrow, lt-ltb 0 (e .depending .len) g, add-zero, le-ltb largest (e .offset) near)
 
         module _ (g : e .depending .len ≤ 0) where
-          beyond : largest < e .offset + e .width * n → none ≡ endOf e
-          beyond h =
-              rw (← p, le-ltb largest n few, le-ltb largest (e .offset) near, le-ltb largest (e .width * n) narrow, le-ltb 0 (e .depending .len) g, lt-ltb largest (e .offset + e .width * n) h)
+          beyond : largest < e .offset + e .width * n → {r : Refusal} → r ≡ refusal29 (e .at) → refuse r ≡ endOf e
+          beyond h q =
+              rw (
+                q,
+                ← p,
+                le-ltb largest n few,
+                le-ltb largest (e .offset) near,
+                le-ltb largest (e .width * n) narrow,
+                le-ltb 0 (e .depending .len) g,
+                lt-ltb largest (e .offset + e .width * n) h,
+              )
 
-          fits : e .offset + e .width * n ≤ largest → some (e .offset + e .width * n) ≡ endOf e
+          fits : e .offset + e .width * n ≤ largest → give (e .offset + e .width * n) ≡ endOf e
           fits h =
               rw (← p, le-ltb largest n few, le-ltb largest (e .offset) near, le-ltb largest (e .width * n) narrow, le-ltb 0 (e .depending .len) g, le-ltb largest (e .offset + e .width * n) h)
 
@@ -71,12 +80,16 @@ entry-end-spec =
     tie.close
     (tie.spec
     (λ c κs. search needs)
+    (λ c κs. search needs)
     returns
+    (λ c κs. search needs)
     returns-2
     mul-total
+    (λ c κs. search needs)
     returns-3
     returns-4
     (λ c. search needs)
+    (λ c κs. search needs)
     returns-5
     (λ c. search needs)
     returns-6)

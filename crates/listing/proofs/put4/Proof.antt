@@ -1,40 +1,44 @@
--- `listing::put4` meets its contract.
+-- `listing::put4` meets its contract: its stores are a run of stores.
 -- Assumes nothing.
 use borrow.Author.Needs.{needs}
-use Rattle.listing.proofs.PutLaws.{_and_}
+use mathlib.Core.Path.{refl}
+use native.Mathlib.Numerals.{towards-suc}
+use native.Mathlib.Omega.{arith}
+use lib.ListN.{length-set}
 use Rattle.listing.proofs.put4.Statement.{statement}
 use Rattle.listing.proofs.put4.Tie as tie
 
-put-low-requires : tie.Need-put-low-requires
-put-low-requires c κs = search needs
+slice-write-out-2 : tie.Need-slice-write-out-2
+slice-write-out-2 c = simp length-set (omega arith)
 
-put-low-requires-2 : tie.Need-put-low-requires-2
-put-low-requires-2 c κs = search needs
+slice-write-out-3 : tie.Need-slice-write-out-3
+slice-write-out-3 c = simp length-set (omega arith)
 
-put-low-requires-3 : tie.Need-put-low-requires-3
-put-low-requires-3 c κs = search needs
+slice-write-out-4 : tie.Need-slice-write-out-4
+slice-write-out-4 c = simp length-set (omega arith)
 
-put-low-requires-4 : tie.Need-put-low-requires-4
-put-low-requires-4 c κs = search needs
-
-same-length : tie.Need-same-length
-same-length c = search needs
-
-returns : tie.Need-returns
-returns c =
-    let fourth = c .before .before in
-    let third = fourth .before .before .before .before in
-    let second = third .before .before .before .before in
-    let first = second .before .before .before .before in
-    first .put-low .ensures and second .put-low2 .ensures and third .put-low3 .ensures and fourth .put-low4 .ensures
+returns-2 : tie.Need-returns-2
+returns-2 c = record { next = refl; same = simp towards-suc }
 
 pub put4-spec : {M : Type 1} → statement M
 put4-spec =
     tie.close
     (tie.spec
-    put-low-requires
-    put-low-requires-2
-    put-low-requires-3
-    put-low-requires-4
-    same-length
-    returns)
+    (λ c. search needs)
+    (λ c κs. search needs)
+    (λ c. search needs)
+    (λ c. search needs)
+    (λ c. search needs)
+    (λ c. search needs)
+    (λ c. search needs)
+    (λ c. search needs)
+    slice-write-out-2
+    (λ c. search needs)
+    (λ c. search needs)
+    slice-write-out-3
+    (λ c. search needs)
+    (λ c. search needs)
+    slice-write-out-4
+    (λ c. search needs)
+    (λ c. search needs)
+    returns-2)

@@ -1,4 +1,5 @@
--- `mask::write_mask` meets its contract: what is written from k on of the symbols from i on is all that is to be written.
+-- `mask::write_mask` meets its contract: what is written from k on of the symbols from i on is all that is to be
+-- written.
 -- Assumes nothing.
 use Prim.Native.Nat.{ℕ, _+_, _-_, _≤_, _<_}
 use mathlib.Core.Path.{_≡_, refl, sym, ap, _∙_}

@@ -1,7 +1,9 @@
--- `owner::owner_of` meets its contract: 40, 41, and what the walk finds; every byte below the record's length has an owner.
+-- `owner::owner_of` meets its contract: 40, 41, and what the walk finds; every byte below the record's length has an
+-- owner.
 -- Assumes nothing.
 use borrow.Author.Needs.{needs}
-use Rattle.owner.proofs.OwnerLaws.{listed-walkable, answers-40, answers-41, answers-piece, answers-slack, someone}
+use Rattle.owner.proofs.OwnerLaws.{listed-walkable, answers-40, answers-41, answers-piece, answers-slack}
+use Rattle.owner.proofs.OwnerLaws.{someone}
 use Rattle.owner.proofs.owner_of.Statement.{statement}
 use Rattle.owner.proofs.owner_of.Tie as tie
 

@@ -3,7 +3,8 @@
 use borrow.Author.Needs.{needs}
 use Prim.Native.Nat.{_-_}
 use native.Mathlib.Omega.{arith}
-use Rattle.owner.proofs.OwnerLaws.{At, walk-starts, row-sized, row-nested, found-slack, found-none, RowRead, found-piece, go-in, go-on, width-positive, start-fits}
+use Rattle.owner.proofs.OwnerLaws.{At, walk-starts, row-sized, row-nested, found-slack, found-none, RowRead}
+use Rattle.owner.proofs.OwnerLaws.{found-piece, go-in, go-on, width-positive, start-fits}
 use Rattle.owner.proofs.walk_rows.Statement.{statement}
 use Rattle.owner.proofs.walk_rows.Tie as tie
 

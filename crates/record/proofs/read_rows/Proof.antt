@@ -1,4 +1,5 @@
--- `record::read_rows` meets its contract: the checks, and then the rows that hold the statements, with the fingerprints of their names.
+-- `record::read_rows` meets its contract: the checks, and then the rows that hold the statements, with the fingerprints
+-- of their names.
 -- Assumes nothing.
 use borrow.Author.Needs.{needs}
 use mathlib.Core.Path.{_∙_, ap, subst}

@@ -1,4 +1,5 @@
--- `redefines::is_target` meets its contract: a row that is passed over, one whose name may be it, and one with another fingerprint.
+-- `redefines::is_target` meets its contract: a row that is passed over, one whose name may be it, and one with another
+-- fingerprint.
 -- Assumes nothing.
 use borrow.Author.Needs.{needs}
 use Prim.Native.Nat.{ℕ}

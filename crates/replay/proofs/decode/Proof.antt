@@ -1,32 +1,31 @@
--- `replay::decode` meets its contract. The loop's invariant: `n` counts bytes of the output, whose length is what it was.
+-- `replay::decode` meets its contract. The loop's invariant: `n` counts bytes of the output, whose length is what it
+-- was.
 -- Assumes nothing.
 use borrow.Author.Needs.{needs}
 use Prim.Native.Nat.{ℕ, _-_, _≤_}
-use mathlib.Core.Path.{_≡_, sym}
+use mathlib.Core.Path.{_≡_}
 use mathlib.Core.List.{List}
 use native.Mathlib.Omega.{arith}
-use lib.ListN.{length, take, length-take, length-set}
-use Rattle.io.specs.Counts.{Counts}
+use lib.ListN.{length, length-set}
 use Rattle.replay.specs.declared.Reached.{Reached}
 use Rattle.replay.specs.declared.Input.{Input}
 use Rattle.replay.specs.Places.{Decodes}
+use Rattle.replay.proofs.PlaceLaws.{counts}
 use Rattle.replay.proofs.decode.Statement.{statement}
 use Rattle.replay.proofs.decode.Tie as tie
 
-counts : (n : ℕ) (out : List ℕ) → n ≤ length out → Counts n out
-counts n out h = (h, simp length-take (omega arith))
-
-stopped : (place : Reached) (n : ℕ) (out : List ℕ) → n ≤ length out → Decodes place (record { len = n; place = Reached.Differs }) out
+stopped : (place : Reached) (n : ℕ) (out : List ℕ)
+    → n ≤ length out → Decodes place (record { len = n; place = Reached.Differs }) out
 stopped place n out h = record { counts = counts n out h; on = λ list i. tt }
 
 done : (place : Reached) (n : ℕ) (out : List ℕ) → n ≤ length out → Decodes place (record { len = n; place = place }) out
 done place n out h = record { counts = counts n out h; on = λ list i. i }
 
 abbrev Inv-loop : tie.InvT-loop
-Inv-loop word place out₀ n₀ i₀ out n i = (i ≤ length word) × (n ≤ length out) × (length out ≡ length out₀)
+Inv-loop word place out₀ from n₀ i₀ out n i = (i ≤ length word) × (n ≤ length out) × (length out ≡ length out₀)
 
 abbrev μ-loop : tie.MeasureT-loop
-μ-loop word place out₀ n₀ i₀ out n i = length word - i
+μ-loop word place out₀ from n₀ i₀ out n i = length word - i
 
 loop-holds : tie.Need-loop-holds Inv-loop μ-loop
 loop-holds c = search needs

@@ -1,5 +1,5 @@
--- `statement::read_clauses` meets its contract. The loop's invariant: the clauses are those of the words from `place` on, with what was read
--- before, and what was read fits.
+-- `statement::read_clauses` meets its contract. The loop's invariant: the clauses are those of the words from `place`
+-- on, with what was read before, and what was read fits.
 -- Assumes nothing.
 use borrow.Author.Needs.{needs}
 use Prim.Native.Nat.{ℕ, _+_, _-_, _<_, _≤_, _^_}

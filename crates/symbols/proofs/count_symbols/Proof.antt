@@ -5,18 +5,18 @@ use Prim.Native.Nat.{ℕ, _+_, _-_, _≤_, _<_}
 use mathlib.Core.Path.{_≡_, refl, sym, ap, _∙_}
 use mathlib.Core.List.{List, [], _++_, append-nil}
 use native.Mathlib.Omega.{arith}
-use lib.ListN.{length, getD, drop, replicate, length-drop}
+use lib.ListN.{length, getD, drop, replicate}
 use Rattle.definition.specs.declared.Refusal.{Refusal}
 use Rattle.definition.specs.Limits.{mostSymbols}
-use Rattle.definition.specs.Basic.{upper, refuse, give, _>>=_}
-use Rattle.definition.specs.Picture.{repeat, expand}
-use Rattle.definition.proofs.PictureLaws.{onto, onto-nil, onto-onto, expand-end, expand-refused, expand-many, expand-more}
+use Rattle.definition.specs.Basic.{upper, _>>=_}
+use Rattle.definition.specs.Picture.{expand}
+use Rattle.definition.proofs.PictureLaws.{onto, onto-nil, onto-onto, expand-end}
 use Rattle.symbols.specs.declared.Tallies.{Tallies}
 use Rattle.symbols.specs.declared.Half.{Half}
 use Rattle.symbols.specs.declared.Repeat.{Repeat}
 use Rattle.symbols.specs.declared.Counted.{Counted}
 use Rattle.symbols.specs.Shape.{tallies, runOf, joined, Small, Adds, halves, Counts}
-use Rattle.symbols.specs.Repeats.{Repeated, repeatOf}
+use Rattle.symbols.specs.Repeats.{Run}
 use Rattle.symbols.proofs.Halves.{halves-append}
 use Rattle.symbols.proofs.Counting.{tallies-more, small}
 use Rattle.symbols.proofs.count_symbols.Statement.{statement}
@@ -56,23 +56,27 @@ module _ {t : List ℕ} {at : ℕ} {s : Tallies} {half : Half} {i : ℕ} (inv : 
         small = small-s;
       }
 
-  module _ (h : i < length t) {r : Repeat} (read : Repeated at (drop (i + 1) t) r) where
+  module _ {r : Repeat} (read : Run at t i r) where
     refused : {x : Refusal} → r ≡ Repeat.Refused x → Counts at t (Counted.Refused x)
     unfolding _>>=_
     refused {x} e =
-        let given : repeat at (drop (i + 1) t) ≡ refuse x = sym (read .same) ∙ ap repeatOf e in
-        record { same = rw (inv .same, expand-refused at (s .symbols) t i h given); small = tt }
+        let run : Run at t i (Repeat.Refused x) = rw e at read in
+        record { same = rw (inv .same, run .is (s .symbols)); small = tt }
 
     module _ {n skip : ℕ} (e : r ≡ Repeat.Times n skip) where
-      given : repeat at (drop (i + 1) t) ≡ give (n, skip)
-      given = sym (read .same) ∙ ap repeatOf e
+      run : Run at t i (Repeat.Times n skip)
+      run = rw e at read
 
-      step : skip ≤ length t - (i + 1)
-      step = rw (e, length-drop (i + 1) t) at (read .within)
+      step : i + 1 + skip ≤ length t
+      step = run .within
 
       many : mostSymbols - s .symbols < n → Counts at t (Counted.Refused (record { number = 24; position = at; needed = 0 }))
       unfolding _>>=_
-      many m = record { same = rw (inv .same, expand-many at (s .symbols) t i h given (omega (arith, inv .few))); small = tt }
+      many m =
+          record {
+            same = rw (inv .same, run .is .many (s .symbols) (inv .few) (omega (arith, inv .few)));
+            small = tt;
+          }
 
       less : length t - (i + 1 + skip) < length t - i
       less = omega (arith, step)
@@ -99,7 +103,7 @@ module _ {t : List ℕ} {at : ℕ} {s : Tallies} {half : Half} {i : ℕ} (inv : 
               halved = hs ∙ ap (λ (x : Half). halves x (replicate n b)) (inv .halved) ∙ sym (halves-append Half.Nothing (inv .seen) (replicate n b));
               same =
                   inv .same ∙
-                  ap (onto (inv .seen)) (expand-more at (s .symbols) t i h given (omega (arith, inv .few))) ∙
+                  ap (onto (inv .seen)) (run .is .more (s .symbols) (omega (arith, inv .few))) ∙
                   rw (← p, many) (onto-onto (inv .seen) (replicate n b) (expand at (s .symbols + n) 0 (drop (i + 1 + skip) t)));
             }
 
@@ -124,8 +128,8 @@ upper-requires c κs = search needs
 add-next : tie.Need-add-next Inv-loop μ-loop
 add-next c = search needs
 
-repeat-after-requires : tie.Need-repeat-after-requires Inv-loop μ-loop
-repeat-after-requires c κs = search needs
+run-at-requires : tie.Need-run-at-requires Inv-loop μ-loop
+run-at-requires c κs = search needs
 
 enum-known-n : tie.Need-enum-known-n Inv-loop μ-loop
 enum-known-n c = search needs
@@ -140,7 +144,9 @@ returns : tie.Need-returns Inv-loop μ-loop
 returns c = search many
 
 add-i : tie.Need-add-i Inv-loop μ-loop
-add-i c = omega (arith, step (c .before .before .before .before .before .before .before .before .before .loop .inv) (c .before .before .before .before .before .before .before .before .loop-test .taken) (c .before .before .before .before .before .repeat-after .ensures) (c .before .before .before .n .given .1))
+add-i c =
+    let read = c .before .before .before .before .before in
+    omega (arith, step (read .before .before .before .before .loop .inv) (read .run-at .ensures) (c .before .before .before .n .given .1))
 
 half-after-requires : tie.Need-half-after-requires Inv-loop μ-loop
 half-after-requires c κs = search needs
@@ -149,13 +155,19 @@ cast-add-run : tie.Need-cast-add-run Inv-loop μ-loop
 cast-add-run c = search needs
 
 add-run-requires : tie.Need-add-run-requires Inv-loop μ-loop
-add-run-requires c κs = adds (c .before .before .before .before .before .before .before .before .before .before .loop .inv) (c .before .before .before .before .before .before .before .before .before .loop-test .taken) (c .before .before .before .before .before .before .repeat-after .ensures) (c .before .before .before .before .n .given .1) (c .before .if1 .left)
+add-run-requires c κs =
+    let read = c .before .before .before .before .before .before in
+    adds (read .before .before .before .before .loop .inv) (read .run-at .ensures) (c .before .before .before .before .n .given .1) (c .before .if1 .left)
 
 loop-less : tie.Need-loop-less Inv-loop μ-loop
-loop-less c = less (c .before .before .before .before .before .before .before .before .before .before .before .loop .inv) (c .before .before .before .before .before .before .before .before .before .before .loop-test .taken) (c .before .before .before .before .before .before .before .repeat-after .ensures) (c .before .before .before .before .before .n .given .1)
+loop-less c =
+    let read = c .before .before .before .before .before .before .before in
+    less (read .before .before .before .before .loop .inv) (read .run-at .ensures) (c .before .before .before .before .before .n .given .1)
 
 loop-again : tie.Need-loop-again Inv-loop μ-loop
-loop-again c = search (go-on (c .before .before .before .before .before .before .before .before .before .before .before .loop .inv) (c .before .before .before .before .before .before .before .before .before .before .loop-test .taken) (c .before .before .before .before .before .before .before .repeat-after .ensures) (c .before .before .before .before .before .n .given .1))
+loop-again c =
+    let read = c .before .before .before .before .before .before .before in
+    search (go-on (read .before .before .before .before .loop .inv) (read .run-at .ensures) (c .before .before .before .before .before .n .given .1))
 
 enum-known-r : tie.Need-enum-known-r Inv-loop μ-loop
 enum-known-r c = search needs
@@ -177,7 +189,7 @@ count-symbols-spec =
     shared-slice-read-upper
     upper-requires
     add-next
-    repeat-after-requires
+    run-at-requires
     enum-known-n
     sub-left
     cast-left

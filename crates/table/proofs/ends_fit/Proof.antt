@@ -2,7 +2,8 @@
 -- Assumes nothing.
 use borrow.Author.Needs.{needs}
 use Prim.Native.Nat.{_-_}
-use Rattle.table.proofs.LoopLaws.{at-fits, at-sound, Fitting, fitting-starts, fitting-ends, fitting-over, fitting-on}
+use Rattle.table.proofs.LoopLaws.{at-fits, at-sound, Fitting, fitting-starts, fitting-ends, fitting-over}
+use Rattle.table.proofs.LoopLaws.{fitting-on}
 use Rattle.table.proofs.ends_fit.Statement.{statement}
 use Rattle.table.proofs.ends_fit.Tie as tie
 
@@ -22,7 +23,11 @@ position-of-requires : tie.Need-position-of-requires Inv-loop μ-loop
 position-of-requires c κs = (at-fits (c .before .before .before .loop .inv .here) (c .before .before .loop-test .taken), at-sound (c .before .before .before .loop .inv .here) (c .before .before .loop-test .taken))
 
 returns : tie.Need-returns Inv-loop μ-loop
-returns c = fitting-over (c .before .before .before .before .loop .inv) (c .before .before .before .loop-test .taken) (c .before .before .top-end .ensures) (c .before .if1 .taken) (c .position-of .ensures)
+returns c =
+    let s = c .before in
+    let e = s .before .before in
+    fitting-over (e .before .before .loop .inv) (e .before .loop-test .taken) (e .top-end .ensures)
+    (s .before .if1 .taken) (s .position-of .ensures) (c .too-large .ensures)
 
 loop-again : tie.Need-loop-again Inv-loop μ-loop
 loop-again c = fitting-on (c .before .before .before .loop .inv) (c .before .before .loop-test .taken) (c .before .top-end .ensures) (c .if1 .left)
@@ -39,6 +44,7 @@ ends-fit-spec =
     loop-holds
     top-end-requires
     position-of-requires
+    (λ c κs. search needs)
     returns
     (λ c. search needs)
     (λ c. search needs)

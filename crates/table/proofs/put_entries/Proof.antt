@@ -3,7 +3,8 @@
 use borrow.Author.Needs.{needs}
 use Prim.Native.Nat.{_-_}
 use Rattle.listing.proofs.PutLaws.{put-length}
-use Rattle.table.proofs.LoopLaws.{Putting, at-fits, at-sound, putting-starts, putting-ends, putting-small, putting-on}
+use Rattle.table.proofs.LoopLaws.{Putting, at-fits, at-sound, putting-starts, putting-ends, putting-small}
+use Rattle.table.proofs.LoopLaws.{putting-on}
 use Rattle.table.proofs.put_entries.Statement.{statement}
 use Rattle.table.proofs.put_entries.Tie as tie
 

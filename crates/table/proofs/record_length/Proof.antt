@@ -2,7 +2,8 @@
 -- Assumes nothing.
 use borrow.Author.Needs.{needs}
 use Prim.Native.Nat.{_-_}
-use Rattle.table.proofs.LoopLaws.{at-fits, at-sound, Lengthening, lengthening-starts, lengthening-ends, lengthening-on}
+use Rattle.table.proofs.LoopLaws.{at-fits, at-sound, Lengthening, lengthening-starts, lengthening-ends}
+use Rattle.table.proofs.LoopLaws.{lengthening-on}
 use Rattle.table.proofs.record_length.Statement.{statement}
 use Rattle.table.proofs.record_length.Tie as tie
 

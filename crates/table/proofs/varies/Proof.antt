@@ -3,7 +3,8 @@
 use borrow.Author.Needs.{needs}
 use Prim.Native.Nat.{_-_}
 use Rattle.table.proofs.OwnLaws.{sound-read}
-use Rattle.table.proofs.LoopLaws.{Varying, at-fits, at-sound, varying-starts, varying-ends, varying-found, varying-on}
+use Rattle.table.proofs.LoopLaws.{Varying, at-fits, at-sound, varying-starts, varying-ends, varying-found}
+use Rattle.table.proofs.LoopLaws.{varying-on}
 use Rattle.table.proofs.varies.Statement.{statement}
 use Rattle.table.proofs.varies.Tie as tie
 

@@ -1,5 +1,5 @@
--- `text::digits_up_to` meets its contract. The loop's invariant: the answer is that of the number so far, which is no more than the largest,
--- and the digits that are left.
+-- `text::digits_up_to` meets its contract. The loop's invariant: the answer is that of the number so far, which is no
+-- more than the largest, and the digits that are left.
 -- Assumes nothing.
 use borrow.Author.Needs.{needs}
 use Prim.Native.Nat.{ℕ, _+_, _*_, _-_, _/_, _≤_, _<_}
@@ -11,7 +11,8 @@ use lib.ListN.{length, getD, drop}
 use borrow.Author.Tests.{lt-ltb}
 use Rattle.definition.specs.Limits.{largest}
 use Rattle.definition.specs.Basic.{digits, numeral, below}
-use Rattle.definition.proofs.NumberLaws.{digits-end, digits-low, digits-high, digits-next, too-large, numeral-none, numeral-some}
+use Rattle.definition.proofs.NumberLaws.{digits-end, digits-low, digits-high, digits-next, too-large, numeral-none}
+use Rattle.definition.proofs.NumberLaws.{numeral-some}
 use Rattle.text.proofs.digits_up_to.Statement.{statement}
 use Rattle.text.proofs.digits_up_to.Tie as tie
 

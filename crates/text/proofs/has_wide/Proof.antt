@@ -1,4 +1,5 @@
--- `text::has_wide` meets its contract. The loop's invariant: a byte over 127 was found before i, or there is one if there is one from i on.
+-- `text::has_wide` meets its contract. The loop's invariant: a byte over 127 was found before i, or there is one if
+-- there is one from i on.
 -- Assumes nothing.
 use borrow.Author.Needs.{needs}
 use Prim.Native.Nat.{ℕ, _+_, _-_, _≤_, _<_}

@@ -1,4 +1,5 @@
--- `text::wide_check` meets its contract. The loop's invariant: the first byte over 127 is the first of those that are left.
+-- `text::wide_check` meets its contract. The loop's invariant: the first byte over 127 is the first of those that are
+-- left.
 -- Assumes nothing.
 use borrow.Author.Needs.{needs}
 use Prim.Native.Nat.{ℕ, _+_, _-_, _≤_, _<_}

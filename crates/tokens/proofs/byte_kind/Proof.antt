@@ -10,7 +10,8 @@ use Rattle.definition.specs.Basic.{white}
 use Rattle.definition.specs.Words.{cutHere, ends}
 use Rattle.definition.specs.declared.ByteKind.the-variants.{Newline, Blank, Cut, Star, Period, Other}
 use Rattle.definition.proofs.Lists.{drop-next}
-use Rattle.definition.proofs.WordLaws.{kindAt, kind-newline, kind-blank, kind-cut, kind-star, kind-plain, kind-period, kind-point}
+use Rattle.definition.proofs.WordLaws.{kindAt, kind-newline, kind-blank, kind-cut, kind-star, kind-plain, kind-period}
+use Rattle.definition.proofs.WordLaws.{kind-point}
 use Rattle.tokens.proofs.byte_kind.Statement.{statement}
 use Rattle.tokens.proofs.byte_kind.Tie as tie
 

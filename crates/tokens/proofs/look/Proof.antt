@@ -17,7 +17,8 @@ use Rattle.definition.specs.Unquoted.{closed}
 use Rattle.definition.proofs.WordLaws.{closed-on, tokens-end}
 use Rattle.tokens.specs.declared.Ahead.{Ahead}
 use Rattle.tokens.specs.declared.Stand.{Stand}
-use Rattle.tokens.specs.Tokens.{VALUE, openMark, lastMark, saidOf, saidAt, between, tokensFrom, tokensAt, AheadIs, InsideIs, Looks}
+use Rattle.tokens.specs.Tokens.{VALUE, openMark, lastMark, saidOf, saidAt, between, tokensFrom, tokensAt, AheadIs}
+use Rattle.tokens.specs.Tokens.{InsideIs, Looks}
 use Rattle.tokens.proofs.TokenLaws.{said-literal, said-closed, said-anywhere, mode-closed, mode-literal}
 use Rattle.tokens.proofs.look.Statement.{statement}
 use Rattle.tokens.proofs.look.Tie as tie

@@ -1,4 +1,5 @@
--- `tokens::look_inside` meets its contract. The loop's invariant: the tokens are those from i on, and no mark was passed.
+-- `tokens::look_inside` meets its contract. The loop's invariant: the tokens are those from i on, and no mark was
+-- passed.
 -- Assumes nothing.
 use borrow.Author.Needs.{needs}
 use Prim.Native.Nat.{ℕ, _+_, _-_, _≤_, _<_}

@@ -1,4 +1,5 @@
--- `tree::close` meets its contract. The loop's invariant: what stays open of all levels is what stays open of those that are left.
+-- `tree::close` meets its contract. The loop's invariant: what stays open of all levels is what stays open of those
+-- that are left.
 -- Assumes nothing.
 use borrow.Author.Needs.{needs}
 use Prim.Native.Nat.{ℕ, _*_, _-_, _≤_, _<_}

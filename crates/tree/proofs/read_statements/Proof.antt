@@ -1,5 +1,5 @@
--- `tree::read_statements` meets its contract. The loop's invariant: the statements that are left, from the next row on and with the levels that are open,
--- lead to what all statements lead to from row 0 on.
+-- `tree::read_statements` meets its contract. The loop's invariant: the statements that are left, from the next row on
+-- and with the levels that are open, lead to what all statements lead to from row 0 on.
 -- Assumes nothing.
 use borrow.Author.Needs.{needs}
 use Prim.Native.Nat.{ℕ, _+_, _*_, _-_, _≤_, _<_}
@@ -19,7 +19,8 @@ use Rattle.definition.specs.Tree.{Open}
 use Rattle.definition.specs.Words.{tokensOf, firstOpen, sentences, statementWords}
 use Rattle.definition.proofs.ParentLaws.{Fit}
 use Rattle.definition.proofs.WordLaws.{end-sentences}
-use Rattle.definition.proofs.StatementLaws.{statements-none, statements-refused, statements-skipped, statements-full, statements-kept}
+use Rattle.definition.proofs.StatementLaws.{statements-none, statements-refused, statements-skipped, statements-full}
+use Rattle.definition.proofs.StatementLaws.{statements-kept}
 use Rattle.definition.specs.Usages.{inheritAlong}
 use Rattle.tokens.specs.declared.Stand.{Stand}
 use Rattle.tokens.specs.Tokens.{atStart, saidAt, tokensAt}

@@ -1,5 +1,7 @@
--- `words::word_of` meets its contract: a walk of its MIR, by hand. The struct is taken apart, and `tokens::next_token` is called on the slice and where it stands. All that the proof knows of it is that it meets its contract.
--- The struct is Copy: what it owns is had twice, one copy is kept whole for the exit, and the other is what the callee asks, beside the lifetime's token, which comes back.
+-- `words::word_of` meets its contract: a walk of its MIR, by hand. The struct is taken apart, and `tokens::next_token`
+-- is called on the slice and where it stands. All that the proof knows of it is that it meets its contract. The struct
+-- is Copy: what it owns is had twice, one copy is kept whole for the exit, and the other is what the callee asks,
+-- beside the lifetime's token, which comes back.
 -- Assumes nothing.
 use mathlib.Core.Path.{_≡_, refl}
 use Prim.Native.Nat.{_≤_}
@@ -18,9 +20,11 @@ use ghost.Atoms.{Atoms, sem}
 use contract.Lifetimes.{Lfts}
 use contract.Monad.{Fun, fact}
 use contract.Running.{givenOf, tables, tablesOf}
-use types.Kit.{Given, ‵, raw, _⊛_, given, ⋆, some, later, _$_, _∵_, !, qed, by, move, drop, use1, use2, split, join, learn, pick, fsplit, fjoin, suffices, frame, await, done}
+use types.Kit.{Given, ‵, raw, _⊛_, given, ⋆, some, later, _$_, _∵_, !, qed, by, move, drop, use1, use2, split, join}
+use types.Kit.{learn, pick, fsplit, fjoin, suffices, frame, await, done}
 use types.Part.{whole, sub, look-in}
-use types.Run.{look, init, forget, stop, fld, from, load, of-opd, and-then, no-more, assigns, land, returns, enter, alloc1, alloc0, params1, pass1, pass0, free1, free0}
+use types.Run.{look, init, forget, stop, fld, from, load, of-opd, and-then, no-more, assigns, land, returns, enter}
+use types.Run.{alloc1, alloc0, params1, pass1, pass0, free1, free0}
 use sound.WpLaws.{FmC, fmOf, WpFn-mono}
 use denote.RattleType.{RattleType, owns}
 use denote.Laws.{Is, shows}

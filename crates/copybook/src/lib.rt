@@ -14,7 +14,6 @@ use definition::ExtractAnswer;
 use definition::KeyAnswer;
 use definition::OwnerAnswer;
 use definition::PicAnswer;
-use definition::Refusal;
 use definition::Report;
 use definition::SignClause;
 use definition::Usage;
@@ -194,15 +193,5 @@ pub fn mask(pic: &[u8], usage: Usage, out: &mut [u8]) -> Writing
 pub fn check_record_len(record_len: usize, variable: bool, len: usize) -> Check
     ensures { λ r. ⌜ checkOf r ≡ recordCheck record_len variable len ⌝ }
 {
-    if variable {
-        return Check::Passed;
-    }
-    if len < record_len {
-        return Check::Refused(Refusal {
-            number: 42,
-            position: 0,
-            needed: 0,
-        });
-    }
-    Check::Passed
+    limits::check_record_len(record_len, variable, len)
 }

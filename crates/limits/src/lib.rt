@@ -1,9 +1,12 @@
-// Refusal 29, and where an entry ends unless one of its numbers is above the largest. Leans on `definition`.
+// What is too large and what too short: refusal 29, where an entry ends unless one of its numbers is above the largest,
+// and refusal 42. Leans on `definition`.
 ghost use mathlib.Core.Path.{_≡_};
 ghost use Prim.Native.Nat.{_+_, _*_, _≤_, _<_, max};
+ghost use Rattle.definition.specs.Calls.{recordCheck, checkOf};
 ghost use Rattle.definition.specs.Limits.{largest};
 ghost use Rattle.definition.specs.Fold.{times, total};
 ghost use Rattle.limits.specs.Ends.{refusal29, endOf, endingOf};
+use definition::Check;
 use definition::Entry;
 use definition::LARGEST;
 use definition::LARGEST_COUNT;
@@ -73,4 +76,22 @@ pub fn most(a: usize, b: usize) -> usize
         return b;
     }
     a
+}
+
+// Whether a record of `len` bytes is long enough for a layout of `record_len` bytes: 42 where it is shorter and the
+// record is not variable.
+pub fn check_record_len(record_len: usize, variable: bool, len: usize) -> Check
+    ensures { λ r. ⌜ checkOf r ≡ recordCheck record_len variable len ⌝ }
+{
+    if variable {
+        return Check::Passed;
+    }
+    if len < record_len {
+        return Check::Refused(Refusal {
+            number: 42,
+            position: 0,
+            needed: 0,
+        });
+    }
+    Check::Passed
 }

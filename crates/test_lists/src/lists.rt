@@ -7,7 +7,6 @@ ghost use Rattle.replay.specs.Places.{Inside, Fair};
 use record_cases::extracts;
 use record_cases::keys;
 use record_cases::owners;
-use record_cases::reports;
 use replay::Reached;
 use replay::Tally;
 use text_cases::pictures;
@@ -40,10 +39,10 @@ fn is_answered(list: &[u8], p: Reached, question: Question, before: usize, work:
         Question::RustPicture => pictures::is_agreed(list, p, before, false),
         Question::Picture => pictures::is_agreed(list, p, before, true),
         Question::Reading => readings::is_agreed(list, p, before, work),
-        Question::Listing => reports::is_listing(list, p, false, before, work),
-        Question::CardListing => reports::is_listing(list, p, true, before, work),
-        Question::Details => reports::is_details(list, p, before, work),
-        Question::Reasons => reports::is_reasons(list, p, before, work),
+        Question::Listing => report_cases::is_listing(list, p, false, before, work),
+        Question::CardListing => report_cases::is_listing(list, p, true, before, work),
+        Question::Details => report_cases::is_details(list, p, before, work),
+        Question::Reasons => report_cases::is_reasons(list, p, before, work),
         Question::Owner => owners::is_agreed(list, p, before, work),
         Question::Extract => extracts::is_agreed(list, p, before, work),
         Question::Key => keys::is_agreed(list, p, before, work),

@@ -1,7 +1,7 @@
 // Replays the lists of data/, each made by tools/make_lists.py, and prints of each how many of its cases agree. A list
 // is a file, and a case the words up to a period: the question, and the numbers of the answer that is due (the crate
-// `replay` reads them). Each kind of question has its module in `text_cases` or `record_cases`, which says what the
-// words of a case are.
+// `replay` reads them). `text_cases`, `report_cases` and `record_cases` have each kind of question, and say what the words
+// of a case are.
 mod lists;
 
 ghost use Rattle.replay.specs.Places.{Fair};

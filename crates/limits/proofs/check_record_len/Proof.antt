@@ -1,4 +1,4 @@
--- `copybook::check_record_len` meets its contract.
+-- `limits::check_record_len` meets its contract.
 -- Assumes nothing.
 use borrow.Author.Needs.{needs}
 use Prim.Native.Nat.{ℕ, _≤_, _<_}
@@ -7,8 +7,8 @@ use mathlib.Core.Bool.{Bool, false}
 use borrow.Author.Tests.{lt-ltb, le-ltb}
 use Rattle.definition.specs.Basic.{give, refused}
 use Rattle.definition.specs.Calls.{recordCheck}
-use Rattle.copybook.proofs.check_record_len.Statement.{statement}
-use Rattle.copybook.proofs.check_record_len.Tie as tie
+use Rattle.limits.proofs.check_record_len.Statement.{statement}
+use Rattle.limits.proofs.check_record_len.Tie as tie
 
 module _ {recordLen len : ℕ} {isVariable : Bool} (e : isVariable ≡ false) where
   short : len < recordLen → refused 42 0 ≡ recordCheck recordLen isVariable len

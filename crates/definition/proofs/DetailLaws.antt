@@ -22,7 +22,7 @@ use Rattle.definition.specs.Fold.{foldedAll}
 use Rattle.definition.specs.Layout.{Laid, start, slackFrom, entryOf, shallow, advance, lay}
 use Rattle.definition.specs.Record.{unfolded}
 use Rattle.definition.specs.Search.{entries#}
-use Rattle.definition.specs.Details.{Detail, detail, detailsIn, detailBytes, detailsBytes, entriesDetails, around}
+use Rattle.definition.specs.Details.{Detail, detail, detailsIn, detailBytes, detailsBytes, entriesDetails, groupAround}
 use Rattle.definition.specs.Details.{firstOf, FirstBytes, Following, height}
 use Rattle.definition.proofs.Answers.{through, given-same, not-refused}
 use Rattle.definition.proofs.LayoutLaws.{redefiners-none, redefiners-hit, redefiners-miss, redefiners-ends}
@@ -64,19 +64,19 @@ details-length es = omega (arith, bytes-many (detailsIn 0 0 es), rows-many es 0 
 -- ---------------------------------------------------------------- the first byte of a member
 
 module _ (depth : ℕ) (g : Detail) (before : List Detail) where
-  around-hit : g .depth < depth → around depth (g ∷ before) ≡ some g
-  unfolding around
-  around-hit h = rw (lt-ltb (g .depth) depth h, around)
+  around-hit : g .depth < depth → groupAround depth (g ∷ before) ≡ some g
+  unfolding groupAround
+  around-hit h = rw (lt-ltb (g .depth) depth h, groupAround)
 
-  around-miss : depth ≤ g .depth → around depth (g ∷ before) ≡ around depth before
-  unfolding around
-  around-miss h = rw (le-ltb (g .depth) depth h, around)
+  around-miss : depth ≤ g .depth → groupAround depth (g ∷ before) ≡ groupAround depth before
+  unfolding groupAround
+  around-miss h = rw (le-ltb (g .depth) depth h, groupAround)
 
 -- a list whose start is the first byte of the group around it, and rows after it
 inside-list :
     (es : Entries) (depth start : ℕ) (before after : List Detail) →
-    firstOf (around depth before) ≡ start →
-    ((now : List Detail) → ((d : ℕ) → d ≤ depth → around d now ≡ around d before) → FirstBytes now after) →
+    firstOf (groupAround depth before) ≡ start →
+    ((now : List Detail) → ((d : ℕ) → d ≤ depth → groupAround d now ≡ groupAround d before) → FirstBytes now after) →
     FirstBytes before (detailsIn depth start es ++ after)
 unfolding detailsIn
 inside-list end depth start before after h k = k before (λ d _. refl)
@@ -85,7 +85,7 @@ inside-list (entry e members later) depth start before after h k =
     let a = detailsIn (depth + 1) (start + e .offset) members in
     let b = detailsIn depth start later in
     let same : a ++ (b ++ after) ≡ (a ++ b) ++ after = sym (append-assoc a b after) in
-    let past : (d : ℕ) → d ≤ depth → around d (x ∷ before) ≡ around d before = λ d l. around-miss d x before l in (
+    let past : (d : ℕ) → d ≤ depth → groupAround d (x ∷ before) ≡ groupAround d before = λ d l. around-miss d x before l in (
       ap (λ (n : ℕ). n + e .offset) (sym h),
       subst (FirstBytes (x ∷ before)) same
           (inside-list members (depth + 1) (start + e .offset) (x ∷ before) (b ++ after) (ap firstOf (around-hit (depth + 1) x before (omega arith))) (λ now q.
@@ -95,7 +95,7 @@ inside-list (entry e members later) depth start before after h k =
     )
 
 pub inside : (es : Entries) → FirstBytes [] (detailsIn 0 0 es)
-unfolding around
+unfolding groupAround
 inside es = subst (FirstBytes []) (append-nil (detailsIn 0 0 es)) (inside-list es 0 0 [] [] refl (λ now _. tt))
 
 -- ---------------------------------------------------------------- slack

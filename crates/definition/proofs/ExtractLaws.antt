@@ -17,7 +17,7 @@ use Rattle.definition.specs.Basic.{if_then_else_, give}
 use Rattle.definition.specs.Demand.{Among}
 use Rattle.definition.specs.Extract.{Item, widths, items, bytesOf, weightOf, chosen, subsets#, upFrom, examined}
 use Rattle.definition.specs.Extract.{heavier, heaviest, alone, offBy, extract}
-use Rattle.definition.specs.Extracted.{Choice, none, with, without, Seen, Best, Extracted}
+use Rattle.definition.specs.Extracted.{Choice, none, with, without, LookedAt, Best, Extracted}
 use Rattle.definition.specs.Calls.{extractOf, extractIn, extractAnswer}
 use Rattle.definition.proofs.Answers.{through, given-same, not-refused, or-false}
 use Rattle.definition.proofs.Lists.{order}
@@ -278,7 +278,7 @@ module _ (limit : ℕ) (is : List Item) where
       let t = top-of limit is 0 0 looked (omega arith) (rw chosen-zero (omega arith)) in
       let long = length-upFrom 0 looked in
       let found = weightOf (chosen top is) in
-      let seen-within : (n : ℕ) → Seen limit budget is n → Within 0 looked n =
+      let seen-within : (n : ℕ) → LookedAt limit budget is n → Within 0 looked n =
       λ n s. among-within n 0 looked (s .looked-at) in
       let first : Within 0 looked 0 = record { low = omega arith; high = omega (arith, subsets-pos is) } in
       let place : Within 0 looked top =

@@ -23,7 +23,7 @@ use Rattle.definition.specs.Listing.{flag, signByte, storageByte}
 use Rattle.definition.specs.Calls.{entries}
 use Rattle.definition.specs.Key.{isNamed, Named, named, namedIn, isOnce, isGroup, mayBeKey, keyMask, Key, keyOf}
 use Rattle.definition.specs.Key.{oneKey, keyAmong, keyIn, kindDetails, sameKey, agree, allAgree, common, keysIn}
-use Rattle.definition.specs.Key.{copybooks, isSet, setKey, NoneNamed, IsKey, HasKey, AllHave, Shared}
+use Rattle.definition.specs.Key.{copybooks, isSet, setKey, NoEntryNamed, IsKey, HasKey, AllHave, Shared}
 use Rattle.definition.proofs.Answers.{through, given-same, or-false}
 use Rattle.definition.proofs.WordLaws.{never, and-both, same-equal, same-self}
 
@@ -110,7 +110,7 @@ no-cons : {A C : Type 0} {a : A} {l : List A} → _≡_ {A = List A} (a ∷ l) [
 no-cons h = absurd (let z : _≡_ {A = ℕ} 0 1 = cc in omega arith)
 
 module _ (text name : List ℕ) where
-  none-named : (es : Entries) (v : Bool) → namedIn text name v es ≡ [] → NoneNamed text name es
+  none-named : (es : Entries) (v : Bool) → namedIn text name v es ≡ [] → NoEntryNamed text name es
   unfolding namedIn
   none-named end v h = tt
   none-named (entry e ms later) v h =
@@ -122,8 +122,8 @@ module _ (text name : List ℕ) where
           isNamed text name e ≡ b →
           (let more = namedIn text name (v || (given (e .depending) || variable ms)) later in
           if b then named e v ∷ more else more) ≡ [] →
-          (namedIn text name (v || (given (e .depending) || variable ms)) later ≡ [] → NoneNamed text name later) →
-          (isNamed text name e ≡ false) × NoneNamed text name later
+          (namedIn text name (v || (given (e .depending) || variable ms)) later ≡ [] → NoEntryNamed text name later) →
+          (isNamed text name e ≡ false) × NoEntryNamed text name later
       by-test true is h ih = no-cons h
       by-test false is h ih = (is, ih h)
 
@@ -135,8 +135,8 @@ module _ (text name : List ℕ) where
     after : Entries
     stands : es ≡ append before (entry own members after)
     name-is : isNamed text name own ≡ true
-    none-before : NoneNamed text name before
-    none-after : NoneNamed text name after
+    none-before : NoEntryNamed text name before
+    none-after : NoEntryNamed text name after
     is : x ≡ named own (v || variable before)
 
   or-none : (v : Bool) → v ≡ (v || false)
@@ -151,7 +151,7 @@ module _ (text name : List ℕ) where
       (e : Entry) (ms later : Entries) (v : Bool) (x : Named) →
       isNamed text name e ≡ true →
       named e v ≡ x →
-      NoneNamed text name later →
+      NoEntryNamed text name later →
       One (entry e ms later) v x
   unfolding variable append
   first-one e ms later v x is h others =
@@ -267,7 +267,7 @@ module _ (text name : List ℕ) where
 
   -- ---------------------------------------------------------------- and back
 
-  none-in : (es : Entries) (v : Bool) → NoneNamed text name es → namedIn text name v es ≡ []
+  none-in : (es : Entries) (v : Bool) → NoEntryNamed text name es → namedIn text name v es ≡ []
   unfolding namedIn
   none-in end v h = refl
   none-in (entry e ms later) v h =
@@ -275,10 +275,10 @@ module _ (text name : List ℕ) where
 
   one-in :
       (before : Entries) (own : Entry) (members after : Entries) →
-      NoneNamed text name before →
+      NoEntryNamed text name before →
       variable before ≡ false →
       isNamed text name own ≡ true →
-      NoneNamed text name after →
+      NoEntryNamed text name after →
       namedIn text name false (append before (entry own members after)) ≡ named own false ∷ []
   unfolding namedIn append variable
   one-in end own members after nb vb is na =

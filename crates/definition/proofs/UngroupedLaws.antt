@@ -44,7 +44,7 @@ use Rattle.definition.specs.Record.{endsFit, unfolded, layout}
 use Rattle.definition.specs.Calls.{entryChecks, literalCheck, keptStatements, recordFields, entries}
 use Rattle.definition.specs.Ungrouped.{isOneOf, newWords, asSeen, clausesAlone, namedAlone, statementAlone}
 use Rattle.definition.specs.Ungrouped.{statementsAlone, entriesAlone, isOther, lasts, lasting, isSkipped}
-use Rattle.definition.specs.Ungrouped.{lastingIn, lastingAll, isNamed, isPlain, plainGroups, plainRead}
+use Rattle.definition.specs.Ungrouped.{lastingIn, lastingAll, namesUsage, isPlain, plainGroups, plainRead}
 use Rattle.definition.specs.Ungrouped.{plainUsages}
 use Rattle.definition.proofs.Answers.{or-false}
 use Rattle.definition.proofs.Lists.{tested}
@@ -609,7 +609,7 @@ fields-map g (item s (item u us vs) (item t kids later)) = refl
 abbrev alone : Statement → Statement
 alone s = inheriting outermost s
 
-none-named : (u : UsageClause) → not (isNamed u) ≡ true → usageOf outermost u ≡ outermost
+none-named : (u : UsageClause) → not (namesUsage u) ≡ true → usageOf outermost u ≡ outermost
 none-named UsageClause.Absent h = refl
 none-named (UsageClause.Given u) h = never h
 

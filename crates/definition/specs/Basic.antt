@@ -108,6 +108,11 @@ le4 n = n % 256 ∷ n / 256 % 256 ∷ n / 65536 % 256 ∷ n / 16777216 % 256 ∷
 abbrev pub le8 : ℕ → List ℕ
 le8 n = le4 n ++ le4 (n / 4294967296)
 
+-- numbers added up
+unfoldable pub sum : List ℕ → ℕ
+sum [] = 0
+sum (n ∷ ns) = n + sum ns
+
 -- ---------------------------------------------------------------- answers
 
 -- a call is refused, or gives its answer

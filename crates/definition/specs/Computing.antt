@@ -1,6 +1,6 @@
 -- One name for all that is sealed: a theorem that computes the definition at an example says `unfolding computing`.
 -- Assumes nothing.
-use Rattle.definition.specs.Basic.{same, digits, number, _>>=_}
+use Rattle.definition.specs.Basic.{same, digits, number, sum, _>>=_}
 use Rattle.definition.specs.Words.{byteKind, saidNext, tokens, firstOpen, sentences, statementWords}
 use Rattle.definition.specs.Statement.{pick, keywordOf, clauseStep, step, clauses, named, statement, statements}
 use Rattle.definition.specs.Tree.{above, notAbove, forest, higher, stillOpen, parents, parentsIn, fields}
@@ -23,7 +23,7 @@ use Rattle.definition.specs.Extract.{misweighed, chosen, upFrom, heavies
 use Rattle.definition.specs.Calls.{extractOf, extractIn, extractAnswer}
 use Rattle.definition.specs.Details.{detailsIn, detailBytes, detailsBytes}
 use Rattle.definition.specs.Reasons.{latest, chains, chainAt, reasonsIn, reasonsBytes}
-use Rattle.definition.specs.Key.{namedIn, keyIn, allAgree, keysIn, sum, copybooks, setKey}
+use Rattle.definition.specs.Key.{namedIn, keyIn, allAgree, keysIn, copybooks, setKey}
 
 unfoldable pub computing : Unit {0}
 unfolding

@@ -52,9 +52,9 @@ entriesDetails es = detailsBytes (detailsIn 0 0 es)
 -- ---------------------------------------------------------------- what holds of them (`DetailLaws`, of the proofs)
 
 -- the group around a row of that depth, by the rows before it, the latest first: the latest that is less deep
-unfoldable pub around : ℕ → List Detail → Option Detail
-around depth [] = none
-around depth (g ∷ before) = if ltb (g .depth) depth then some g else around depth before
+unfoldable pub groupAround : ℕ → List Detail → Option Detail
+groupAround depth [] = none
+groupAround depth (g ∷ before) = if ltb (g .depth) depth then some g else groupAround depth before
 
 -- the first byte of a group, and 0 for the record
 abbrev pub firstOf : Option Detail → ℕ
@@ -65,7 +65,7 @@ firstOf (some g) = g .first
 abbrev pub FirstBytes : List Detail → List Detail → Type 0
 FirstBytes before [] = Unit {0}
 FirstBytes before (x ∷ xs) =
-    (x .first ≡ firstOf (around (x .depth) before) + x .own .offset) × FirstBytes (x ∷ before) xs
+    (x .first ≡ firstOf (groupAround (x .depth) before) + x .own .offset) × FirstBytes (x ∷ before) xs
 
 -- how many lists deep a list is, itself included: for a listing at most 130, so a depth takes one byte
 abbrev pub height : Entries → ℕ

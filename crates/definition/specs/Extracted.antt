@@ -25,19 +25,19 @@ pub data Choice : List Item → List Item → Type 0 where
   without : {i : Item} {cs is : List Item} → Choice cs is → Choice cs (i ∷ is)
 
 -- a choice that fits, and is one of those looked at
-pub record Seen (limit budget : ℕ) (is : List Item) (n : ℕ) : Type 0 where
+pub record LookedAt (limit budget : ℕ) (is : List Item) (n : ℕ) : Type 0 where
   pub looked-at : Among n (examined budget is)
   pub fits : bytesOf (chosen n is) ≤ limit
 
 -- what holds of the answer to a limit and a budget
 pub record Best (limit budget : ℕ) (is : List Item) (a : Extract) : Type 0 where
   -- it was looked at, and it fits
-  pub seen : Seen limit budget is (a .subset)
+  pub seen : LookedAt limit budget is (a .subset)
   pub weighs : a .weight ≡ weightOf (chosen (a .subset) is)
   -- it is the heaviest fitting one among those looked at,
-  pub heaviest : (n : ℕ) → Seen limit budget is n → weightOf (chosen n is) ≤ a .weight
+  pub heaviest : (n : ℕ) → LookedAt limit budget is n → weightOf (chosen n is) ≤ a .weight
   -- the earliest if equal
-  pub earliest : (n : ℕ) → Seen limit budget is n → weightOf (chosen n is) ≡ a .weight → a .subset ≤ n
+  pub earliest : (n : ℕ) → LookedAt limit budget is n → weightOf (chosen n is) ≡ a .weight → a .subset ≤ n
   -- so many were looked at
   pub counted : a .examined ≡ length (examined budget is)
   -- no choice there is outweighs it by more than the answer says;

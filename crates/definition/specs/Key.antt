@@ -1,7 +1,7 @@
 -- One key for a family of records: the column of one name that each copybook of a set has in the same place, so that
 -- their records are sorted by it. Names, places and kinds are those of the folded listings.
 -- Assumes nothing.
-use Prim.Native.Nat.{ℕ, _+_}
+use Prim.Native.Nat.{ℕ}
 use mathlib.Core.Path.{_≡_}
 use mathlib.Core.Bool.{Bool, true, false, _&&_, _||_, not}
 use mathlib.Core.List.{List, [], _∷_}
@@ -15,7 +15,7 @@ use Rattle.definition.specs.declared.FieldKind.{FieldKind}
 use Rattle.definition.specs.declared.Entry.{Entry}
 use Rattle.definition.specs.declared.KeyAnswer.{KeyAnswer}
 use Rattle.definition.specs.Limits.{longestMask, fewestInSet, mostInSet}
-use Rattle.definition.specs.Basic.{if_then_else_, same, uppers, absent, given, part}
+use Rattle.definition.specs.Basic.{if_then_else_, same, uppers, absent, given, part, sum}
 use Rattle.definition.specs.Basic.{Answer, refuse, give, _>>=_, refuseIf, orRefuse}
 use Rattle.definition.specs.Fold.{Entries, end, entry, append, nameOf}
 use Rattle.definition.specs.Record.{variable}
@@ -142,11 +142,7 @@ keysIn work name (text ∷ texts) = do
   ks ← keysIn work name texts
   give (k ∷ ks)
 
--- lengths added up, and the bytes lent cut into copybooks of these lengths
-unfoldable pub sum : List ℕ → ℕ
-sum [] = 0
-sum (n ∷ ns) = n + sum ns
-
+-- the bytes lent, cut into copybooks of these lengths
 unfoldable pub copybooks : List ℕ → List ℕ → List (List ℕ)
 copybooks [] bs = []
 copybooks (n ∷ ns) bs = take n bs ∷ copybooks ns (drop n bs)
@@ -176,9 +172,9 @@ keyAnswerOf (KeyAnswer.Refused r) = refuse r
 -- ---------------------------------------------------------------- what holds of it (`KeyLaws`, of the proofs)
 
 -- no entry of a list has the name
-abbrev pub NoneNamed : List ℕ → List ℕ → Entries → Type 0
-NoneNamed text name end = Unit {0}
-NoneNamed text name (entry e members later) = (isNamed text name e ≡ false) × NoneNamed text name later
+abbrev pub NoEntryNamed : List ℕ → List ℕ → Entries → Type 0
+NoEntryNamed text name end = Unit {0}
+NoEntryNamed text name (entry e members later) = (isNamed text name e ≡ false) × NoEntryNamed text name later
 
 -- k is the key of a listing: it is that of the one entry of its name at the top, which stands between those before and
 -- those after it, is no group, and has neither OCCURS nor REDEFINES; nothing before it, at any depth, has a DEPENDING
@@ -190,8 +186,8 @@ pub record IsKey (text name : List ℕ) (es : Entries) (k : Key) : Type 0 where
   pub after : Entries
   pub stands : es ≡ append before (entry own members after)
   pub name-is : isNamed text name own ≡ true
-  pub none-before : NoneNamed text name before
-  pub none-after : NoneNamed text name after
+  pub none-before : NoEntryNamed text name before
+  pub none-after : NoEntryNamed text name after
   pub fixed : variable before ≡ false
   pub once : own .occurs ≡ Occurs.Once
   pub plain : given (own .redefines) ≡ false

@@ -133,14 +133,14 @@ lastingAll text [] = true
 lastingAll text (ws ∷ wss) = lastingIn text ws && lastingAll text wss
 
 -- a usage is named
-abbrev pub isNamed : UsageClause → Bool
-isNamed UsageClause.Absent = false
-isNamed (UsageClause.Given u) = true
+abbrev pub namesUsage : UsageClause → Bool
+namesUsage UsageClause.Absent = false
+namesUsage (UsageClause.Given u) = true
 
 -- no statement with children names a usage
 abbrev pub isPlain : Statement → Forest → Bool
 isPlain s leaf = true
-isPlain s (item t kids later) = not (isNamed (s .clauses .usage))
+isPlain s (item t kids later) = not (namesUsage (s .clauses .usage))
 
 unfoldable pub plainGroups : Forest → Bool
 plainGroups leaf = true

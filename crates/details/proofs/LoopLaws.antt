@@ -19,7 +19,7 @@ use Rattle.table.specs.Items.{itemAt}
 use Rattle.table.specs.Entered.{Shown, ownOf, shownOf, Sound}
 use Rattle.table.proofs.OwnLaws.{sound-read}
 use Rattle.table.proofs.LoopLaws.{all, rest, rest-all, At, at-starts, none-left, rest-next, at-fits, at-sound, at-next}
-use Rattle.details.specs.Detailed.{firstIn, detailIn, flatDetails, Within, farthest, FirstByte, There, AllThere}
+use Rattle.details.specs.Detailed.{firstByteIn, detailIn, flatDetails, Within, farthest, FirstByte, There, AllThere}
 
 -- ---------------------------------------------------------------- one entry
 
@@ -38,7 +38,7 @@ module _ (w t : List ℕ) (k : ℕ) {x : Item} (e : (x ≡ itemAt t k) × (x .of
     pub first-there : FirstByte lists (shownOf w (itemAt t k)) (getD lists (x .depth) 0 + o)
     first-there =
         record {
-          is = ap (λ (n : ℕ). getD lists (x .depth) 0 + n) (p .0) ∙ ap (λ (y : Item). firstIn lists (shownOf w y)) (e .0);
+          is = ap (λ (n : ℕ). getD lists (x .depth) 0 + n) (p .0) ∙ ap (λ (y : Item). firstByteIn lists (shownOf w y)) (e .0);
           small = omega (arith, p .0, p .1, ap (λ (y : Item). ownOf w y .offset) (e .0));
         }
 

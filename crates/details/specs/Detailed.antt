@@ -25,8 +25,8 @@ clausePlaces e = spanBytes (e .picture) ++ spanBytes (e .over) ++ spanBytes (e .
 -- ---------------------------------------------------------------- entries one after the other
 
 -- the first byte of an entry, where `starts` holds the first byte of the open list of each depth
-abbrev pub firstIn : List ℕ → Shown → ℕ
-firstIn starts x = getD starts (x .depth) 0 + x .own .offset
+abbrev pub firstByteIn : List ℕ → Shown → ℕ
+firstByteIn starts x = getD starts (x .depth) 0 + x .own .offset
 
 abbrev pub detailIn : ℕ → Shown → Detail
 detailIn first x = detail (x .own) (x .depth) (x .below) first
@@ -35,7 +35,7 @@ detailIn first x = detail (x .own) (x .depth) (x .below) first
 unfoldable pub flatDetails : List ℕ → List Shown → List ℕ
 flatDetails starts [] = []
 flatDetails starts (x ∷ xs) =
-    detailBytes (detailIn (firstIn starts x) x) ++ flatDetails (set starts (x .depth + 1) (firstIn starts x)) xs
+    detailBytes (detailIn (firstByteIn starts x) x) ++ flatDetails (set starts (x .depth + 1) (firstByteIn starts x)) xs
 
 -- none stands deeper than the lists of a listing nest
 abbrev pub Within : List Shown → Type 0
@@ -50,7 +50,7 @@ farthest = 5153960755200
 
 -- r is the first byte of an entry, and its offset is one of 32 bits
 pub record FirstByte (starts : List ℕ) (x : Shown) (r : ℕ) : Type 0 where
-  pub is : r ≡ firstIn starts x
+  pub is : r ≡ firstByteIn starts x
   pub small : x .own .offset < 4294967296
 
 -- entry k is there, with its row, and not too deep

@@ -23,7 +23,7 @@ use Rattle.unions.proofs.FoldedLaws.{count-append, widest-append}
 use Rattle.table.specs.declared.Item.{Item}
 use Rattle.entries.specs.declared.Block.{Block}
 use Rattle.table.specs.Items.{itemCells, allCells}
-use Rattle.table.specs.Entered.{Shown, flatIn, ownOf, shownOf, shownAll, Sound, Rows, Inside}
+use Rattle.table.specs.Entered.{Shown, flatIn, ownOf, shownOf, shownAll, Sound, Rows, RowsWithin}
 use Rattle.table.specs.Items.{ItemSmall}
 use Rattle.entries.specs.Building.{standsAs, block, within, TableRoom, Built, ownItem, unionItem, ItemOpen}
 use Rattle.entries.specs.Building.{ItemClosed}
@@ -124,11 +124,11 @@ rows-append : (w : List ℕ) (a b : List Item) → Rows w a → Rows w b → Row
 rows-append w [] b h k = k
 rows-append w (x ∷ a) b h k = (h .0, rows-append w a b (h .1) k)
 
-inside-append : (from to : ℕ) (a b : List Item) → Inside from to a → Inside from to b → Inside from to (a ++ b)
+inside-append : (from to : ℕ) (a b : List Item) → RowsWithin from to a → RowsWithin from to b → RowsWithin from to (a ++ b)
 inside-append from to [] b h k = k
 inside-append from to (x ∷ a) b h k = (h .0, h .1, inside-append from to a b (h .2) k)
 
-inside-wider : {from to : ℕ} (from′ to′ : ℕ) (a : List Item) → from′ ≤ from → to ≤ to′ → Inside from to a → Inside from′ to′ a
+inside-wider : {from to : ℕ} (from′ to′ : ℕ) (a : List Item) → from′ ≤ from → to ≤ to′ → RowsWithin from to a → RowsWithin from′ to′ a
 inside-wider from′ to′ [] l m h = tt
 inside-wider from′ to′ (x ∷ a) l m h = (omega (arith, h .0), omega (arith, h .1), inside-wider from′ to′ a l m (h .2))
 

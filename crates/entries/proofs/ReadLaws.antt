@@ -21,7 +21,7 @@ use Rattle.unions.proofs.ShownLaws.{entries-size}
 use Rattle.table.specs.declared.Item.{Item}
 use Rattle.entries.specs.declared.Block.{Block}
 use Rattle.table.specs.Items.{itemCells, allCells, itemAt, itemsFrom}
-use Rattle.table.specs.Entered.{Shown, flatIn, shownAll, Rows, Inside, Entered}
+use Rattle.table.specs.Entered.{Shown, flatIn, shownAll, Rows, RowsWithin, Entered}
 use Rattle.table.specs.Entered.{listed}
 use Rattle.entries.specs.Building.{block, TableRoom, Built, Roomy}
 use Rattle.entries.proofs.BuildLaws.{built-many, built-length}
@@ -76,7 +76,7 @@ module _ (text w : List ℕ) (from to : ℕ) where
       record {
         fits = omega (arith, p .next, built-length p);
         rows = subst (Rows w) (sym back) (p .rows);
-        inside = subst (Inside from to) (sym back) (p .inside);
+        inside = subst (RowsWithin from to) (sym back) (p .inside);
         few = omega (arith, p .next);
         is = ap (shownAll w) back ∙ p .is;
       }

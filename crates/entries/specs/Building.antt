@@ -20,7 +20,7 @@ use Rattle.unions.specs.Shown.{listIn, redefinersIn}
 use Rattle.table.specs.declared.Item.{Item}
 use Rattle.entries.specs.declared.Block.{Block}
 use Rattle.table.specs.Items.{ITEM, UNION, itemCells, allCells}
-use Rattle.table.specs.Entered.{listed, flatIn, shownAll, Rows, Inside}
+use Rattle.table.specs.Entered.{listed, flatIn, shownAll, Rows, RowsWithin}
 
 -- ---------------------------------------------------------------- what is built
 
@@ -70,7 +70,7 @@ pub record Built
     (from to : ℕ) (w out : List ℕ) (b : Block) (depth : ℕ) (es : Entries) (r : Block) (after : List ℕ) : Type 0 where
   pub items : List Item
   pub rows : Rows w items
-  pub inside : Inside from to items
+  pub inside : RowsWithin from to items
   pub is : shownAll w items ≡ flatIn depth es
   pub put : after ≡ sets out (ITEM * b .next) (allCells items)
   pub next : r .next ≡ b .next + entries# es

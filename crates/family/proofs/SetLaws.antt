@@ -15,9 +15,9 @@ use borrow.Author.Tests.{eq-eqb, ne-eqb, eqb-true, le-leb, lt-leb, leb-true}
 use Rattle.definition.specs.declared.Refusal.{Refusal}
 use Rattle.definition.specs.declared.KeyAnswer.{KeyAnswer}
 use Rattle.definition.specs.Limits.{fewestInSet, mostInSet}
-use Rattle.definition.specs.Basic.{if_then_else_, Answer, refuse, give, _>>=_, refused, refuseIf, orRefuse}
+use Rattle.definition.specs.Basic.{if_then_else_, sum, Answer, refuse, give, _>>=_, refused, refuseIf, orRefuse}
 use Rattle.definition.specs.Calls.{left, cleared}
-use Rattle.definition.specs.Key.{Key, keyIn, agree, allAgree, common, keysIn, sum, copybooks, isSet, setKey, keyCall}
+use Rattle.definition.specs.Key.{Key, keyIn, agree, allAgree, common, keysIn, copybooks, isSet, setKey, keyCall}
 use Rattle.definition.specs.Key.{keyAnswerOf}
 use Rattle.definition.proofs.Answers.{given-same}
 use Rattle.definition.proofs.Lists.{drop-next}
@@ -26,7 +26,7 @@ use Rattle.key.specs.declared.Sought.{Sought}
 use Rattle.key.specs.Sought.{foundKey}
 use Rattle.family.specs.declared.KeyRead.{KeyRead}
 use Rattle.family.specs.declared.Agreed.{Agreed}
-use Rattle.family.specs.Sets.{readKey, agreedOf, nextAgrees, allAgreed, laterOf, Part, Lent, placed, placeOf}
+use Rattle.family.specs.Sets.{readKey, agreedOf, nextAgrees, allAgreed, laterOf, Part, Lent, placed, keyPlace}
 use Rattle.family.specs.Sets.{keysGiven}
 
 -- ---------------------------------------------------------------- one more copybook
@@ -335,7 +335,7 @@ module _ (n : ℕ) (name : List ℕ) where
   -- the place of what was found in the first, where all agree
   place-of :
       (text : List ℕ) (s : Sought) (ks : List (Option Key)) →
-      placeOf (foundKey text s ∷ ks) ≡ (if allAgree (foundKey text s) ks then placed s else refused 57 0)
+      keyPlace (foundKey text s ∷ ks) ≡ (if allAgree (foundKey text s) ks then placed s else refused 57 0)
   unfolding _>>=_
   place-of text s ks = by-test (allAgree (foundKey text s) ks) s
     where
@@ -355,8 +355,8 @@ module _ (n : ℕ) (name : List ℕ) where
     abbrev others : List (List ℕ)
     others = copybooks (drop 1 lengths) (drop (getD lengths 0 0) texts)
 
-    split : keysGiven n name lengths texts ≡ (keysIn n name (first-text ∷ others) >>= λ ks. placeOf ks)
-    split = ap (λ (l : List (List ℕ)). keysIn n name l >>= λ ks. placeOf ks) (set-parts texts lengths there)
+    split : keysGiven n name lengths texts ≡ (keysIn n name (first-text ∷ others) >>= λ ks. keyPlace ks)
+    split = ap (λ (l : List (List ℕ)). keysIn n name l >>= λ ks. keyPlace ks) (set-parts texts lengths there)
 
     pub first-refused : {r : Refusal} → keyIn n name first-text ≡ refuse r → refuse r ≡ keysGiven n name lengths texts
     unfolding keysIn _>>=_
@@ -365,19 +365,19 @@ module _ (n : ℕ) (name : List ℕ) where
         (split
         ∙ ap
         (λ (x : Answer (Option Key)).
-        (x >>= λ k. keysIn n name others >>= λ ks. give (k ∷ ks)) >>= λ ks. placeOf ks)
+        (x >>= λ k. keysIn n name others >>= λ ks. give (k ∷ ks)) >>= λ ks. keyPlace ks)
         e)
 
     module _ (s : Sought) (e : keyIn n name first-text ≡ give (foundKey first-text s)) where
       after-first :
           keysGiven n name lengths texts
-          ≡ ((keysIn n name others >>= λ ks. give (foundKey first-text s ∷ ks)) >>= λ ks. placeOf ks)
+          ≡ ((keysIn n name others >>= λ ks. give (foundKey first-text s ∷ ks)) >>= λ ks. keyPlace ks)
       unfolding keysIn _>>=_
       after-first =
           split
           ∙ ap
           (λ (x : Answer (Option Key)).
-          (x >>= λ k. keysIn n name others >>= λ ks. give (k ∷ ks)) >>= λ ks. placeOf ks)
+          (x >>= λ k. keysIn n name others >>= λ ks. give (k ∷ ks)) >>= λ ks. keyPlace ks)
           e
 
       later-all :
@@ -388,7 +388,7 @@ module _ (n : ℕ) (name : List ℕ) where
       refused-others :
           (y : Answer (List (Option Key))) {r : Refusal} →
           (y >>= λ ks. give (true && allAgree (foundKey first-text s) ks)) ≡ refuse r →
-          refuse r ≡ ((y >>= λ ks. give (foundKey first-text s ∷ ks)) >>= λ ks. placeOf ks)
+          refuse r ≡ ((y >>= λ ks. give (foundKey first-text s ∷ ks)) >>= λ ks. keyPlace ks)
       unfolding _>>=_
       refused-others (refuse q) {r} h = ap refuse (let e : r ≡ q = cc in e)
       refused-others (give ks) h = absurd (let z : _≡_ {A = ℕ} 0 1 = cc in omega arith)
@@ -397,7 +397,7 @@ module _ (n : ℕ) (name : List ℕ) where
           (y : Answer (List (Option Key))) {b : Bool} →
           (y >>= λ ks. give (true && allAgree (foundKey first-text s) ks)) ≡ give b →
           (if b then placed s else refused 57 0)
-          ≡ ((y >>= λ ks. give (foundKey first-text s ∷ ks)) >>= λ ks. placeOf ks)
+          ≡ ((y >>= λ ks. give (foundKey first-text s ∷ ks)) >>= λ ks. keyPlace ks)
       unfolding _>>=_
       given-others (refuse q) h = absurd (let z : _≡_ {A = ℕ} 0 1 = cc in omega arith)
       given-others (give ks) h =

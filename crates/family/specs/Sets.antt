@@ -7,8 +7,8 @@ use mathlib.Core.Bool.{Bool, true, false, _&&_}
 use mathlib.Core.List.{List, [], _∷_}
 use mathlib.Core.Option.{Option, none, some}
 use lib.ListN.{length, getD, take, drop}
-use Rattle.definition.specs.Basic.{Answer, refuse, give, _>>=_, refused, orRefuse}
-use Rattle.definition.specs.Key.{Key, keyIn, keysIn, agree, common, sum, copybooks}
+use Rattle.definition.specs.Basic.{sum, Answer, refuse, give, _>>=_, refused, orRefuse}
+use Rattle.definition.specs.Key.{Key, keyIn, keysIn, agree, common, copybooks}
 use Rattle.key.specs.declared.Sought.{Sought}
 use Rattle.key.specs.Sought.{foundKey}
 use Rattle.family.specs.declared.KeyRead.{KeyRead}
@@ -62,8 +62,8 @@ placed (Sought.One c) = give (c .offset, c .width)
 placed Sought.Spoilt = refused 57 0
 
 -- the place of the key that all copybooks have
-abbrev pub placeOf : List (Option Key) → Answer (ℕ × ℕ)
-placeOf ks = orRefuse 57 0 (common ks) >>= λ k. give (k .offset, k .width)
+abbrev pub keyPlace : List (Option Key) → Answer (ℕ × ℕ)
+keyPlace ks = orRefuse 57 0 (common ks) >>= λ k. give (k .offset, k .width)
 
 abbrev pub keysGiven : ℕ → List ℕ → List ℕ → List ℕ → Answer (ℕ × ℕ)
-keysGiven work name lengths texts = keysIn work name (copybooks lengths texts) >>= λ ks. placeOf ks
+keysGiven work name lengths texts = keysIn work name (copybooks lengths texts) >>= λ ks. keyPlace ks

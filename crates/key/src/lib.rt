@@ -43,10 +43,7 @@ fn is_named(text: &[u8], name: &[u8], e: Entry) -> bool
     ensures { λ r. ⌜ r ≡ isNamed (now (text .entry)) (now (name .entry)) e ⌝ }
 {
     let w = e.name;
-    if 0 < w.len {
-        return text::same_name(name, names::part_of(text, w));
-    }
-    text::same_name(name, b"FILLER")
+    text::same_name(name, names::part_or(text, w, b"FILLER"))
 }
 
 // Whether an item stands once, without OCCURS.

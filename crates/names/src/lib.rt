@@ -2,7 +2,7 @@
 // name's fingerprint; an absent name means FILLER. Leans on `definition` and `text`.
 ghost use mathlib.Core.Path.{_≡_};
 ghost use Prim.Native.Nat.{_+_, _<_};
-ghost use Rattle.definition.specs.Basic.{part, uppers};
+ghost use Rattle.definition.specs.Basic.{if_then_else_, given, part, uppers};
 ghost use Rattle.definition.specs.Fold.{sameName, sameSpelling};
 ghost use Rattle.names.specs.Prints.{byteBack, printOf, namePrint};
 use definition::Span;
@@ -23,36 +23,28 @@ pub fn part_of(text: &[u8], w: Span) -> &[u8]
     &text[start..end]
 }
 
+// The part of the text that a span fills, or this word where it is absent.
+pub fn part_or<'a>(text: &'a [u8], w: Span, filler: &'a [u8]) -> &'a [u8]
+    ensures { λ r. ⌜ now r ≡ (if given w then part (now (text .entry)) w else now (filler .entry)) ⌝ }
+{
+    if 0 < w.len {
+        return part_of(text, w);
+    }
+    filler
+}
+
 // Whether two names are the same, case aside; an absent one means FILLER.
 pub fn same_names(text: &[u8], a: Span, b: Span) -> bool
     ensures { λ r. ⌜ r ≡ sameName (now (text .entry)) a b ⌝ }
 {
-    if 0 < a.len {
-        if 0 < b.len {
-            return text::same_name(part_of(text, a), part_of(text, b));
-        }
-        return text::same_name(part_of(text, a), b"FILLER");
-    }
-    if 0 < b.len {
-        return text::same_name(b"FILLER", part_of(text, b));
-    }
-    true
+    text::same_name(part_or(text, a, b"FILLER"), part_or(text, b, b"FILLER"))
 }
 
 // Whether two names are spelled the same; an absent one means FILLER.
 pub fn same_spellings(text: &[u8], a: Span, b: Span) -> bool
     ensures { λ r. ⌜ r ≡ sameSpelling (now (text .entry)) a b ⌝ }
 {
-    if 0 < a.len {
-        if 0 < b.len {
-            return text::same_spelling(part_of(text, a), part_of(text, b));
-        }
-        return text::same_spelling(part_of(text, a), b"FILLER");
-    }
-    if 0 < b.len {
-        return text::same_spelling(b"FILLER", part_of(text, b));
-    }
-    true
+    text::same_spelling(part_or(text, a, b"FILLER"), part_or(text, b, b"FILLER"))
 }
 
 // ---------------------------------------------------------------- fingerprints
@@ -81,8 +73,5 @@ fn print_word(w: &[u8]) -> u32
 pub fn print_of(text: &[u8], w: Span) -> u32
     ensures { λ r. ⌜ r ≡ namePrint (now (text .entry)) w ⌝ }
 {
-    if 0 < w.len {
-        return print_word(part_of(text, w));
-    }
-    print_word(b"FILLER")
+    print_word(part_or(text, w, b"FILLER"))
 }

@@ -32,7 +32,7 @@ use Rattle.unions.proofs.ShownLaws.{marked-linked}
 use Rattle.table.specs.Items.{itemAt}
 use Rattle.table.specs.Entered.{ownOf, Entered}
 use Rattle.record.specs.Laying.{laidOf, Listed}
-use Rattle.reasons.specs.Chained.{chainOf, Settled, reasonsOf, Reasoned}
+use Rattle.reasons.specs.Chained.{chainOf, Settled, reasonsOf, ChainedTable}
 use Rattle.reasons.proofs.ChainLaws.{seen-none, rowChains, Redefining, ListExplained, list-explained, settled-at}
 use Rattle.reasons.proofs.ChainLaws.{chain-among}
 use Rattle.reasons.proofs.OutwardLaws.{outward-none}
@@ -40,7 +40,7 @@ use Rattle.reasons.proofs.NumberLaws.{entered-numbered, entered-past, o
 
 -- ---------------------------------------------------------------- the answer
 
-module _ {text w t : List ℕ} {from to n : ℕ} (h : Reasoned text w t from to n) (number room : ℕ) where
+module _ {text w t : List ℕ} {from to n : ℕ} (h : ChainedTable text w t from to n) (number room : ℕ) where
   -- 53
   pub past-listing : n ≤ number → reasonsOf text w from to number room ≡ refused 53 0
   unfolding _>>=_

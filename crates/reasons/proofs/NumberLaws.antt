@@ -17,7 +17,7 @@ use Rattle.rows.specs.Table.{cell}
 use Rattle.places.specs.Places.{entryIn}
 use Rattle.table.specs.declared.Item.{Item}
 use Rattle.table.specs.Items.{itemAt, itemsFrom}
-use Rattle.table.specs.Entered.{Shown, flatIn, moved, ownOf, shownAll, Inside, listed, Entered}
+use Rattle.table.specs.Entered.{Shown, flatIn, moved, ownOf, shownAll, RowsWithin, listed, Entered}
 
 -- ---------------------------------------------------------------- numbers
 
@@ -82,7 +82,7 @@ own-begins w x = by-marks (eqb (x .mark) 0) (eqb (x .mark) 1)
     by-marks false true = refl
     by-marks false false = refl
 
-inside-from : (t : List ℕ) (from to n j k : ℕ) → k < n → Inside from to (itemsFrom t j n) →
+inside-from : (t : List ℕ) (from to n j k : ℕ) → k < n → RowsWithin from to (itemsFrom t j n) →
     (from ≤ itemAt t (j + k) .row) × (itemAt t (j + k) .row < to)
 unfolding itemsFrom
 inside-from t from to zero j k l h = absurd (omega arith)

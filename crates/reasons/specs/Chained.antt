@@ -98,7 +98,7 @@ reasonsOf text w from to number room =
     fitting room (reasonsBytes (chainAt (e .at) (chains text [] [] (listIn w from to))))
 
 -- the table of a record, each of whose rows has the chain of its statement
-pub record Reasoned (text w t : List ℕ) (from to n : ℕ) : Type 0 where
+pub record ChainedTable (text w t : List ℕ) (from to n : ℕ) : Type 0 where
   pub table : Entered text w from to t n
   pub settled : Settled w from to
   pub chained :

@@ -11,7 +11,7 @@ ghost use Rattle.rows.specs.Columns.{ROW, SLACK};
 ghost use Rattle.rows.specs.Table.{cell};
 ghost use Rattle.table.specs.Items.{ITEM, itemAt};
 ghost use Rattle.reasons.specs.Chained.{nameAt, placingAt, ownAt, groupAt, outwardAt, chainOf};
-ghost use Rattle.reasons.specs.Chained.{Settled, RowIn, reasonsOf, Reasoned};
+ghost use Rattle.reasons.specs.Chained.{Settled, RowIn, reasonsOf, ChainedTable};
 use definition::Reason;
 use definition::Refusal;
 use definition::Span;
@@ -229,7 +229,7 @@ pub fn write_reasons(
     number: usize,
     out: &mut [u8],
 ) -> Writing
-    requires { ⌜ Reasoned (now text) (now work) (now entries) from to count ⌝ }
+    requires { ⌜ ChainedTable (now text) (now work) (now entries) from to count ⌝ }
     ensures { λ r. ⌜ left (writingOf r) (now (out .exit)) []
         ≡ afterWriting (reasonsOf (now (text .entry)) (now (work .entry)) from to number (length (now (out .entry))))
         (now (out .entry)) [] ⌝ }

@@ -11,13 +11,13 @@ use borrow.Author.Tests.{le-ltb, leb-true, eq-eqb, ne-eqb}
 use Rattle.definition.specs.declared.Extract.{Extract}
 use Rattle.definition.specs.declared.ExtractAnswer.{ExtractAnswer}
 use Rattle.definition.specs.Limits.{largest, mostItems, leastWeight, mostWeight}
-use Rattle.definition.specs.Basic.{if_then_else_, give, _>>=_}
+use Rattle.definition.specs.Basic.{if_then_else_, sum, give, _>>=_}
 use Rattle.definition.specs.Extract.{Item, items, misweighed, weightOf, chosen, subsets#, upFrom, examined}
 use Rattle.definition.specs.Extract.{heaviest, alone, offBy, extract}
 use Rattle.definition.specs.Calls.{extractOf, extractAnswerOf}
 use Rattle.definition.proofs.ExtractLaws.{length-upFrom, subsets-pos, off-all, off-less, alone-heavier}
 use Rattle.subsets.specs.declared.Found.{Found}
-use Rattle.subsets.specs.Sums.{sum, Narrow, Weighable, Budgeted, Countable, FoundIs}
+use Rattle.subsets.specs.Sums.{Narrow, Weighable, Budgeted, HasSubsets, FoundIs}
 
 -- ---------------------------------------------------------------- the answer
 
@@ -44,7 +44,7 @@ module _
     as-many = n ∙ ap (λ (k : ℕ). min budget k) every
 
     -- there is one to look at, and no more than there are
-    pub some-to-see : 0 < budget → Countable bs ws count
+    pub some-to-see : 0 < budget → HasSubsets bs ws count
     some-to-see h =
         record {
           items-are = w;

@@ -11,13 +11,13 @@ use lib.Dec.{eqb, leb, ltb}
 use lib.ListN.{length, getD, drop, drop-of-length-le}
 use borrow.Author.Tests.{lt-ltb, le-ltb, le-leb, lt-leb}
 use Rattle.definition.specs.Limits.{mostWeight, leastWeight}
-use Rattle.definition.specs.Basic.{if_then_else_}
+use Rattle.definition.specs.Basic.{if_then_else_, sum}
 use Rattle.definition.specs.Extract.{Item, items, misweighed, bytesOf, weightOf}
 use Rattle.definition.specs.Extract.{chosen, upFrom, heavier, heaviest, alone}
 use Rattle.definition.proofs.Lists.{drop-next}
 use Rattle.subsets.specs.declared.Sums.{Sums}
 use Rattle.subsets.specs.declared.Found.{Found}
-use Rattle.subsets.specs.Sums.{sumIn, sum, SumsAre, Weighable, HasNext, Countable, FoundIs}
+use Rattle.subsets.specs.Sums.{sumIn, SumsAre, Weighable, HasNext, HasSubsets, FoundIs}
 
 -- ---------------------------------------------------------------- the items of a subset
 
@@ -122,7 +122,7 @@ pub record Looking (bs ws : List ℕ) (limit count best weighs width weight look
       ≡ heaviest limit (items bs ws) best (upFrom looked (count - looked))
 
 pub looking-starts :
-    {bs ws : List ℕ} {limit count : ℕ} → Countable bs ws count → Looking bs ws limit count 0 0 0 0 1
+    {bs ws : List ℕ} {limit count : ℕ} → HasSubsets bs ws count → Looking bs ws limit count 0 0 0 0 1
 looking-starts {bs} {ws} {limit} {count} c =
     record {
       items-are = c .items-are;

@@ -11,10 +11,10 @@ use lib.Dec.{eqb}
 use lib.ListN.{length, getD, drop}
 use borrow.Author.Tests.{eq-eqb, ne-eqb}
 use Rattle.definition.specs.Limits.{largest, mostWeight}
-use Rattle.definition.specs.Basic.{if_then_else_}
+use Rattle.definition.specs.Basic.{if_then_else_, sum}
 use Rattle.definition.proofs.Lists.{order, drop-next}
 use Rattle.subsets.specs.declared.Sums.{Sums}
-use Rattle.subsets.specs.Sums.{sumIn, sum, SumsAre, Weighable, HasNext}
+use Rattle.subsets.specs.Sums.{sumIn, SumsAre, Weighable, HasNext}
 
 -- ---------------------------------------------------------------- no larger than the sum of all
 

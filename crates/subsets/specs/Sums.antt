@@ -7,7 +7,7 @@ use mathlib.Core.List.{List, [], _∷_}
 use lib.Dec.{eqb}
 use lib.ListN.{length, getD}
 use Rattle.definition.specs.Limits.{mostItems, largest, mostWeight}
-use Rattle.definition.specs.Basic.{if_then_else_}
+use Rattle.definition.specs.Basic.{if_then_else_, sum}
 use Rattle.definition.specs.Extract.{items, weightOf, chosen, heaviest, upFrom}
 use Rattle.subsets.specs.declared.Sums.{Sums}
 use Rattle.subsets.specs.declared.Found.{Found}
@@ -16,11 +16,6 @@ use Rattle.subsets.specs.declared.Found.{Found}
 unfoldable pub sumIn : ℕ → List ℕ → ℕ
 sumIn number [] = 0
 sumIn number (x ∷ xs) = (if eqb (number % 2) 1 then x else 0) + sumIn (number / 2) xs
-
--- what all of them come to
-unfoldable pub sum : List ℕ → ℕ
-sum [] = 0
-sum (x ∷ xs) = x + sum xs
 
 -- the width and the weight of a subset
 pub record SumsAre (bs ws : List ℕ) (number : ℕ) (s : Sums) : Type 0 where
@@ -51,7 +46,7 @@ pub record Budgeted (bs ws : List ℕ) (budget : ℕ) : Type 0 where
   pub some : 0 < budget
 
 -- so many subsets are there to be looked at, one at least
-pub record Countable (bs ws : List ℕ) (count : ℕ) : Type 0 where
+pub record HasSubsets (bs ws : List ℕ) (count : ℕ) : Type 0 where
   pub items-are : Weighable bs ws
   pub some : 0 < count
   pub few : count ≤ 2 ^ length bs

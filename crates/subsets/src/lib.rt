@@ -7,7 +7,7 @@ ghost use lib.ListN.{length};
 ghost use Rattle.definition.specs.Calls.{extractAnswerOf, extractOf};
 ghost use Rattle.definition.specs.Extract.{misweighed, items, weightOf, alone, extract};
 ghost use Rattle.definition.specs.Limits.{mostItems};
-ghost use Rattle.subsets.specs.Sums.{SumsAre, Weighable, HasNext, Budgeted, Countable, Narrow, FoundIs};
+ghost use Rattle.subsets.specs.Sums.{SumsAre, Weighable, HasNext, Budgeted, HasSubsets, Narrow, FoundIs};
 use definition::Extract;
 use definition::ExtractAnswer;
 use definition::LEAST_WEIGHT;
@@ -52,7 +52,7 @@ fn next_sums(widths: &[u32], weights: &[u32], number: usize, sums: Sums) -> Sums
 // The heaviest of the first `count` subsets that fits the limit, the earliest if equal. The empty one, number 0, always
 // fits.
 fn best_of(widths: &[u32], weights: &[u32], limit: usize, count: usize) -> Found
-    requires { ⌜ Countable (now widths) (now weights) count ⌝ }
+    requires { ⌜ HasSubsets (now widths) (now weights) count ⌝ }
     ensures { λ r. ⌜ FoundIs limit count (now (widths .entry)) (now (weights .entry)) r ⌝ }
 {
     let mut best = 0;

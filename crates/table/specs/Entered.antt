@@ -135,9 +135,9 @@ Rows w [] = Unit {0}
 Rows w (x ∷ xs) = Sound w x × Rows w xs
 
 -- they name rows from `from` up to `to`
-abbrev pub Inside : ℕ → ℕ → List Item → Type 0
-Inside from to [] = Unit {0}
-Inside from to (x ∷ xs) = (from ≤ x .row) × (x .row < to) × Inside from to xs
+abbrev pub RowsWithin : ℕ → ℕ → List Item → Type 0
+RowsWithin from to [] = Unit {0}
+RowsWithin from to (x ∷ xs) = (from ≤ x .row) × (x .row < to) × RowsWithin from to xs
 
 -- the folded list of the rows from `from` up to `to`
 abbrev pub listed : List ℕ → List ℕ → ℕ → ℕ → Entries
@@ -147,6 +147,6 @@ listed text w from to = foldedAll text (listIn w from to)
 pub record Entered (text w : List ℕ) (from to : ℕ) (t : List ℕ) (n : ℕ) : Type 0 where
   pub fits : ITEM * n ≤ length t
   pub rows : Rows w (itemsFrom t 0 n)
-  pub inside : Inside from to (itemsFrom t 0 n)
+  pub inside : RowsWithin from to (itemsFrom t 0 n)
   pub few : 2 * n ≤ 3 * to
   pub is : shownAll w (itemsFrom t 0 n) ≡ flatIn 0 (listed text w from to)

@@ -8,53 +8,14 @@ ghost use mathlib.Core.Path.{_≡_};
 ghost use lib.ListN.{length};
 ghost use Rattle.replay.specs.Places.{Inside};
 use definition::FieldKind;
-use definition::NumRepr;
 use definition::PicAnswer;
 use definition::SignClause;
-use definition::SignKind;
 use definition::Usage;
 use definition::Writing;
 use replay::Reached;
 
 // The most bytes that a mask is given room for.
 const ROOM: usize = 300;
-
-// ---------------------------------------------------------------- numbers for the parts of an answer
-
-fn usage_of(n: u64) -> Usage {
-    match n {
-        0 => Usage::Display,
-        1 => Usage::Comp3,
-        _ => Usage::Comp,
-    }
-}
-
-fn sign_of(n: u64) -> SignClause {
-    match n {
-        0 => SignClause::Absent,
-        1 => SignClause::Given(SignKind::Unsigned),
-        2 => SignClause::Given(SignKind::Embedded),
-        3 => SignClause::Given(SignKind::LeadingSeparate),
-        _ => SignClause::Given(SignKind::TrailingSeparate),
-    }
-}
-
-fn sign_number(sign: SignKind) -> u64 {
-    match sign {
-        SignKind::Unsigned => 0,
-        SignKind::Embedded => 1,
-        SignKind::LeadingSeparate => 2,
-        SignKind::TrailingSeparate => 3,
-    }
-}
-
-fn storage_number(repr: NumRepr) -> u64 {
-    match repr {
-        NumRepr::Display => 0,
-        NumRepr::Comp3 => 1,
-        NumRepr::Zoned => 2,
-    }
-}
 
 // ---------------------------------------------------------------- one answer
 
@@ -70,7 +31,7 @@ fn kind(list: &[u8], p: Reached, k: FieldKind) -> Reached
         FieldKind::Int { signed, sign } => {
             let p = replay::number(list, p, 2);
             let p = replay::flag(list, p, signed);
-            return replay::number(list, p, sign_number(sign));
+            return replay::number(list, p, kinds::sign_byte(sign) as u64);
         }
         FieldKind::Binary { signed } => {
             let p = replay::number(list, p, 3);
@@ -85,8 +46,8 @@ fn kind(list: &[u8], p: Reached, k: FieldKind) -> Reached
             let p = replay::number(list, p, 4);
             let p = replay::byte(list, p, precision);
             let p = replay::byte(list, p, scale);
-            let p = replay::number(list, p, storage_number(repr));
-            return replay::number(list, p, sign_number(sign));
+            let p = replay::number(list, p, kinds::storage_byte(repr) as u64);
+            return replay::number(list, p, kinds::sign_byte(sign) as u64);
         }
         FieldKind::Edited {
             precision,
@@ -312,8 +273,8 @@ pub fn is_agreed(list: &[u8], p: Reached, before: usize, document: bool) -> bool
         list,
         place,
         &picture[..n],
-        usage_of(usage.value),
-        sign_of(sign.value),
+        kinds::usage_at(usage.value as u8),
+        kinds::sign_clause_at(sign.value as u8),
         document,
     );
     replay::is_whole(list, p)

@@ -9,13 +9,13 @@ use lib.ListN.{length}
 use Rattle.definition.specs.Basic.{Answer}
 use Rattle.definition.specs.Calls.{afterWriting}
 use Rattle.table.specs.Items.{itemAt}
-use Rattle.reasons.specs.Chained.{RowIn, Reasoned}
+use Rattle.reasons.specs.Chained.{RowIn, ChainedTable}
 use Rattle.reasons.proofs.NumberLaws.{row-inside}
 use Rattle.reasons.proofs.AnswerLaws.{past-listing, entry-chain}
 use Rattle.reasons.proofs.write_reasons.Statement.{statement}
 use Rattle.reasons.proofs.write_reasons.Tie as tie
 
-row-in : {text w t : List ℕ} {from to n : ℕ} → Reasoned text w t from to n → (k : ℕ) → k < n → {row : ℕ} → row
+row-in : {text w t : List ℕ} {from to n : ℕ} → ChainedTable text w t from to n → (k : ℕ) → k < n → {row : ℕ} → row
     ≡ itemAt t k .row → RowIn w from to row
 row-in h k l e =
     let i = row-inside (h .table) k l in

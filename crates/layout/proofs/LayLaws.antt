@@ -27,15 +27,16 @@ use Rattle.rows.specs.Table.{cell, spanAt, statementAt}
 use Rattle.places.specs.Places.{putPlaces, lastOf, entriesIn, rowsForest}
 use Rattle.redefines.specs.Targets.{placeAt, seenFrom, seenAt}
 use Rattle.redefines.specs.Prints.{Printed}
-use Rattle.places.specs.Children.{ChildrenEnd}
+use Rattle.places.specs.Children.{ChildrenEnd, BelowCounted}
 use Rattle.places.proofs.PlaceLaws.{kept-places, before-places, statement-places, statements-places, first-offset}
 use Rattle.places.proofs.PlaceLaws.{first-last, seen-low, seen-in, seen-same, printed-places}
 use Rattle.places.proofs.RowLaws.{forest-empty, forest-split, children-end}
-use Rattle.places.proofs.EntriesLaws.{size-stretch, rows-forest, Held, places-held, next-row, of-size}
+use Rattle.places.proofs.EntriesLaws.{size-stretch, rows-forest, Held, places-held, next-row, of-size, counted-step}
+use Rattle.places.proofs.EntriesLaws.{counted-kept}
 use Rattle.limits.proofs.EndLaws.{within}
 use Rattle.layout.specs.Bare.{ItemLaid, placedEntry, bareItem}
 use Rattle.layout.specs.Outcomes.{stopped, ready, after, layRest, layTable, halted, placing, afterItem, layItem}
-use Rattle.layout.specs.Outcomes.{afterOwn, placeRow}
+use Rattle.layout.specs.Outcomes.{afterOwn, placeRow, Room}
 use Rattle.layout.proofs.ContentLaws.{leaf-bounded}
 use Rattle.layout.proofs.ListLaws.{restAfter, bare-split, item-is, bare-is}
 
@@ -168,22 +169,34 @@ item-within text w i j depth last cursor h q =
     let n = subst (λ (z : Entry). entryEnd z ≤ largest) (y .own) (within (entryOf (statementAt w i) (y .contents) (y .offset) (y .slack)) (y .fits) .ends) in
     record { moves = subst (λ (z : ℕ). z ≤ largest) (g .moves) (advance-within cursor (g .laid .own) h n); ends = subst (λ (z : ℕ). z ≤ largest) (g .ends) n }
 
--- the fingerprints stay
-pub item-printed :
-    (text w : List ℕ) (i j depth last cursor : ℕ) {c e n : ℕ} {w′ : List ℕ} →
+-- there is room to go on behind it
+pub item-room :
+    (text w : List ℕ) (i to j depth last cursor : ℕ) {c e : ℕ} {w′ : List ℕ} →
+    ChildrenEnd w i to j →
     layItem text w i j depth last cursor ≡ placing c e w′ →
-    Printed text w n →
-    Printed text w′ n
-item-printed text w i j depth last cursor {n = n} q h =
-    let g = item-given text w i last cursor (bareItem text depth (seenAt w last) cursor (statementAt w i) (rowsForest w (suc i) j)) q in
-    subst (λ (x : List ℕ). Printed text x n) (g .put) (printed-places text (entry (g .laid .own) (g .laid .members) end) w i last h)
+    length w′ ≡ length w →
+    Room text w i to →
+    Room text w′ j to
+item-room text w i to j depth last cursor h q l r =
+    let a = bareItem text depth (seenAt w last) cursor (statementAt w i) (rowsForest w (suc i) j) in
+    let g = item-given text w i last cursor a q in
+    let es = entry (g .laid .own) (g .laid .members) end in
+    let counted =
+    counted-kept w (putPlaces text w i last es) (λ k n m. sym (kept-places text es w i last k n m)) j to
+    (counted-step w i to j h (r .counted) .2) in
+    record {
+      fits = omega (arith, l, r .fits);
+      small = r .small;
+      printed = subst (λ (x : List ℕ). Printed text x to) (g .put) (printed-places text es w i last (r .printed));
+      counted = subst (λ (x : List ℕ). BelowCounted x j (rowsForest x j to)) (g .put) counted;
+    }
 
 -- ---------------------------------------------------------------- one item
 
 -- its own place after its members'
 own-then :
     (text w : List ℕ) (i last cursor : ℕ) (members : Entries) (a : Answer Entry) →
-    afterOwn text (putPlaces text w (suc i) 0 members) i last (entries# members) cursor a ≡ afterItem text w i last cursor (a >>= λ e. give (record { own = e; members = members }))
+    afterOwn text (putPlaces text w (suc i) 0 members) i last cursor a ≡ afterItem text w i last cursor (a >>= λ e. give (record { own = e; members = members }))
 unfolding putPlaces _>>=_
 own-then text w i last cursor members (refuse r) = refl
 own-then text w i last cursor members (give e) = refl
@@ -201,7 +214,7 @@ module _ (text w : List ℕ) (i j depth last cursor : ℕ) (h : j ≤ suc i) whe
       (ap (afterItem text w i last cursor) leaf-item
       ∙ ap (λ (a : Answer Pictured). afterItem text w i last cursor (a >>= λ c. placedEntry text (statementAt w i) c (seenAt w last) cursor >>= λ d. give (record { own = d; members = end }))) (sym e))
 
-  pub leaf-place : {c : Pictured} → give c ≡ content text (statementAt w i) leaf 0 → placeRow text w i 0 last cursor c ≡ layItem text w i j depth last cursor
+  pub leaf-place : {c : Pictured} → give c ≡ content text (statementAt w i) leaf 0 → placeRow text w i last cursor c ≡ layItem text w i j depth last cursor
   unfolding putPlaces _>>=_
   leaf-place {c} e =
       own-then text w i last cursor end (placedEntry text (statementAt w i) c (seenAt w last) cursor)
@@ -234,14 +247,16 @@ module _ (text w : List ℕ) (a b depth : ℕ) where
   unfolding seenFrom
   list-begins = refl
 
-  pub laid-rows : {width l : ℕ} {w₁ : List ℕ} → a ≤ b → ROW * b ≤ length w → layTable text w a b depth ≡ ready width l w₁ → LaidRows text w a b depth width w₁
-  laid-rows {width} {l} {w₁} h fits e =
+  pub laid-rows : {width l : ℕ} {w₁ : List ℕ} → a ≤ b → Room text w a b → layTable text w a b depth ≡ ready width l w₁ → LaidRows text w a b depth width w₁
+  laid-rows {width} {l} {w₁} h room e =
       let f = rowsForest w a b in
       let r = readied text w a 0 (lay text depth [] 0 0 f) (sym list-begins ∙ e) in
       let is = bare-is text f depth [] 0 0 (omega arith) (r .is) in
       let es = r .laid .entries in
       let n = size-stretch w a b in
-      let held = places-held text f es w a 0 (omega arith) (is .of) (rows-forest w a (b - a)) (omega (arith, n)) in
+      let held =
+      places-held text f es w a 0 (omega arith) (is .of) (rows-forest w a (b - a)) (room .counted)
+      (omega (arith, n, room .fits)) in
       let same : f ≡ rowsForest (putPlaces text w a 0 es) a b = ap forest (sym (statements-places text es w a 0 a (b - a))) in
       let held′ : Held text (putPlaces text w a 0 es) a 0 (rowsForest (putPlaces text w a 0 es) a b) es = subst (λ (x : Forest). Held text (putPlaces text w a 0 es) a 0 x es) same held in
       record {
@@ -303,15 +318,14 @@ module _ (text w : List ℕ) (i j depth last cursor : ℕ) (h : suc i < j) where
       pub group-place :
           give tt ≡ foldCheck text [] (entriesIn w₁ (suc i) (rowsForest w₁ (suc i) j)) →
           last ≤ i →
-          placeRow text w₁ i (j - suc i) last cursor (pictured FieldKind.Group width) ≡ layItem text w i j depth last cursor
+          placeRow text w₁ i last cursor (pictured FieldKind.Group width) ≡ layItem text w i j depth last cursor
       group-place e l =
           let es = n .laid .entries in
           let c = pictured FieldKind.Group width in
           let w₂ = putPlaces text w (suc i) 0 es in
-          ap (λ (x : List ℕ). placeRow text x i (j - suc i) last cursor c) (sym (n .put))
-          ∙ ap (λ (x : ℕ). placeRow text w₂ i x last cursor c) (sym (n .many))
-          ∙ ap (λ (x : Statement). afterOwn text w₂ i last (entries# es) cursor (placedEntry text x c (seenAt w₂ last) cursor)) (statement-places text es w (suc i) 0 i)
-          ∙ ap (λ (x : List Place). afterOwn text w₂ i last (entries# es) cursor (placedEntry text (statementAt w i) c x cursor))
+          ap (λ (x : List ℕ). placeRow text x i last cursor c) (sym (n .put))
+          ∙ ap (λ (x : Statement). afterOwn text w₂ i last cursor (placedEntry text x c (seenAt w₂ last) cursor)) (statement-places text es w (suc i) 0 i)
+          ∙ ap (λ (x : List Place). afterOwn text w₂ i last cursor (placedEntry text (statementAt w i) c x cursor))
           (seen-same false w₂ w last last (λ k m p q. before-places text es w (suc i) 0 k m (omega arith) q))
           ∙ own-then text w i last cursor es (placedEntry text (statementAt w i) c (seenAt w last) cursor)
           ∙ sym (ap (afterItem text w i last cursor) (group-item e))

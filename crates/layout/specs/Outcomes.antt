@@ -12,6 +12,7 @@ use Rattle.definition.specs.Layout.{advance, Laid, lay}
 use Rattle.rows.specs.Columns.{ROW}
 use Rattle.rows.specs.Table.{statementAt}
 use Rattle.places.specs.Places.{putPlace, putPlaces, lastOf, rowsForest}
+use Rattle.places.specs.Children.{BelowCounted}
 use Rattle.redefines.specs.Targets.{seenAt, baseAfter, placersAfter}
 use Rattle.redefines.specs.Prints.{Printed}
 use Rattle.layout.specs.declared.ItemAnswer.{ItemAnswer}
@@ -59,16 +60,16 @@ layItem text w i j depth last cursor =
     (bareItem text depth (seenAt w last) cursor (statementAt w i) (rowsForest w (suc i) j))
 
 -- the item of row i alone
-abbrev pub afterOwn : List ℕ → List ℕ → ℕ → ℕ → ℕ → ℕ → Answer Entry → ItemOutcome
-afterOwn text w i last below cursor (refuse r) = halted r
-afterOwn text w i last below cursor (give e) =
+abbrev pub afterOwn : List ℕ → List ℕ → ℕ → ℕ → ℕ → Answer Entry → ItemOutcome
+afterOwn text w i last cursor (refuse r) = halted r
+afterOwn text w i last cursor (give e) =
     placing (advance cursor e) (entryEnd e)
-    (putPlace w i last below (baseAfter text w i last) (placersAfter text w i last) e)
+    (putPlace w i last (baseAfter text w i last) (placersAfter text w i last) e)
 
--- row i, its kind and width known and `below` rows below it laid, placed after the sibling `last`
-abbrev pub placeRow : List ℕ → List ℕ → ℕ → ℕ → ℕ → ℕ → Pictured → ItemOutcome
-placeRow text w i below last cursor c =
-    afterOwn text w i last below cursor (placedEntry text (statementAt w i) c (seenAt w last) cursor)
+-- row i, its kind and width known and the rows below it laid, placed after the sibling `last`
+abbrev pub placeRow : List ℕ → List ℕ → ℕ → ℕ → ℕ → Pictured → ItemOutcome
+placeRow text w i last cursor c =
+    afterOwn text w i last cursor (placedEntry text (statementAt w i) c (seenAt w last) cursor)
 
 -- ---------------------------------------------------------------- what the code answers
 
@@ -82,8 +83,10 @@ abbrev pub listOf : LaidList → List ℕ → ListOutcome
 listOf (LaidList.Done width last) w = ready width last w
 listOf (LaidList.Refused r) w = stopped r
 
--- the table has rows up to `to`, with the fingerprints of their names
-pub record Room (text w : List ℕ) (to : ℕ) : Type 0 where
+-- the table has rows up to `to`, with the fingerprints of their names, and those of the list from `from` on count the
+-- rows below them
+pub record Room (text w : List ℕ) (from to : ℕ) : Type 0 where
   pub fits : ROW * to ≤ length w
   pub small : to < 65536
   pub printed : Printed text w to
+  pub counted : BelowCounted w from (rowsForest w from to)

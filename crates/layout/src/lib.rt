@@ -106,20 +106,19 @@ pub enum LaidList {
     Refused(Refusal),
 }
 
-// The item of row i placed, after `below` rows below it: 28, then 29.
+// The item of row i placed, after the rows below it: 28, then 29.
 fn place(
     text: &[u8],
     work: &mut [u32],
     i: usize,
-    below: usize,
     last: usize,
     cursor: usize,
     c: Pictured,
 ) -> ItemAnswer
-    requires { ⌜ (ROW * i + ROW ≤ length (now work)) × (last ≤ i) × (i < 65536) × (below < 4294967296)
+    requires { ⌜ (ROW * i + ROW ≤ length (now work)) × (last ≤ i) × (i < 65536)
         × (cursor ≤ largest) × (c .width ≤ largest) × Printed (now text) (now work) i ⌝ }
     ensures { λ r. ⌜ itemOf r (now (work .exit))
-        ≡ placeRow (now (text .entry)) (now (work .entry)) i below last cursor c ⌝ }
+        ≡ placeRow (now (text .entry)) (now (work .entry)) i last cursor c ⌝ }
 {
     let s = rows::statement_at(work, i);
     let clauses = s.clauses;
@@ -131,7 +130,7 @@ fn place(
                 Ending::At(end) => {
                     let base = redefines::base_of(text, work, redefines, target);
                     let placers = redefines::placers_of(work, last, target);
-                    places::put_place(work, i, last, below, base, placers, e);
+                    places::put_place(work, i, last, base, placers, e);
                     return ItemAnswer::Done {
                         cursor: advanced(cursor, redefines, end),
                         end,
@@ -159,7 +158,8 @@ fn lay_item(
     last: usize,
     cursor: usize,
 ) -> ItemAnswer
-    requires { ⌜ (i < j) × Room (now text) (now work) j × («depth_left» ≤ deepest) × (last ≤ i) × (cursor ≤ largest) ⌝ }
+    requires { ⌜ (i < j) × Room (now text) (now work) (i + 1) j × («depth_left» ≤ deepest) × (last ≤ i)
+        × (cursor ≤ largest) ⌝ }
     ensures { λ r. ⌜ itemOf r (now (work .exit))
         ≡ layItem (now (text .entry)) (now (work .entry)) i j (deepest - «depth_left») last cursor ⌝ }
 {
@@ -184,7 +184,6 @@ fn lay_item(
                         text,
                         work,
                         i,
-                        j - first,
                         last,
                         cursor,
                         Pictured {
@@ -205,7 +204,7 @@ fn lay_item(
     let s = rows::statement_at(work, i);
     match contents::elementary(text, s) {
         PicAnswer::Accepted(c) => {
-            return place(text, work, i, 0, last, cursor, c);
+            return place(text, work, i, last, cursor, c);
         }
         PicAnswer::Refused(r) => {
             return ItemAnswer::Refused(r);
@@ -216,7 +215,7 @@ fn lay_item(
 // Lays out the siblings in the rows from `from` up to `to`: each starts where the cursor is, and the list is as wide as
 // its largest end. The remaining depth falls at each group.
 pub fn lay_list(text: &[u8], work: &mut [u32], from: usize, to: usize, depth_left: u32) -> LaidList
-    requires { ⌜ Room (now text) (now work) to × («depth_left» ≤ deepest) ⌝ }
+    requires { ⌜ Room (now text) (now work) from to × («depth_left» ≤ deepest) ⌝ }
     ensures { λ r. ⌜ listOf r (now (work .exit))
         ≡ layTable (now (text .entry)) (now (work .entry)) from to (deepest - «depth_left») ⌝ }
 {
@@ -225,7 +224,7 @@ pub fn lay_list(text: &[u8], work: &mut [u32], from: usize, to: usize, depth_lef
     let mut cursor = 0;
     let mut reach = 0;
     while i < to {
-        let j = places::end_of(work, i, to);
+        let j = places::next_of(work, i, to);
         match lay_item(text, work, i, j, depth_left, last, cursor) {
             ItemAnswer::Done { cursor: next, end } => {
                 last = i + 1;

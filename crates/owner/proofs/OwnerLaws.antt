@@ -33,12 +33,13 @@ use Rattle.rows.specs.Columns.{ROW, DEPENDING, REDEFINES, OFFSET, WIDTH, BELOW}
 use Rattle.rows.specs.Table.{cell, statementAt, statementsFrom}
 use Rattle.places.specs.Places.{entryIn, entriesIn, rowsForest}
 use Rattle.record.proofs.LaidLaws.{layout-is}
-use Rattle.places.proofs.EntriesLaws.{size-stretch, Rows, rows-forest}
+use Rattle.places.proofs.EntriesLaws.{size-stretch, Rows, rows-forest, linked-counted}
 use Rattle.places.proofs.RowLaws.{stretch-cons, stretch-none}
-use Rattle.unions.proofs.ShownLaws.{entries-size}
+use Rattle.unions.proofs.ShownLaws.{entries-size, marked-linked}
 use Rattle.record.specs.Laying.{laidOf, Listed}
-use Rattle.unions.specs.Shown.{listIn, Marked, SizedRow, Measured}
-use Rattle.owner.specs.Walked.{overlays, rowAt, tableRows, BelowCounted, Walkable}
+use Rattle.unions.specs.Shown.{listIn, SizedRow, Measured}
+use Rattle.places.specs.Children.{BelowCounted}
+use Rattle.owner.specs.Walked.{overlays, rowAt, tableRows, Walkable}
 
 -- ---------------------------------------------------------------- a REDEFINES or a DEPENDING ON
 
@@ -118,12 +119,6 @@ table-next w to k h = ap (tableRows w k) (let e : to - k ≡ suc (to - suc k) = 
 table-none : (w : List ℕ) (to k : ℕ) → to ≤ k → tableRows w k (to - k) ≡ []
 unfolding tableRows
 table-none w to k h = ap (tableRows w k) (let e : to - k ≡ 0 = omega arith in e)
-
--- marked rows count the rows below them
-marked-counted : (t w : List ℕ) (f : Forest) (k last : ℕ) → Marked t w k last f → BelowCounted w k f
-marked-counted t w leaf k last m = tt
-marked-counted t w (item s kids later) k last m =
-    (m .0 .row .below, marked-counted t w kids (suc k) 0 (m .1), marked-counted t w later (suc k + size kids) (suc k) (m .2))
 
 -- the rows of the listing are those of the table, where each counts the rows below it
 rows-table : (w : List ℕ) (f : Forest) (k : ℕ) → BelowCounted w k f → rows (entriesIn w k f) ≡ tableRows w k (size f)
@@ -320,7 +315,9 @@ module _ (text : List ℕ) where
 -- rows that hold a record can be walked
 pub listed-walkable : {text : List ℕ} {read : Answer Forest} {w : List ℕ} {from to length : ℕ} → Listed text read w from to length → Walkable w from to
 listed-walkable {text} {w = w} {from} {to} l =
-    record { fits = l .tree .fits; sized = l .tree .sized; counted = marked-counted text w (rowsForest w from to) from 0 (l .tree .marked) }
+    let f = rowsForest w from to in
+    let linked = marked-linked text w f from 0 (l .tree .marked) in
+    record { fits = l .tree .fits; sized = l .tree .sized; counted = linked-counted text w f from 0 linked }
 
 module _ {text w : List ℕ} {from to length : ℕ} (l : Listed text (give (rowsForest w from to)) w from to length) where
   -- the record's layout

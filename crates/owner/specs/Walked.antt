@@ -1,18 +1,16 @@
 -- What the byte owner finds in the table: the clauses that it does not take, and the rows as its walk reads them.
 -- Assumes nothing.
-use Prim.Native.Nat.{ℕ, zero, suc, _+_, _*_, _≤_}
-use mathlib.Core.Path.{_≡_}
+use Prim.Native.Nat.{ℕ, zero, suc, _*_, _≤_}
 use mathlib.Core.Bool.{Bool, _||_}
 use mathlib.Core.List.{List, [], _∷_}
 use lib.ListN.{length}
 use Rattle.definition.specs.declared.Statement.{Statement}
 use Rattle.definition.specs.Basic.{given}
-use Rattle.definition.specs.Tree.{Forest, leaf, item}
-use Rattle.definition.specs.Owner.{size}
 use Rattle.definition.specs.Search.{Row, rowOf}
-use Rattle.rows.specs.Columns.{ROW, DEPENDING, REDEFINES, BELOW}
+use Rattle.rows.specs.Columns.{ROW, BELOW}
 use Rattle.rows.specs.Table.{cell}
 use Rattle.places.specs.Places.{entryIn, rowsForest}
+use Rattle.places.specs.Children.{BelowCounted}
 use Rattle.unions.specs.Shown.{Sized}
 
 -- a statement has a REDEFINES or a DEPENDING ON
@@ -27,12 +25,6 @@ rowAt w k = rowOf (entryIn w k) (cell w k BELOW)
 unfoldable pub tableRows : List ℕ → ℕ → ℕ → List Row
 tableRows w k zero = []
 tableRows w k (suc n) = rowAt w k ∷ tableRows w (suc k) n
-
--- each row of a list, from row k on, and of the lists below it counts the rows below it
-abbrev pub BelowCounted : List ℕ → ℕ → Forest → Type 0
-BelowCounted w k leaf = Unit {0}
-BelowCounted w k (item s kids later) =
-    (cell w k BELOW ≡ size kids) × BelowCounted w (suc k) kids × BelowCounted w (suc k + size kids) later
 
 -- the rows of a list and of those below it are there, none is too large, and each counts the rows below it
 pub record Walkable (w : List ℕ) (from to : ℕ) : Type 0 where

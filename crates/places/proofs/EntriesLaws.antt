@@ -1,5 +1,5 @@
 -- The entries of a list are read back from the rows that hold their places, and the rows are linked; the entries of a
--- stretch of rows, one row further.
+-- stretch of rows, one row further; rows that count the rows below them.
 -- Assumes nothing.
 use Prim.Native.Nat.{ℕ, zero, suc, _+_, _*_, _-_, _≤_, _<_}
 use mathlib.Core.Path.{_≡_, refl, sym, ap, ap₂, subst, _∙_}
@@ -24,14 +24,14 @@ use Rattle.kinds.specs.Kinds.{kindCode, kindAt, Bytes}
 use Rattle.rows.specs.Columns.{ROW, LEVEL, AT, NAME, PICTURE, DEPENDING, REDEFINES, SAID, LOW, HIGH, OFFSET, WIDTH}
 use Rattle.rows.specs.Columns.{KIND, BEFORE, BELOW, SLACK, BASE, PLACERS, NEXT}
 use Rattle.rows.specs.Table.{cell, spanAt, statementAt, statementsFrom}
-use Rattle.rows.proofs.TableLaws.{statement-same, length-statements}
+use Rattle.rows.proofs.TableLaws.{statement-same, statements-same, length-statements}
 use Rattle.places.specs.Places.{putPlaces, entryIn, rowsForest, entriesIn, RowLinked, Linked}
 use Rattle.redefines.specs.Targets.{isTarget, baseAfter, plainAfter, placersAfter}
-use Rattle.places.specs.Children.{ChildrenEnd, Numbered}
+use Rattle.places.specs.Children.{ChildrenEnd, Numbered, BelowCounted}
 use Rattle.kinds.proofs.Back.{kind-back}
 use Rattle.places.proofs.PlaceLaws.{length-place, kept-place, before-place, after-place, membersPut, firstPut}
 use Rattle.places.proofs.PlaceLaws.{length-places, kept-places, before-places, statement-places, first-offset}
-use Rattle.places.proofs.PlaceLaws.{first-width, first-kind, first-last, first-below, first-slack, first-base}
+use Rattle.places.proofs.PlaceLaws.{first-width, first-kind, first-last, first-slack, first-base}
 use Rattle.places.proofs.PlaceLaws.{first-placers}
 use Rattle.redefines.proofs.SearchLaws.{found, found-none, found-step, after-same, placers-as, plain-next, placers-same}
 use Rattle.places.proofs.RowLaws.{children-end, forest-split}
@@ -182,13 +182,62 @@ module _ (w : List ℕ) (i to j : ℕ) (h : ChildrenEnd w i to j) where
       let all = subst (Linked t w i last) (forest-split w i to j h) l in
       (all .0, all .1, subst (λ (n : ℕ). Linked t w n (suc i) (rowsForest w j to)) next-row (all .2))
 
+  pub counted-step :
+      BelowCounted w i (rowsForest w i to) →
+      (cell w i BELOW ≡ size (rowsForest w (suc i) j))
+      × BelowCounted w (suc i) (rowsForest w (suc i) j)
+      × BelowCounted w j (rowsForest w j to)
+  counted-step l =
+      let all = subst (BelowCounted w i) (forest-split w i to j h) l in
+      (all .0, all .1, subst (λ (n : ℕ). BelowCounted w n (rowsForest w j to)) next-row (all .2))
+
 -- a row of a list counts the rows below it
-pub linked-numbered : (t w : List ℕ) (i to last : ℕ) → ROW * to ≤ length w → i < to → Linked t w i last (rowsForest w i to) → Numbered w i to
-linked-numbered t w i to last fits h l =
+pub counted-numbered :
+    (w : List ℕ) (i to : ℕ) → ROW * to ≤ length w → i < to → BelowCounted w i (rowsForest w i to) → Numbered w i to
+counted-numbered w i to fits h l =
     let j = suc i + higher (statementAt w i .level) (statementsFrom w (suc i) (to - suc i)) in
     let c : ChildrenEnd w i to j = children-end w i to h in
-    let at : j ≡ suc i + cell w i BELOW = sym (ap (λ (n : ℕ). suc i + n) (linked-step w i to j c t last l .0 .below) ∙ next-row w i to j c) in
+    let at : j ≡ suc i + cell w i BELOW =
+    sym (ap (λ (n : ℕ). suc i + n) (counted-step w i to j c l .0) ∙ next-row w i to j c) in
     record { low = h; fits = fits; is = subst (ChildrenEnd w i to) at c }
+
+pub linked-counted : (t w : List ℕ) (f : Forest) (k last : ℕ) → Linked t w k last f → BelowCounted w k f
+linked-counted t w leaf k last l = tt
+linked-counted t w (item s kids later) k last l =
+    (l .0 .below, linked-counted t w kids (suc k) 0 (l .1), linked-counted t w later (suc k + size kids) (suc k) (l .2))
+
+pub linked-numbered :
+    (t w : List ℕ) (i to last : ℕ) →
+    ROW * to ≤ length w →
+    i < to →
+    Linked t w i last (rowsForest w i to) →
+    Numbered w i to
+linked-numbered t w i to last fits h l =
+    counted-numbered w i to fits h (linked-counted t w (rowsForest w i to) i last l)
+
+-- the rows of a list stay counted where their counts stay as they are
+pub counted-same :
+    (w w′ : List ℕ) (f : Forest) (k : ℕ) →
+    ((j : ℕ) → k ≤ j → cell w j BELOW ≡ cell w′ j BELOW) →
+    BelowCounted w k f →
+    BelowCounted w′ k f
+counted-same w w′ leaf k h x = tt
+counted-same w w′ (item s kids later) k h x = (
+  sym (h k (omega arith)) ∙ x .0,
+  counted-same w w′ kids (suc k) (λ j l. h j (omega arith)) (x .1),
+  counted-same w w′ later (suc k + size kids) (λ j l. h j (omega arith)) (x .2),
+)
+
+-- and where the columns of the statements do too
+pub counted-kept :
+    (w w′ : List ℕ) →
+    ((k c : ℕ) → c < OFFSET → cell w k c ≡ cell w′ k c) →
+    (a b : ℕ) →
+    BelowCounted w a (rowsForest w a b) →
+    BelowCounted w′ a (rowsForest w′ a b)
+counted-kept w w′ h a b x =
+    subst (BelowCounted w′ a) (ap forest (statements-same w w′ (λ k c l. h k c (omega arith)) a (b - a)))
+    (counted-same w w′ (rowsForest w a b) a (λ j _. h j BELOW (lit< tt)) x)
 
 -- a list stays linked where its rows stay as they are, and what is found from before it
 pub linked-same :
@@ -237,13 +286,14 @@ pub places-held :
     last ≤ k →
     Of f es →
     Rows w k f →
+    BelowCounted w k f →
     ROW * (k + size f) ≤ length w →
     Held t (putPlaces t w k last es) k last f es
 unfolding entriesIn putPlaces
-places-held t leaf end w k last b o r fits = record { entries = refl; linked = tt }
-places-held t leaf (entry e members more) w k last b o r fits = absurd o
-places-held t (item s kids later) end w k last b o r fits = absurd o
-places-held t (item s kids later) (entry e members more) w k last b o r fits =
+places-held t leaf end w k last b o r x fits = record { entries = refl; linked = tt }
+places-held t leaf (entry e members more) w k last b o r x fits = absurd o
+places-held t (item s kids later) end w k last b o r x fits = absurd o
+places-held t (item s kids later) (entry e members more) w k last b o r x fits =
     let m : entries# members ≡ size kids = of-size kids members (o .1) in
     let w₁ = membersPut t w k members in
     let base = baseAfter t w₁ k last in
@@ -254,28 +304,34 @@ places-held t (item s kids later) (entry e members more) w k last b o r fits =
     let w₃ = putPlaces t w₂ n (suc k) more in
     let room : ROW * k + ROW ≤ length w = omega arith in
     let l₁ : length w₁ ≡ length w = length-places t members w (suc k) 0 in
-    let l₂ : length w₂ ≡ length w = length-place w₁ k last (entries# members) base placers e ∙ l₁ in
-    let s₁ : (j : ℕ) → statementAt w₁ j ≡ statementAt w j = statement-places t members w (suc k) 0 in
-    let s₂ : (j : ℕ) → statementAt w j ≡ statementAt w₂ j = λ j. sym (statement-same w₂ j w₁ (λ c l. kept-place w₁ k last (entries# members) base placers e j c l) ∙ s₁ j) in
+    let l₂ : length w₂ ≡ length w = length-place w₁ k last base placers e ∙ l₁ in
+    let kept₂ : (j c : ℕ) → c < OFFSET → cell w j c ≡ cell w₂ j c =
+    λ j c l. sym (kept-place w₁ k last base placers e j c l ∙ kept-places t members w (suc k) 0 j c l) in
+    let s₂ : (j : ℕ) → statementAt w j ≡ statementAt w₂ j =
+    λ j. statement-same w j w₂ (λ c l. kept₂ j c (omega arith)) in
     let s₃ : statementAt w₃ k ≡ s = statement-places t more w₂ n (suc k) k ∙ sym (s₂ k) ∙ r .0 in
     let own : entryIn w₃ k ≡ e =
     entry-held w₃ k s e (o .0) s₃ (first-offset t e members more w k last room) (first-width t e members more w k last room) (first-kind t e members more w k last room) (first-slack t e members more w k last room) in
-    let inner = places-held t kids members w (suc k) 0 (omega arith) (o .1) (r .1) (omega arith) in
-    let rest = places-held t later more w₂ (suc k + size kids) (suc k) (omega arith) (o .2) (rows-same w w₂ s₂ (suc k + size kids) later (r .2)) (omega (arith, l₂)) in
+    let inner = places-held t kids members w (suc k) 0 (omega arith) (o .1) (r .1) (x .1) (omega arith) in
+    let rest =
+    places-held t later more w₂ (suc k + size kids) (suc k) (omega arith) (o .2)
+    (rows-same w w₂ s₂ (suc k + size kids) later (r .2))
+    (counted-same w w₂ later (suc k + size kids) (λ j _. kept₂ j BELOW (lit< tt)) (x .2))
+    (omega (arith, l₂)) in
     let rest′ : Held t w₃ (suc k + size kids) (suc k) later more = subst (λ (x : ℕ). Held t (putPlaces t w₂ x (suc k) more) (suc k + size kids) (suc k) later more) (sym at) rest in
     let low : (j c : ℕ) → j < k → c < ROW → cell w₁ j c ≡ cell w₃ j c =
-    λ j c l q. sym (before-places t more w₂ n (suc k) j c (omega arith) q ∙ before-place w₁ k last (entries# members) base placers e j c l q) in
+    λ j c l q. sym (before-places t more w₂ n (suc k) j c (omega arith) q ∙ before-place w₁ k last base placers e j c l q) in
     let kept : (j c : ℕ) → suc k ≤ j → j < suc k + size kids → c < ROW → cell w₁ j c ≡ cell w₃ j c =
-    λ j c l q c′. sym (before-places t more w₂ n (suc k) j c (omega arith) c′ ∙ after-place w₁ k last (entries# members) base placers e j c l) in
+    λ j c l q c′. sym (before-places t more w₂ n (suc k) j c (omega arith) c′ ∙ after-place w₁ k last base placers e j c l) in
     let redefines : cell w₁ k REDEFINES ≡ cell w₃ k REDEFINES =
-    sym (kept-places t more w₂ n (suc k) k REDEFINES (lit< tt) ∙ kept-place w₁ k last (entries# members) base placers e k REDEFINES (lit< tt)) in
+    sym (kept-places t more w₂ n (suc k) k REDEFINES (lit< tt) ∙ kept-place w₁ k last base placers e k REDEFINES (lit< tt)) in
     let members-held : entriesIn w₃ (suc k) kids ≡ members = sym (entries-same w₁ w₃ (suc k) kids (λ j c l q c′. kept j c l q (omega arith))) ∙ inner .entries in
     record {
       entries = λ i. entry (own i) (members-held i) (rest′ .entries i);
       linked = (
         record {
           before = first-last t e members more w k last room;
-          below = first-below t e members more w k last room ∙ m;
+          below = kept-places t more w₂ n (suc k) k BELOW (lit< tt) ∙ sym (kept₂ k BELOW (lit< tt)) ∙ x .0;
           base = first-base t e members more w k last room ∙ after-same t w₁ w₃ k last redefines (λ j c l q. low j c (omega arith) q);
           placers = first-placers t e members more w k last room ∙ placers-same t w₁ w₃ k last redefines (λ j c l q. low j c (omega arith) q);
         },

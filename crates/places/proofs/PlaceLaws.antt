@@ -1,7 +1,7 @@
 -- Laws of the places in the table: what a place leaves alone, and how it is read back; the earlier siblings.
 -- Assumes nothing.
 use Prim.Native.Nat.{ℕ, zero, suc, _+_, _*_, _≤_, _<_}
-use mathlib.Core.Path.{_≡_, refl, ap, ap₂, subst, _∙_}
+use mathlib.Core.Path.{_≡_, refl, ap, subst, _∙_}
 use mathlib.Core.Bool.{Bool, true, false}
 use mathlib.Core.List.{List, _∷_}
 use mathlib.Core.Logic.{⊎-elim}
@@ -10,16 +10,14 @@ use lib.Dec.{lit<}
 use lib.ListN.{length, getD}
 use lib.Seq.{length-sets}
 use borrow.Author.Tests.{eq-eqb, ne-eqb}
-use Rattle.definition.specs.declared.Statement.{Statement}
 use Rattle.definition.specs.declared.Entry.{Entry}
 use Rattle.definition.specs.Fold.{Entries, end, entry}
 use Rattle.definition.specs.Search.{entries#}
 use Rattle.definition.proofs.Lists.{order}
 use Rattle.kinds.specs.Kinds.{kindCode}
-use Rattle.rows.specs.Columns.{ROW, NAME, REDEFINES, OFFSET, WIDTH, KIND, BEFORE, BELOW, SLACK, BASE, PLACERS, NEXT}
-use Rattle.rows.specs.Columns.{PRINT}
+use Rattle.rows.specs.Columns.{ROW, NAME, REDEFINES, OFFSET, WIDTH, KIND, BEFORE, SLACK, BASE, PLACERS, NEXT, PRINT}
 use Rattle.rows.specs.Table.{cell, statementAt, statementsFrom}
-use Rattle.rows.proofs.TableLaws.{getD-below, getD-above, getD-in, statement-same}
+use Rattle.rows.proofs.TableLaws.{getD-below, getD-above, getD-in, statement-same, statements-same}
 use Rattle.places.specs.Places.{placeCells, putPlace, putPlaces}
 use Rattle.redefines.specs.Targets.{baseAfter, placersAfter, placeAt, leftOut, seenFrom}
 use Rattle.redefines.specs.Prints.{Printed}
@@ -27,42 +25,42 @@ use Rattle.redefines.proofs.PrintLaws.{printed-same}
 
 -- ---------------------------------------------------------------- one place
 
-module _ (w : List ℕ) (a last below base placers : ℕ) (e : Entry) where
-  pub length-place : length (putPlace w a last below base placers e) ≡ length w
+module _ (w : List ℕ) (a last base placers : ℕ) (e : Entry) where
+  pub length-place : length (putPlace w a last base placers e) ≡ length w
   unfolding putPlace
-  length-place = length-sets w (ROW * a + OFFSET) (placeCells e last below base placers)
+  length-place = length-sets w (ROW * a + OFFSET) (placeCells e last base placers)
 
-  -- its nine columns
-  place-in : ROW * a + ROW ≤ length w → (c : ℕ) → c < 9 → cell (putPlace w a last below base placers e) a (OFFSET + c) ≡ getD (placeCells e last below base placers) c 0
+  -- its eight columns
+  place-in : ROW * a + ROW ≤ length w → (c : ℕ) → c < 8 → cell (putPlace w a last base placers e) a (OFFSET + c) ≡ getD (placeCells e last base placers) c 0
   unfolding putPlace
-  place-in h c l = getD-in (placeCells e last below base placers) w (ROW * a + OFFSET) c (ROW * a + (OFFSET + c)) (omega arith) l (omega arith)
+  place-in h c l = getD-in (placeCells e last base placers) w (ROW * a + OFFSET) c (ROW * a + (OFFSET + c)) (omega arith) l (omega arith)
 
-  -- the columns of the statements
-  pub kept-place : (k c : ℕ) → c < OFFSET → cell (putPlace w a last below base placers e) k c ≡ cell w k c
+  -- the columns of the statements, and the count of the rows below
+  pub kept-place : (k c : ℕ) → c < OFFSET → cell (putPlace w a last base placers e) k c ≡ cell w k c
   unfolding putPlace
   kept-place k c l =
       ⊎-elim
-      (λ (more : a < k). getD-above (placeCells e last below base placers) w (ROW * a + OFFSET) (ROW * k + c) (omega arith))
-      (λ (less : k ≤ a). getD-below (placeCells e last below base placers) w (ROW * a + OFFSET) (ROW * k + c) (omega arith))
+      (λ (more : a < k). getD-above (placeCells e last base placers) w (ROW * a + OFFSET) (ROW * k + c) (omega arith))
+      (λ (less : k ≤ a). getD-below (placeCells e last base placers) w (ROW * a + OFFSET) (ROW * k + c) (omega arith))
       (order a k)
 
   -- the column of the fingerprints
-  pub print-place : (k : ℕ) → cell (putPlace w a last below base placers e) k PRINT ≡ cell w k PRINT
+  pub print-place : (k : ℕ) → cell (putPlace w a last base placers e) k PRINT ≡ cell w k PRINT
   unfolding putPlace
   print-place k =
       ⊎-elim
-      (λ (less : k < a). getD-below (placeCells e last below base placers) w (ROW * a + OFFSET) (ROW * k + PRINT) (omega arith))
-      (λ (more : a ≤ k). getD-above (placeCells e last below base placers) w (ROW * a + OFFSET) (ROW * k + PRINT) (omega arith))
+      (λ (less : k < a). getD-below (placeCells e last base placers) w (ROW * a + OFFSET) (ROW * k + PRINT) (omega arith))
+      (λ (more : a ≤ k). getD-above (placeCells e last base placers) w (ROW * a + OFFSET) (ROW * k + PRINT) (omega arith))
       (order k a)
 
   -- the rows before it, and after it
-  pub before-place : (k c : ℕ) → k < a → c < ROW → cell (putPlace w a last below base placers e) k c ≡ cell w k c
+  pub before-place : (k c : ℕ) → k < a → c < ROW → cell (putPlace w a last base placers e) k c ≡ cell w k c
   unfolding putPlace
-  before-place k c h l = getD-below (placeCells e last below base placers) w (ROW * a + OFFSET) (ROW * k + c) (omega arith)
+  before-place k c h l = getD-below (placeCells e last base placers) w (ROW * a + OFFSET) (ROW * k + c) (omega arith)
 
-  pub after-place : (k c : ℕ) → a < k → cell (putPlace w a last below base placers e) k c ≡ cell w k c
+  pub after-place : (k c : ℕ) → a < k → cell (putPlace w a last base placers e) k c ≡ cell w k c
   unfolding putPlace
-  after-place k c h = getD-above (placeCells e last below base placers) w (ROW * a + OFFSET) (ROW * k + c) (omega arith)
+  after-place k c h = getD-above (placeCells e last base placers) w (ROW * a + OFFSET) (ROW * k + c) (omega arith)
 
 -- ---------------------------------------------------------------- the places of a list
 
@@ -74,7 +72,7 @@ module _ (t : List ℕ) where
   abbrev pub firstPut : List ℕ → ℕ → ℕ → Entry → Entries → List ℕ
   firstPut w a last e members =
       let w₁ = membersPut w a members in
-      putPlace w₁ a last (entries# members) (baseAfter t w₁ a last) (placersAfter t w₁ a last) e
+      putPlace w₁ a last (baseAfter t w₁ a last) (placersAfter t w₁ a last) e
 
   pub length-places : (es : Entries) (w : List ℕ) (a last : ℕ) → length (putPlaces t w a last es) ≡ length w
   unfolding putPlaces
@@ -82,17 +80,17 @@ module _ (t : List ℕ) where
   length-places (entry e members later) w a last =
       let w₁ = membersPut w a members in
       length-places later (firstPut w a last e members) (suc a + entries# members) (suc a)
-      ∙ length-place w₁ a last (entries# members) (baseAfter t w₁ a last) (placersAfter t w₁ a last) e
+      ∙ length-place w₁ a last (baseAfter t w₁ a last) (placersAfter t w₁ a last) e
       ∙ length-places members w (suc a) 0
 
-  -- every statement is as it was
+  -- every statement is as it was, and every count
   pub kept-places : (es : Entries) (w : List ℕ) (a last k c : ℕ) → c < OFFSET → cell (putPlaces t w a last es) k c ≡ cell w k c
   unfolding putPlaces
   kept-places end w a last k c l = refl
   kept-places (entry e members later) w a last k c l =
       let w₁ = membersPut w a members in
       kept-places later (firstPut w a last e members) (suc a + entries# members) (suc a) k c l
-      ∙ kept-place w₁ a last (entries# members) (baseAfter t w₁ a last) (placersAfter t w₁ a last) e k c l
+      ∙ kept-place w₁ a last (baseAfter t w₁ a last) (placersAfter t w₁ a last) e k c l
       ∙ kept-places members w (suc a) 0 k c l
 
   -- and so is every fingerprint
@@ -102,7 +100,7 @@ module _ (t : List ℕ) where
   print-places (entry e members later) w a last k =
       let w₁ = membersPut w a members in
       print-places later (firstPut w a last e members) (suc a + entries# members) (suc a) k
-      ∙ print-place w₁ a last (entries# members) (baseAfter t w₁ a last) (placersAfter t w₁ a last) e k
+      ∙ print-place w₁ a last (baseAfter t w₁ a last) (placersAfter t w₁ a last) e k
       ∙ print-places members w (suc a) 0 k
 
   pub printed-places : (es : Entries) (w : List ℕ) (a last : ℕ) {n : ℕ} → Printed t w n → Printed t (putPlaces t w a last es) n
@@ -115,17 +113,17 @@ module _ (t : List ℕ) where
   before-places (entry e members later) w a last k c h l =
       let w₁ = membersPut w a members in
       before-places later (firstPut w a last e members) (suc a + entries# members) (suc a) k c (omega arith) l
-      ∙ before-place w₁ a last (entries# members) (baseAfter t w₁ a last) (placersAfter t w₁ a last) e k c h l
+      ∙ before-place w₁ a last (baseAfter t w₁ a last) (placersAfter t w₁ a last) e k c h l
       ∙ before-places members w (suc a) 0 k c (omega arith) l
 
   module _ (es : Entries) (w : List ℕ) (a last : ℕ) where
     pub statement-places : (k : ℕ) → statementAt (putPlaces t w a last es) k ≡ statementAt w k
-    statement-places k = statement-same (putPlaces t w a last es) k w (λ c l. kept-places es w a last k c l)
+    statement-places k =
+        statement-same (putPlaces t w a last es) k w (λ c l. kept-places es w a last k c (omega arith))
 
     pub statements-places : (k n : ℕ) → statementsFrom (putPlaces t w a last es) k n ≡ statementsFrom w k n
-    unfolding statementsFrom
-    statements-places k zero = refl
-    statements-places k (suc n) = ap₂ (λ (x : Statement) (xs : List Statement). x ∷ xs) (statement-places k) (statements-places (suc k) n)
+    statements-places =
+        statements-same (putPlaces t w a last es) w (λ k c l. kept-places es w a last k c (omega arith))
 
   -- the first place of a list is read back
   module _ (e : Entry) (members later : Entries) (w : List ℕ) (a last : ℕ) (fits : ROW * a + ROW ≤ length w) where
@@ -134,15 +132,15 @@ module _ (t : List ℕ) where
 
     first-place :
         (c : ℕ) →
-        c < 9 →
+        c < 8 →
         let w₁ = membersPut w a members in
         cell whole a (OFFSET + c)
-        ≡ getD (placeCells e last (entries# members) (baseAfter t w₁ a last) (placersAfter t w₁ a last)) c 0
+        ≡ getD (placeCells e last (baseAfter t w₁ a last) (placersAfter t w₁ a last)) c 0
     unfolding putPlaces
     first-place c l =
         let w₁ = membersPut w a members in
         before-places later (firstPut w a last e members) (suc a + entries# members) (suc a) a (OFFSET + c) (omega arith) (omega arith)
-        ∙ place-in w₁ a last (entries# members) (baseAfter t w₁ a last) (placersAfter t w₁ a last) e (omega (arith, length-places members w (suc a) 0)) c l
+        ∙ place-in w₁ a last (baseAfter t w₁ a last) (placersAfter t w₁ a last) e (omega (arith, length-places members w (suc a) 0)) c l
 
     pub first-offset : cell whole a OFFSET ≡ e .offset
     first-offset = first-place 0 (lit< tt)
@@ -156,20 +154,17 @@ module _ (t : List ℕ) where
     pub first-last : cell whole a BEFORE ≡ last
     first-last = first-place 3 (lit< tt)
 
-    pub first-below : cell whole a BELOW ≡ entries# members
-    first-below = first-place 4 (lit< tt)
-
     pub first-slack : cell whole a SLACK ≡ e .slack
-    first-slack = first-place 5 (lit< tt)
+    first-slack = first-place 4 (lit< tt)
 
     pub first-base : cell whole a BASE ≡ baseAfter t (membersPut w a members) a last
-    first-base = first-place 6 (lit< tt)
+    first-base = first-place 5 (lit< tt)
 
     pub first-placers : cell whole a PLACERS ≡ placersAfter t (membersPut w a members) a last
-    first-placers = first-place 7 (lit< tt)
+    first-placers = first-place 6 (lit< tt)
 
     pub first-next : cell whole a NEXT ≡ 0
-    first-next = first-place 8 (lit< tt)
+    first-next = first-place 7 (lit< tt)
 
   -- no row names a next one of its union
   pub places-next :
@@ -186,7 +181,7 @@ module _ (t : List ℕ) where
       let w₂ = firstPut w a last e members in
       let n = suc a + entries# members in
       let l₁ = length-places members w (suc a) 0 in
-      let l₂ = length-place w₁ a last (entries# members) (baseAfter t w₁ a last) (placersAfter t w₁ a last) e in
+      let l₂ = length-place w₁ a last (baseAfter t w₁ a last) (placersAfter t w₁ a last) e in
       let inner = places-next members w (suc a) 0 (omega arith) k in
       let rest = places-next later w₂ n (suc a) (omega (arith, l₁, l₂)) k in
       ⊎-elim
@@ -194,7 +189,7 @@ module _ (t : List ℕ) where
       ⊎-elim
       (λ (q : k < n).
       before-places later w₂ n (suc a) k NEXT q (lit< tt)
-      ∙ after-place w₁ a last (entries# members) (baseAfter t w₁ a last) (placersAfter t w₁ a last) e k NEXT p
+      ∙ after-place w₁ a last (baseAfter t w₁ a last) (placersAfter t w₁ a last) e k NEXT p
       ∙ inner p q)
       (λ (q : n ≤ k). rest q (omega arith))
       (order k n))

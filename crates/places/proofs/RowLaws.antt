@@ -1,5 +1,5 @@
 -- Laws of the rows as a forest: the statements of a stretch of rows, and the forest of a stretch split into its first
--- item, the item's children and the rest.
+-- item, the item's children and the rest; the run of higher levels over the children of its first row.
 -- Assumes nothing.
 use Prim.Native.Nat.{ℕ, zero, suc, _+_, _-_, _≤_, _<_}
 use mathlib.Core.Path.{_≡_, refl, sym, ap, _∙_}
@@ -7,12 +7,24 @@ use mathlib.Core.List.{List, [], _∷_}
 use native.Mathlib.Nat.{add-zero, sub-zero, zero-sub, suc-sub-suc}
 use native.Mathlib.Omega.{arith}
 use lib.ListN.{take, drop}
+use borrow.Author.Tests.{lt-ltb}
 use Rattle.definition.specs.declared.Statement.{Statement}
 use Rattle.definition.specs.Tree.{leaf, item, forest, higher}
-use Rattle.definition.proofs.TreeLaws.{forest-none, forest-cons, higher-length}
+use Rattle.definition.proofs.Lists.{tested}
+use Rattle.definition.proofs.TreeLaws.{forest-none, forest-cons, higher-length, higher-hit}
 use Rattle.rows.specs.Table.{statementAt, statementsFrom}
 use Rattle.rows.proofs.TableLaws.{length-statements}
 use Rattle.places.specs.Children.{ChildrenEnd}
+
+-- the statements above m stand first among those above a smaller n
+higher-over : (n m : ℕ) → n ≤ m → (ss : List Statement) → higher n ss ≡ higher m ss + higher n (drop (higher m ss) ss)
+unfolding higher
+higher-over n m h [] = refl
+higher-over n m h (s ∷ ss) =
+    let more = higher-over n m h ss in
+    tested m (s .level)
+    (λ p l. simp (p, lt-ltb n (s .level) (omega arith)) (omega (arith, more)))
+    (λ p _. simp p (omega arith))
 
 module _ (w : List ℕ) where
   -- the rows a to before b: the first and the rest, or none
@@ -47,6 +59,32 @@ module _ (w : List ℕ) where
       let most : higher (statementAt w i .level) rest ≤ to - suc i = rw length-statements at (higher-length (statementAt w i .level) rest) in
       record { low = omega arith; high = omega arith; is = refl }
 
+  -- the rows behind a row's children
+  pub stretch-after :
+      (i to j : ℕ) →
+      ChildrenEnd w i to j →
+      let rest = statementsFrom w (suc i) (to - suc i) in
+      drop (higher (statementAt w i .level) rest) rest ≡ statementsFrom w j (to - j)
+  stretch-after i to j h =
+      let n = higher (statementAt w i .level) (statementsFrom w (suc i) (to - suc i)) in
+      drop-statements (suc i) n (to - suc i) ∙ cc (h .is, (let e : to - suc i - n ≡ to - j = omega (arith, h .is) in e))
+
+  -- a run of higher levels that takes row i takes its children, and goes on behind them
+  pub higher-past :
+      (n i to j : ℕ) →
+      n < statementAt w i .level →
+      ChildrenEnd w i to j →
+      i + higher n (statementsFrom w i (to - i)) ≡ j + higher n (statementsFrom w j (to - j))
+  higher-past n i to j l h =
+      let m = statementAt w i .level in
+      let rest = statementsFrom w (suc i) (to - suc i) in
+      let first : higher n (statementsFrom w i (to - i)) ≡ suc (higher n rest) =
+      ap (higher n) (stretch-cons i to (omega (arith, h .low, h .high))) ∙ higher-hit n (statementAt w i) rest l in
+      let more =
+      higher-over n m (omega arith) rest
+      ∙ ap (λ (ss : List Statement). higher m rest + higher n ss) (stretch-after i to j h) in
+      omega (arith, first, more, h .is)
+
   -- the forest of the rows i to before `to`: row i, its children up to j, and the rest
   pub forest-split :
       (i to j : ℕ) →
@@ -57,7 +95,7 @@ module _ (w : List ℕ) where
       let n = higher (statementAt w i .level) rest in
       let most : n ≤ to - suc i = rw length-statements at (higher-length (statementAt w i .level) rest) in
       let many : j - suc i ≡ n = omega (arith, h .is) in
-      let left : to - suc i - n ≡ to - j = omega (arith, h .is) in
       let kids : take n rest ≡ statementsFrom w (suc i) (j - suc i) = take-statements (suc i) n (to - suc i) most ∙ ap (statementsFrom w (suc i)) (sym many) in
-      let others : drop n rest ≡ statementsFrom w j (to - j) = drop-statements (suc i) n (to - suc i) ∙ cc (h .is, left) in
-      ap forest (stretch-cons i to (omega (arith, h .low, h .high))) ∙ forest-cons (statementAt w i) rest ∙ cc (kids, others)
+      ap forest (stretch-cons i to (omega (arith, h .low, h .high)))
+      ∙ forest-cons (statementAt w i) rest
+      ∙ cc (kids, stretch-after i to j h)

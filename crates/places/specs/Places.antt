@@ -1,6 +1,6 @@
 -- What the layout adds to the rows of the table: columns OFFSET to PLACERS of row k hold the offset, the width and the
--- kind of its entry, the previous sibling, the number of rows below it, the slack before it, its base (a sibling and a
--- base as the row and 1, or 0 for none) and the siblings that may place it.
+-- kind of its entry, the previous sibling, the slack before it, its base (a sibling and a base as the row and 1, or 0
+-- for none) and the siblings that may place it.
 -- Assumes nothing.
 use Prim.Native.Nat.{ℕ, suc, _+_, _*_, _-_, _%_}
 use mathlib.Core.Path.{_≡_}
@@ -40,13 +40,13 @@ entryIn w k =
 -- ---------------------------------------------------------------- places
 
 -- columns OFFSET to NEXT; the next row of its union is not known yet
-abbrev pub placeCells : Entry → ℕ → ℕ → ℕ → ℕ → List ℕ
-placeCells e last below base placers =
-    e .offset ∷ e .width ∷ kindCode (e .kind) ∷ last ∷ below ∷ e .slack ∷ base ∷ placers ∷ 0 ∷ []
+abbrev pub placeCells : Entry → ℕ → ℕ → ℕ → List ℕ
+placeCells e last base placers =
+    e .offset ∷ e .width ∷ kindCode (e .kind) ∷ last ∷ e .slack ∷ base ∷ placers ∷ 0 ∷ []
 
 -- w with the place of an entry in row k, after the sibling `last`
-unfoldable pub putPlace : List ℕ → ℕ → ℕ → ℕ → ℕ → ℕ → Entry → List ℕ
-putPlace w k last below base placers e = sets w (ROW * k + OFFSET) (placeCells e last below base placers)
+unfoldable pub putPlace : List ℕ → ℕ → ℕ → ℕ → ℕ → Entry → List ℕ
+putPlace w k last base placers e = sets w (ROW * k + OFFSET) (placeCells e last base placers)
 
 -- w with the places of a list of entries, from row k on, after the sibling `last`; the places of the entries below one
 -- come before its own
@@ -54,7 +54,7 @@ unfoldable pub putPlaces : List ℕ → List ℕ → ℕ → ℕ → Entries →
 putPlaces text w k last end = w
 putPlaces text w k last (entry e members later) =
     let w₁ = putPlaces text w (suc k) 0 members in
-    let w₂ = putPlace w₁ k last (entries# members) (baseAfter text w₁ k last) (placersAfter text w₁ k last) e in
+    let w₂ = putPlace w₁ k last (baseAfter text w₁ k last) (placersAfter text w₁ k last) e in
     putPlaces text w₂ (suc k + entries# members) (suc k) later
 
 -- the last sibling of such a list

@@ -1,10 +1,10 @@
-// The rows as entries: the place of an item in its row, its entry read back, the end of its children.
+// The rows as entries: the end of each row's children, the place of an item in its row, its entry read back.
 ghost use mathlib.Core.Path.{_≡_};
 ghost use Prim.Native.Nat.{_+_, _*_, _≤_, _<_};
 ghost use lib.ListN.{length};
 ghost use Rattle.definition.specs.Layout.{entryOf};
-ghost use Rattle.places.specs.Places.{putPlace, entryIn};
-ghost use Rattle.places.specs.Children.{ChildrenEnd, Numbered};
+ghost use Rattle.places.specs.Places.{putPlace, entryIn, rowsForest};
+ghost use Rattle.places.specs.Children.{ChildrenEnd, Numbered, BelowCounted, BelowPut};
 ghost use Rattle.rows.specs.Columns.{ROW};
 use definition::Entry;
 use definition::Pictured;
@@ -17,37 +17,18 @@ use rows::ROW;
 use rows::SLACK;
 use rows::WIDTH;
 
-// An item's place into row k: its offset, width and kind, the sibling before it, the rows below it, its slack, its
-// base, the siblings that may place it, and no next row of its union.
-pub fn put_place(
-    work: &mut [u32],
-    k: usize,
-    last: usize,
-    below: usize,
-    base: usize,
-    placers: u32,
-    e: Entry,
-)
-    requires { ⌜ (ROW * k + ROW ≤ length (now work)) × (last < 4294967296) × (below < 4294967296)
-        × (base < 4294967296) × (e .offset < 4294967296) × (e .width < 4294967296) × (e .slack < 4294967296) ⌝ }
-    ensures { λ _. ⌜ now (work .exit) ≡ putPlace (now (work .entry)) k last below base placers e ⌝ }
+// The end of the children of row i, which counts the rows below it.
+pub fn next_of(work: &[u32], i: usize, to: usize) -> usize
+    requires { ⌜ Numbered (now work) i to ⌝ }
+    ensures { λ r. ⌜ ChildrenEnd (now (work .entry)) i to r ⌝ }
 {
-    let at = ROW * k + OFFSET;
-    let kind = e.kind;
-    work[at] = e.offset as u32;
-    work[at + 1] = e.width as u32;
-    work[at + 2] = kinds::kind_code(kind);
-    work[at + 3] = last as u32;
-    work[at + 4] = below as u32;
-    work[at + 5] = e.slack as u32;
-    work[at + 6] = base as u32;
-    work[at + 7] = placers;
-    work[at + 8] = 0;
+    i + 1 + rows::wide(work[ROW * i + BELOW])
 }
 
-// The end of the children of row i, among the rows up to `to`.
-pub fn end_of(work: &[u32], i: usize, to: usize) -> usize
-    requires { ⌜ (i < to) × (ROW * to ≤ length (now work)) ⌝ }
+// The end of the children of row i, among the rows up to `to`, where the rows after it count the rows below them.
+fn end_of(work: &[u32], i: usize, to: usize) -> usize
+    requires { ⌜ (i < to) × (ROW * to ≤ length (now work))
+        × BelowCounted (now work) (i + 1) (rowsForest (now work) (i + 1) to) ⌝ }
     ensures { λ r. ⌜ ChildrenEnd (now (work .entry)) i to r ⌝ }
 {
     let level = work[ROW * i + LEVEL] % 256;
@@ -56,17 +37,42 @@ pub fn end_of(work: &[u32], i: usize, to: usize) -> usize
         if work[ROW * j + LEVEL] % 256 <= level {
             return j;
         }
-        j += 1;
+        j = next_of(work, j, to);
     }
     j
 }
 
-// The end of the children of row i, which counts the rows below it.
-pub fn next_of(work: &[u32], i: usize, to: usize) -> usize
-    requires { ⌜ Numbered (now work) i to ⌝ }
-    ensures { λ r. ⌜ ChildrenEnd (now (work .entry)) i to r ⌝ }
+// The number of the rows below it into each of the first n rows, from the last one back.
+pub fn count_below(work: &mut [u32], n: usize)
+    requires { ⌜ (ROW * n ≤ length (now work)) × (n < 65536) ⌝ }
+    ensures { λ _. ⌜ BelowPut (now (work .entry)) n (now (work .exit)) ⌝ }
 {
-    i + 1 + rows::wide(work[ROW * i + BELOW])
+    let mut k = n;
+    while 0 < k {
+        let row = k - 1;
+        let end = end_of(work, row, n);
+        work[ROW * row + BELOW] = (end - k) as u32;
+        k = row;
+    }
+}
+
+// An item's place into row k: its offset, width and kind, the sibling before it, its slack, its base, the siblings that
+// may place it, and no next row of its union.
+pub fn put_place(work: &mut [u32], k: usize, last: usize, base: usize, placers: u32, e: Entry)
+    requires { ⌜ (ROW * k + ROW ≤ length (now work)) × (last < 4294967296) × (base < 4294967296)
+        × (e .offset < 4294967296) × (e .width < 4294967296) × (e .slack < 4294967296) ⌝ }
+    ensures { λ _. ⌜ now (work .exit) ≡ putPlace (now (work .entry)) k last base placers e ⌝ }
+{
+    let at = ROW * k + OFFSET;
+    let kind = e.kind;
+    work[at] = e.offset as u32;
+    work[at + 1] = e.width as u32;
+    work[at + 2] = kinds::kind_code(kind);
+    work[at + 3] = last as u32;
+    work[at + 4] = e.slack as u32;
+    work[at + 5] = base as u32;
+    work[at + 6] = placers;
+    work[at + 7] = 0;
 }
 
 // An item's entry, after so much slack.

@@ -11,6 +11,7 @@ use Rattle.definition.specs.Calls.{entryChecks, keptStatements, recordFields, c
 use Rattle.definition.proofs.CallsLaws.{Passes}
 use Rattle.tree.proofs.ReadingLaws.{Stored}
 use Rattle.redefines.specs.Prints.{PrintsPut}
+use Rattle.places.specs.Children.{BelowPut}
 use Rattle.record.specs.Laying.{fieldsOf, Read}
 use Rattle.record.proofs.LaidLaws.{reading-refused, rows-read, rows-under, rows-room}
 
@@ -29,14 +30,19 @@ fields-read text n p = rw (p .is)
 pub read-refused : (text : List ℕ) (n : ℕ) → Passes text n → {r : Refusal} → keptStatements text ≡ refuse r → recordFields text n ≡ refuse r
 read-refused text n p e = fields-read text n p ∙ reading-refused text e
 
--- or they stand in n rows, with the fingerprints of their names
+-- or they stand in n rows, with the counts of the rows below them and the fingerprints of their names
 pub read-kept :
-    {text w w′ w″ : List ℕ} {n : ℕ} → Passes text (length w) → Stored text w w′ n → PrintsPut text w′ n w″ → Read text w″ n
-read-kept {text} {w} {w″ = w″} p s q =
-    let long : length w″ ≡ length w = q .long ∙ s .long in
+    {text w w₀ w₁ w₂ : List ℕ} {n : ℕ} →
+    Passes text (length w) →
+    Stored text w w₀ n →
+    BelowPut w₀ n w₁ →
+    PrintsPut text w₁ n w₂ →
+    Read text w₂ n
+read-kept {text} {w} {w₂ = w₂} p s b q =
+    let long : length w₂ ≡ length w = q .long ∙ b .long ∙ s .long in
     record {
-      are = ap (recordFields text) long ∙ fields-read text (length w) p ∙ rows-read s q;
-      under = rows-under s q;
+      are = ap (recordFields text) long ∙ fields-read text (length w) p ∙ rows-read s b q;
+      under = rows-under s b q;
       few = s .few;
-      room = rows-room s q (p .room);
+      room = rows-room s b q (p .room);
     }

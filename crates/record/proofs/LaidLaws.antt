@@ -24,8 +24,9 @@ use Rattle.definition.proofs.Lists.{order}
 use Rattle.definition.specs.Calls.{keptStatements}
 use Rattle.definition.specs.Usages.{recordOf, inheritAlong}
 use Rattle.definition.proofs.UsageLaws.{length-along, along-forest}
-use Rattle.rows.specs.Columns.{ROW, PARENT, OFFSET, NEXT}
+use Rattle.rows.specs.Columns.{ROW, PARENT, BELOW, OFFSET, NEXT}
 use Rattle.rows.specs.Table.{cell, statementAt, statementsFrom, parentsFrom}
+use Rattle.rows.proofs.TableLaws.{statements-same}
 use Rattle.tree.proofs.ReadingLaws.{Stored}
 use Rattle.definition.specs.Calls.{checkOf, recordFields}
 use Rattle.definition.specs.Record.{recordLength, endsFit, unfolded, layout}
@@ -34,15 +35,15 @@ use Rattle.redefines.specs.Targets.{seenFrom}
 use Rattle.redefines.specs.Prints.{PrintsPut}
 use Rattle.layout.specs.Outcomes.{layTable, listOf, Room}
 use Rattle.layout.specs.declared.LaidList.{LaidList}
-use Rattle.places.specs.Children.{ChildrenEnd}
-use Rattle.places.proofs.EntriesLaws.{size-forest, size-stretch}
+use Rattle.places.specs.Children.{ChildrenEnd, BelowPut}
+use Rattle.places.proofs.EntriesLaws.{size-forest, size-stretch, counted-step, counted-kept}
 use Rattle.layout.proofs.ListLaws.{bare-split, item-is}
 use Rattle.layout.proofs.LayLaws.{LaidRows, laid-rows, stopped-was}
 use Rattle.places.proofs.RowLaws.{children-end, forest-split, forest-empty}
 use Rattle.places.proofs.PlaceLaws.{length-places, kept-places, statements-places, places-next}
 use Rattle.unions.specs.Shown.{listIn}
 use Rattle.unions.specs.Marks.{UnionsLinked}
-use Rattle.unions.proofs.KeptLaws.{forest-kept, list-kept, prints-kept, Ready, marked-tree}
+use Rattle.unions.proofs.KeptLaws.{forest-kept, list-kept, Ready, marked-tree}
 use Rattle.record.specs.declared.RecordLaid.{RecordLaid}
 use Rattle.record.proofs.ParentLaws.{under-parents, under-same}
 use Rattle.record.specs.Laying.{Under, FieldsFrom, fieldsOf, Read, laidOf, Listed, RecordIs}
@@ -133,6 +134,7 @@ root-dropped w n {j} h c l =
       low = omega arith;
       is = only-root w n (omega arith) all;
       under = λ u. subst (Under w 0 0) (forest-split w 0 n n all) u .1;
+      counted = λ u. counted-step w 0 n n all u .1;
     }
 
 -- of several roots none is
@@ -143,7 +145,12 @@ roots-kept w n {j} c l =
     let k = children-end w j n l in
     let later = forest-split w j n _ k in
     let both = whole ∙ ap (item (statementAt w 0) (rowsForest w 1 j)) later in
-    record { low = omega arith; is = ap fields both ∙ kept (rowsForest w 1 j) ∙ sym both; under = λ u. u }
+    record {
+      low = omega arith;
+      is = ap fields both ∙ kept (rowsForest w 1 j) ∙ sym both;
+      under = λ u. u;
+      counted = λ u. u;
+    }
   where
     kept : {s t : Statement} (kids : Forest) {more rest : Forest} → fields (item s kids (item t more rest)) ≡ item s kids (item t more rest)
     kept leaf = refl
@@ -169,6 +176,7 @@ few-rows w n h =
           (λ (p : n ≤ 0). ap fields (forest-empty w 0 n p) ∙ sym (forest-empty w 0 n p))
           (order 0 n);
       under = λ u. u;
+      counted = λ u. u;
     }
 
 -- ---------------------------------------------------------------- the record
@@ -181,8 +189,8 @@ layout-is text f = refl
 module _ (text w : List ℕ) (a b : ℕ) where
   module _ {x : LaidList} (w₁ : List ℕ) (p : listOf x w₁ ≡ layTable text w a b 0) where
     -- the list is laid
-    pub list-laid : a ≤ b → ROW * b ≤ length w → {width last : ℕ} → x ≡ LaidList.Done width last → LaidRows text w a b 0 width w₁
-    list-laid h fits e = laid-rows text w a b 0 h fits (sym p ∙ ap (λ (y : LaidList). listOf y w₁) e)
+    pub list-laid : a ≤ b → Room text w a b → {width last : ℕ} → x ≡ LaidList.Done width last → LaidRows text w a b 0 width w₁
+    list-laid h room e = laid-rows text w a b 0 h room (sym p ∙ ap (λ (y : LaidList). listOf y w₁) e)
 
     -- or refused
     pub list-refused : {r : Refusal} → x ≡ LaidList.Refused r → laidOf text (give (rowsForest w a b)) ≡ refuse r
@@ -256,34 +264,54 @@ pub reading-refused : (text : List ℕ) {r : Refusal} → keptStatements text �
 unfolding fieldsOf _>>=_
 reading-refused text e = ap (λ (x : Answer (List Statement)). x >>= λ ss. give (recordOf ss)) e
 
--- its statements stand in n rows, whose names got their fingerprints
-module _ {text w w′ : List ℕ} {n : ℕ} (s : Stored text w w′ n) {w″ : List ℕ} (p : PrintsPut text w′ n w″) where
-  pub rows-read : fieldsOf text ≡ give (fields (rowsForest w″ 0 n))
+-- its statements stand in n rows, which got the counts of the rows below them and the fingerprints of their names
+module _
+    {text w w₀ : List ℕ} {n : ℕ} (s : Stored text w w₀ n) {w₁ w₂ : List ℕ} (b : BelowPut w₀ n w₁)
+    (p : PrintsPut text w₁ n w₂) where
+  same : (k c : ℕ) → c < BELOW → cell w₀ k c ≡ cell w₂ k c
+  same k c l = sym (p .same k c (omega arith) ∙ b .same k c l)
+
+  same-rows : rowsForest w₀ 0 n ≡ rowsForest w₂ 0 n
+  same-rows = ap forest (statements-same w₀ w₂ same 0 (n - 0))
+
+  pub rows-read : fieldsOf text ≡ give (fields (rowsForest w₂ 0 n))
   unfolding fieldsOf _>>=_
   rows-read =
       ap (λ (x : Answer (List Statement)). x >>= λ ss. give (recordOf ss)) (s .are)
       ∙ ap (λ (x : Forest). give (fields x)) (sym (along-forest (s .kept)))
-      ∙ ap (λ (ss : List Statement). give (fields (forest ss))) (sym (s .back) ∙ ap (statementsFrom w′ 0) (let e : n ≡ n - 0 = omega arith in e))
-      ∙ ap (λ (x : Forest). give (fields x)) (forest-kept (prints-kept p) 0 n)
+      ∙ ap (λ (ss : List Statement). give (fields (forest ss)))
+      (sym (s .back) ∙ ap (statementsFrom w₀ 0) (let e : n ≡ n - 0 = omega arith in e))
+      ∙ ap (λ (x : Forest). give (fields x)) same-rows
 
   -- under their parents
-  pub rows-under : Under w″ 0 0 (rowsForest w″ 0 n)
+  pub rows-under : Under w₂ 0 0 (rowsForest w₂ 0 n)
   rows-under =
       let held = inheritAlong [] 0 (s .kept) in
       let all : n - 0 ≡ n = omega arith in
-      let whole : rowsForest w″ 0 n ≡ forest held =
-      sym (forest-kept (prints-kept p) 0 n) ∙ ap forest (ap (statementsFrom w′ 0) all ∙ s .back) in
+      let whole : rowsForest w₂ 0 n ≡ forest held =
+      sym same-rows ∙ ap forest (ap (statementsFrom w₀ 0) all ∙ s .back) in
       let many : n ≡ size (forest held) = s .many ∙ sym (length-along [] 0 (s .kept)) ∙ sym (size-forest held) in
-      let parents : parentsFrom w′ 0 n ≡ parentsIn 0 0 (forest held) =
+      let parents : parentsFrom w₀ 0 n ≡ parentsIn 0 0 (forest held) =
       s .under ∙ ap (parentsIn 0 0) (sym (along-forest (s .kept))) in
-      under-same w′ w″ (λ k. sym (p .same k PARENT (lit< tt))) (rowsForest w″ 0 n) 0 0
-      (subst (Under w′ 0 0) (sym whole) (under-parents w′ (forest held) 0 0 n many parents))
+      under-same w₀ w₂ (λ k. same k PARENT (lit< tt)) (rowsForest w₂ 0 n) 0 0
+      (subst (Under w₀ 0 0) (sym whole) (under-parents w₀ (forest held) 0 0 n many parents))
 
   -- and there is room to lay them
-  pub rows-room : leastWork ≤ length w → Room text w″ n
-  rows-room h = record { fits = omega (arith, s .few, s .long, h, p .long); small = omega (arith, s .few); printed = p .printed }
+  pub rows-room : leastWork ≤ length w → Room text w₂ 0 n
+  rows-room h =
+      record {
+        fits = omega (arith, s .few, s .long, h, b .long, p .long);
+        small = omega (arith, s .few);
+        printed = p .printed;
+        counted = counted-kept w₁ w₂ (λ k c l. sym (p .same k c (omega arith))) 0 n (b .counted);
+      }
 
 -- the fields are the rows from `from` on
+pub fields-room : {text w : List ℕ} {n from : ℕ} → Read text w n → FieldsFrom w n from → Room text w from n
+fields-room h f =
+    let r = h .room in
+    record { fits = r .fits; small = r .small; printed = r .printed; counted = f .counted (r .counted) }
+
 pub fields-laid :
     {text w : List ℕ} {n from : ℕ} →
     Read text w n →

@@ -15,6 +15,7 @@ use Rattle.rows.specs.Table.{cell}
 use Rattle.definition.specs.Fold.{Entries, foldedAll}
 use Rattle.definition.specs.Record.{recordLength, unfolded}
 use Rattle.places.specs.Places.{rowsForest}
+use Rattle.places.specs.Children.{BelowCounted}
 use Rattle.tree.specs.declared.RowsRead.{RowsRead}
 use Rattle.layout.specs.Outcomes.{Room}
 use Rattle.record.specs.declared.RecordLaid.{RecordLaid}
@@ -33,6 +34,7 @@ pub record FieldsFrom (w : List ℕ) (n r : ℕ) : Type 0 where
   pub low : r ≤ n
   pub is : fields (rowsForest w 0 n) ≡ rowsForest w r n
   pub under : Under w 0 0 (rowsForest w 0 n) → Under w r r (rowsForest w r n)
+  pub counted : BelowCounted w 0 (rowsForest w 0 n) → BelowCounted w r (rowsForest w r n)
 
 -- the fields of the record that a text's statements make
 unfoldable pub fieldsOf : List ℕ → Answer Forest
@@ -45,7 +47,7 @@ pub record Read (text w : List ℕ) (n : ℕ) : Type 0 where
   pub are : recordFields text (length w) ≡ give (fields (rowsForest w 0 n))
   pub under : Under w 0 0 (rowsForest w 0 n)
   pub few : n ≤ mostStatements
-  pub room : Room text w n
+  pub room : Room text w 0 n
 
 -- what an answer says of a text, with work memory as the call leaves it
 abbrev pub CopybookRows : List ℕ → RowsRead → List ℕ → Type 0

@@ -6,6 +6,7 @@ ghost use Rattle.definition.specs.Limits.{mostStatements};
 ghost use Rattle.definition.specs.Basic.{give};
 ghost use Rattle.definition.specs.Calls.{recordFields};
 ghost use Rattle.places.specs.Places.{rowsForest};
+ghost use Rattle.places.specs.Children.{BelowCounted};
 ghost use Rattle.layout.specs.Outcomes.{Room};
 ghost use Rattle.rows.specs.Columns.{ROW};
 ghost use Rattle.entries.specs.Building.{Roomy};
@@ -18,8 +19,9 @@ use tree::RowsRead;
 
 // ---------------------------------------------------------------- the rows
 
-// Checks what a caller lends and reads the text into rows of work memory, with the fingerprints of their names, or says
-// why not: 1, 2, 3, then 50, then the statements' 10 to 14. Every entry that speaks of a copybook's record starts so.
+// Checks what a caller lends and reads the text into rows of work memory, with the counts of the rows below them and
+// the fingerprints of their names, or says why not: 1, 2, 3, then 50, then the statements' 10 to 14. Every entry that
+// speaks of a copybook's record starts so.
 pub fn read_rows(text: &[u8], work: &mut [u32]) -> RowsRead
     ensures { λ r. ⌜ CopybookRows (now (text .entry)) r (now (work .exit)) ⌝ }
 {
@@ -31,6 +33,7 @@ pub fn read_rows(text: &[u8], work: &mut [u32]) -> RowsRead
     }
     match tree::read_rows(text, work) {
         RowsRead::Rows(n) => {
+            places::count_below(work, n);
             redefines::put_prints(text, work, n);
             return RowsRead::Rows(n);
         }
@@ -65,13 +68,13 @@ pub enum RecordLaid {
 
 // The first row of the fields of a record that has n rows: an only root with children is dropped.
 pub fn first_field(work: &[u32], n: usize) -> usize
-    requires { ⌜ ROW * n ≤ length (now work) ⌝ }
+    requires { ⌜ (ROW * n ≤ length (now work)) × BelowCounted (now work) 0 (rowsForest (now work) 0 n) ⌝ }
     ensures { λ r. ⌜ FieldsFrom (now (work .entry)) n r ⌝ }
 {
     if n < 2 {
         return 0;
     }
-    if places::end_of(work, 0, n) < n {
+    if places::next_of(work, 0, n) < n {
         return 0;
     }
     1
@@ -85,7 +88,7 @@ pub fn lay_fields(
     from: usize,
     to: usize,
 ) -> RecordLaid
-    requires { ⌜ (from ≤ to) × Room (now text) (now work) to × (to ≤ mostStatements) × Roomy (now entries) to
+    requires { ⌜ (from ≤ to) × Room (now text) (now work) from to × (to ≤ mostStatements) × Roomy (now entries) to
         × Under (now work) from from (rowsForest (now work) from to) ⌝ }
     ensures { λ r. ⌜ RecordIs (now (text .entry)) (give (rowsForest (now (work .entry)) from to)) r
         (now (work .exit)) (now (entries .exit)) ⌝ }

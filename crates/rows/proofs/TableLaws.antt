@@ -24,7 +24,7 @@ use Rattle.kinds.specs.Usages.{itemUsageAt, itemUsageByte, usageCode, usageClau
 use Rattle.kinds.proofs.Back.{flag-back, flag-few, usage-back, usage-few, usage-clause-back, usage-clause-few}
 use Rattle.kinds.proofs.Back.{sign-words-back, sign-words-few}
 use Rattle.rows.specs.Columns.{ROW, LEVEL, PARENT, AT, NAME, PICTURE, DEPENDING, REDEFINES, SAID, LOW, HIGH}
-use Rattle.rows.specs.Columns.{OFFSET}
+use Rattle.rows.specs.Columns.{BELOW}
 use Rattle.rows.specs.Table.{spanCode, spanAt, markOf, countOf, occursAt, levelCode, saidCode}
 use Rattle.rows.specs.Table.{Short, Storable, Storables, cells, putRow, putRows, cell, parentAt, usageIn}
 use Rattle.rows.specs.Table.{clausesAt, statementAt, statementsFrom, parentsFrom}
@@ -99,14 +99,10 @@ module _ (w : List ℕ) (a parent : ℕ) (s : Statement) where
   unfolding putRow
   length-putRow = length-sets w (ROW * a) (cells parent s)
 
-  -- a stored column, the columns of a row that no statement takes, and the columns of another row
-  cell-put : ROW * a + ROW ≤ length w → (c : ℕ) → c < OFFSET → cell (putRow w a parent s) a c ≡ getD (cells parent s) c 0
+  -- a stored column, and the columns of another row
+  cell-put : ROW * a + ROW ≤ length w → (c : ℕ) → c < BELOW → cell (putRow w a parent s) a c ≡ getD (cells parent s) c 0
   unfolding putRow
   cell-put h c l = getD-in (cells parent s) w (ROW * a) c (ROW * a + c) refl l (omega arith)
-
-  pub cell-beyond : (c : ℕ) → OFFSET ≤ c → cell (putRow w a parent s) a c ≡ cell w a c
-  unfolding putRow
-  cell-beyond c l = getD-above (cells parent s) w (ROW * a) (ROW * a + c) (omega arith)
 
   pub cell-other : (k : ℕ) → (k ≡ a → ⊥) → (c : ℕ) → c < ROW → cell (putRow w a parent s) k c ≡ cell w k c
   unfolding putRow
@@ -124,12 +120,12 @@ made level at name clauses usage =
 
 module _ (w : List ℕ) (k : ℕ) where
   -- a statement depends on its columns alone
-  pub statement-same : (w′ : List ℕ) → ((c : ℕ) → c < OFFSET → cell w k c ≡ cell w′ k c) → statementAt w k ≡ statementAt w′ k
+  pub statement-same : (w′ : List ℕ) → ((c : ℕ) → c < BELOW → cell w k c ≡ cell w′ k c) → statementAt w k ≡ statementAt w′ k
   statement-same w′ h =
       cc (h LEVEL (lit< tt), h AT (lit< tt), h NAME (lit< tt), h PICTURE (lit< tt), h DEPENDING (lit< tt), h REDEFINES (lit< tt), h SAID (lit< tt), h LOW (lit< tt), h HIGH (lit< tt))
 
   -- columns that are a statement's hold the statement
-  module _ (parent : ℕ) (s : Statement) (h : (c : ℕ) → c < OFFSET → cell w k c ≡ getD (cells parent s) c 0) (fits : Storable s) where
+  module _ (parent : ℕ) (s : Statement) (h : (c : ℕ) → c < BELOW → cell w k c ≡ getD (cells parent s) c 0) (fits : Storable s) where
     clauses-held : clausesAt w k ≡ s .clauses
     clauses-held =
         let c = s .clauses in
@@ -185,19 +181,6 @@ module _ (w : List ℕ) (a parent : ℕ) (s : Statement) where
   pub statement-other : (k : ℕ) → (k ≡ a → ⊥) → statementAt (putRow w a parent s) k ≡ statementAt w k
   statement-other k n = statement-same (putRow w a parent s) k w (λ c l. cell-other w a parent s k n c (omega arith))
 
--- a number stored in a column that no statement takes leaves the statements alone
-module _ (w : List ℕ) (a c v : ℕ) (low : OFFSET ≤ c) (high : c < ROW) where
-  cell-set : (k d : ℕ) → d < OFFSET → cell (set w (ROW * a + c) v) k d ≡ cell w k d
-  cell-set k d h = getD-set-other w (ROW * a + c) (ROW * k + d) v 0 (λ e. omega arith)
-
-  pub statement-set : (k : ℕ) → statementAt (set w (ROW * a + c) v) k ≡ statementAt w k
-  statement-set k = statement-same (set w (ROW * a + c) v) k w (cell-set k)
-
-  pub statements-set : (k n : ℕ) → statementsFrom (set w (ROW * a + c) v) k n ≡ statementsFrom w k n
-  unfolding statementsFrom
-  statements-set k zero = refl
-  statements-set k (suc n) = ap₂ (λ (x : Statement) (xs : List Statement). x ∷ xs) (statement-set k) (statements-set (suc k) n)
-
 -- ---------------------------------------------------------------- a run of rows
 
 pub length-putRows : (ds : List ℕ) (ss : List Statement) (w : List ℕ) (a : ℕ) → length (putRows w a ds ss) ≡ length w
@@ -248,6 +231,19 @@ parents-put (d ∷ ds) (s ∷ ss) w a e h =
     let first = cell-before ds ss w₁ (suc a) a (omega arith) 1 (lit< tt) ∙ parent-put w a d s (omega arith) in
     let more = parents-put ds ss w₁ (suc a) (omega arith) (omega (arith, length-putRow w a d s)) in
     ap₂ (λ (x : ℕ) (xs : List ℕ). x ∷ xs) first more
+
+-- statements depend on their columns alone
+pub statements-same :
+    (w w′ : List ℕ) →
+    ((k c : ℕ) → c < BELOW → cell w k c ≡ cell w′ k c) →
+    (k n : ℕ) →
+    statementsFrom w k n ≡ statementsFrom w′ k n
+unfolding statementsFrom
+statements-same w w′ h k zero = refl
+statements-same w w′ h k (suc n) =
+    ap₂ (λ (x : Statement) (xs : List Statement). x ∷ xs)
+    (statement-same w k w′ (h k))
+    (statements-same w w′ h (suc k) n)
 
 pub length-statements : (w : List ℕ) (a n : ℕ) → length (statementsFrom w a n) ≡ n
 unfolding statementsFrom

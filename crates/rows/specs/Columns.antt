@@ -45,23 +45,23 @@ HIGH = 9
 
 -- ---------------------------------------------------------------- the layout
 
+-- how many rows stand below it; known before the layout
+abbrev pub BELOW : ℕ
+BELOW = 10
+
 -- its offset in its list, its width, its kind as one number
 abbrev pub OFFSET : ℕ
-OFFSET = 10
+OFFSET = 11
 
 abbrev pub WIDTH : ℕ
-WIDTH = 11
+WIDTH = 12
 
 abbrev pub KIND : ℕ
-KIND = 12
+KIND = 13
 
 -- the sibling before it: its row and 1, or 0 for none
 abbrev pub BEFORE : ℕ
-BEFORE = 13
-
--- how many rows stand below it
-abbrev pub BELOW : ℕ
-BELOW = 14
+BEFORE = 14
 
 -- the slack bytes directly before it
 abbrev pub SLACK : ℕ
@@ -80,6 +80,6 @@ PLACERS = 17
 abbrev pub NEXT : ℕ
 NEXT = 18
 
--- the fingerprint of its name
+-- the fingerprint of its name; known before the layout
 abbrev pub PRINT : ℕ
 PRINT = 19

@@ -38,15 +38,15 @@ pub const LOW: usize = 8;
 
 pub const HIGH: usize = 9;
 
-pub const OFFSET: usize = 10;
+pub const BELOW: usize = 10;
 
-pub const WIDTH: usize = 11;
+pub const OFFSET: usize = 11;
 
-pub const KIND: usize = 12;
+pub const WIDTH: usize = 12;
 
-pub const BEFORE: usize = 13;
+pub const KIND: usize = 13;
 
-pub const BELOW: usize = 14;
+pub const BEFORE: usize = 14;
 
 pub const SLACK: usize = 15;
 

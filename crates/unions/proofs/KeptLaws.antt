@@ -1,25 +1,23 @@
 -- A table whose columns before NEXT are as they were holds what it held; a table that was laid, before and after its
 -- unions are linked.
 -- Assumes nothing.
-use Prim.Native.Nat.{ℕ, zero, suc, _+_, _*_, _-_, _≤_, _<_}
-use mathlib.Core.Path.{_≡_, refl, sym, ap, ap₂, subst, _∙_}
-use mathlib.Core.List.{List, _∷_}
+use Prim.Native.Nat.{ℕ, suc, _+_, _*_, _-_, _≤_, _<_}
+use mathlib.Core.Path.{_≡_, refl, sym, ap, subst, _∙_}
+use mathlib.Core.List.{List}
 use native.Mathlib.Omega.{arith}
 use lib.Dec.{lit<, ltb}
 use lib.ListN.{length, set, length-set}
 use lib.Seq.{getD-set-other, getD-set-same}
 use Rattle.definition.specs.declared.Entry.{Entry}
-use Rattle.definition.specs.declared.Statement.{Statement}
 use Rattle.definition.specs.Limits.{mostStatements, largest}
 use Rattle.definition.specs.Basic.{if_then_else_}
 use Rattle.definition.specs.Tree.{forest}
 use Rattle.definition.specs.Fold.{total}
 use Rattle.definition.specs.Owner.{size}
 use Rattle.rows.specs.Columns.{ROW, BASE, NEXT}
-use Rattle.rows.specs.Table.{cell, statementsFrom}
-use Rattle.rows.proofs.TableLaws.{statement-same}
+use Rattle.rows.specs.Table.{cell}
+use Rattle.rows.proofs.TableLaws.{statements-same}
 use Rattle.places.specs.Places.{Linked, entriesIn, rowsForest}
-use Rattle.redefines.specs.Prints.{PrintsPut}
 use Rattle.redefines.proofs.SearchLaws.{found-none}
 use Rattle.places.proofs.EntriesLaws.{size-stretch, entry-same, entries-same, linked-same}
 use Rattle.unions.specs.Marks.{firstFrom, ColumnsKept, Unlinked, UnionsLinked}
@@ -27,14 +25,8 @@ use Rattle.unions.specs.Shown.{unionOf, listIn, Sized, Tree}
 use Rattle.unions.proofs.MarkLaws.{first-same, bases-all, marked-all}
 
 module _ {w w′ : List ℕ} (h : ColumnsKept w w′) where
-  statements-kept : (k n : ℕ) → statementsFrom w k n ≡ statementsFrom w′ k n
-  unfolding statementsFrom
-  statements-kept k zero = refl
-  statements-kept k (suc n) =
-      ap₂ (λ (x : Statement) (xs : List Statement). x ∷ xs) (statement-same w k w′ (λ c l. sym (h .same k c (omega arith)))) (statements-kept (suc k) n)
-
   pub forest-kept : (a b : ℕ) → rowsForest w a b ≡ rowsForest w′ a b
-  forest-kept a b = ap forest (statements-kept a (b - a))
+  forest-kept a b = ap forest (statements-same w w′ (λ k c l. sym (h .same k c (omega arith))) a (b - a))
 
   pub list-kept : (a b : ℕ) → listIn w a b ≡ listIn w′ a b
   list-kept a b = entries-same w w′ a (rowsForest w a b) (λ j c p m l. sym (h .same j c (omega arith))) ∙ ap (entriesIn w′ a) (forest-kept a b)
@@ -53,10 +45,6 @@ kept-self w = record { long = refl; same = λ k c l. refl }
 
 pub kept-on : {w w′ w″ : List ℕ} → ColumnsKept w w′ → ColumnsKept w′ w″ → ColumnsKept w w″
 kept-on a b = record { long = b .long ∙ a .long; same = λ k c l. b .same k c l ∙ a .same k c l }
-
--- fingerprints stand behind these columns
-pub prints-kept : {text w w′ : List ℕ} {n : ℕ} → PrintsPut text w n w′ → ColumnsKept w w′
-prints-kept p = record { long = p .long; same = λ k c l. p .same k c (omega arith) }
 
 -- ---------------------------------------------------------------- a number stored in column NEXT
 

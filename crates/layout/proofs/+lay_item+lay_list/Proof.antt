@@ -23,14 +23,15 @@ use Rattle.definition.specs.Calls.{pictureOf, checkOf}
 use Rattle.rows.specs.Columns.{AT}
 use Rattle.rows.specs.Table.{cell, statementAt}
 use Rattle.places.specs.Places.{entriesIn, Linked, rowsForest}
-use Rattle.places.specs.Children.{ChildrenEnd}
+use Rattle.places.specs.Children.{ChildrenEnd, Numbered}
+use Rattle.places.proofs.EntriesLaws.{counted-step, counted-numbered}
 use Rattle.redefines.proofs.PrintLaws.{printed-less}
 use Rattle.layout.specs.declared.ItemAnswer.{ItemAnswer}
 use Rattle.layout.specs.declared.LaidList.{LaidList}
 use Rattle.definition.specs.Fold.{foldCheck}
 use Rattle.layout.specs.Outcomes.{ListOutcome, stopped, ready, layRest, layTable, ItemOutcome, halted, layItem}
 use Rattle.layout.specs.Outcomes.{placeRow, itemOf, listOf, Room}
-use Rattle.layout.proofs.LayLaws.{list-stop, list-step, list-none, item-within, item-printed, leaf-stop}
+use Rattle.layout.proofs.LayLaws.{list-stop, list-step, list-none, item-within, item-room, leaf-stop}
 use Rattle.layout.proofs.LayLaws.{leaf-place, leaf-narrow, LaidRows, laid-rows, laid-printed, too-deep}
 use Rattle.layout.proofs.LayLaws.{inner-stop, fold-stop, group-place}
 use borrow.Fn.Kinds.{In}
@@ -42,7 +43,7 @@ use Rattle.layout.proofs.lay_list.Reads as lay-list
 use Rattle.layout.proofs.lay_list.Kinds as lay-list-kinds
 use Rattle.layout.proofs.+lay_item+lay_list.Lts-lay_list as lay-list-lts
 use Rattle.contents.proofs.elementary.Reads as elementary-reads
-use Rattle.places.proofs.end_of.Reads as end-of-reads
+use Rattle.places.proofs.next_of.Reads as next-of-reads
 use Rattle.unions.proofs.fold_check.Reads as fold-check-reads
 use Rattle.limits.proofs.most.Reads as most-reads
 use Rattle.layout.proofs.place.Reads as place-reads
@@ -56,15 +57,18 @@ use Rattle.layout.proofs.+lay_item+lay_list.Tie.{close}
 -- what the loop keeps
 record Laying (t w₀ w : List ℕ) (from to depth i last cursor reach : ℕ) : Type 0 where
   same-length : length w ≡ length w₀
-  room : Room t w to
+  room : Room t w i to
   back : last ≤ i
   moves : cursor ≤ largest
   rest : layTable t w₀ from to depth ≡ layRest t w i to depth last cursor reach
 
-starting : (t w : List ℕ) (from to depth : ℕ) → Room t w to → Laying t w w from to depth from 0 0 0
+starting : (t w : List ℕ) (from to depth : ℕ) → Room t w from to → Laying t w w from to depth from 0 0 0
 starting t w from to depth h = record { same-length = refl; room = h; back = omega arith; moves = omega arith; rest = refl }
 
 module _ {t w₀ w : List ℕ} {from to depth i last cursor reach : ℕ} (inv : Laying t w₀ w from to depth i last cursor reach) where
+  numbered : i < to → Numbered w i to
+  numbered h = counted-numbered w i to (inv .room .fits) h (inv .room .counted)
+
   going-on :
       {a : ItemAnswer} {c e r j : ℕ} {w′ : List ℕ} →
       ChildrenEnd w i to j →
@@ -78,7 +82,7 @@ module _ {t w₀ w : List ℕ} {from to depth i last cursor reach : ℕ} (inv : 
       let k = item-within t w i j depth last cursor (inv .moves) laid in
       record {
         same-length = l ∙ inv .same-length;
-        room = record { fits = omega (arith, l, inv .room .fits); small = inv .room .small; printed = item-printed t w i j depth last cursor laid (inv .room .printed) };
+        room = item-room t w i to j depth last cursor h laid l (inv .room);
         back = omega (arith, h .low);
         moves = k .moves;
         rest = rw (add-one i, m) (inv .rest ∙ list-step t w i to j depth last cursor reach h (inv .room .fits) (inv .back) laid);
@@ -96,9 +100,15 @@ module _ {t w₀ w : List ℕ} {from to depth i last cursor reach : ℕ} (inv : 
   ending : to ≤ i → ready reach last w ≡ layTable t w₀ from to depth
   ending h = sym (inv .rest ∙ list-none t w i to depth last cursor reach h)
 
--- the rows of an item
-room-part : {t w : List ℕ} {to j : ℕ} → Room t w to → j ≤ to → Room t w j
-room-part r h = record { fits = omega (arith, r .fits); small = omega (arith, r .small); printed = printed-less (r .printed) h }
+-- the rows below an item
+room-part : {t w : List ℕ} {i to j : ℕ} → Room t w i to → ChildrenEnd w i to j → Room t w (i + 1) j
+room-part {w = w} {i = i} {to = to} {j = j} r h =
+    record {
+      fits = omega (arith, r .fits, h .high);
+      small = omega (arith, r .small, h .high);
+      printed = printed-less (r .printed) (h .high);
+      counted = rw (add-one i) (counted-step w i to j h (r .counted) .1);
+    }
 
 -- ---------------------------------------------------------------- the item
 
@@ -117,12 +127,13 @@ module _ (t w : List ℕ) (i j left last cursor : ℕ) where
 
     inner-list :
         {a : LaidList} {width l : ℕ} {w₁ : List ℕ} →
-        Room t w j →
+        Room t w (i + 1) j →
         listOf a w₁ ≡ layTable t w (i + 1) j (64 - (left - 1)) →
         a ≡ LaidList.Done width l →
         LaidRows t w (suc i) j (suc (64 - left)) width w₁
     inner-list {w₁ = w₁} r p q =
-        laid-rows t w (suc i) j (suc (64 - left)) (omega arith) (r .fits) (called p ∙ ap (λ (x : LaidList). listOf x w₁) q)
+        laid-rows t w (suc i) j (suc (64 - left)) (omega arith) (subst (λ (x : ℕ). Room t w x j) (add-one i) r)
+        (called p ∙ ap (λ (x : LaidList). listOf x w₁) q)
 
     inner-halts : {a : LaidList} {r : Refusal} (w₁ : List ℕ) → listOf a w₁ ≡ layTable t w (i + 1) j (64 - (left - 1)) → a ≡ LaidList.Refused r → halted r ≡ layItem t w i j (64 - left) last cursor
     inner-halts w₁ p q = inner-stop t w i j (64 - left) last cursor (omega arith) (omega arith) (called p ∙ ap (λ (x : LaidList). listOf x w₁) q)
@@ -142,11 +153,10 @@ module _ (t w : List ℕ) (i j left last cursor : ℕ) where
           a ≡ Check.Passed →
           last ≤ i →
           {o : ItemOutcome} →
-          o ≡ placeRow t w₁ i (j - (i + 1)) last cursor (pictured FieldKind.Group width) →
+          o ≡ placeRow t w₁ i last cursor (pictured FieldKind.Group width) →
           o ≡ layItem t w i j (64 - left) last cursor
       grouped p q l e =
           e
-          ∙ ap (λ (x : ℕ). placeRow t w₁ i (j - x) last cursor (pictured FieldKind.Group width)) (add-one i)
           ∙ group-place t w i j (64 - left) last cursor (omega arith) (omega arith) n
           (sym (ap checkOf q) ∙ p ∙ ap (λ (x : ℕ). foldCheck t [] (entriesIn w₁ x (rowsForest w₁ x j))) (add-one i)) l
 
@@ -159,7 +169,7 @@ module _ (t w : List ℕ) (i j left last cursor : ℕ) where
         pictureOf a ≡ content t s leaf 0 →
         a ≡ PicAnswer.Accepted c →
         {o : ItemOutcome} →
-        o ≡ placeRow t w i 0 last cursor c →
+        o ≡ placeRow t w i last cursor c →
         o ≡ layItem t w i j (64 - left) last cursor
     leafed p q e = e ∙ leaf-place t w i j (64 - left) last cursor (omega arith) (sym (ap pictureOf q) ∙ p ∙ ap (λ (x : Statement). content t x leaf 0) ps)
 
@@ -191,7 +201,7 @@ abbrev lay-item-callees : ℕ → lay-item-lts.Claims
 lay-item-callees t = (wide-reads.Asked, wide-reads.Learnt, lay-list-below t, lay-list.Post, fold-check-reads.Asked, fold-check-reads.Learnt, place-reads.Asked, place-reads.Learnt, statement-at-reads.Asked, statement-at-reads.Learnt, elementary-reads.Asked, elementary-reads.Learnt)
 
 abbrev lay-list-callees : ℕ → lay-list-lts.Claims
-lay-list-callees t = (end-of-reads.Asked, end-of-reads.Learnt, lay-item-below t, lay-item.Post, most-reads.Asked, most-reads.Learnt)
+lay-list-callees t = (next-of-reads.Asked, next-of-reads.Learnt, lay-item-below t, lay-item.Post, most-reads.Asked, most-reads.Learnt)
 
 -- the inner list, where it is known to be ready
 lay-item-inner :
@@ -217,14 +227,14 @@ lay-item-place-requires : (t : ℕ) → lay-item-lts.Need-place-requires (lay-it
 lay-item-place-requires t c κs =
     let n = c .before .before .before .before .before .before in
     let p = n .before .before .before .before .before .before .before .before .before .before .pre .1 in
-    (search needs, search needs, search needs, search needs, search needs, lay-item-inner t n .narrow, laid-printed (lay-item-inner t n) (printed-less (p .1 .printed) (omega (arith, p .0))))
+    (search needs, search needs, search needs, search needs, lay-item-inner t n .narrow, laid-printed (lay-item-inner t n) (printed-less (p .1 .printed) (omega (arith, p .0))))
 
 lay-item-place-requires-2 : (t : ℕ) → lay-item-lts.Need-place-requires-2 (lay-item-callees t) (lay-item-at t) lay-item.Post
 lay-item-place-requires-2 t c κs =
     let e = c .before .before .before .before in
     let s = e .before .before .before .before .before .before in
     let a = s .args in
-    (search needs, search needs, search needs, search needs, search needs, narrow (a .text .now) (e .before .statement-at .result) (e .elementary .ensures) (c .before .before .c .given .1), printed-less (s .pre .1 .1 .printed) (omega (arith, s .pre .1 .0)))
+    (search needs, search needs, search needs, search needs, narrow (a .text .now) (e .before .statement-at .result) (e .elementary .ensures) (c .before .before .c .given .1), printed-less (s .pre .1 .1 .printed) (omega (arith, s .pre .1 .0)))
 
 lay-item-returns : (t : ℕ) → lay-item-lts.Need-returns (lay-item-callees t) (lay-item-at t) lay-item.Post
 lay-item-returns t c =
@@ -279,20 +289,26 @@ lay-list-loop-holds t c =
     let a = s .args in
     starting (a .text .now) (a .work .now) (a .from) (a .to) (64 - a .depth-left) (s .pre .1 .0)
 
+lay-list-next-of-requires :
+    (t : ℕ) →
+    lay-list-lts.Need-next-of-requires (lay-list-callees t) (lay-list-at t) lay-list.Post
+    lay-list-Inv-loop lay-list-μ-loop
+lay-list-next-of-requires t c κs = numbered (c .before .before .loop .inv) (c .before .loop-test .taken)
+
 lay-list-lay-item-requires : (t : ℕ) → lay-list-lts.Need-lay-item-requires (lay-list-callees t) (lay-list-at t) lay-list.Post lay-list-Inv-loop lay-list-μ-loop
 lay-list-lay-item-requires t c κs =
-    (search needs, (search needs, room-part (c .before .before .before .before .loop .inv .room) (c .before .end-of .ensures .high), search needs, search needs, search needs))
+    (search needs, (search needs, room-part (c .before .before .before .before .loop .inv .room) (c .before .next-of .ensures), search needs, search needs, search needs))
 
 lay-list-loop-again : (t : ℕ) → lay-list-lts.Need-loop-again (lay-list-callees t) (lay-list-at t) lay-list.Post lay-list-Inv-loop lay-list-μ-loop
 lay-list-loop-again t c =
     let it = c .before .before .before .before .before .before in
     let n = c .before .before .next .given in
-    going-on (it .before .before .before .before .before .loop .inv) (it .before .before .end-of .ensures) (it .lay-item .ensures) (n .1) (it .lay-item .kept .1 .0) (c .most .ensures)
+    going-on (it .before .before .before .before .before .loop .inv) (it .before .before .next-of .ensures) (it .lay-item .ensures) (n .1) (it .lay-item .kept .1 .0) (c .most .ensures)
 
 lay-list-returns : (t : ℕ) → lay-list-lts.Need-returns (lay-list-callees t) (lay-list-at t) lay-list.Post lay-list-Inv-loop lay-list-μ-loop
 lay-list-returns t c =
     let it = c .before .before .before .before .before in
-    stopping (it .before .before .before .before .before .loop .inv) (it .lay-item .last .1 .0) (it .before .before .end-of .ensures) (it .lay-item .ensures) (c .before .r .given .1)
+    stopping (it .before .before .before .before .before .loop .inv) (it .lay-item .last .1 .0) (it .before .before .next-of .ensures) (it .lay-item .ensures) (c .before .r .given .1)
 
 lay-list-returns-2 : (t : ℕ) → lay-list-lts.Need-returns-2 (lay-list-callees t) (lay-list-at t) lay-list.Post lay-list-Inv-loop lay-list-μ-loop
 lay-list-returns-2 t c = ending (c .before .loop .inv) (c .loop-test .left)
@@ -312,7 +328,6 @@ pub +lay-item+lay-list-spec : {M : Type 1} → statement M
     (λ c κs. search needs)
     (λ c. search needs)
     (lay-item-fold-check-requires t)
-    (λ c. search needs)
     (λ c. search needs)
     (lay-item-place-requires t)
     (λ c. search needs)
@@ -338,7 +353,7 @@ pub +lay-item+lay-list-spec : {M : Type 1} → statement M
     lay-list-Inv-loop
     lay-list-μ-loop
     (lay-list-loop-holds t)
-    (λ c κs. search needs)
+    (lay-list-next-of-requires t)
     (lay-list-lay-item-requires t)
     (λ c. search needs)
     (λ c. search needs)

@@ -58,9 +58,9 @@ module _ (s : Statement) {c : Pictured} {offset slack : ℕ} {d : Entry} (pd : d
 near : (d : Entry) {x : Ending} {n : ℕ} → endingOf x ≡ endOf d → x ≡ Ending.At n → d .offset < 4294967296
 near d px e = omega (arith, ends-at d (sym (ap endingOf e) ∙ px) .starts)
 
-module _ (t w : List ℕ) (i below last cursor : ℕ) (c : Pictured) {s : Statement} (ps : s ≡ statementAt w i) where
-  in-row : {a : Answer Entry} → placedEntry t s c (seenAt w last) cursor ≡ a → afterOwn t w i last below cursor a ≡ placeRow t w i below last cursor c
-  in-row h = sym (ap (λ (x : Statement). afterOwn t w i last below cursor (placedEntry t x c (seenAt w last) cursor)) (sym ps) ∙ ap (afterOwn t w i last below cursor) h)
+module _ (t w : List ℕ) (i last cursor : ℕ) (c : Pictured) {s : Statement} (ps : s ≡ statementAt w i) where
+  in-row : {a : Answer Entry} → placedEntry t s c (seenAt w last) cursor ≡ a → afterOwn t w i last cursor a ≡ placeRow t w i last cursor c
+  in-row h = sym (ap (λ (x : Statement). afterOwn t w i last cursor (placedEntry t x c (seenAt w last) cursor)) (sym ps) ∙ ap (afterOwn t w i last cursor) h)
 
   module _ {k : ℕ} (pk : k ≡ targetFrom t (s .clauses .redefines) w last) where
     -- the base is found from there back
@@ -86,7 +86,7 @@ module _ (t w : List ℕ) (i below last cursor : ℕ) (c : Pictured) {s : Statem
         ∙ ap (λ (x : Statement). plainAfter w last * 65536 + targetFrom t (x .clauses .redefines) w last) ps
 
   module _ {o : Start} (po : startOf o ≡ start t s c (seenAt w last) cursor) where
-    no-start : {r : Refusal} → o ≡ Start.Refused r → halted r ≡ placeRow t w i below last cursor c
+    no-start : {r : Refusal} → o ≡ Start.Refused r → halted r ≡ placeRow t w i last cursor c
     no-start e = in-row (placed-refused t s c (seenAt w last) cursor (sym (ap startOf e) ∙ po))
 
     module _
@@ -103,7 +103,7 @@ module _ (t w : List ℕ) (i below last cursor : ℕ) (c : Pictured) {s : Statem
           {x : Ending} {r : Refusal} →
           endingOf x ≡ endOf d →
           x ≡ Ending.Refused r →
-          halted r ≡ placeRow t w i below last cursor c
+          halted r ≡ placeRow t w i last cursor c
       large px q =
           in-row (placed-large t s c (seenAt w last) cursor begins (sym (ap endingOf q) ∙ px ∙ ap endOf made))
 
@@ -114,9 +114,9 @@ module _ (t w : List ℕ) (i below last cursor : ℕ) (c : Pictured) {s : Statem
           x ≡ Ending.At n →
           b ≡ baseFrom t (s .clauses .redefines) w k k →
           p ≡ plainAfter w last * 65536 + k →
-          w′ ≡ putPlace w i last below b p d →
+          w′ ≡ putPlace w i last b p d →
           m ≡ (if given (s .clauses .redefines) then cursor else n) →
-          placing m n w′ ≡ placeRow t w i below last cursor c
+          placing m n w′ ≡ placeRow t w i last cursor c
       fits pt px q pb pp pw pm =
           let pk = sym (ap targetIn e) ∙ pt in
           let z = ends-at d (sym (ap endingOf q) ∙ px) in
@@ -134,12 +134,12 @@ module _ {o : Start} {k offset : ℕ} (e : o ≡ Start.At k offset) where
 entry-end-requires : tie.Need-entry-end-requires
 entry-end-requires c κs =
     let said = c .before .before .before .before .before .before .before .before .before in
-    narrow (said .statement-at .result) (c .entry-of .ensures) (said .before .before .before .before .pre .5)
+    narrow (said .statement-at .result) (c .entry-of .ensures) (said .before .before .before .before .pre .4)
 
 start-of-requires : tie.Need-start-of-requires
 start-of-requires c κs =
     let p = c .before .before .before .before .before .before .before .pre in
-    (omega (arith, p .0, p .1), printed-less (p .6) (p .1), p .4, p .5)
+    (omega (arith, p .0, p .1), printed-less (p .5) (p .1), p .3, p .4)
 
 base-of-requires : tie.Need-base-of-requires
 base-of-requires c κs =
@@ -148,7 +148,7 @@ base-of-requires c κs =
     let p = start .before .before .before .before .before .before .before .before .before .before .pre in
     let before = earlier (start .target .given .1) (found .2) in (
       omega (arith, before, p .0, p .1),
-      printed-less (p .6) (omega (arith, before, p .1)),
+      printed-less (p .5) (omega (arith, before, p .1)),
       of-name (start .target .given .1) _ _ _ _ (found .1),
     )
 
@@ -173,10 +173,9 @@ put-place-requires c κs =
     let before = earlier (start .target .given .1) (start .before .before .start-of .ensures .2) in (
       p .0,
       omega (arith, p .1, p .2),
-      p .3,
       omega (arith, f .before .base-of .ensures .1, before, p .1, p .2),
       near (d .result) ends end,
-      slim said (d .ensures) (p .5),
+      slim said (d .ensures) (p .4),
       close said (d .ensures) (s .args .cursor) slack ends end,
     )
 
@@ -191,7 +190,7 @@ returns c =
     let over = start .before .before .start-of .ensures in
     let said = start .before .before .before .before .before .before in
     let a = said .before .before .before .before .args in
-    fits (a .text .now) (a .work .now) (a .i) (a .below) (a .last) (a .cursor) (a .c) (said .statement-at .ensures)
+    fits (a .text .now) (a .work .now) (a .i) (a .last) (a .cursor) (a .c) (said .statement-at .ensures)
     (over .0) (start .target .given .1) (made .before .slack-from .ensures) (made .entry-of .ensures)
     (over .1) (end .before .before .entry-end .ensures) (end .end .given .1)
     (found .base-of .ensures .0) (reached .placers-of .ensures) (placed .put-place .ensures) (c .advanced .ensures)

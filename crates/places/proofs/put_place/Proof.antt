@@ -15,12 +15,12 @@ use Rattle.places.proofs.put_place.Statement.{statement}
 use Rattle.places.proofs.put_place.Tie as tie
 
 one-run :
-    (w : List ℕ) (k last below base placers : ℕ) (e : Entry) {n : ℕ} →
+    (w : List ℕ) (k last base placers : ℕ) (e : Entry) {n : ℕ} →
     n ≡ kindCode (e .kind) →
-    set (set (set (set (set (set (set (set (set w (ROW * k + OFFSET) (e .offset)) (ROW * k + OFFSET + 1) (e .width)) (ROW * k + OFFSET + 2) n) (ROW * k + OFFSET + 3) last) (ROW * k + OFFSET + 4) below) (ROW * k + OFFSET + 5) (e .slack)) (ROW * k + OFFSET + 6) base) (ROW * k + OFFSET + 7) placers) (ROW * k + OFFSET + 8) 0
-    ≡ putPlace w k last below base placers e
+    set (set (set (set (set (set (set (set w (ROW * k + OFFSET) (e .offset)) (ROW * k + OFFSET + 1) (e .width)) (ROW * k + OFFSET + 2) n) (ROW * k + OFFSET + 3) last) (ROW * k + OFFSET + 4) (e .slack)) (ROW * k + OFFSET + 5) base) (ROW * k + OFFSET + 6) placers) (ROW * k + OFFSET + 7) 0
+    ≡ putPlace w k last base placers e
 unfolding putPlace
-one-run w k last below base placers e q = rw q (simp towards-suc)
+one-run w k last base placers e q = rw q (simp towards-suc)
 
 slice-write-work-2 : tie.Need-slice-write-work-2
 slice-write-work-2 c = simp length-set (omega arith)
@@ -42,9 +42,6 @@ slice-write-work-7 c = simp length-set (omega arith)
 
 slice-write-work-8 : tie.Need-slice-write-work-8
 slice-write-work-8 c = simp length-set (omega arith)
-
-slice-write-work-9 : tie.Need-slice-write-work-9
-slice-write-work-9 c = simp length-set (omega arith)
 
 same-length : tie.Need-same-length
 same-length c = simp length-set
@@ -83,13 +80,9 @@ put-place-spec =
     slice-write-work-6
     (λ c. search needs)
     (λ c. search needs)
-    (λ c. search needs)
     slice-write-work-7
     (λ c. search needs)
     (λ c. search needs)
     slice-write-work-8
-    (λ c. search needs)
-    (λ c. search needs)
-    slice-write-work-9
     same-length
     returns)

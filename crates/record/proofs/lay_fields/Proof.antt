@@ -20,7 +20,7 @@ inner x =
     let ll = x .before .before .before .before in
     let s = ll .before .before .before .before .before in
     let a = s .args in
-    list-laid (a .text .now) (a .work .now) (a .from) (a .to) (ll .lay-list .last .1 .0) (ll .lay-list .ensures) (s .pre .0) (s .pre .1 .fits) (x .width .given .1)
+    list-laid (a .text .now) (a .work .now) (a .from) (a .to) (ll .lay-list .last .1 .0) (ll .lay-list .ensures) (s .pre .0) (s .pre .1) (x .width .given .1)
 
 -- and its rows
 ready :

@@ -1,15 +1,20 @@
 -- `record::lay_record` meets its contract: the fields, and then their layout.
 -- Assumes nothing.
 use borrow.Author.Needs.{needs}
-use Rattle.record.proofs.LaidLaws.{fields-laid}
+use Rattle.record.proofs.LaidLaws.{fields-room, fields-laid}
 use Rattle.record.proofs.lay_record.Statement.{statement}
 use Rattle.record.proofs.lay_record.Tie as tie
+
+first-field-requires : tie.Need-first-field-requires
+first-field-requires c κs =
+    let r = c .before .before .before .before .pre .0 .room in
+    (r .fits, r .counted)
 
 lay-fields-requires : tie.Need-lay-fields-requires
 lay-fields-requires c κs =
     let p = c .before .before .before .before .before .before .before .pre in
     let f = c .before .before .first-field .ensures in
-    (f .low, p .0 .room, p .0 .few, p .1, f .under (p .0 .under))
+    (f .low, fields-room (p .0) f, p .0 .few, p .1, f .under (p .0 .under))
 
 returns : tie.Need-returns
 returns c =
@@ -18,4 +23,4 @@ returns c =
 
 pub lay-record-spec : {M : Type 1} → statement M
 lay-record-spec =
-    tie.close (tie.spec (λ c κs. search needs) lay-fields-requires (λ c. search needs) (λ c. search needs) returns)
+    tie.close (tie.spec first-field-requires lay-fields-requires (λ c. search needs) (λ c. search needs) returns)

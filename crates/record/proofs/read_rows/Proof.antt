@@ -1,5 +1,5 @@
--- `record::read_rows` meets its contract: the checks, and then the rows that hold the statements, with the fingerprints
--- of their names.
+-- `record::read_rows` meets its contract: the checks, and then the rows that hold the statements, with the counts of
+-- the rows below them and the fingerprints of their names.
 -- Assumes nothing.
 use borrow.Author.Needs.{needs}
 use mathlib.Core.Path.{_∙_, ap, subst}
@@ -36,11 +36,26 @@ returns c = search checks-refuse
 read-rows-requires : tie.Need-read-rows-requires
 read-rows-requires c κs = let p = passed (c .before) in (p .short, p .room)
 
+count-below-requires : tie.Need-count-below-requires
+count-below-requires c κs =
+    let r = rows (c .before .before) in
+    let p = passed (c .before .before .before .before .before .before .before .before) in
+    (omega (arith, r .few, r .long, p .room), omega (arith, r .few))
+
 put-prints-requires : tie.Need-put-prints-requires
-put-prints-requires c κs = let r = rows (c .before .before) in omega (arith, r .few, r .long, passed (c .before .before .before .before .before .before .before .before) .room)
+put-prints-requires c κs =
+    let counted = c .before .before .before in
+    let n = counted .before .before .before in
+    let r = rows n in
+    let p = passed (n .before .before .before .before .before .before) in
+    omega (arith, r .few, r .long, p .room, counted .count-below .ensures .long)
 
 returns-2 : tie.Need-returns-2
-returns-2 c = read-kept (passed (c .before .before .before .before .before .before .before .before .before .before .before)) (rows (c .before .before .before .before .before)) (c .before .before .put-prints .ensures)
+returns-2 c =
+    let counted = c .before .before .before .before .before .before in
+    let n = counted .before .before .before in
+    let told = n .before .before .before .before .before .before in
+    read-kept (passed told) (rows n) (counted .count-below .ensures) (c .before .before .put-prints .ensures)
 
 returns-3 : tie.Need-returns-3
 returns-3 c =
@@ -60,6 +75,7 @@ read-rows-spec =
     returns
     read-rows-requires
     (λ c. search needs)
+    count-below-requires
     put-prints-requires
     (λ c. search needs)
     returns-2

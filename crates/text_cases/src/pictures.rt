@@ -273,8 +273,8 @@ pub fn is_agreed(list: &[u8], p: Reached, before: usize, document: bool) -> bool
         list,
         place,
         &picture[..n],
-        kinds::usage_at(usage.value as u8),
-        kinds::sign_clause_at(sign.value as u8),
+        kinds::usage_at((usage.value % 256) as u8),
+        kinds::sign_clause_at((sign.value % 256) as u8),
         document,
     );
     replay::is_whole(list, p)

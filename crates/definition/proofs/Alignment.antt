@@ -1,11 +1,11 @@
 -- One fact of alignment, over the width: what `fewest` gives is below the width, brings the place to a multiple of it,
 -- and is the smallest such number.
 -- Assumes nothing.
-use Prim.Native.Nat.{ℕ, zero, suc, ◌+◌, ◌*◌, ◌-◌, ◌/◌, ◌%◌, ◌≤◌, ◌<◌}
+use Prim.Native.Nat.{ℕ, zero, suc, ◌+◌, ◌-◌, ◌%◌, ◌≤◌, ◌<◌}
 use mathlib.Core.Path.{◌≡◌, refl, sym, ◌∙◌, ap}
 use mathlib.Core.Logic.{◌⊎◌, inl, inr, ⊎_elim}
 use native.Mathlib.Omega.{arith}
-use native.Mathlib.Nat.{mod-lt, mod-eq_of_lt, mod_self, add-mod, add-mod-mod, mod-add-mod, div-add-mod', zero-mod}
+use native.Mathlib.Nat.{mod-lt, mod-eq_of_lt, mod_self, mod-add-mod}
 use native.Mathlib.Nat.{sub-zero, add-zero}
 use Rattle.definition.specs.Basic.{fewest}
 use Rattle.definition.specs.Demand.{Fewest}

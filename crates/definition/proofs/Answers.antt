@@ -1,11 +1,11 @@
 -- Laws of answers: what a `do` that gave something, or was refused, went through.
 -- Assumes nothing.
 use Prim.Native.Nat.{ℕ}
-use mathlib.Core.Path.{◌≡◌, refl, sym, ◌∙◌, ap}
+use mathlib.Core.Path.{◌≡◌, refl, ap}
 use mathlib.Core.Bool.{Bool, true, false, ◌||◌}
 use native.Mathlib.Omega.{arith}
 use Rattle.definition.specs.declared.Refusal.{Refusal}
-use Rattle.definition.specs.Basic.{Answer, refuse, give, ◌>>=◌, refused, refuse_if}
+use Rattle.definition.specs.Basic.{Answer, refuse, give, ◌>>=◌, refuse_if}
 
 -- what was given is handed on, and a refusal stays
 pub give-next : {A B : Type 0} (a : A) (f : A → Answer B) → (give a >>= f) ≡ f a

@@ -20,7 +20,8 @@ use Rattle.definition.specs.declared.Said.TheVariants.{Before, Value, Literal}
 use Rattle.definition.specs.declared.Statement.{Statement}
 use Rattle.definition.specs.declared.ItemUsage.{ItemUsage}
 use Rattle.definition.specs.Limits.{most_statements}
-use Rattle.definition.specs.Basic.{if◌then◌else◌, Answer, give, ◌>>=◌, refuse_if}
+use Rattle.std.specs.Prelude.{if◌then◌else◌}
+use Rattle.definition.specs.Basic.{Answer, give, ◌>>=◌, refuse_if}
 use Rattle.definition.specs.Words.{byte_kind, next, completed, completed_end, seen, said_next, unless_open, tokens}
 use Rattle.definition.specs.Words.{on_first, sentences, statement_words}
 use Rattle.definition.specs.Statement.{named, statement, statements, outermost}

@@ -23,7 +23,8 @@ use Rattle.definition.specs.declared.Said.TheVariants.{Before, Value, Literal}
 use Rattle.definition.specs.declared.Token.{Token}
 use Rattle.definition.specs.declared.Token.TheVariants.{Word, Stop, Open}
 use Rattle.definition.specs.Limits.{most_bytes, least_work}
-use Rattle.definition.specs.Basic.{if◌then◌else◌, is, white, span, part, give, ◌>>=◌, refused}
+use Rattle.std.specs.Prelude.{if◌then◌else◌}
+use Rattle.definition.specs.Basic.{is, white, span, part, give, ◌>>=◌, refused}
 use Rattle.definition.specs.Words.{cut_here, ends, byte_kind, next, completed, completed_end, seen, said_next}
 use Rattle.definition.specs.Words.{unless_open, tokens, tokens_of, on_first, sentences, statement_words}
 use Rattle.definition.specs.Cards.{column_next, code_next, is_read, view_from, view, Form, free_text}
@@ -138,7 +139,7 @@ module _
         (m : Mode) (k : ByteKind) (p : ℕ) → p < length v → (stays_within k ≡ true → white (get_or v p 0) ≡ false) →
         SoFar p m →
         SoFar (p + 1) (next m p k)
-    so_far Dropped k p h w x = elim k [ Newline ↦ tt | Blank ↦ tt | Cut ↦ tt | Star ↦ tt | Period ↦ tt | Other ↦ tt ]
+    so_far Dropped k p h w x = elim k as (λ j. SoFar (p + 1) (next Dropped p j)) [ Newline ↦ tt | Blank ↦ tt | Cut ↦ tt | Star ↦ tt | Period ↦ tt | Other ↦ tt ]
     so_far Fresh Newline p h w x = tt
     so_far Fresh Blank p h w x = tt
     so_far Fresh Cut p h w x = tt
@@ -161,10 +162,12 @@ module _
     all-completed :
         (m : Mode) (k : ByteKind) (p : ℕ) (ts : List Token) → SoFar p m → AllSame ts → AllSame (completed m p k ++ ts)
     all-completed Dropped k p ts x a = a
-    all-completed Fresh k p ts x a = elim k [ Newline ↦ a | Blank ↦ a | Cut ↦ a | Star ↦ a | Period ↦ a | Other ↦ a ]
-    all-completed Between k p ts x a = elim k [ Newline ↦ a | Blank ↦ a | Cut ↦ a | Star ↦ a | Period ↦ a | Other ↦ a ]
+    all-completed Fresh k p ts x a =
+        elim k as (λ j. AllSame (completed Fresh p j ++ ts)) [ Newline ↦ a | Blank ↦ a | Cut ↦ a | Star ↦ a | Period ↦ a | Other ↦ a ]
+    all-completed Between k p ts x a =
+        elim k as (λ j. AllSame (completed Between p j ++ ts)) [ Newline ↦ a | Blank ↦ a | Cut ↦ a | Star ↦ a | Period ↦ a | Other ↦ a ]
     all-completed (Within s) k p ts x a =
-        elim k [
+        elim k as (λ j. AllSame (completed (Within s) p j ++ ts)) [
           | Newline ↦ (x.1, a)
           | Blank ↦ (x.1, a)
           | Cut ↦ (x.1, a)
@@ -177,7 +180,7 @@ module _
     all-open (Before n) k ts a = a
     all-open Value k ts a = a
     all-open (Literal mark at) k ts a =
-        elim k [ Newline ↦ tt | Blank ↦ a | Cut ↦ a | Star ↦ a | Period ↦ a | Other ↦ a ]
+        elim k as (λ j. AllSame (unless_open (Literal mark at) j ts)) [ Newline ↦ tt | Blank ↦ a | Cut ↦ a | Star ↦ a | Period ↦ a | Other ↦ a ]
 
     all_end : (m : Mode) (q : Said) (p : ℕ) → SoFar p m → AllSame (completed_end m p ++ unless_open q Newline [])
     all_end Dropped q p x = all-open q Newline [] tt

@@ -1,19 +1,18 @@
 -- The layout of a forest without REDEFINES and DEPENDING ON lays what the owner rule lays.
 -- Assumes nothing.
-use Prim.Native.Nat.{ℕ, zero, suc, ◌+◌, ◌*◌, ◌-◌, ◌/◌, ◌%◌, ◌≤◌, ◌<◌, max}
-use mathlib.Core.Path.{◌≡◌, refl, sym, ◌∙◌, ap, ap₂, subst}
-use mathlib.Core.Bool.{Bool, true, false, ◌&&◌, ◌||◌, not}
-use mathlib.Core.List.{List, [], ◌∷◌, ◌++◌}
-use mathlib.Core.Option.{Option, none, some}
+use Prim.Native.Nat.{ℕ, suc, ◌+◌, ◌*◌, ◌-◌, max}
+use mathlib.Core.Path.{◌≡◌, refl, sym, ◌∙◌, ap, ap₂}
+use mathlib.Core.Bool.{Bool, true, false, ◌&&◌}
+use mathlib.Core.List.{List, [], ◌∷◌}
 use native.Mathlib.Omega.{arith}
 use native.Mathlib.Nat.{add-zero, zero-add}
 use Rattle.definition.specs.declared.Pictured.{Pictured}
 use Rattle.definition.specs.declared.Statement.{Statement}
-use Rattle.definition.specs.declared.Entry.{Entry}
-use Rattle.definition.specs.Basic.{if◌then◌else◌, given, fewest, Answer, refuse, give, ◌>>=◌}
+use Rattle.std.specs.Prelude.{if◌then◌else◌}
+use Rattle.definition.specs.Basic.{given, fewest, give}
 use Rattle.definition.specs.Tree.{Forest, leaf, item}
-use Rattle.definition.specs.Fold.{Entries, end, entry, Place, place_of, times, total, entry_end, same_name}
-use Rattle.definition.specs.Fold.{redefiners, with_redefiners, fold_check, folded_list, folded_below, folded_all}
+use Rattle.definition.specs.Fold.{Entries, end, entry, Place, place_of, times, entry_end, same_name}
+use Rattle.definition.specs.Fold.{redefiners, fold_check, folded_list, folded_below, folded_all}
 use Rattle.definition.specs.Layout.{Laid, content, start, slack_from, entry_of, too_large, advance, shallow, lay}
 use Rattle.definition.specs.Record.{record_length, unfolded, layout}
 use Rattle.definition.specs.Owner.{slack, Piece, piece, extent, repeated, size, or_none, storage, is_aligned}

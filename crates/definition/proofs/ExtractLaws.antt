@@ -1,7 +1,7 @@
 -- Laws of the extract: the numbers that are looked at; the best of them fits, is the heaviest and the earliest; every
 -- choice has a number; and no choice that fits outweighs the items that fit alone.
 -- Assumes nothing.
-use Prim.Native.Nat.{ℕ, zero, suc, ◌+◌, ◌*◌, ◌-◌, ◌/◌, ◌%◌, ◌^◌, ◌≤◌, ◌<◌, min}
+use Prim.Native.Nat.{ℕ, zero, suc, ◌+◌, ◌*◌, ◌/◌, ◌%◌, ◌≤◌, ◌<◌, min}
 use mathlib.Core.Path.{◌≡◌, refl, sym, ◌∙◌, ap, subst}
 use mathlib.Core.Bool.{Bool, true, false, ◌&&◌, not}
 use mathlib.Core.List.{List, [], ◌∷◌, ◌++◌}
@@ -13,9 +13,10 @@ use lib.ListN.{length}
 use borrow.Author.Tests.{ltb-true, ltb-false, leb-true, leb-false, eqb-true, eqb-false, lt-ltb, le-ltb, le-leb}
 use Rattle.definition.specs.declared.Extract.{Extract}
 use Rattle.definition.specs.Limits.{most_items}
-use Rattle.definition.specs.Basic.{if◌then◌else◌, give}
+use Rattle.std.specs.Prelude.{if◌then◌else◌}
+use Rattle.definition.specs.Basic.{give}
 use Rattle.definition.specs.Demand.{Among}
-use Rattle.definition.specs.Extract.{Item, widths, items, bytes_of, weight_of, chosen, subsets#, up_from, examined}
+use Rattle.definition.specs.Extract.{Item, widths, items, bytes_of, weight_of, chosen, subsets#, up_from}
 use Rattle.definition.specs.Extract.{heavier, heaviest, alone, off_by, extract}
 use Rattle.definition.specs.Extracted.{Choice, none, with, without, LookedAt, Best, Extracted}
 use Rattle.definition.specs.Calls.{extract_of, extract_in, extract_answer}

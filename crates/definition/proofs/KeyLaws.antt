@@ -2,26 +2,26 @@
 -- copybook, and its kind and details are the same in all; and where all copybooks of a set have one key, it is
 -- answered.
 -- Assumes nothing.
-use Prim.Native.Nat.{ℕ, ◌+◌}
+use Prim.Native.Nat.{ℕ}
 use mathlib.Core.Path.{◌≡◌, refl, sym, ◌∙◌, ap, subst}
-use mathlib.Core.Bool.{Bool, true, false, ◌&&◌, ◌||◌, not}
+use mathlib.Core.Bool.{Bool, true, false, ◌||◌, not}
 use mathlib.Core.List.{List, [], ◌∷◌}
 use mathlib.Core.Option.{Option, none, some}
 use native.Mathlib.Omega.{arith}
 use lib.Dec.{eqb}
-use lib.ListN.{length, get_or, drop}
+use lib.ListN.{get_or, drop}
 use borrow.Author.Tests.{eqb-true, eq-eqb}
 use Rattle.definition.specs.declared.Occurs.{Occurs}
 use Rattle.definition.specs.declared.SignKind.{SignKind}
 use Rattle.definition.specs.declared.NumRepr.{NumRepr}
 use Rattle.definition.specs.declared.FieldKind.{FieldKind}
 use Rattle.definition.specs.declared.Entry.{Entry}
-use Rattle.definition.specs.Basic.{if◌then◌else◌, same, given, Answer, refuse, give, ◌>>=◌, refuse_if, or_refuse}
+use Rattle.std.specs.Prelude.{if◌then◌else◌}
+use Rattle.definition.specs.Basic.{same, given, give, ◌>>=◌, or_refuse}
 use Rattle.definition.specs.Fold.{Entries, end, entry, append}
 use Rattle.definition.specs.Record.{variable}
 use Rattle.definition.specs.Listing.{flag, sign_byte, storage_byte}
-use Rattle.definition.specs.Calls.{entries}
-use Rattle.definition.specs.Key.{is_named, Named, named, named_in, is_once, is_group, may_be_key, key_mask, Key, key_of}
+use Rattle.definition.specs.Key.{is_named, Named, named, named_in, is_once, is_group, may_be_key, Key, key_of}
 use Rattle.definition.specs.Key.{one_key, key_among, key_in, kind_details, same_key, agree, all_agree, common, keys_in}
 use Rattle.definition.specs.Key.{copybooks, is_set, key_of_texts, NoEntryNamed, IsKey, HasKey, AllHave, Shared}
 use Rattle.definition.proofs.Answers.{through, given-same, or-false}

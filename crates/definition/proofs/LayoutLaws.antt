@@ -1,23 +1,22 @@
 -- One step of the search for a name, of folding, of laying a sibling list, and of the record.
 -- Assumes nothing.
-use Prim.Native.Nat.{ℕ, zero, suc, max, ◌≤◌, ◌<◌}
+use Prim.Native.Nat.{ℕ, suc, max, ◌≤◌, ◌<◌}
 use mathlib.Core.Path.{◌≡◌, refl, ap}
-use mathlib.Core.Bool.{Bool, true, false, ◌||◌}
+use mathlib.Core.Bool.{true, false, ◌||◌}
 use mathlib.Core.List.{List, [], ◌∷◌}
-use mathlib.Core.Option.{Option, none, some}
-use lib.Dec.{ltb}
+use mathlib.Core.Option.{none, some}
 use borrow.Author.Tests.{lt-ltb, le-ltb}
 use Rattle.definition.specs.declared.Span.{Span}
 use Rattle.definition.specs.declared.Statement.{Statement}
 use Rattle.definition.specs.declared.Entry.{Entry}
 use Rattle.definition.specs.Limits.{largest}
-use Rattle.definition.specs.Basic.{given, Answer, give, ◌>>=◌, refused, refuse_if}
+use Rattle.definition.specs.Basic.{given, give, ◌>>=◌, refused, refuse_if}
 use Rattle.definition.specs.Tree.{Forest, leaf, item}
 use Rattle.definition.specs.Fold.{Entries, end, entry, append, total, entry_end}
 use Rattle.definition.specs.Fold.{same_name, same_spelling, Place, place_of, Search, one_more, search_back, find}
 use Rattle.definition.specs.Fold.{has_member, rebased, redefiners, widest, with_redefiners, fold_check}
 use Rattle.definition.specs.Fold.{folded_list, folded_below, folded_all}
-use Rattle.definition.specs.Layout.{shallow, content, start, slack_from, entry_of, too_large, advance, Laid, lay}
+use Rattle.definition.specs.Layout.{shallow, content, start, slack_from, entry_of, too_large, advance, lay}
 use Rattle.definition.specs.Record.{record_length, variable, ends_fit}
 
 module _ (text : List ℕ) where

@@ -11,7 +11,8 @@ use native.Mathlib.Omega.{arith}
 use lib.Dec.{leb, ltb}
 use lib.ListN.{length, get_or, drop, drop_of_length-le}
 use borrow.Author.Tests.{eq-eqb, ne_eqb, le-leb, lt-leb, le-ltb, ltb-true}
-use Rattle.definition.specs.Basic.{if◌then◌else◌, is, upper, uppers, digits, numeral, below, number}
+use Rattle.std.specs.Prelude.{if◌then◌else◌}
+use Rattle.definition.specs.Basic.{is, upper, uppers, digits, numeral, below, number}
 use Rattle.definition.proofs.Lists.{order, drop-next}
 
 -- the digits from i on, after n was read

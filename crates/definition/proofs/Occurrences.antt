@@ -13,7 +13,8 @@ use lib.Dec.{eqb}
 use Rattle.definition.specs.declared.Owner.{Owner}
 use Rattle.definition.specs.declared.Statement.{Statement}
 use Rattle.definition.specs.declared.Entry.{Entry}
-use Rattle.definition.specs.Basic.{if◌then◌else◌, Answer, give}
+use Rattle.std.specs.Prelude.{if◌then◌else◌}
+use Rattle.definition.specs.Basic.{Answer, give}
 use Rattle.definition.specs.Tree.{Forest, leaf, item}
 use Rattle.definition.specs.Fold.{Entries, end, entry, times, total}
 use Rattle.definition.specs.Layout.{entry_of}
@@ -60,6 +61,7 @@ module _ (width : ℕ) (one : ℕ → List Spot) (y : Spot) where
       let e : first + width + r.0 * width ≡ first + suc r.0 * width = omega (arith, suc-mul r.0 width) in
       (suc r.0, omega (arith, r.1), subst (λ (x : ℕ). Among y (one x)) e r.2))
       (among-append y (one first) (each n (first + width) width one) a)
+  each-out zero first a = elim a [ ]
 
 single-in : (k width : ℕ) (members : Entries) (start : ℕ) (y : Spot) (inner : List Spot) {P : Type 0} → (P → Among y inner) → Within k width members start y P → Among y (single k width members start inner)
 single-in k width end start y inner f w = inl w
@@ -68,6 +70,7 @@ single-in k width (entry e members later) start y inner f w = f w
 single-out : (k width : ℕ) (members : Entries) (start : ℕ) (y : Spot) (inner : List Spot) {P : Type 0} → (Among y inner → P) → Among y (single k width members start inner) → Within k width members start y P
 single-out k width end start y inner f (inl w) = w
 single-out k width (entry e members later) start y inner f a = f a
+single-out k width end start y inner {P = P} f (inr x3) = elim x3 [ ]
 
 abbrev is_slack : Holder → ℕ
 is_slack (occurrence j) = 0
@@ -78,6 +81,8 @@ different k m h = let x : ◌≡◌ {A = ℕ} 1 0 = ap is_slack h in omega arith
 
 gap-slack : (k first n m : ℕ) (b w : ℕ) {A : Type 0} → Among (spot (occurrence m) b w) (gap k first n) → A
 gap-slack k first (suc n) m b w (inl e) = absurd (different k m (ap (λ (x : Spot). x.holder) (sym e)))
+gap-slack k first zero m b w {A = A} x' = elim x' [ ]
+gap-slack k first (suc n) m b w {A = A} (inr x3) = elim x3 [ ]
 
 module _ (n first width : ℕ) where
   abbrev y : Spot
@@ -98,6 +103,7 @@ module _ (n first width : ℕ) where
       (single-in k e.width members c y (told (suc k) c 0 members) (ih c 0) r.2))))
       (λ (r : Occurs (suc k + entries# members) base later y). among-right y (before ++ own) rest (ihs r))
       o
+  occurs-told end k base reached o = elim o [ ]
 
   pub told-occurs : (es : Entries) (k base reached : ℕ) → Among y (told k base reached es) → Occurs k base es y
   unfolding Occurs told
@@ -118,6 +124,7 @@ module _ (n first width : ℕ) where
       (among-append y before own m))
       (λ (m : Among y rest). inr (ihs m))
       (among-append y (before ++ own) rest a)
+  told-occurs end k base reached a = elim a [ ]
 
 -- ---------------------------------------------------------------- owners
 
@@ -180,6 +187,8 @@ pub record Slackened (text : List ℕ) (first width : ℕ) : Type 0 where
 
 gap_at : (k b g : ℕ) (y : Spot) → Among y (gap k b g) → (y ≡ spot (slack k) b g) × (0 < g)
 gap_at k b (suc g) y (inl e) = (e, omega arith)
+gap_at k b zero y x' = elim x' [ ]
+gap_at k b (suc g) y (inr x3) = elim x3 [ ]
 
 module _ (n first width : ℕ) where
   abbrev z : Spot
@@ -188,6 +197,7 @@ module _ (n first width : ℕ) where
   single-slack : (k w : ℕ) (members : Entries) (c : ℕ) (inner : List Spot) → Among z (single k w members c inner) → Among z inner
   single-slack k w end c inner (inl e) = absurd (different n k (ap (λ (x : Spot). x.holder) e))
   single-slack k w (entry e members later) c inner a = a
+  single-slack k w end c inner (inr x'') = elim x'' [ ]
 
   module _ (text : List ℕ) where
     by-aligned :
@@ -240,6 +250,8 @@ module _ (n first width : ℕ) where
         (among-append z before own m))
         (λ (m : Among z rest). ihs m)
         (among-append z (before ++ own) rest a)
+    slack-stands leaf (entry e members others) k base reached t a = elim t [ ]
+    slack-stands (item s kids later) end k base reached t a = elim t [ ]
 
 -- ---------------------------------------------------------------- how many
 

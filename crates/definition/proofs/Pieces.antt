@@ -40,6 +40,9 @@ module _ (first : ℕ) (p : Piece) (ps : List Piece) (q : ℕ) where
 spot_of-at : (h : Holder) (b w : ℕ) (y : Spot) → Among y (spot_of h b w) → y ≡ spot h b w
 spot_of-at (occurrence k) b w y (inl e) = e
 spot_of-at (slack k) b (suc w) y (inl e) = e
+spot_of-at (occurrence k) b w y (inr x'') = elim x'' [ ]
+spot_of-at (slack k) b zero y x3 = elim x3 [ ]
+spot_of-at (slack k) b (suc w) y (inr x5) = elim x5 [ ]
 
 pub among-append : {A : Type 0} (y : A) (xs ys : List A) → Among y (xs ++ ys) → Among y xs ⊎ Among y ys
 among-append y [] ys a = inr a
@@ -49,6 +52,7 @@ among-append y (x ∷ xs) ys (inr a) = ⊎_elim (λ (m : Among y xs). inl (inr m
 pub among-left : {A : Type 0} (y : A) (xs ys : List A) → Among y xs → Among y (xs ++ ys)
 among-left y (x ∷ xs) ys (inl e) = inl e
 among-left y (x ∷ xs) ys (inr a) = inr (among-left y xs ys a)
+among-left {A = A} y [] ys x' = elim x' [ ]
 
 pub among-right : {A : Type 0} (y : A) (xs ys : List A) → Among y ys → Among y (xs ++ ys)
 among-right y [] ys a = a
@@ -61,6 +65,7 @@ laid-after (p ∷ ps) b y a =
     (λ (m : Among y (spot_of p.holder b p.width)). omega (arith, ap (λ (x : Spot). x.first) (spot_of-at p.holder b p.width y m)))
     (λ (m : Among y (spots (b + p.width) ps)). omega (arith, ih m))
     (among-append y (spot_of p.holder b p.width) (spots (b + p.width) ps) a)
+laid-after [] b y a = elim a [ ]
 
 pub laid-before : (ps : List Piece) (b : ℕ) (y : Spot) → Among y (spots b ps) → y.first + y.width ≤ b + extent ps
 laid-before (p ∷ ps) b y a =
@@ -69,6 +74,7 @@ laid-before (p ∷ ps) b y a =
     (λ (m : Among y (spot_of p.holder b p.width)). let e = spot_of-at p.holder b p.width y m in omega (arith, ap (λ (x : Spot). x.first) e, ap (λ (x : Spot). x.width) e))
     (λ (m : Among y (spots (b + p.width) ps)). omega (arith, ih m))
     (among-append y (spot_of p.holder b p.width) (spots (b + p.width) ps) a)
+laid-before [] b y a = elim a [ ]
 
 -- where there are bytes, they are listed
 spot_of-listed : (h : Holder) (b w : ℕ) → 0 < w → Among (spot h b w) (spot_of h b w)

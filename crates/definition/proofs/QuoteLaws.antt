@@ -3,7 +3,7 @@
 -- Assumes nothing.
 use Prim.Native.Nat.{ℕ, ◌+◌}
 use mathlib.Core.Path.{◌≡◌, refl, ◌∙◌, ap}
-use mathlib.Core.Bool.{Bool, true, false, ◌&&◌}
+use mathlib.Core.Bool.{true}
 use mathlib.Core.List.{List, [], ◌∷◌, ◌++◌, append-nil}
 use mathlib.Core.Option.{none}
 use Rattle.definition.specs.declared.ByteKind.{ByteKind}
@@ -63,9 +63,12 @@ same-words text h = ap sentences (same-tokens text text (Before 0) Fresh 0 h)
 first-completed : (ts : List Token) (m : Mode) (p : ℕ) (k : ByteKind) → first_open (completed m p k ++ ts) ≡ first_open ts
 unfolding first_open
 first-completed ts Dropped p k = refl
-first-completed ts Fresh p k = elim k [ Newline ↦ refl | Blank ↦ refl | Cut ↦ refl | Star ↦ refl | Period ↦ refl | Other ↦ refl ]
-first-completed ts Between p k = elim k [ Newline ↦ refl | Blank ↦ refl | Cut ↦ refl | Star ↦ refl | Period ↦ refl | Other ↦ refl ]
-first-completed ts (Within s) p k = elim k [ Newline ↦ refl | Blank ↦ refl | Cut ↦ refl | Star ↦ refl | Period ↦ refl | Other ↦ refl ]
+first-completed ts Fresh p k =
+    elim k as (λ j. first_open (completed Fresh p j ++ ts) ≡ first_open ts) [ Newline ↦ refl | Blank ↦ refl | Cut ↦ refl | Star ↦ refl | Period ↦ refl | Other ↦ refl ]
+first-completed ts Between p k =
+    elim k as (λ j. first_open (completed Between p j ++ ts) ≡ first_open ts) [ Newline ↦ refl | Blank ↦ refl | Cut ↦ refl | Star ↦ refl | Period ↦ refl | Other ↦ refl ]
+first-completed ts (Within s) p k =
+    elim k as (λ j. first_open (completed (Within s) p j ++ ts) ≡ first_open ts) [ Newline ↦ refl | Blank ↦ refl | Cut ↦ refl | Star ↦ refl | Period ↦ refl | Other ↦ refl ]
 
 first-end : (m : Mode) (p : ℕ) → first_open (completed_end m p) ≡ none
 unfolding first_open

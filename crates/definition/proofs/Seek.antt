@@ -1,21 +1,21 @@
 -- The owner found among the entries of the listing, with no piece laid, is the owner that the laid pieces have.
 -- Assumes nothing.
-use Prim.Native.Nat.{ℕ, zero, suc, ◌+◌, ◌*◌, ◌-◌, ◌/◌, ◌%◌, ◌≤◌, ◌<◌}
+use Prim.Native.Nat.{ℕ, suc, ◌+◌, ◌*◌, ◌-◌, ◌/◌, ◌%◌, ◌≤◌, ◌<◌}
 use mathlib.Core.Path.{◌≡◌, refl, sym, ◌∙◌, ap, ap₂}
-use mathlib.Core.Bool.{Bool, true, false, ◌&&◌}
+use mathlib.Core.Bool.{Bool, true, false}
 use mathlib.Core.List.{List, [], ◌∷◌, ◌++◌}
-use mathlib.Core.Logic.{◌⊎◌, inl, inr, ⊎_elim}
+use mathlib.Core.Logic.{⊎_elim}
 use native.Mathlib.Omega.{arith}
 use native.Mathlib.Nat.{add-zero, sub-zero, mod-lt}
-use lib.Dec.{ltb}
 use borrow.Author.Tests.{lt-ltb, le-ltb}
 use Rattle.definition.specs.declared.Statement.{Statement}
 use Rattle.definition.specs.declared.Entry.{Entry}
 use Rattle.definition.specs.declared.Owner.{Owner}
-use Rattle.definition.specs.Basic.{if◌then◌else◌, fewest}
+use Rattle.std.specs.Prelude.{if◌then◌else◌}
+use Rattle.definition.specs.Basic.{fewest}
 use Rattle.definition.specs.Tree.{Forest, leaf, item}
-use Rattle.definition.specs.Fold.{Entries, end, entry, times, total}
-use Rattle.definition.specs.Owner.{slack, occurrence, Piece, piece, extent, repeated, size, storage, is_aligned}
+use Rattle.definition.specs.Fold.{Entries, entry, times, total}
+use Rattle.definition.specs.Owner.{slack, occurrence, piece, extent, repeated, size, storage, is_aligned}
 use Rattle.definition.specs.Owner.{slack_before, once, laid_item, laid, owner_from}
 use Rattle.definition.specs.Placed.{entry_at, placed}
 use Rattle.definition.specs.Search.{entries#, start_in, place_in, inside, seek}

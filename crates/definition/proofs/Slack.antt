@@ -14,7 +14,8 @@ use Rattle.definition.specs.declared.SignClause.{SignClause}
 use Rattle.definition.specs.declared.FieldKind.{FieldKind}
 use Rattle.definition.specs.declared.Pictured.{Pictured}
 use Rattle.definition.specs.declared.Statement.{Statement}
-use Rattle.definition.specs.Basic.{if◌then◌else◌, given, part, Answer, refuse, give, ◌>>=◌, refuse_if}
+use Rattle.std.specs.Prelude.{if◌then◌else◌}
+use Rattle.definition.specs.Basic.{given, part, Answer, refuse, give, ◌>>=◌, refuse_if}
 use Rattle.definition.specs.Statement.{sign_of}
 use Rattle.definition.specs.Picture.{pictured, is_alignable, resolve_sign, is_embedded, is_text, is_masked, all_digits}
 use Rattle.definition.specs.Picture.{stored_digits, fraction, is_signed, storage_width, numeric, kinded, symbols}

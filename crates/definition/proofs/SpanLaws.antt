@@ -22,7 +22,8 @@ use Rattle.definition.specs.declared.Step.TheVariants.{Go, Fail}
 use Rattle.definition.specs.declared.Statement.{Statement}
 use Rattle.definition.specs.declared.Entry.{Entry}
 use Rattle.definition.specs.Limits.{most_statements}
-use Rattle.definition.specs.Basic.{if◌then◌else◌, absent, given, uppers, part, count, Answer, refuse, give, ◌>>=◌}
+use Rattle.std.specs.Prelude.{if◌then◌else◌}
+use Rattle.definition.specs.Basic.{absent, given, uppers, part, count, Answer, refuse, give, ◌>>=◌}
 use Rattle.definition.specs.Basic.{refused, refuse_if}
 use Rattle.definition.specs.Tree.{Forest, leaf, item, above, not_above, forest, fields}
 use Rattle.definition.specs.Usages.{inheriting, inherit, inherited, record_of}

@@ -1,19 +1,18 @@
 -- One step of the reading of a statement's clauses, of a statement, and of the list of statements.
 -- Assumes nothing.
-use Prim.Native.Nat.{ℕ, zero, suc, ◌≤◌, ◌<◌}
+use Prim.Native.Nat.{ℕ, suc, ◌≤◌, ◌<◌}
 use mathlib.Core.Path.{◌≡◌, refl}
 use mathlib.Core.List.{List, [], ◌∷◌}
-use mathlib.Core.Option.{Option, none, some}
+use mathlib.Core.Option.{none, some}
 use borrow.Author.Tests.{eq-eqb, ne_eqb, le-leb, lt-leb}
 use Rattle.definition.specs.declared.Span.{Span}
 use Rattle.definition.specs.declared.Clauses.{Clauses}
 use Rattle.definition.specs.declared.Expect.{Expect}
-use Rattle.definition.specs.declared.Step.{Step}
 use Rattle.definition.specs.declared.Step.TheVariants.{Go, Fail}
 use Rattle.definition.specs.declared.Statement.{Statement}
 use Rattle.definition.specs.declared.Refusal.{Refusal}
 use Rattle.definition.specs.Limits.{most_statements}
-use Rattle.definition.specs.Basic.{uppers, absent, part, number, Answer, refuse, give, ◌>>=◌, refused}
+use Rattle.definition.specs.Basic.{uppers, absent, part, number, refuse, give, ◌>>=◌, refused}
 use Rattle.definition.specs.Statement.{no_clauses, step, finish, clauses, statement_of, named, statement}
 use Rattle.definition.specs.Statement.{statements}
 

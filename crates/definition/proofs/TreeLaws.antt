@@ -1,17 +1,15 @@
 -- Laws of the forest: one step of each definition; and a list of statements, or an index range of it, splits into a
 -- statement, its children and the rest.
 -- Assumes nothing.
-use Prim.Native.Nat.{ℕ, zero, suc, ◌+◌, ◌-◌, ◌≤◌, ◌<◌}
-use mathlib.Core.Path.{◌≡◌, refl, sym, ◌∙◌, ap, ap₂}
-use mathlib.Core.Bool.{Bool, true, false}
-use mathlib.Core.List.{List, [], ◌∷◌, ◌++◌}
+use Prim.Native.Nat.{ℕ, suc, ◌+◌, ◌≤◌, ◌<◌}
+use mathlib.Core.Path.{◌≡◌, refl, ◌∙◌, ap, ap₂}
+use mathlib.Core.List.{List, [], ◌∷◌}
 use native.Mathlib.Omega.{arith}
-use lib.Dec.{ltb}
 use lib.ListN.{length, get_or, take, drop}
 use lib.Seq.{slice, slice-cons, take-take, drop-drop, length-slice}
 use borrow.Author.Tests.{lt-ltb, le-ltb}
 use Rattle.definition.specs.declared.Statement.{Statement}
-use Rattle.definition.specs.Tree.{Forest, leaf, item, above, not_above, adopt, forest, higher, fields}
+use Rattle.definition.specs.Tree.{Forest, leaf, item, above, not_above, forest, higher, fields}
 use Rattle.definition.proofs.Lists.{tested, take-drop}
 
 -- ---------------------------------------------------------------- one step

@@ -8,7 +8,7 @@ use mathlib.Core.Path.{◌≡◌, refl, sym, ap, ap₂, subst, ◌∙◌}
 use mathlib.Core.Bool.{Bool, true, false, ◌&&◌, ◌||◌, not}
 use mathlib.Core.List.{List, [], ◌∷◌, map}
 use mathlib.Core.Option.{Option, none, some}
-use lib.Dec.{eqb, leb, ltb}
+use lib.Dec.{eqb, leb}
 use Rattle.definition.specs.declared.Span.{Span}
 use Rattle.definition.specs.declared.Usage.{Usage}
 use Rattle.definition.specs.declared.ItemUsage.{ItemUsage}
@@ -25,7 +25,8 @@ use Rattle.definition.specs.declared.Step.TheVariants.{Go, Fail}
 use Rattle.definition.specs.declared.Pictured.{Pictured}
 use Rattle.definition.specs.declared.Statement.{Statement}
 use Rattle.definition.specs.Limits.{most_statements}
-use Rattle.definition.specs.Basic.{if◌then◌else◌, bytes, same, uppers, given, part, digits, number, count}
+use Rattle.std.specs.Prelude.{if◌then◌else◌}
+use Rattle.definition.specs.Basic.{bytes, same, uppers, part, digits, number, count}
 use Rattle.definition.specs.Basic.{Answer, refuse, give, ◌>>=◌, refused, refuse_if, or_refuse}
 use Rattle.definition.specs.Words.{statement_words}
 use Rattle.definition.specs.Statement.{key, Spelling, spellings, pick, meaning, keyword_of, clauses_of, no_clauses}
@@ -37,7 +38,7 @@ use Rattle.definition.specs.Statement.{finish, clauses, usage_of, outermost, sta
 use Rattle.definition.specs.Statement.{statements}
 use Rattle.definition.specs.Tree.{Forest, leaf, item, above, not_above, forest, fields}
 use Rattle.definition.specs.Usages.{inheriting, inherit, inherited, record_of}
-use Rattle.definition.specs.Fold.{Entries, entry, Place, place_of, entry_end, fold_check, folded_all}
+use Rattle.definition.specs.Fold.{entry, Place, place_of, entry_end, fold_check, folded_all}
 use Rattle.definition.specs.Layout.{shallow, under_usage, content, start, slack_from, entry_of, too_large, advance}
 use Rattle.definition.specs.Layout.{Laid, lay}
 use Rattle.definition.specs.Record.{ends_fit, unfolded, layout}

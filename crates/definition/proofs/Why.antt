@@ -15,7 +15,8 @@ use Rattle.definition.specs.declared.Pictured.{Pictured}
 use Rattle.definition.specs.declared.Statement.{Statement}
 use Rattle.definition.specs.declared.Entry.{Entry}
 use Rattle.definition.specs.declared.Reason.{Reason}
-use Rattle.definition.specs.Basic.{if◌then◌else◌, same, uppers, absent, given, Answer, give, ◌>>=◌, refused}
+use Rattle.std.specs.Prelude.{if◌then◌else◌}
+use Rattle.definition.specs.Basic.{same, uppers, absent, given, Answer, give, ◌>>=◌, refused}
 use Rattle.definition.specs.Basic.{refuse_if, or_refuse}
 use Rattle.definition.specs.Tree.{Forest, leaf, item}
 use Rattle.definition.specs.Fold.{Entries, end, entry, append, reserved, entry_end, name_of, same_name, Place}
@@ -31,7 +32,7 @@ use Rattle.definition.specs.Demand.{Starts, aligned, Among}
 use Rattle.definition.specs.Reasons.{reason, after, slack_of, over, inside, latest, plain, has_name, or_first}
 use Rattle.definition.specs.Reasons.{placing, own, Chain, chain, chains, chain_at, flat, numbered, reasons_in}
 use Rattle.definition.specs.Reasons.{reasons_bytes}
-use Rattle.definition.specs.Explained.{NoneHas, Latest, Turn, Because, Explains, added, is_placing, placings#}
+use Rattle.definition.specs.Explained.{Latest, Turn, Because, Explains, added, is_placing, placings#}
 use Rattle.definition.specs.Explained.{insides, every, from_start, placed_for, groups_around, Reasoned, Explained}
 use Rattle.definition.proofs.Lists.{order}
 use Rattle.definition.proofs.WordLaws.{same-equal, same_self}
@@ -340,6 +341,8 @@ module _ (text : List ℕ) where
       ∙ ap₂ ◌++◌
       (sums kids members [] (inside e ∷ reasons) x.2 ∙ ap (λ (n : ℕ). from_start n members) below)
       (sums later others (e ∷ seen) outward x.3))
+  sums leaf (entry e members others) seen outward x = elim x [ ]
+  sums (item s kids later) end seen outward x = elim x [ ]
 
   -- a placing reason, and no other, is of kind 1, 2 or 4
   abbrev Placing : Reason → Type 0
@@ -709,6 +712,8 @@ module _ (text : List ℕ) where
             (λ n p h. (h.0, inr (among-right h.0 below after-it h.1), h.2, h.3)) others (added outward)
             (chains-all later others outward (e ∷ seen) x.3),
       )
+  chains-all leaf (entry e members others) outward seen x = elim x [ ]
+  chains-all (item s kids later) end outward seen x = elim x [ ]
 
   -- the chains stand in the order of the statements
   abbrev pub starts : List Chain → List ℕ
@@ -731,10 +736,13 @@ module _ (text : List ℕ) where
       (starts-append (chains text (inside e ∷ reasons) [] members) (chains text outward (e ∷ seen) others)
       ∙ ap₂ ◌++◌ (chains-begin kids members [] (inside e ∷ reasons) x.2)
       (chains-begin later others (e ∷ seen) outward x.3))
+  chains-begin leaf (entry e members others) seen outward x = elim x [ ]
+  chains-begin (item s kids later) end seen outward x = elim x [ ]
 
   among-from : (cs : List Chain) (n : ℕ) (c : Chain) → Rises n (starts cs) → Among c cs → n ≤ c.at
   among-from (d ∷ cs) n c r (inl e) = omega (arith, r.0, ap (λ (x : Chain). x.at) e)
   among-from (d ∷ cs) n c r (inr a) = omega (arith, r.0, among-from cs (suc d.at) c r.1 a)
+  among-from [] n c r x'' = elim x'' [ ]
 
   one-chain :
       (cs : List Chain) (n : ℕ) (c d : Chain) →
@@ -749,6 +757,7 @@ module _ (text : List ℕ) where
   one-chain (x ∷ cs) n c d r (inr a) (inl g) q =
       absurd (omega (arith, among-from cs (suc x.at) c r.1 a, ap (λ (y : Chain). y.at) g, q))
   one-chain (x ∷ cs) n c d r (inr a) (inr b) q = one-chain cs (suc x.at) c d r.1 a b q
+  one-chain [] n c d r x4 _ q = elim x4 [ ]
 
   -- so the search for a statement's chain finds it
   pub chain-of :
@@ -762,6 +771,7 @@ module _ (text : List ℕ) where
   chain-of (d ∷ cs) n c r (inr a) =
       rw (ne_eqb c.at d.at (λ q. omega (arith, among-from cs (suc d.at) c r.1 a, q)), chain_at)
       (chain-of cs (suc d.at) c r.1 a)
+  chain-of [] n c r x'' = elim x'' [ ]
 
   -- ---------------------------------------------------------------- the answer
 

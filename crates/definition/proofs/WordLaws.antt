@@ -17,7 +17,8 @@ use Rattle.definition.specs.declared.Said.{Said}
 use Rattle.definition.specs.declared.Said.TheVariants.{Before, Value, Literal}
 use Rattle.definition.specs.declared.Token.{Token}
 use Rattle.definition.specs.declared.Token.TheVariants.{Word, Stop, Open}
-use Rattle.definition.specs.Basic.{if◌then◌else◌, is, white, same, span, part}
+use Rattle.std.specs.Prelude.{if◌then◌else◌}
+use Rattle.definition.specs.Basic.{is, white, same, span, part}
 use Rattle.definition.specs.Words.{cut_here, ends, byte_kind, next, up_to, completed, completed_end, seen, marked}
 use Rattle.definition.specs.Words.{is_value, heard, said_next, unless_open, tokens, first_open, first_words, after_stop}
 use Rattle.definition.specs.Words.{on_first, sentences}

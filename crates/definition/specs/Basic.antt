@@ -1,7 +1,7 @@
 -- Bytes, numbers, spans and answers: the small words of every stage. A text is the list of its bytes, and a byte is a
 -- number below 256.
 -- Assumes nothing.
-use Rattle.std.specs.Prelude.{ℕ, zero, suc, ◌+◌, ◌*◌, ◌-◌, ◌/◌, ◌%◌, Bool, true, false, ◌&&◌, ◌||◌, List, [], ◌∷◌, ◌++◌, map, eqb, leb, ltb, take, drop}
+use Rattle.std.specs.Prelude.{if◌then◌else◌, ℕ, ◌+◌, ◌*◌, ◌-◌, ◌/◌, ◌%◌, Bool, true, false, ◌&&◌, ◌||◌, List, [], ◌∷◌, ◌++◌, map, eqb, leb, ltb, take, drop}
 use Prim.Native.Char.{Char, code}
 use Prim.Native.String.{String, [] as ε, ◌∷◌ as ◌∷ᶜ◌}
 use Rattle.std.proofs.Math.Option.{Option, none, some}
@@ -9,11 +9,6 @@ use Rattle.definition.specs.declared.Refusal.{Refusal}
 use Rattle.definition.specs.declared.Span.{Span}
 
 -- ---------------------------------------------------------------- tests
-
-infixr 0 if◌then◌else◌
-abbrev pub if◌then◌else◌ : {A : Type 0} → Bool → A → A → A
-if true then a else b = a
-if false then a else b = b
 
 -- the bytes of a quoted text
 abbrev pub bytes : String → List ℕ

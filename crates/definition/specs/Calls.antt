@@ -3,7 +3,7 @@
 -- answers and leaves. Checks run in the order of document 01's table, and then of document 02's; a line of a `do` is a
 -- check or a stage.
 -- Assumes nothing.
-use Rattle.std.specs.Prelude.{ℕ, zero, suc, ◌+◌, Bool, true, false, ◌&&◌, ◌||◌, not, List, [], ◌∷◌, ◌++◌, eqb, ltb, length, drop, replicate}
+use Rattle.std.specs.Prelude.{ℕ, ◌+◌, Bool, ◌&&◌, ◌||◌, not, List, [], ◌∷◌, ◌++◌, eqb, ltb, length, drop, replicate, if◌then◌else◌}
 use Rattle.std.proofs.Math.Option.{Option, none, some}
 use Rattle.definition.specs.declared.Statement.{Statement}
 use Rattle.definition.specs.declared.Usage.{Usage}
@@ -18,7 +18,7 @@ use Rattle.definition.specs.declared.Writing.{Writing}
 use Rattle.definition.specs.declared.OwnerAnswer.{OwnerAnswer}
 use Rattle.definition.specs.declared.Check.{Check}
 use Rattle.definition.specs.Limits.{most_bytes, least_work, most_items}
-use Rattle.definition.specs.Basic.{if◌then◌else◌, Answer, refuse, give, ◌>>=◌, refused, refuse_if}
+use Rattle.definition.specs.Basic.{Answer, refuse, give, ◌>>=◌, refused, refuse_if}
 use Rattle.definition.specs.Words.{tokens_of, first_open, statement_words}
 use Rattle.definition.specs.Cards.{view, first_other, Form, free_text, card_text}
 use Rattle.definition.specs.Statement.{statements}

@@ -6,9 +6,9 @@
 -- Departures from COBOL: no line continues another (51); `D` drops a line whatever the program says of debugging; a
 -- tab is one column; in columns 8 to 72 the rules of free text hold, for a line whose first non-blank there is `*` too.
 -- Assumes nothing.
-use Rattle.std.specs.Prelude.{ℕ, ◌+◌, Bool, true, false, ◌&&◌, ◌||◌, not, List, [], ◌∷◌, eqb, leb}
+use Rattle.std.specs.Prelude.{ℕ, ◌+◌, Bool, true, false, ◌&&◌, ◌||◌, not, List, [], ◌∷◌, eqb, leb, if◌then◌else◌}
 use Rattle.std.proofs.Math.Option.{Option, none, some}
-use Rattle.definition.specs.Basic.{if◌then◌else◌, among}
+use Rattle.definition.specs.Basic.{among}
 
 abbrev pub indicator_column : ℕ
 indicator_column = 7

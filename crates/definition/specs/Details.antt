@@ -1,10 +1,10 @@
 -- The details of the listing's entries, an answer of our own: what the listing does not show of them. Each entry has 47
 -- bytes, in the order of the listing. Numbers are little-endian, 4 bytes unless said.
 -- Assumes nothing.
-use Rattle.std.specs.Prelude.{ℕ, suc, ◌+◌, max, ◌≡◌, true, false, List, [], ◌∷◌, ◌++◌, ltb}
+use Rattle.std.specs.Prelude.{ℕ, suc, ◌+◌, max, ◌≡◌, true, false, List, [], ◌∷◌, ◌++◌, ltb, if◌then◌else◌}
 use Rattle.std.proofs.Math.Option.{Option, none, some}
 use Rattle.definition.specs.declared.Entry.{Entry}
-use Rattle.definition.specs.Basic.{if◌then◌else◌, given, le4, le8}
+use Rattle.definition.specs.Basic.{given, le4, le8}
 use Rattle.definition.specs.Fold.{Entries, end, entry}
 use Rattle.definition.specs.Layout.{advance}
 use Rattle.definition.specs.Listing.{flag, span_bytes}

@@ -1,13 +1,13 @@
 -- What holds of the reasons of every accepted copybook, free text or cards (`explained`, of the proofs, keeps it): each
 -- is the one by which the layout rules placed the item, and they add up to its offset from the record start.
 -- Assumes nothing.
-use Rattle.std.specs.Prelude.{ℕ, suc, ◌+◌, ◌≡◌, Bool, true, false, ◌||◌, List, [], ◌∷◌, ◌++◌, ◌⊎◌, eqb, get_or}
+use Rattle.std.specs.Prelude.{ℕ, suc, ◌+◌, ◌≡◌, Bool, true, false, ◌||◌, List, [], ◌∷◌, ◌++◌, ◌⊎◌, eqb, get_or, if◌then◌else◌}
 use Rattle.std.proofs.Math.Option.{none, some}
 use Rattle.definition.specs.declared.Span.{Span}
 use Rattle.definition.specs.declared.Statement.{Statement}
 use Rattle.definition.specs.declared.Entry.{Entry}
 use Rattle.definition.specs.declared.Reason.{Reason}
-use Rattle.definition.specs.Basic.{if◌then◌else◌, absent, given, give, ◌>>=◌, refused}
+use Rattle.definition.specs.Basic.{absent, given, give, ◌>>=◌, refused}
 use Rattle.definition.specs.Tree.{Forest, leaf, item}
 use Rattle.definition.specs.Fold.{Entries, end, entry, reserved, folded_all}
 use Rattle.definition.specs.Record.{unfolded}

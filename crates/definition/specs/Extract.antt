@@ -1,10 +1,9 @@
 -- An extract that fits: of the record's top-level items, each with a weight, the heaviest choice whose reserved widths
 -- sum to at most a limit, among as many subsets as a budget lets be looked at.
 -- Assumes nothing.
-use Rattle.std.specs.Prelude.{ℕ, zero, suc, ◌+◌, ◌-◌, ◌/◌, ◌%◌, ◌^◌, min, Bool, true, false, ◌&&◌, List, [], ◌∷◌, ◌++◌, eqb, leb, ltb, length}
+use Rattle.std.specs.Prelude.{ℕ, zero, suc, ◌+◌, ◌-◌, ◌/◌, ◌%◌, ◌^◌, min, Bool, true, false, ◌&&◌, List, [], ◌∷◌, ◌++◌, eqb, leb, ltb, length, if◌then◌else◌}
 use Rattle.definition.specs.declared.Extract.{Extract}
 use Rattle.definition.specs.Limits.{least_weight, most_weight}
-use Rattle.definition.specs.Basic.{if◌then◌else◌}
 use Rattle.definition.specs.Fold.{Entries, end, entry, reserved}
 
 -- ---------------------------------------------------------------- items

@@ -1,7 +1,7 @@
 -- What an extract is worth, as one statement (`extracted`, of the proofs, keeps it): the answer fits and is the
 -- heaviest fitting choice among those looked at, and no choice there is outweighs it by more than the answer says.
 -- Assumes nothing.
-use Rattle.std.specs.Prelude.{ℕ, suc, ◌+◌, ◌≤◌, ◌<◌, ◌≡◌, false, List, [], ◌∷◌, length}
+use Rattle.std.specs.Prelude.{ℕ, ◌+◌, ◌≤◌, ◌<◌, ◌≡◌, false, List, [], ◌∷◌, length}
 use Rattle.definition.specs.declared.Extract.{Extract}
 use Rattle.definition.specs.Limits.{most_items}
 use Rattle.definition.specs.Basic.{give}

@@ -1,14 +1,14 @@
 -- Entries of the listing, and folding: each base stands with the entries that redefine it in one group:
 -- `fold_redefines`, `rebase` and `is_synthetic_union` of the Rust, odd corners included.
 -- Assumes nothing.
-use Rattle.std.specs.Prelude.{ℕ, zero, suc, ◌+◌, ◌*◌, ◌-◌, max, Bool, true, false, List, [], ◌∷◌, ltb}
+use Rattle.std.specs.Prelude.{ℕ, suc, ◌+◌, ◌*◌, ◌-◌, max, Bool, true, false, List, [], ◌∷◌, ltb, if◌then◌else◌}
 use Rattle.std.proofs.Math.Option.{Option, none, some}
 use Rattle.definition.specs.declared.Span.{Span}
 use Rattle.definition.specs.declared.Occurs.{Occurs}
 use Rattle.definition.specs.declared.FieldKind.{FieldKind}
 use Rattle.definition.specs.declared.Entry.{Entry}
-use Rattle.definition.specs.Basic.{if◌then◌else◌, bytes, same, uppers, absent, given, part, Answer, refuse, give}
-use Rattle.definition.specs.Basic.{◌>>=◌, refused, refuse_if}
+use Rattle.definition.specs.Basic.{bytes, same, uppers, absent, given, part, Answer, give}
+use Rattle.definition.specs.Basic.{◌>>=◌, refuse_if}
 
 -- ---------------------------------------------------------------- entries
 

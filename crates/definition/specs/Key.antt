@@ -1,7 +1,7 @@
 -- One key for a family of records: the column of one name that each copybook of a set has in the same place, so that
 -- their records are sorted by it. Names, places and kinds are those of the folded listings.
 -- Assumes nothing.
-use Rattle.std.specs.Prelude.{ℕ, ◌≡◌, Bool, true, false, ◌&&◌, ◌||◌, not, List, [], ◌∷◌, eqb, leb, length, take, drop}
+use Rattle.std.specs.Prelude.{ℕ, ◌≡◌, Bool, true, false, ◌&&◌, ◌||◌, not, List, [], ◌∷◌, eqb, leb, length, take, drop, if◌then◌else◌}
 use Rattle.std.proofs.Math.Option.{Option, none, some}
 use Rattle.definition.specs.declared.Span.{Span}
 use Rattle.definition.specs.declared.Occurs.{Occurs}
@@ -10,7 +10,7 @@ use Rattle.definition.specs.declared.FieldKind.{FieldKind}
 use Rattle.definition.specs.declared.Entry.{Entry}
 use Rattle.definition.specs.declared.KeyAnswer.{KeyAnswer}
 use Rattle.definition.specs.Limits.{longest_mask, fewest_in_set, most_in_set}
-use Rattle.definition.specs.Basic.{if◌then◌else◌, same, uppers, absent, given, part, sum}
+use Rattle.definition.specs.Basic.{same, uppers, absent, given, part, sum}
 use Rattle.definition.specs.Basic.{Answer, refuse, give, ◌>>=◌, refuse_if, or_refuse}
 use Rattle.definition.specs.Fold.{Entries, end, entry, append, name_of}
 use Rattle.definition.specs.Record.{variable}

@@ -5,8 +5,7 @@
 -- Departures from COBOL: alignment restarts in each group; 8-byte binary items align to 8, IBM's to 4; a REDEFINES may
 -- name any earlier sibling, and is not aligned; slack is not added between the occurrences of a group.
 -- Assumes nothing.
-use Rattle.std.specs.Prelude.{ℕ, zero, suc, ◌+◌, ◌*◌, ◌-◌, max, Bool, true, false, ◌&&◌, ◌||◌, not, List, [], ◌∷◌, ltb}
-use Rattle.std.proofs.Math.Option.{Option, none, some}
+use Rattle.std.specs.Prelude.{ℕ, suc, ◌+◌, ◌*◌, ◌-◌, max, Bool, false, ◌&&◌, ◌||◌, not, List, [], ◌∷◌, ltb, if◌then◌else◌}
 use Rattle.definition.specs.declared.Usage.{Usage}
 use Rattle.definition.specs.declared.ItemUsage.{ItemUsage}
 use Rattle.definition.specs.declared.FieldKind.{FieldKind}
@@ -14,12 +13,12 @@ use Rattle.definition.specs.declared.Pictured.{Pictured}
 use Rattle.definition.specs.declared.Statement.{Statement}
 use Rattle.definition.specs.declared.Entry.{Entry}
 use Rattle.definition.specs.Limits.{deepest, largest}
-use Rattle.definition.specs.Basic.{if◌then◌else◌, given, part, fewest, Answer, refuse, give, ◌>>=◌, refused}
+use Rattle.definition.specs.Basic.{given, part, fewest, Answer, give, ◌>>=◌}
 use Rattle.definition.specs.Basic.{refuse_if, or_refuse}
 use Rattle.definition.specs.Statement.{sign_of}
 use Rattle.definition.specs.Tree.{Forest, leaf, item}
 use Rattle.definition.specs.Picture.{pictured, is_alignable, picture}
-use Rattle.definition.specs.Fold.{Entries, end, entry, times, total, reserved, entry_end, Place, place_of, find}
+use Rattle.definition.specs.Fold.{Entries, end, entry, times, total, entry_end, Place, place_of, find}
 use Rattle.definition.specs.Fold.{fold_check}
 
 -- 20: a list too deep, at its first statement; record fields are depth 0

@@ -1,7 +1,7 @@
 -- The bytes of the layout listing: one byte of kind, then a body whose length the kind fixes. Numbers are
 -- little-endian, 4 bytes unless said.
 -- Assumes nothing.
-use Rattle.std.specs.Prelude.{ℕ, zero, suc, ◌+◌, Bool, true, false, List, [], ◌∷◌, ◌++◌}
+use Rattle.std.specs.Prelude.{ℕ, suc, Bool, true, false, List, [], ◌∷◌, ◌++◌}
 use Rattle.definition.specs.declared.Span.{Span}
 use Rattle.definition.specs.declared.Occurs.{Occurs}
 use Rattle.definition.specs.declared.SignKind.{SignKind}

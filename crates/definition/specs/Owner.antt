@@ -4,12 +4,12 @@
 -- multiple of its width. Then each item is laid count times: an elementary item as one piece of its width, a group as
 -- its whole list, slack and all. With OCCURS 0 no piece is laid, but the slack stays.
 -- Assumes nothing.
-use Rattle.std.specs.Prelude.{ℕ, zero, suc, ◌+◌, ◌-◌, Bool, true, false, ◌&&◌, ◌||◌, List, [], ◌∷◌, ◌++◌, ltb, take, drop}
+use Rattle.std.specs.Prelude.{ℕ, zero, suc, ◌+◌, ◌-◌, Bool, false, ◌&&◌, ◌||◌, List, [], ◌∷◌, ◌++◌, ltb, take, drop, if◌then◌else◌}
 use Rattle.definition.specs.declared.FieldKind.{FieldKind}
 use Rattle.definition.specs.declared.Pictured.{Pictured}
 use Rattle.definition.specs.declared.Statement.{Statement}
 use Rattle.definition.specs.declared.Owner.{Owner}
-use Rattle.definition.specs.Basic.{if◌then◌else◌, given, fewest, Answer, refuse, give}
+use Rattle.definition.specs.Basic.{given, fewest, Answer, refuse, give}
 use Rattle.definition.specs.Tree.{Forest, leaf, item}
 use Rattle.definition.specs.Picture.{pictured, is_alignable}
 use Rattle.definition.specs.Fold.{times}

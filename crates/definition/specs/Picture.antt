@@ -5,7 +5,7 @@
 -- P holds no byte: the storage width counts digits without it, the edited width the mask without it (A.3).
 -- Departures from COBOL: symbols may stand in any order and number; P is a fraction digit wherever it stands.
 -- Assumes nothing.
-use Rattle.std.specs.Prelude.{ℕ, zero, suc, ◌+◌, ◌-◌, ◌/◌, max, Bool, true, false, ◌&&◌, ◌||◌, not, List, [], ◌∷◌, ◌++◌, reverse, eqb, leb, ltb, length, replicate}
+use Rattle.std.specs.Prelude.{ℕ, zero, suc, ◌+◌, ◌-◌, ◌/◌, max, Bool, true, false, ◌&&◌, ◌||◌, not, List, [], ◌∷◌, ◌++◌, reverse, eqb, leb, ltb, length, replicate, if◌then◌else◌}
 use Prim.Native.String.{String}
 use Rattle.std.proofs.Math.Option.{Option, none, some}
 use Rattle.definition.specs.declared.Usage.{Usage}
@@ -15,8 +15,8 @@ use Rattle.definition.specs.declared.NumRepr.{NumRepr}
 use Rattle.definition.specs.declared.FieldKind.{FieldKind}
 use Rattle.definition.specs.declared.Pictured.{Pictured}
 use Rattle.definition.specs.Limits.{most_symbols, most_digits, longest_mask}
-use Rattle.definition.specs.Basic.{if◌then◌else◌, is, among, white, upper, count, Answer, refuse, give, ◌>>=◌}
-use Rattle.definition.specs.Basic.{refused, refuse_if, or_refuse}
+use Rattle.definition.specs.Basic.{is, among, white, upper, count, Answer, give, ◌>>=◌}
+use Rattle.definition.specs.Basic.{refuse_if, or_refuse}
 
 -- ---------------------------------------------------------------- repeats
 

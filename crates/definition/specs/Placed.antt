@@ -1,7 +1,7 @@
 -- The entries as the owner rule places them: an entry's offset is the place that its sibling list has reached after the
 -- earlier items and the entry's own slack, and a group is as wide as its list laid once.
 -- Assumes nothing.
-use Rattle.std.specs.Prelude.{ℕ, zero, suc, ◌+◌, List}
+use Rattle.std.specs.Prelude.{ℕ, suc, ◌+◌, List}
 use Rattle.definition.specs.declared.FieldKind.{FieldKind}
 use Rattle.definition.specs.declared.Pictured.{Pictured}
 use Rattle.definition.specs.declared.Statement.{Statement}

@@ -1,12 +1,12 @@
 -- The chain of reasons of an entry: how the layout rules placed the statement behind it, from its own list outward.
 -- Reasons name items as the copybook has them before folding. `Explained` says what holds of them.
 -- Assumes nothing.
-use Rattle.std.specs.Prelude.{ℕ, zero, suc, Bool, not, List, [], ◌∷◌, ◌++◌, eqb}
+use Rattle.std.specs.Prelude.{ℕ, zero, suc, Bool, not, List, [], ◌∷◌, ◌++◌, eqb, if◌then◌else◌}
 use Rattle.std.proofs.Math.Option.{Option, none, some}
 use Rattle.definition.specs.declared.Span.{Span}
 use Rattle.definition.specs.declared.Entry.{Entry}
 use Rattle.definition.specs.declared.Reason.{Reason}
-use Rattle.definition.specs.Basic.{if◌then◌else◌, absent, given, le4, Answer, give, ◌>>=◌, or_refuse}
+use Rattle.definition.specs.Basic.{absent, given, le4, Answer, give, ◌>>=◌, or_refuse}
 use Rattle.definition.specs.Tree.{Forest}
 use Rattle.definition.specs.Fold.{Entries, end, entry, entry_end, same_name, folded_all}
 use Rattle.definition.specs.Record.{unfolded}

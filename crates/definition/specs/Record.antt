@@ -1,9 +1,8 @@
 -- The record: its folded top list, its length, and whether it is variable: `parse` and `from_fields` of the Rust.
 -- Assumes nothing.
-use Rattle.std.specs.Prelude.{ℕ, max, Bool, true, false, ◌||◌, List, [], ltb}
-use Rattle.definition.specs.declared.Entry.{Entry}
+use Rattle.std.specs.Prelude.{ℕ, max, Bool, false, ◌||◌, List, [], ltb}
 use Rattle.definition.specs.Limits.{largest}
-use Rattle.definition.specs.Basic.{given, Answer, refuse, give, ◌>>=◌, refuse_if}
+use Rattle.definition.specs.Basic.{given, Answer, give, ◌>>=◌, refuse_if}
 use Rattle.definition.specs.Tree.{Forest}
 use Rattle.definition.specs.Fold.{Entries, end, entry, entry_end, fold_check, folded_all}
 use Rattle.definition.specs.Layout.{lay}

@@ -2,10 +2,9 @@
 -- entries, and by a walk over their rows. (`Seek` and `Walk`, of the proofs, say that both find the owner that the laid
 -- pieces have.)
 -- Assumes nothing.
-use Rattle.std.specs.Prelude.{ℕ, zero, suc, ◌+◌, ◌*◌, ◌-◌, ◌/◌, ◌%◌, Bool, true, false, List, [], ◌∷◌, ◌++◌, eqb, ltb}
+use Rattle.std.specs.Prelude.{ℕ, zero, suc, ◌+◌, ◌*◌, ◌-◌, ◌/◌, ◌%◌, List, [], ◌∷◌, ◌++◌, eqb, ltb, if◌then◌else◌}
 use Rattle.definition.specs.declared.Entry.{Entry}
 use Rattle.definition.specs.declared.Owner.{Owner}
-use Rattle.definition.specs.Basic.{if◌then◌else◌}
 use Rattle.definition.specs.Fold.{Entries, end, entry, times, total}
 
 -- how many entries a list has, with those below them

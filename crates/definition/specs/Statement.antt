@@ -5,7 +5,7 @@
 -- Departures from COBOL: words that begin no clause are passed over; a clause said again replaces the earlier one; a
 -- bare PIC or REDEFINES at the end takes an earlier one back; levels 66 and 77 are levels like any other.
 -- Assumes nothing.
-use Rattle.std.specs.Prelude.{ℕ, zero, suc, Bool, true, false, ◌&&◌, ◌||◌, List, [], ◌∷◌, eqb, leb}
+use Rattle.std.specs.Prelude.{ℕ, suc, Bool, true, false, ◌||◌, List, [], ◌∷◌, eqb, leb, if◌then◌else◌}
 use Prim.Native.String.{String}
 use Rattle.std.proofs.Math.Option.{Option, none, some}
 use Rattle.definition.specs.declared.Span.{Span}
@@ -26,8 +26,8 @@ use Rattle.definition.specs.declared.Step.{Step}
 use Rattle.definition.specs.declared.Step.TheVariants.{Go, Fail}
 use Rattle.definition.specs.declared.Statement.{Statement}
 use Rattle.definition.specs.Limits.{most_statements}
-use Rattle.definition.specs.Basic.{if◌then◌else◌, bytes, same, uppers, absent, part, number, count, Answer}
-use Rattle.definition.specs.Basic.{refuse, give, ◌>>=◌, refused, refuse_if, or_refuse}
+use Rattle.definition.specs.Basic.{bytes, same, uppers, absent, part, number, count, Answer}
+use Rattle.definition.specs.Basic.{give, ◌>>=◌, refused, refuse_if, or_refuse}
 
 -- ---------------------------------------------------------------- keywords
 

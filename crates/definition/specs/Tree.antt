@@ -3,10 +3,9 @@
 -- first of no higher level. Departure from COBOL: siblings may have different levels, and a level may be any number
 -- below 256.
 -- Assumes nothing.
-use Rattle.std.specs.Prelude.{ℕ, suc, ◌+◌, Bool, true, false, List, [], ◌∷◌, ◌++◌, ltb, length}
+use Rattle.std.specs.Prelude.{ℕ, suc, ◌+◌, List, [], ◌∷◌, ◌++◌, ltb, length, if◌then◌else◌}
 use Rattle.definition.specs.declared.ItemUsage.{ItemUsage}
 use Rattle.definition.specs.declared.Statement.{Statement}
-use Rattle.definition.specs.Basic.{if◌then◌else◌}
 
 -- a list of siblings: nothing, or a statement with the list of its children and the list of its later siblings
 pub data Forest : Type 0 where

@@ -2,7 +2,7 @@
 -- usage alone, as in the Rust; and the test on a copybook under which they are those of `Calls` (`UngroupedLaws`, of
 -- the proofs, says so): no group names a usage, no DISPLAY stands after another usage word, and no word names a float.
 -- Assumes nothing.
-use Rattle.std.specs.Prelude.{ℕ, suc, Bool, true, false, ◌&&◌, ◌||◌, not, List, [], ◌∷◌, eqb, leb}
+use Rattle.std.specs.Prelude.{ℕ, suc, Bool, true, false, ◌&&◌, ◌||◌, not, List, [], ◌∷◌, eqb, leb, if◌then◌else◌}
 use Prim.Native.String.{String}
 use Rattle.std.proofs.Math.Option.{Option, none, some}
 use Rattle.definition.specs.declared.Span.{Span}
@@ -15,7 +15,7 @@ use Rattle.definition.specs.declared.Expect.TheVariants.{Clause}
 use Rattle.definition.specs.declared.Step.TheVariants.{Go, Fail}
 use Rattle.definition.specs.declared.Statement.{Statement}
 use Rattle.definition.specs.Limits.{most_statements}
-use Rattle.definition.specs.Basic.{if◌then◌else◌, uppers, absent, part, number, Answer, refuse, give, ◌>>=◌}
+use Rattle.definition.specs.Basic.{uppers, absent, part, number, Answer, refuse, give, ◌>>=◌}
 use Rattle.definition.specs.Basic.{refused, refuse_if, or_refuse}
 use Rattle.definition.specs.Words.{statement_words}
 use Rattle.definition.specs.Statement.{key, no_clauses, step, finish, statement_of}

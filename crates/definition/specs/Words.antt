@@ -8,7 +8,7 @@
 -- Departures from COBOL: white space inside a literal separates words; a quote or an apostrophe before VALUE is a byte
 -- like any other.
 -- Assumes nothing.
-use Rattle.std.specs.Prelude.{ℕ, zero, suc, ◌+◌, ◌-◌, Bool, true, false, ◌&&◌, ◌||◌, List, [], ◌∷◌, ◌++◌, eqb, leb}
+use Rattle.std.specs.Prelude.{ℕ, ◌+◌, ◌-◌, Bool, true, false, ◌&&◌, ◌||◌, List, [], ◌∷◌, ◌++◌, eqb, leb, if◌then◌else◌}
 use Rattle.std.proofs.Math.Option.{Option, none, some}
 use Rattle.definition.specs.declared.Span.{Span}
 use Rattle.definition.specs.declared.ByteKind.{ByteKind}
@@ -19,7 +19,7 @@ use Rattle.definition.specs.declared.Said.{Said}
 use Rattle.definition.specs.declared.Said.TheVariants.{Before, Value, Literal}
 use Rattle.definition.specs.declared.Token.{Token}
 use Rattle.definition.specs.declared.Token.TheVariants.{Word, Stop, Open}
-use Rattle.definition.specs.Basic.{if◌then◌else◌, bytes, is, among, starts, white, same, uppers, span, part}
+use Rattle.definition.specs.Basic.{bytes, is, among, starts, white, same, uppers, span, part}
 
 -- ---------------------------------------------------------------- bytes
 

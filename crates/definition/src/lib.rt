@@ -1,6 +1,8 @@
 // The types that the definition speaks of, and that the code hands from one stage to the next. A place in the copybook
 // text is a span, its first byte and its length; length 0 means absent.
 
+#![tactic(auto)]
+
 // The limits that the rules name, as `specs/Limits` has them.
 pub const MOST_BYTES: usize = 65535;
 
@@ -30,7 +32,7 @@ pub const FEWEST_IN_SET: usize = 2;
 
 pub const MOST_IN_SET: usize = 16;
 
-#[derive(Drop)]
+#[derive(Clone, Copy)]
 pub struct Span {
     pub start: usize,
     pub len: usize,
@@ -38,7 +40,7 @@ pub struct Span {
 
 // What a byte of the text is to the reader, by itself and the bytes after it: the end of a line, other white space, the
 // beginning of `*>`, any other `*`, a period that ends a statement, or any other byte.
-#[derive(Drop)]
+#[derive(Clone, Copy)]
 pub enum ByteKind {
     Newline,
     Blank,
@@ -50,7 +52,7 @@ pub enum ByteKind {
 
 // Where the reader is: before the first non-blank of a line, between words, in what is dropped of a line, or in a word
 // since a position.
-#[derive(Drop)]
+#[derive(Clone, Copy)]
 pub enum Mode {
     Fresh,
     Between,
@@ -61,7 +63,7 @@ pub enum Mode {
 // What a statement has said so far, as far as its literals go: this many words, 2 standing for more, and no VALUE from
 // the third on; VALUE, so that a quote or an apostrophe opens a literal; or a literal is open, with this mark at this
 // position.
-#[derive(Drop)]
+#[derive(Clone, Copy)]
 pub enum Said {
     Before(u8),
     Value,
@@ -69,7 +71,7 @@ pub enum Said {
 }
 
 // A word, the period that ends a statement, or the opening mark of a literal that its line does not close.
-#[derive(Drop)]
+#[derive(Clone, Copy)]
 pub enum Token {
     Word(Span),
     Stop,
@@ -77,7 +79,7 @@ pub enum Token {
 }
 
 // The usage that a picture is read with.
-#[derive(Drop)]
+#[derive(Clone, Copy)]
 pub enum Usage {
     Display,
     Comp3,
@@ -85,7 +87,7 @@ pub enum Usage {
 }
 
 // The usage of an item: one that its picture is read with, or that of a float, which has no picture.
-#[derive(Drop)]
+#[derive(Clone, Copy)]
 pub enum ItemUsage {
     Picture(Usage),
     Comp1,
@@ -93,13 +95,13 @@ pub enum ItemUsage {
 }
 
 // What a statement says of the usage: nothing, or one of the five.
-#[derive(Drop)]
+#[derive(Clone, Copy)]
 pub enum UsageClause {
     Absent,
     Given(ItemUsage),
 }
 
-#[derive(Drop)]
+#[derive(Clone, Copy)]
 pub enum SignKind {
     Unsigned,
     Embedded,
@@ -108,27 +110,27 @@ pub enum SignKind {
 }
 
 // The sign that a picture is read with: none, or one of the four.
-#[derive(Drop)]
+#[derive(Clone, Copy)]
 pub enum SignClause {
     Absent,
     Given(SignKind),
 }
 
 // What a statement says of the sign: nothing, or whether LEADING and SEPARATE were said.
-#[derive(Drop)]
+#[derive(Clone, Copy)]
 pub enum SignWords {
     Absent,
     Said { leading: bool, separate: bool },
 }
 
-#[derive(Drop)]
+#[derive(Clone, Copy)]
 pub enum NumRepr {
     Display,
     Comp3,
     Zoned,
 }
 
-#[derive(Drop)]
+#[derive(Clone, Copy)]
 pub enum FieldKind {
     Text,
     Int {
@@ -156,21 +158,21 @@ pub enum FieldKind {
 }
 
 // What an item holds, and the bytes of one occurrence.
-#[derive(Drop)]
+#[derive(Clone, Copy)]
 pub struct Pictured {
     pub kind: FieldKind,
     pub width: usize,
 }
 
 // An item without OCCURS stands once.
-#[derive(Drop)]
+#[derive(Clone, Copy)]
 pub enum Occurs {
     Once,
     Times(u64),
 }
 
 // What the clauses of a statement say.
-#[derive(Drop)]
+#[derive(Clone, Copy)]
 pub struct Clauses {
     pub picture: Span,
     pub usage: UsageClause,
@@ -182,7 +184,7 @@ pub struct Clauses {
 }
 
 // The clause that a word begins, where one may begin.
-#[derive(Drop)]
+#[derive(Clone, Copy)]
 pub enum Keyword {
     Picture,
     Redefines,
@@ -203,7 +205,7 @@ pub enum Keyword {
 // DEPENDING or a clause; a TO bound; TIMES, DEPENDING or a clause; DEPENDING or a clause; ON or a name; a name; IS or a
 // clause after USAGE; IS or the word of SIGN; the word of SIGN; LEFT, RIGHT or a clause after SYNC; nothing after
 // VALUE.
-#[derive(Drop)]
+#[derive(Clone, Copy)]
 pub enum Expect {
     Clause,
     IsPicture,
@@ -224,7 +226,7 @@ pub enum Expect {
 }
 
 // A word of a statement leads on to what is expected next and the clauses so far, or is refused with a number.
-#[derive(Drop)]
+#[derive(Clone, Copy)]
 pub enum Step {
     Go(Expect, Clauses),
     Fail(u32),
@@ -232,7 +234,7 @@ pub enum Step {
 
 // A kept statement; `at` is the first byte of its first word. `usage` is the usage that holds for it: its own, or else
 // that of the nearest group above it that names one; its clauses have the one that it names.
-#[derive(Drop)]
+#[derive(Clone, Copy)]
 pub struct Statement {
     pub level: u8,
     pub at: usize,
@@ -244,7 +246,7 @@ pub struct Statement {
 // An entry of the listing. `at` and `level` are its statement's; `over` is its REDEFINES as the statement has it, which
 // the listing leaves out of a member of a fold; `slack` counts the slack bytes directly before it; `folded` is true of
 // a group made by folding.
-#[derive(Drop)]
+#[derive(Clone, Copy)]
 pub struct Entry {
     pub at: usize,
     pub level: u8,
@@ -263,7 +265,7 @@ pub struct Entry {
 
 // Why an item stands where it does: the reason's kind, 1 to 5, the name of the item that it names, or none, and the
 // bytes that it adds.
-#[derive(Drop)]
+#[derive(Clone, Copy)]
 pub struct Reason {
     pub kind: u8,
     pub name: Span,
@@ -273,7 +275,7 @@ pub struct Reason {
 // What a byte of a record belongs to: a piece, that is one occurrence of the elementary item whose entry has that
 // number, with the piece's first byte in the record and the byte's place inside it; slack before the entry of that
 // number; or nothing.
-#[derive(Drop)]
+#[derive(Clone, Copy)]
 pub enum Owner {
     Piece {
         entry: usize,
@@ -288,7 +290,7 @@ pub enum Owner {
 
 // A choice among the top-level items: the number of the subset, its weight, how many subsets were looked at, and by how
 // much the best choice there is may outweigh it at most.
-#[derive(Drop)]
+#[derive(Clone, Copy)]
 pub struct Extract {
     pub subset: usize,
     pub weight: usize,
@@ -297,7 +299,7 @@ pub struct Extract {
 }
 
 // Why a call is turned down: document 01's number, a position, and the length that the output should have had.
-#[derive(Drop)]
+#[derive(Clone, Copy)]
 pub struct Refusal {
     pub number: u32,
     pub position: usize,
@@ -305,7 +307,7 @@ pub struct Refusal {
 }
 
 // The answer of the picture entry.
-#[derive(Drop)]
+#[derive(Clone, Copy)]
 pub enum PicAnswer {
     Accepted(Pictured),
     Refused(Refusal),
@@ -313,7 +315,7 @@ pub enum PicAnswer {
 
 // What is written of a copybook's record: the layout listing, the details of its entries, or the reasons of the entry
 // of that number.
-#[derive(Drop)]
+#[derive(Clone, Copy)]
 pub enum Report {
     Listing,
     Details,
@@ -321,14 +323,14 @@ pub enum Report {
 }
 
 // The answer of an entry that writes bytes: how many.
-#[derive(Drop)]
+#[derive(Clone, Copy)]
 pub enum Writing {
     Written(usize),
     Refused(Refusal),
 }
 
 // The answer of the byte owner.
-#[derive(Drop)]
+#[derive(Clone, Copy)]
 pub enum OwnerAnswer {
     Piece {
         entry: usize,
@@ -342,21 +344,21 @@ pub enum OwnerAnswer {
 }
 
 // The answer of the extract.
-#[derive(Drop)]
+#[derive(Clone, Copy)]
 pub enum ExtractAnswer {
     Chosen(Extract),
     Refused(Refusal),
 }
 
 // The answer of a key for a set of copybooks.
-#[derive(Drop)]
+#[derive(Clone, Copy)]
 pub enum KeyAnswer {
     Key { offset: usize, width: usize },
     Refused(Refusal),
 }
 
 // The answer of a check: the entry's own checks, and the record check.
-#[derive(Drop)]
+#[derive(Clone, Copy)]
 pub enum Check {
     Passed,
     Refused(Refusal),

@@ -1,7 +1,7 @@
 -- The catches that document 01 marks (m), its worked example, and the examples and limits of document 02's requests, as
 -- one table with one theorem: antt computes the definition at each row.
 -- Assumes nothing.
-use Rattle.std.specs.Prelude.{ℕ, zero, suc, ◌+◌, ◌*◌, ◌-◌, ◌≡◌, refl, Bool, true, false, ◌&&◌, List, [], ◌∷◌, ◌++◌, T, eqb, ltb, length}
+use Rattle.std.specs.Prelude.{ℕ, zero, suc, ◌+◌, ◌*◌, ◌-◌, ◌≡◌, refl, Bool, true, false, ◌&&◌, List, [], ◌∷◌, ◌++◌, T, eqb, ltb, length, if◌then◌else◌}
 use Prim.Native.Char.{code}
 use Prim.Native.String.{String, [] as ε, ◌∷◌ as ◌∷ᶜ◌}
 use Rattle.std.proofs.Math.Option.{Option, none, some}
@@ -12,16 +12,15 @@ use Rattle.definition.specs.declared.NumRepr.{NumRepr}
 use Rattle.definition.specs.declared.FieldKind.{FieldKind}
 use Rattle.definition.specs.declared.FieldKind.TheVariants.{Text, Int, Binary, Decimal, Edited, Group, Float}
 use Rattle.definition.specs.declared.Pictured.{Pictured}
-use Rattle.definition.specs.declared.Entry.{Entry}
 use Rattle.definition.specs.declared.Owner.{Owner}
 use Rattle.definition.specs.declared.Extract.{Extract}
 use Rattle.definition.specs.declared.Span.{Span}
-use Rattle.definition.specs.Basic.{if◌then◌else◌, bytes, among, given, same, span, absent, le4, le8}
+use Rattle.definition.specs.Basic.{bytes, among, given, same, span, absent, le4, le8}
 use Rattle.definition.specs.Basic.{Answer, refuse, give, ◌>>=◌}
 use Rattle.definition.specs.Tree.{Forest, leaf, item}
 use Rattle.definition.specs.Fold.{Entries, end, entry, Place, search_back}
 use Rattle.definition.specs.Record.{record_length, variable}
-use Rattle.definition.specs.Listing.{flag, span_bytes, kind_byte, details, members#}
+use Rattle.definition.specs.Listing.{flag, span_bytes, kind_byte, details}
 use Rattle.definition.specs.Cards.{Form, free_text, card_text}
 use Rattle.definition.specs.Calls.{entries, layout_listing, layout_details, picture_answer, picture_mask, byte_owner}
 use Rattle.definition.specs.Calls.{record_fields, entry_reasons, extract_answer, indicator_check, called}

@@ -1,11 +1,10 @@
 -- The numbers of a kind, and the kind of its numbers. The listing's numbers of kinds, signs and storages are the
 -- definition's (`Listing`).
 -- Assumes nothing.
-use Rattle.std.specs.Prelude.{ℕ, ◌+◌, ◌*◌, ◌/◌, ◌%◌, ◌<◌, eqb}
+use Rattle.std.specs.Prelude.{ℕ, ◌+◌, ◌*◌, ◌/◌, ◌%◌, ◌<◌, eqb, if◌then◌else◌}
 use Rattle.definition.specs.declared.SignKind.{SignKind}
 use Rattle.definition.specs.declared.NumRepr.{NumRepr}
 use Rattle.definition.specs.declared.FieldKind.{FieldKind}
-use Rattle.definition.specs.Basic.{if◌then◌else◌}
 use Rattle.definition.specs.Listing.{flag, sign_byte, storage_byte}
 use Rattle.kinds.specs.declared.KindNumbers.{KindNumbers}
 

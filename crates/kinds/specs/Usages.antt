@@ -1,12 +1,11 @@
 -- The numbers of usages and of what is said of a sign; a clause that is not there is 0, any other its number and 1.
 -- Assumes nothing.
-use Rattle.std.specs.Prelude.{ℕ, suc, ◌-◌, ◌+◌, true, false, eqb}
+use Rattle.std.specs.Prelude.{ℕ, ◌-◌, ◌+◌, true, false, eqb, if◌then◌else◌}
 use Rattle.definition.specs.declared.Usage.{Usage}
 use Rattle.definition.specs.declared.ItemUsage.{ItemUsage}
 use Rattle.definition.specs.declared.UsageClause.{UsageClause}
 use Rattle.definition.specs.declared.SignClause.{SignClause}
 use Rattle.definition.specs.declared.SignWords.{SignWords}
-use Rattle.definition.specs.Basic.{if◌then◌else◌}
 use Rattle.kinds.specs.Kinds.{sign_at}
 
 -- a picture's usage: 0 DISPLAY, 1 COMP-3, 2 COMP

@@ -1,5 +1,7 @@
 // The numbers of kinds, signs, storages and usages, both ways. What the listing writes, what a row holds and what C is
 // handed are these; no other crate has a number of its own for them. Leans on `definition`.
+#![tactic(auto)]
+
 ghost use Rattle.std.specs.Prelude.{◌≡◌, ◌≤◌};
 ghost use Rattle.definition.specs.Listing.{flag, sign_byte, storage_byte, kind_byte};
 ghost use Rattle.definition.specs.Picture.{is_alignable};
@@ -85,7 +87,7 @@ pub fn storage_at(n: u8) -> NumRepr
 // ---------------------------------------------------------------- kinds
 
 // A kind's own number, and those of what it holds, each 0 where it has none; a float's precision is its bits.
-#[derive(Drop)]
+#[derive(Clone, Copy)]
 pub struct KindNumbers {
     pub kind: u8,
     pub signed: u8,

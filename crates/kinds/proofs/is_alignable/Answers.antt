@@ -1,6 +1,4 @@
 -- `kinds::is_alignable` meets its contract: the number of a kind tells.
--- Assumes nothing.
-use borrow.Author.Rules.{rules}
 use Prim.Native.Nat.{ℕ}
 use mathlib.Core.Path.{◌≡◌, refl, sym, ap, ◌∙◌}
 use mathlib.Core.Bool.{Bool, true, ◌||◌}
@@ -9,8 +7,7 @@ use borrow.Author.Tests.{ne_eqb}
 use Rattle.definition.specs.declared.FieldKind.{FieldKind}
 use Rattle.definition.specs.Listing.{kind_byte}
 use Rattle.definition.specs.Picture.{is_alignable}
-use Rattle.kinds.proofs.is_alignable.Statement.{statement}
-use Rattle.kinds.proofs.is_alignable.Tie as tie
+use Rattle.kinds.proofs.is_alignable.Goals as goal
 
 -- 3 or 7
 abbrev tells : ℕ → Bool
@@ -31,11 +28,8 @@ binary k e h = ap tells (sym h ∙ e) ∙ told k
 other : (k : FieldKind) {n : ℕ} → n ≡ kind_byte k → (n ≡ 3 → ⊥) → eqb n 7 ≡ is_alignable k
 other k {n} e h = ap (λ (b : Bool). b || eqb n 7) (sym (ne_eqb n 3 h)) ∙ ap tells e ∙ told k
 
-returns : tie.Need-returns
-returns c = search binary
+pub returns-then-n-eq3 : goal.returns-then-n-eq3
+returns-then-n-eq3 c = search binary
 
-returns-2 : tie.Need-returns-2
-returns-2 c = search other
-
-pub is-alignable-spec : {M : Type 1} → statement M
-is-alignable-spec = tie.close (tie.spec (λ c κs. search rules) returns returns-2)
+pub returns : goal.returns
+returns c = search other

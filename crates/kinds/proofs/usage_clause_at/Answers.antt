@@ -1,14 +1,11 @@
 -- `kinds::usage_clause_at` meets its contract, number by number.
--- Assumes nothing.
-use borrow.Author.Rules.{rules}
 use Prim.Native.Nat.{ℕ, ◌-◌}
 use mathlib.Core.Path.{◌≡◌}
 use borrow.Author.Tests.{ne_eqb}
 use Rattle.definition.specs.declared.ItemUsage.{ItemUsage}
 use Rattle.definition.specs.declared.UsageClause.{UsageClause}
 use Rattle.kinds.specs.Usages.{item_usage_at, usage_clause_at}
-use Rattle.kinds.proofs.usage_clause_at.Statement.{statement}
-use Rattle.kinds.proofs.usage_clause_at.Tie as tie
+use Rattle.kinds.proofs.usage_clause_at.Goals as goal
 
 module _ {n : ℕ} where
   none : n ≡ 0 → UsageClause.Absent ≡ usage_clause_at n
@@ -17,11 +14,8 @@ module _ {n : ℕ} where
   some : (n ≡ 0 → ⊥) → {u : ItemUsage} → u ≡ item_usage_at (n - 1) → UsageClause.Given u ≡ usage_clause_at n
   some h e = rw (ne_eqb n 0 h, e)
 
-returns : tie.Need-returns
-returns c = search none
+pub returns-then-n-eq0 : goal.returns-then-n-eq0
+returns-then-n-eq0 c = search none
 
-returns-2 : tie.Need-returns-2
-returns-2 c = search some
-
-pub usage-clause-at-spec : {M : Type 1} → statement M
-usage-clause-at-spec = tie.close (tie.spec returns (λ c. search rules) (λ c κs. search rules) returns-2)
+pub returns : goal.returns
+returns c = search some

@@ -1,6 +1,4 @@
 -- `kinds::kind_of` meets its contract, number by number.
--- Assumes nothing.
-use borrow.Author.Rules.{rules}
 use mathlib.Core.Path.{◌≡◌}
 use lib.Dec.{eqb}
 use borrow.Author.Tests.{ne_eqb}
@@ -9,8 +7,7 @@ use Rattle.definition.specs.declared.NumRepr.{NumRepr}
 use Rattle.definition.specs.declared.FieldKind.{FieldKind}
 use Rattle.kinds.specs.declared.KindNumbers.{KindNumbers}
 use Rattle.kinds.specs.Kinds.{sign_at, storage_at, kind_of}
-use Rattle.kinds.proofs.kind_of.Statement.{statement}
-use Rattle.kinds.proofs.kind_of.Tie as tie
+use Rattle.kinds.proofs.kind_of.Goals as goal
 
 module _ (n : KindNumbers) where
   text : n.kind ≡ 1 → FieldKind.Text ≡ kind_of n
@@ -49,38 +46,23 @@ module _ (n : KindNumbers) where
         ne_eqb n.kind 7 f,
       )
 
-returns : tie.Need-returns
-returns c = search text
+pub returns-then-kind-eq1 : goal.returns-then-kind-eq1
+returns-then-kind-eq1 c = search text
 
-returns-2 : tie.Need-returns-2
-returns-2 c = search int
+pub returns-then-kind-eq2 : goal.returns-then-kind-eq2
+returns-then-kind-eq2 c = search int
 
-returns-3 : tie.Need-returns-3
-returns-3 c = search binary
+pub returns-then-kind-eq3 : goal.returns-then-kind-eq3
+returns-then-kind-eq3 c = search binary
 
-returns-4 : tie.Need-returns-4
-returns-4 c = search decimal
+pub returns-then-kind-eq4 : goal.returns-then-kind-eq4
+returns-then-kind-eq4 c = search decimal
 
-returns-5 : tie.Need-returns-5
-returns-5 c = search edited
+pub returns-then-kind-eq5 : goal.returns-then-kind-eq5
+returns-then-kind-eq5 c = search edited
 
-returns-6 : tie.Need-returns-6
-returns-6 c = search float
+pub returns-then-kind-eq7 : goal.returns-then-kind-eq7
+returns-then-kind-eq7 c = search float
 
-returns-7 : tie.Need-returns-7
-returns-7 c = search group
-
-pub kind-of-spec : {M : Type 1} → statement M
-kind-of-spec =
-    tie.close
-    (tie.spec
-    returns
-    (λ c κs. search rules)
-    returns-2
-    returns-3
-    (λ c κs. search rules)
-    (λ c κs. search rules)
-    returns-4
-    returns-5
-    returns-6
-    returns-7)
+pub returns : goal.returns
+returns c = search group

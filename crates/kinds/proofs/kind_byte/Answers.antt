@@ -1,13 +1,10 @@
 -- `kinds::kind_byte` meets its contract: a kind's own number is the listing's.
--- Assumes nothing.
-use borrow.Author.Rules.{rules}
 use mathlib.Core.Path.{◌≡◌, refl, ap, ◌∙◌}
 use Rattle.definition.specs.declared.FieldKind.{FieldKind}
 use Rattle.definition.specs.Listing.{kind_byte}
 use Rattle.kinds.specs.declared.KindNumbers.{KindNumbers}
 use Rattle.kinds.specs.Kinds.{numbers_of}
-use Rattle.kinds.proofs.kind_byte.Statement.{statement}
-use Rattle.kinds.proofs.kind_byte.Tie as tie
+use Rattle.kinds.proofs.kind_byte.Goals as goal
 
 own : (k : FieldKind) → (numbers_of k).kind ≡ kind_byte k
 own FieldKind.Text = refl
@@ -21,8 +18,5 @@ own (FieldKind.Float b) = refl
 said : (k : FieldKind) {n : KindNumbers} → n ≡ numbers_of k → n.kind ≡ kind_byte k
 said k e = ap (λ (x : KindNumbers). x.kind) e ∙ own k
 
-returns : tie.Need-returns
+pub returns : goal.returns
 returns c = search said
-
-pub kind-byte-spec : {M : Type 1} → statement M
-kind-byte-spec = tie.close (tie.spec (λ c κs. search rules) returns)

@@ -1,6 +1,4 @@
 -- `kinds::numbers_of` meets its contract, kind by kind.
--- Assumes nothing.
-use borrow.Author.Rules.{rules}
 use Prim.Native.Nat.{ℕ}
 use mathlib.Core.Path.{◌≡◌}
 use mathlib.Core.Bool.{Bool}
@@ -9,8 +7,7 @@ use Rattle.definition.specs.declared.NumRepr.{NumRepr}
 use Rattle.definition.specs.declared.FieldKind.{FieldKind}
 use Rattle.definition.specs.Listing.{flag, sign_byte, storage_byte}
 use Rattle.kinds.specs.Kinds.{kind_numbers, numbers_of}
-use Rattle.kinds.proofs.numbers_of.Statement.{statement}
-use Rattle.kinds.proofs.numbers_of.Tie as tie
+use Rattle.kinds.proofs.numbers_of.Goals as goal
 
 module _ {k : FieldKind} where
   text : k ≡ FieldKind.Text → kind_numbers 1 0 0 0 0 0 ≡ numbers_of k
@@ -40,48 +37,23 @@ module _ {k : FieldKind} where
   float : {b : ℕ} → k ≡ FieldKind.Float b → kind_numbers 7 0 0 b 0 0 ≡ numbers_of k
   float e = rw e
 
-returns : tie.Need-returns
-returns c = search text
+pub returns-in-Text : goal.returns-in-Text
+returns-in-Text c = search text
 
-returns-2 : tie.Need-returns-2
-returns-2 c = search int
+pub returns-in-Int : goal.returns-in-Int
+returns-in-Int c = search int
 
-returns-3 : tie.Need-returns-3
-returns-3 c = search binary
+pub returns-in-Binary : goal.returns-in-Binary
+returns-in-Binary c = search binary
 
-returns-4 : tie.Need-returns-4
-returns-4 c = search decimal
+pub returns-in-Decimal : goal.returns-in-Decimal
+returns-in-Decimal c = search decimal
 
-returns-5 : tie.Need-returns-5
-returns-5 c = search edited
+pub returns-in-Edited : goal.returns-in-Edited
+returns-in-Edited c = search edited
 
-returns-6 : tie.Need-returns-6
-returns-6 c = search group
+pub returns-in-Group : goal.returns-in-Group
+returns-in-Group c = search group
 
-returns-7 : tie.Need-returns-7
-returns-7 c = search float
-
-pub numbers-of-spec : {M : Type 1} → statement M
-numbers-of-spec =
-    tie.close
-    (tie.spec
-    (λ c. search rules)
-    (λ c. search rules)
-    (λ c κs. search rules)
-    (λ c κs. search rules)
-    (λ c. search rules)
-    (λ c κs. search rules)
-    (λ c. search rules)
-    (λ c κs. search rules)
-    (λ c κs. search rules)
-    (λ c. search rules)
-    (λ c κs. search rules)
-    (λ c. search rules)
-    (λ c. search rules)
-    returns
-    returns-2
-    returns-3
-    returns-4
-    returns-5
-    returns-6
-    returns-7)
+pub returns-in-Float : goal.returns-in-Float
+returns-in-Float c = search float

@@ -1,5 +1,7 @@
 // The copybook text: its bytes, words and numbers, and the checks of the text itself. A word is the part of the text
 // that it fills.
+#![tactic(auto)]
+
 ghost use Rattle.std.specs.Prelude.{◌≡◌, ◌||◌, map, ltb, ◌+◌, drop};
 ghost use Rattle.definition.specs.Limits.{largest};
 ghost use Rattle.definition.specs.Basic.{white, upper as upper_of, uppers, same, numeral, below, number, count};
@@ -82,7 +84,7 @@ pub fn same_spelling(a: &[u8], b: &[u8]) -> bool
 }
 
 // The number that a word spells, or that it spells none within the limit.
-#[derive(Drop)]
+#[derive(Clone, Copy)]
 pub enum Number {
     Value(u64),
     Bad,
@@ -140,7 +142,7 @@ pub fn count_of(word: &[u8]) -> Number
 }
 
 // The level that a word spells, or that it spells none.
-#[derive(Drop)]
+#[derive(Clone, Copy)]
 pub enum Level {
     Value(u8),
     Bad,

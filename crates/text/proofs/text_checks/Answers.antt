@@ -1,9 +1,7 @@
 -- `text::text_checks` meets its contract: the first byte over 127 is looked for only where there is one.
--- Assumes nothing.
-use borrow.Author.Rules.{rules}
 use Prim.Native.Nat.{ℕ, ◌≤◌, ◌<◌}
 use mathlib.Core.Path.{◌≡◌, refl, sym, ◌∙◌}
-use mathlib.Core.Bool.{Bool, true, false}
+use mathlib.Core.Bool.{Bool, false}
 use mathlib.Core.List.{List}
 use mathlib.Core.Option.{Option, none, some}
 use native.Mathlib.Omega.{arith}
@@ -13,8 +11,7 @@ use Rattle.definition.specs.Limits.{most_bytes}
 use Rattle.definition.specs.Basic.{Answer, give, refused, ◌>>=◌}
 use Rattle.definition.specs.Calls.{first_wide, text_checks}
 use Rattle.text.specs.Words.{is_found, wide_check}
-use Rattle.text.proofs.text_checks.Statement.{statement}
-use Rattle.text.proofs.text_checks.Tie as tie
+use Rattle.text.proofs.text_checks.Goals as goal
 
 long : (t : List ℕ) → most_bytes < length t → refused 1 0 ≡ text_checks t
 unfolding text_checks ◌>>=◌
@@ -37,20 +34,11 @@ nowhere (some p) e = absurd (let z : ◌≡◌ {A = ℕ} 0 1 = cc in omega arith
 passed : (t : List ℕ) → length t ≤ most_bytes → {r : Bool} → r ≡ is_found (first_wide 0 t) → r ≡ false → give tt ≡ text_checks t
 passed t h e n = nowhere (first_wide 0 t) (sym e ∙ n) ∙ short t h (first_wide 0 t) refl
 
-returns : tie.Need-returns
-returns c = search long
+pub returns-then-text-gt-MOST_BYTES : goal.returns-then-text-gt-MOST_BYTES
+returns-then-text-gt-MOST_BYTES c = search long
 
-has-wide-requires : tie.Need-has-wide-requires
-has-wide-requires c κs = search rules
+pub returns-then-has_wide : goal.returns-then-has_wide
+returns-then-has_wide c = search searched
 
-wide-check-requires : tie.Need-wide-check-requires
-wide-check-requires c κs = search rules
-
-returns-2 : tie.Need-returns-2
-returns-2 c = search searched
-
-returns-3 : tie.Need-returns-3
-returns-3 c = search passed
-
-pub text-checks-spec : {M : Type 1} → statement M
-text-checks-spec = tie.close (tie.spec returns has-wide-requires wide-check-requires returns-2 returns-3)
+pub returns : goal.returns
+returns c = search passed

@@ -1,6 +1,4 @@
 -- `text::level_of` meets its contract: what is below 256 fits a byte.
--- Assumes nothing.
-use borrow.Author.Rules.{rules}
 use Prim.Native.Nat.{ℕ, ◌<◌}
 use mathlib.Core.Path.{◌≡◌, sym}
 use mathlib.Core.List.{List}
@@ -10,8 +8,7 @@ use Rattle.definition.proofs.NumberLaws.{number-less}
 use Rattle.text.specs.declared.Number.{Number}
 use Rattle.text.specs.declared.Number.TheVariants.{Value, Bad}
 use Rattle.text.specs.Words.{valued}
-use Rattle.text.proofs.level_of.Statement.{statement}
-use Rattle.text.proofs.level_of.Tie as tie
+use Rattle.text.proofs.level_of.Goals as goal
 
 module _ (w : List ℕ) {r : Number} where
   read : {n : ℕ} → r ≡ Value n → valued r ≡ number 256 w → some n ≡ number 256 w
@@ -23,24 +20,11 @@ module _ (w : List ℕ) {r : Number} where
   bad : r ≡ Bad → valued r ≡ number 256 w → none ≡ number 256 w
   bad e p = rw e at p
 
-number-up-to-requires : tie.Need-number-up-to-requires
-number-up-to-requires c κs = search rules
+pub overflow_cast-result : goal.overflow_cast-result
+overflow_cast-result c = search less
 
-enum-known-n : tie.Need-enum-known-n
-enum-known-n c = search rules
+pub returns-in-Value : goal.returns-in-Value
+returns-in-Value c = search read
 
-cast-t5 : tie.Need-overflow-cast-t5
-cast-t5 c = search less
-
-enum_told : tie.Need-enum-told
-enum_told c = search rules
-
-returns : tie.Need-returns
-returns c = search read
-
-returns-2 : tie.Need-returns-2
-returns-2 c = search bad
-
-pub level-of-spec : {M : Type 1} → statement M
-level-of-spec =
-    tie.close (tie.spec number-up-to-requires enum-known-n cast-t5 enum_told returns returns-2)
+pub returns-in-Bad : goal.returns-in-Bad
+returns-in-Bad c = search bad

@@ -1,4 +1,6 @@
 // The keyword that a word is, in whatever case: the spellings of its first letter are compared, and no others.
+#![tactic(auto)]
+
 ghost use Rattle.std.specs.Prelude.{◌≡◌};
 ghost use Rattle.definition.specs.Basic.{uppers};
 ghost use Rattle.definition.specs.Statement.{pick as pick_of, meaning, spellings, keyword_of};

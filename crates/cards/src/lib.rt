@@ -1,5 +1,7 @@
 // Cards as the reader sees them: free text of the same length, in which what is ignored is blank; and refusal 51, the
 // first indicator that is none of the four. Leans on `text` and `definition`.
+#![tactic(auto)]
+
 ghost use Rattle.std.specs.Prelude.{◌≡◌, ◌+◌, ◌≤◌, ◌<◌, length, get_or, drop};
 ghost use Rattle.definition.specs.Limits.{most_bytes};
 ghost use Rattle.definition.specs.Cards.{column_next, code_next, shown as shown_as, line_ends, other_indicator};

@@ -1,35 +1,22 @@
--- `cards::view_into` meets its contract. The loop's invariant: the view is what is written, and that of the bytes left;
--- no indicator so far is refused.
--- Assumes nothing.
-use borrow.Author.Rules.{rules}
-use Prim.Native.Nat.{ℕ, ◌+◌, ◌-◌, ◌≤◌, ◌<◌}
+use Prim.Native.Nat.{ℕ, ◌+◌, ◌≤◌, ◌<◌}
 use mathlib.Core.Path.{◌≡◌, refl, sym, ◌∙◌}
 use mathlib.Core.Bool.{Bool, true, false}
-use mathlib.Core.List.{List, ◌++◌, append-nil, append_assoc}
+use mathlib.Core.List.{List, append-nil, append_assoc}
 use mathlib.Core.Option.{Option, none, some}
 use native.Mathlib.Omega.{arith}
 use native.Mathlib.Numerals.{add-one}
 use lib.Dec.{eqb}
-use lib.ListN.{length, get_or, take, drop, set, length-set, drop_of_length-le}
+use lib.ListN.{length, get_or, set, length-set, drop_of_length-le}
 use lib.Seq.{take-suc-set}
 use Rattle.definition.specs.declared.Check.{Check}
-use Rattle.definition.specs.Limits.{most_bytes}
-use Rattle.definition.specs.Basic.{if◌then◌else◌, give, refused}
-use Rattle.definition.specs.Cards.{column_next, code_next, shown, view_from, view, first_other}
+use Rattle.std.specs.Prelude.{if◌then◌else◌}
+use Rattle.definition.specs.Basic.{give, refused}
+use Rattle.definition.specs.Cards.{column_next, code_next, shown, view_from, first_other}
 use Rattle.definition.specs.Calls.{indicator_check}
 use Rattle.definition.proofs.Lists.{drop-next}
 use Rattle.cards.specs.Viewed.{other_at, ViewRoom, Viewed}
-use Rattle.cards.proofs.view_into.Statement.{statement}
-use Rattle.cards.proofs.view_into.Tie as tie
-
-record Left (t out₀ out : List ℕ) (i n : ℕ) (code : Bool) : Type 0 where
-  inside : i ≤ length t
-  size : length out ≡ length out₀
-  room : length t ≤ length out
-  small : length t ≤ most_bytes
-  column : n ≤ i + 1
-  seen : view t ≡ take i out ++ view_from n code (drop i t)
-  other : first_other 0 1 t ≡ first_other i n (drop i t)
+use Rattle.cards.proofs.view_into.Invariants.{Left}
+use Rattle.cards.proofs.view_into.Goals as goal
 
 start : {t out : List ℕ} → ViewRoom t out → Left t out out 0 1 false
 start h =
@@ -93,41 +80,14 @@ module _ {t out₀ out : List ℕ} {i n : ℕ} {code : Bool} (inv : Left t out�
         sym (inv.seen ∙ rw (drop_of_length-le t h, append-nil, e)),
       )
 
-abbrev invariant-loop : tie.invariant-loop
-invariant-loop cards view₀ i₀ n₀ code₀ view i n code = Left cards view₀ view i n code
+pub loop-i-init : goal.loop-i-init
+loop-i-init c = search start
 
-abbrev decreases-loop : tie.decreases-loop
-decreases-loop cards view₀ i₀ n₀ code₀ view i n code = length cards - i
+pub returns-then-is_other : goal.returns-then-is_other
+returns-then-is_other c = search stops
 
-loop-holds : tie.Need-loop-init invariant-loop decreases-loop
-loop-holds c = search start
+pub loop-i-preserved : goal.loop-i-preserved
+loop-i-preserved c = search next
 
-returns : tie.Need-returns invariant-loop decreases-loop
-returns c = search stops
-
-loop-again : tie.Need-loop-preserved invariant-loop decreases-loop
-loop-again c = search next
-
-returns-2 : tie.Need-returns-2 invariant-loop decreases-loop
-returns-2 c = search done
-
-pub view-into-spec : {M : Type 1} → statement M
-view-into-spec =
-    tie.close
-    (tie.spec
-    invariant-loop
-    decreases-loop
-    loop-holds
-    (λ c κs. search rules)
-    (λ c. search rules)
-    returns
-    (λ c. search rules)
-    (λ c κs. search rules)
-    (λ c. search rules)
-    (λ c κs. search rules)
-    (λ c κs. search rules)
-    (λ c. search rules)
-    (λ c. search rules)
-    loop-again
-    (λ c. search rules)
-    returns-2)
+pub returns : goal.returns
+returns c = search done

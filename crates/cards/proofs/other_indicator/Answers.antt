@@ -1,14 +1,11 @@
 -- `cards::other_indicator` meets its contract, test by test.
--- Assumes nothing.
-use borrow.Author.Rules.{rules}
 use Prim.Native.Nat.{ℕ}
 use mathlib.Core.Path.{◌≡◌}
 use mathlib.Core.Bool.{Bool, true, false}
 use mathlib.Core.List.{List}
 use borrow.Author.Tests.{eq-eqb, ne_eqb}
 use Rattle.definition.specs.Cards.{line_ends, other_indicator}
-use Rattle.cards.proofs.other_indicator.Statement.{statement}
-use Rattle.cards.proofs.other_indicator.Tie as tie
+use Rattle.cards.proofs.other_indicator.Goals as goal
 
 module _ (b : ℕ) (bs : List ℕ) where
   code : b ≡ 32 → false ≡ other_indicator b bs
@@ -45,42 +42,26 @@ module _ (b : ℕ) (bs : List ℕ) where
             other n₆ =
                 rw (ne_eqb b 32 n₁, ne_eqb b 42 n₂, ne_eqb b 47 n₃, ne_eqb b 68 n₄, ne_eqb b 10 n₅, ne_eqb b 13 n₆)
 
-returns : tie.Need-returns
-returns c = search code
+pub returns-then-b-eq32 : goal.returns-then-b-eq32
+returns-then-b-eq32 c = search code
 
-returns-2 : tie.Need-returns-2
-returns-2 c = search star
+pub returns-then-b-eq42 : goal.returns-then-b-eq42
+returns-then-b-eq42 c = search star
 
-returns-3 : tie.Need-returns-3
-returns-3 c = search slash
+pub returns-then-b-eq47 : goal.returns-then-b-eq47
+returns-then-b-eq47 c = search slash
 
-returns-4 : tie.Need-returns-4
-returns-4 c = search debugging
+pub returns-then-b-eq68 : goal.returns-then-b-eq68
+returns-then-b-eq68 c = search debugging
 
-returns-5 : tie.Need-returns-5
-returns-5 c = search line
+pub returns-then-b-eq10 : goal.returns-then-b-eq10
+returns-then-b-eq10 c = search line
 
-returns-6 : tie.Need-returns-6
-returns-6 c = search ended
+pub returns-then-line_ends : goal.returns-then-line_ends
+returns-then-line_ends c = search ended
 
-returns-7 : tie.Need-returns-7
-returns-7 c = search returned
+pub returns-then-b-eq13 : goal.returns-then-b-eq13
+returns-then-b-eq13 c = search returned
 
-returns-8 : tie.Need-returns-8
-returns-8 c = search other
-
-pub other-indicator-spec : {M : Type 1} → statement M
-other-indicator-spec =
-    tie.close
-    (tie.spec
-    (λ c. search rules)
-    returns
-    returns-2
-    returns-3
-    returns-4
-    returns-5
-    (λ c. search rules)
-    (λ c κs. search rules)
-    returns-6
-    returns-7
-    returns-8)
+pub returns : goal.returns
+returns c = search other

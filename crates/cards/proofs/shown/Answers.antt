@@ -1,14 +1,12 @@
 -- `cards::shown` meets its contract.
--- Assumes nothing.
 use Prim.Native.Nat.{ℕ, ◌≤◌, ◌<◌}
 use mathlib.Core.Path.{◌≡◌, refl}
 use mathlib.Core.Bool.{Bool, true, false, ◌&&◌, ◌||◌}
 use lib.Dec.{leb}
 use borrow.Author.Tests.{eq-eqb, ne_eqb, le-leb, lt-leb}
-use Rattle.definition.specs.Basic.{if◌then◌else◌}
+use Rattle.std.specs.Prelude.{if◌then◌else◌}
 use Rattle.definition.specs.Cards.{last_column, shown as shown_as}
-use Rattle.cards.proofs.shown.Statement.{statement}
-use Rattle.cards.proofs.shown.Tie as tie
+use Rattle.cards.proofs.shown.Goals as goal
 
 or-true : (x : Bool) (b : ℕ) → b ≡ if◌then◌else◌ (x || true) b 32
 or-true true b = refl
@@ -28,17 +26,14 @@ module _ (n b : ℕ) (code : Bool) where
     ignored : code ≡ false → 32 ≡ shown_as n code b
     ignored y = rw (ne_eqb b 10 e, y)
 
-returns : tie.Need-returns
-returns c = search ends
+pub returns-then-b-eq10 : goal.returns-then-b-eq10
+returns-then-b-eq10 c = search ends
 
-returns-2 : tie.Need-returns-2
-returns-2 c = search within
+pub returns-then-n-le-LAST : goal.returns-then-n-le-LAST
+returns-then-n-le-LAST c = search within
 
-returns-3 : tie.Need-returns-3
-returns-3 c = search beyond
+pub returns-else-n-le-LAST : goal.returns-else-n-le-LAST
+returns-else-n-le-LAST c = search beyond
 
-returns-4 : tie.Need-returns-4
-returns-4 c = search ignored
-
-pub shown-spec : {M : Type 1} → statement M
-shown-spec = tie.close (tie.spec returns returns-2 returns-3 returns-4)
+pub returns-else-code : goal.returns-else-code
+returns-else-code c = search ignored

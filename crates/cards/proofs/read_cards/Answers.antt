@@ -1,6 +1,4 @@
 -- `cards::read_cards` meets its contract: the checks of what is lent, and then the view.
--- Assumes nothing.
-use borrow.Author.Rules.{rules}
 use Prim.Native.Nat.{ℕ, ◌≤◌}
 use mathlib.Core.Path.{◌≡◌}
 use mathlib.Core.List.{List}
@@ -14,8 +12,7 @@ use Rattle.definition.specs.Basic.{refuse, ◌>>=◌}
 use Rattle.definition.specs.Calls.{entry_checks, card_checks, check_of}
 use Rattle.definition.proofs.CallsLaws.{passes}
 use Rattle.cards.specs.Viewed.{ViewRoom, Viewed, CardsRead}
-use Rattle.cards.proofs.read_cards.Statement.{statement}
-use Rattle.cards.proofs.read_cards.Tie as tie
+use Rattle.cards.proofs.read_cards.Goals as goal
 
 module _ (t : List ℕ) (work : ℕ) {a : Check} (p : check_of a ≡ entry_checks t work) where
   -- the text is refused
@@ -34,23 +31,11 @@ module _ (t : List ℕ) (work : ℕ) {a : Check} (p : check_of a ≡ entry_check
     then-viewed Passed seen v = record { passed = rw (← p, e) v.0; short = (passes t work p e).short; bytes = v.1 }
     then-viewed (Refused r) seen v = rw (← p, e) v
 
-view-into-requires : tie.Need-view-into-requires
-view-into-requires c κs = search fits
+pub view_into-requires : goal.view_into-requires
+view_into-requires c = search fits
 
-returns : tie.Need-returns
-returns c = search then-viewed
+pub returns-in-Passed : goal.returns-in-Passed
+returns-in-Passed c = search then-viewed
 
-returns-2 : tie.Need-returns-2
-returns-2 c = search refuses
-
-pub read-cards-spec : {M : Type 1} → statement M
-read-cards-spec =
-    tie.close
-    (tie.spec
-    (λ c κs. search rules)
-    (λ c. search rules)
-    view-into-requires
-    (λ c. search rules)
-    returns
-    (λ c. search rules)
-    returns-2)
+pub returns-in-Refused : goal.returns-in-Refused
+returns-in-Refused c = search refuses

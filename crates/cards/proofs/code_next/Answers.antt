@@ -1,13 +1,11 @@
 -- `cards::code_next` meets its contract.
--- Assumes nothing.
 use Prim.Native.Nat.{ℕ}
 use mathlib.Core.Path.{◌≡◌, refl}
 use mathlib.Core.Bool.{Bool, true, false, ◌&&◌}
 use lib.Dec.{eqb}
 use borrow.Author.Tests.{eq-eqb, ne_eqb}
 use Rattle.definition.specs.Cards.{indicator_column, code_next}
-use Rattle.cards.proofs.code_next.Statement.{statement}
-use Rattle.cards.proofs.code_next.Tie as tie
+use Rattle.cards.proofs.code_next.Goals as goal
 
 -- the indicator says whether its line is code
 indicator : (n b : ℕ) (code r : Bool) → n ≡ indicator_column → r ≡ eqb b 32 → r ≡ code_next n code b
@@ -29,14 +27,11 @@ module _ (n b : ℕ) (code : Bool) (e : n ≡ indicator_column → ⊥) where
       and-true true = refl
       and-true false = refl
 
-returns : tie.Need-returns
-returns c = let a = c.before.args in indicator a.n a.b a.code _ c.if1.true refl
+pub returns-then-n-eq-INDICATOR : goal.returns-then-n-eq-INDICATOR
+returns-then-n-eq-INDICATOR c = let a = c.args in indicator a.n a.b a.code _ c.if-n-eq-INDICATOR.true refl
 
-returns-2 : tie.Need-returns-2
-returns-2 c = search ends
+pub returns-then-b-eq10 : goal.returns-then-b-eq10
+returns-then-b-eq10 c = search ends
 
-returns-3 : tie.Need-returns-3
-returns-3 c = search goes
-
-pub code-next-spec : {M : Type 1} → statement M
-code-next-spec = tie.close (tie.spec returns returns-2 returns-3)
+pub returns : goal.returns
+returns c = search goes

@@ -10,7 +10,7 @@ use lib.Dec.{eqb}
 use lib.ListN.{length, replicate, length-append, length-replicate}
 use borrow.Author.Tests.{eqb-true}
 use Rattle.definition.specs.Limits.{most_symbols}
-use Rattle.definition.specs.Basic.{if◌then◌else◌, among}
+use Rattle.definition.specs.Basic.{among}
 use Rattle.definition.specs.Picture.{tally, before_point}
 use Rattle.definition.proofs.PictureLaws.{tally-append, tally-run, tally-le, before-append, before-run, tally-sides}
 use Rattle.definition.proofs.PictureLaws.{without-length, mask-width}

@@ -1,9 +1,9 @@
 -- What the reader counts of a picture's symbols, and what it awaits of CR or DB.
 -- Assumes nothing.
-use Rattle.std.specs.Prelude.{ℕ, ◌+◌, ◌-◌, ◌≤◌, Bool, true, false, List, [], ◌∷◌, ltb, length, ◌≡◌}
+use Rattle.std.specs.Prelude.{ℕ, ◌+◌, ◌≤◌, Bool, true, false, List, [], ◌∷◌, ltb, length, ◌≡◌, if◌then◌else◌}
 use Prim.Native.String.{String}
 use Rattle.definition.specs.Limits.{most_symbols}
-use Rattle.definition.specs.Basic.{if◌then◌else◌, is, among, Answer, refuse, give, ◌>>=◌}
+use Rattle.definition.specs.Basic.{is, among, Answer, refuse, give, ◌>>=◌}
 use Rattle.definition.specs.Picture.{expand, symbol, tally, before_point}
 use Rattle.symbols.specs.declared.Tallies.{Tallies}
 use Rattle.symbols.specs.declared.Half.{Half}

@@ -1,5 +1,7 @@
 // The symbols of a picture: each with its repeat `(n)`, and their count, run by run: a symbol with its repeat is one
 // step, whatever n is. Leans on `definition` and `text`.
+#![tactic(auto)]
+
 ghost use Rattle.std.specs.Prelude.{◌<◌, ◌≡◌, [], ◌∷◌, reverse, length, replicate, drop};
 ghost use Rattle.definition.specs.Picture.{trim_start, trim as trimmed, symbol};
 ghost use Rattle.symbols.specs.Repeats.{ClosedAt, Repeated, Alike, Run};
@@ -62,7 +64,7 @@ fn close_at(s: &[u8]) -> usize
 }
 
 // How often a symbol stands, and how many bytes after it say so; or why that cannot be read.
-#[derive(Drop)]
+#[derive(Clone, Copy)]
 pub enum Repeat {
     Times { n: usize, skip: usize },
     Refused(Refusal),
@@ -157,7 +159,7 @@ fn run_at(picture: &[u8], i: usize, at: usize) -> Repeat
 
 // How often the symbols of each set stand in a list of symbols: X A; 9 Z *; those of 9 Z * before the point; P; V and
 // `.`; `$`; `+`; `-`; the signs S + - C D; the editing symbols; S and V, which take no byte of a mask; and all symbols.
-#[derive(Drop)]
+#[derive(Clone, Copy)]
 pub struct Tallies {
     pub text: u32,
     pub digits: u32,
@@ -289,7 +291,7 @@ fn add_run(s: Tallies, b: u8, n: u32) -> Tallies
 }
 
 // What is awaited of CR or DB: nothing, an R after the C, a B after the D; or a byte that is no symbol was seen.
-#[derive(Drop)]
+#[derive(Clone, Copy)]
 pub enum Half {
     Nothing,
     C,
@@ -386,7 +388,7 @@ fn half_after(p: Half, b: u8, n: usize) -> Half
 }
 
 // The symbols of a picture, counted, with what is awaited of CR or DB at its end; or why they cannot be read.
-#[derive(Drop)]
+#[derive(Clone, Copy)]
 pub enum Counted {
     Symbols { tallies: Tallies, half: Half },
     Refused(Refusal),

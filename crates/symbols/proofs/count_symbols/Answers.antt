@@ -1,6 +1,3 @@
--- `symbols::count_symbols` meets its contract: the symbols seen so far are a list that only the proof knows.
--- Assumes nothing.
-use borrow.Author.Rules.{rules}
 use Prim.Native.Nat.{ℕ, ◌+◌, ◌-◌, ◌≤◌, ◌<◌}
 use mathlib.Core.Path.{◌≡◌, refl, sym, ap, ◌∙◌}
 use mathlib.Core.List.{List, [], ◌++◌, append-nil}
@@ -19,17 +16,8 @@ use Rattle.symbols.specs.Shape.{tallies, run_of, joined, Small, Adds, halves, Co
 use Rattle.symbols.specs.Repeats.{Run}
 use Rattle.symbols.proofs.Halves.{halves-append}
 use Rattle.symbols.proofs.Counting.{tallies-more, small}
-use Rattle.symbols.proofs.count_symbols.Statement.{statement}
-use Rattle.symbols.proofs.count_symbols.Tie as tie
-
--- the symbols seen before i: their tallies, what is awaited after them, and that the others follow them
-record Left (t : List ℕ) (at : ℕ) (s : Tallies) (half : Half) (i : ℕ) : Type 0 where
-  within : i ≤ length t
-  few : s.symbols ≤ most_symbols
-  seen : List ℕ
-  counted : s ≡ tallies seen
-  halved : half ≡ halves Half.Nothing seen
-  same : expand at 0 0 t ≡ onto seen (expand at s.symbols 0 (drop i t))
+use Rattle.symbols.proofs.count_symbols.Invariants.{Left}
+use Rattle.symbols.proofs.count_symbols.Goals as goal
 
 start : (t : List ℕ) (at : ℕ) {s : Tallies} → s ≡ tallies [] → Left t at s Half.Nothing 0
 unfolding halves
@@ -107,99 +95,26 @@ module _ {t : List ℕ} {at : ℕ} {s : Tallies} {half : Half} {i : ℕ} (inv : 
                   rw (← p, many) (onto-onto inv.seen (replicate n b) (expand at (s.symbols + n) 0 (drop (i + 1 + skip) t)));
             }
 
-abbrev invariant-loop : tie.invariant-loop
-invariant-loop picture at s₀ half₀ i₀ s half i = Left picture at s half i
+pub loop-i-init : goal.loop-i-init
+loop-i-init c = search start
 
-abbrev decreases-loop : tie.decreases-loop
-decreases-loop picture at s₀ half₀ i₀ s half i = length picture - i
+pub returns-then-left-n : goal.returns-then-left-n
+returns-then-left-n c = search many
 
-no-symbols-requires : tie.Need-no-symbols-requires invariant-loop decreases-loop
-no-symbols-requires c κs = search rules
+pub overflow_add-i : goal.overflow_add-i
+overflow_add-i c = omega (arith, step c.loop-i.invariant c.run_at.ensures c.in-Times.is)
 
-loop-holds : tie.Need-loop-init invariant-loop decreases-loop
-loop-holds c = search start
+pub add_run-s-requires : goal.add_run-s-requires
+add_run-s-requires c = adds c.loop-i.invariant c.run_at.ensures c.in-Times.is c.if-left-n.false
 
-shared-slice-read-upper : tie.Need-shared-slice-read-upper invariant-loop decreases-loop
-shared-slice-read-upper c = search rules
+pub loop-i-smaller : goal.loop-i-smaller
+loop-i-smaller c = less c.loop-i.invariant c.run_at.ensures c.in-Times.is
 
-upper-requires : tie.Need-upper-requires invariant-loop decreases-loop
-upper-requires c κs = search rules
+pub loop-i-preserved : goal.loop-i-preserved
+loop-i-preserved c = search (go_on c.loop-i.invariant c.run_at.ensures c.in-Times.is)
 
-add-next : tie.Need-overflow-add-next invariant-loop decreases-loop
-add-next c = search rules
+pub returns-in-Refused : goal.returns-in-Refused
+returns-in-Refused c = search refused
 
-run-at-requires : tie.Need-run-at-requires invariant-loop decreases-loop
-run-at-requires c κs = search rules
-
-enum-known-n : tie.Need-enum-known-n invariant-loop decreases-loop
-enum-known-n c = search rules
-
-sub-left : tie.Need-overflow-sub-left invariant-loop decreases-loop
-sub-left c = search rules
-
-cast-left : tie.Need-overflow-cast-left invariant-loop decreases-loop
-cast-left c = search rules
-
-returns : tie.Need-returns invariant-loop decreases-loop
-returns c = search many
-
-add-i : tie.Need-overflow-add-i invariant-loop decreases-loop
-add-i c =
-    let read = c.before.before.before.before.before in
-    omega (arith, step read.before.before.before.before.loop.invariant read.run_at.ensures c.before.before.before.n.given.1)
-
-half-after-requires : tie.Need-half-after-requires invariant-loop decreases-loop
-half-after-requires c κs = search rules
-
-cast-add-run : tie.Need-overflow-cast-add-run invariant-loop decreases-loop
-cast-add-run c = search rules
-
-add-run-requires : tie.Need-add-run-requires invariant-loop decreases-loop
-add-run-requires c κs =
-    let read = c.before.before.before.before.before.before in
-    adds read.before.before.before.before.loop.invariant read.run_at.ensures c.before.before.before.before.n.given.1 c.before.if1.false
-
-loop-less : tie.Need-loop-smaller invariant-loop decreases-loop
-loop-less c =
-    let read = c.before.before.before.before.before.before.before in
-    less read.before.before.before.before.loop.invariant read.run_at.ensures c.before.before.before.before.before.n.given.1
-
-loop-again : tie.Need-loop-preserved invariant-loop decreases-loop
-loop-again c =
-    let read = c.before.before.before.before.before.before.before in
-    search (go_on read.before.before.before.before.loop.invariant read.run_at.ensures c.before.before.before.before.before.n.given.1)
-
-enum-known-r : tie.Need-enum-known-r invariant-loop decreases-loop
-enum-known-r c = search rules
-
-returns-2 : tie.Need-returns-2 invariant-loop decreases-loop
-returns-2 c = search refused
-
-returns-3 : tie.Need-returns-3 invariant-loop decreases-loop
-returns-3 c = search done
-
-pub count-symbols-spec : {M : Type 1} → statement M
-count-symbols-spec =
-    tie.close
-    (tie.spec
-    invariant-loop
-    decreases-loop
-    no-symbols-requires
-    loop-holds
-    shared-slice-read-upper
-    upper-requires
-    add-next
-    run-at-requires
-    enum-known-n
-    sub-left
-    cast-left
-    returns
-    add-i
-    half-after-requires
-    cast-add-run
-    add-run-requires
-    loop-less
-    loop-again
-    enum-known-r
-    returns-2
-    returns-3)
+pub returns : goal.returns
+returns c = search done

@@ -1,15 +1,12 @@
 -- `symbols::first_half` meets its contract.
--- Assumes nothing.
 use Prim.Native.Nat.{ℕ}
 use mathlib.Core.Path.{◌≡◌}
 use mathlib.Core.Bool.{Bool, true, false}
-use borrow.Author.Rules.{rules}
 use borrow.Author.Tests.{ne_eqb}
 use Rattle.definition.specs.Picture.{symbol}
 use Rattle.symbols.specs.declared.Half.{Half}
 use Rattle.symbols.specs.Shape.{awaits}
-use Rattle.symbols.proofs.first_half.Statement.{statement}
-use Rattle.symbols.proofs.first_half.Tie as tie
+use Rattle.symbols.proofs.first_half.Goals as goal
 
 module _ {b : ℕ} where
   is_c : b ≡ 67 → Half.C ≡ awaits Half.Nothing b
@@ -25,20 +22,14 @@ module _ {b : ℕ} where
     is_none : r ≡ false → Half.Wrong ≡ awaits Half.Nothing b
     is_none y = rw (ne_eqb b 67 c, ne_eqb b 68 d, ← p, y)
 
-returns : tie.Need-returns
-returns c = search is_c
+pub returns-then-b-eq67 : goal.returns-then-b-eq67
+returns-then-b-eq67 c = search is_c
 
-returns-2 : tie.Need-returns-2
-returns-2 c = search is-d
+pub returns-then-b-eq68 : goal.returns-then-b-eq68
+returns-then-b-eq68 c = search is-d
 
-is-symbol-requires : tie.Need-is-symbol-requires
-is-symbol-requires c κs = search rules
+pub returns-then-is_symbol : goal.returns-then-is_symbol
+returns-then-is_symbol c = search is_one
 
-returns-3 : tie.Need-returns-3
-returns-3 c = search is_one
-
-returns-4 : tie.Need-returns-4
-returns-4 c = search is_none
-
-pub first-half-spec : {M : Type 1} → statement M
-first-half-spec = tie.close (tie.spec returns returns-2 is-symbol-requires returns-3 returns-4)
+pub returns : goal.returns
+returns c = search is_none

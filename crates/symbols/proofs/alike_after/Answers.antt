@@ -1,6 +1,3 @@
--- `symbols::alike_after` meets its contract.
--- Assumes nothing.
-use borrow.Author.Rules.{rules}
 use Prim.Native.Nat.{ℕ, ◌+◌, ◌-◌, ◌≤◌, ◌<◌}
 use mathlib.Core.Path.{◌≡◌, refl, ap, ◌∙◌}
 use mathlib.Core.List.{List}
@@ -9,13 +6,8 @@ use native.Mathlib.Omega.{arith}
 use lib.ListN.{length, get_or}
 use Rattle.definition.proofs.Lists.{order}
 use Rattle.symbols.specs.Repeats.{Alike}
-use Rattle.symbols.proofs.alike_after.Statement.{statement}
-use Rattle.symbols.proofs.alike_after.Tie as tie
-
--- d bytes like b, the one at i, were seen after it
-record Left (t : List ℕ) (i b d : ℕ) : Type 0 where
-  first : b ≡ get_or t i 0
-  alike : Alike t i d
+use Rattle.symbols.proofs.alike_after.Invariants.{Left}
+use Rattle.symbols.proofs.alike_after.Goals as goal
 
 start : (t : List ℕ) (i : ℕ) → i < length t → Left t i (get_or t i 0) 0
 start t i h =
@@ -52,36 +44,14 @@ module _ {t : List ℕ} {i b d : ℕ} (inv : Left t i b d) where
             };
       }
 
-abbrev invariant-loop : tie.invariant-loop
-invariant-loop picture i b d₀ d = Left picture i b d
+pub loop-d-init : goal.loop-d-init
+loop-d-init c = search start
 
-abbrev decreases-loop : tie.decreases-loop
-decreases-loop picture i b d₀ d = length picture - d
+pub loop-d-preserved : goal.loop-d-preserved
+loop-d-preserved c = search next
 
-loop-holds : tie.Need-loop-init invariant-loop decreases-loop
-loop-holds c = search start
+pub returns-else-picture-i : goal.returns-else-picture-i
+returns-else-picture-i c = search done
 
-loop-less : tie.Need-loop-smaller invariant-loop decreases-loop
-loop-less c = search rules
-
-loop-again : tie.Need-loop-preserved invariant-loop decreases-loop
-loop-again c = search next
-
-pub alike-after-spec : {M : Type 1} → statement M
-alike-after-spec =
-    tie.close
-    (tie.spec
-    invariant-loop
-    decreases-loop
-    (λ c. search rules)
-    loop-holds
-    (λ c. search rules)
-    (λ c. search rules)
-    (λ c. search rules)
-    (λ c. search rules)
-    (λ c. search rules)
-    (λ c. search rules)
-    loop-less
-    loop-again
-    (λ c. search done)
-    (λ c. search done))
+pub returns : goal.returns
+returns c = search done

@@ -1,12 +1,12 @@
 -- A picture's shape: the numbers that its kind and width and the last refusals depend on.
 -- Assumes nothing.
-use Rattle.std.specs.Prelude.{ℕ, ◌+◌, ◌-◌, ◌≤◌, max, ◌≡◌, Bool, false, ◌&&◌, ◌||◌, not, List, ltb, length}
+use Rattle.std.specs.Prelude.{ℕ, ◌+◌, ◌-◌, ◌≤◌, max, ◌≡◌, Bool, false, ◌&&◌, ◌||◌, not, List, ltb, length, if◌then◌else◌}
 use Rattle.definition.specs.declared.Usage.{Usage}
 use Rattle.definition.specs.declared.SignClause.{SignClause}
 use Rattle.definition.specs.declared.FieldKind.{FieldKind}
 use Rattle.definition.specs.declared.Pictured.{Pictured}
 use Rattle.definition.specs.Limits.{most_digits, longest_mask}
-use Rattle.definition.specs.Basic.{if◌then◌else◌, Answer, refuse, give, ◌>>=◌, refuse_if}
+use Rattle.definition.specs.Basic.{Answer, refuse, give, ◌>>=◌, refuse_if}
 use Rattle.definition.specs.Picture.{tally, without, mask, fraction, all_digits, stored_digits, is_signed, is_edited}
 use Rattle.definition.specs.Picture.{pictured, is_display, resolve_sign, storage_width, numeric, symbols}
 use Rattle.symbols.specs.declared.Tallies.{Tallies}

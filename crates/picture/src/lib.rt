@@ -1,5 +1,7 @@
 // The picture reader: kind and width of a picture with a usage and a sign; `parse_pic` of the Rust. Leans on
 // `definition` and `symbols`.
+#![tactic(auto)]
+
 ghost use Rattle.std.specs.Prelude.{ℕ, ◌+◌, ◌-◌, ◌≤◌, max, ◌≡◌, ◌&&◌};
 ghost use Rattle.definition.specs.Limits.{most_digits};
 ghost use Rattle.definition.specs.Picture.{is_display, resolve_sign, is_embedded, sign_bytes};
@@ -19,7 +21,7 @@ use symbols::{Counted, Half, Tallies};
 
 // What kind and width depend on: the number of X and A, of digits, of digits without P, of digits of the fraction,
 // whether there is a sign symbol, whether there is an editing symbol, and the length of the mask with P and without it.
-#[derive(Drop)]
+#[derive(Clone, Copy)]
 pub struct PicShape {
     pub text: usize,
     pub digits: usize,
@@ -117,7 +119,7 @@ fn is_long(s: PicShape, usage: Usage) -> bool
 }
 
 // A shape, or why a picture has none.
-#[derive(Drop)]
+#[derive(Clone, Copy)]
 pub enum Shaped {
     Shape(PicShape),
     Refused(Refusal),

@@ -1,5 +1,4 @@
 -- `picture::is_long` meets its contract.
--- Assumes nothing.
 use Prim.Native.Nat.{◌≤◌, ◌<◌}
 use mathlib.Core.Path.{◌≡◌, sym, ap}
 use mathlib.Core.Bool.{Bool, true, false, ◌&&◌}
@@ -9,9 +8,7 @@ use Rattle.definition.specs.declared.Usage.{Usage}
 use Rattle.definition.specs.Limits.{most_digits, longest_mask}
 use Rattle.picture.specs.declared.PicShape.{PicShape}
 use Rattle.picture.specs.Kinds.{masked_by, long_by}
-use borrow.Author.Rules.{rules}
-use Rattle.picture.proofs.is_long.Statement.{statement}
-use Rattle.picture.proofs.is_long.Tie as tie
+use Rattle.picture.proofs.is_long.Goals as goal
 
 module _ (usage : Usage) (s : PicShape) where
   text : 0 < s.text → false ≡ long_by usage s
@@ -31,20 +28,14 @@ module _ (usage : Usage) (s : PicShape) where
       else : r ≡ false → false ≡ long_by usage s
       else e = rw (short, e)
 
-returns : tie.Need-returns
-returns c = search text
+pub returns-then-s-gt0 : goal.returns-then-s-gt0
+returns-then-s-gt0 c = search text
 
-returns-2 : tie.Need-returns-2
-returns-2 c = search digits
+pub returns-then-s-gt-MOST_DIGITS : goal.returns-then-s-gt-MOST_DIGITS
+returns-then-s-gt-MOST_DIGITS c = search digits
 
-is-masked-requires : tie.Need-is-masked-requires
-is-masked-requires c κs = search rules
+pub returns-then-is_masked : goal.returns-then-is_masked
+returns-then-is_masked c = search edited
 
-returns-3 : tie.Need-returns-3
-returns-3 c = search edited
-
-returns-4 : tie.Need-returns-4
-returns-4 c = search else
-
-pub is-long-spec : {M : Type 1} → statement M
-is-long-spec = tie.close (tie.spec returns returns-2 is-masked-requires returns-3 returns-4)
+pub returns : goal.returns
+returns c = search else

@@ -1,5 +1,4 @@
 -- `picture::picture_at` meets its contract: kind and width are those of the shape.
--- Assumes nothing.
 use Prim.Native.Nat.{ℕ}
 use mathlib.Core.Path.{◌≡◌, ap, ◌∙◌}
 use mathlib.Core.List.{List}
@@ -13,9 +12,7 @@ use Rattle.picture.specs.declared.PicShape.{PicShape}
 use Rattle.picture.specs.declared.Shaped.{Shaped}
 use Rattle.picture.specs.Kinds.{kinded_by, Fit, Reads}
 use Rattle.picture.proofs.Shapes.{behind, behind-refused}
-use borrow.Author.Rules.{rules}
-use Rattle.picture.proofs.picture_at.Statement.{statement}
-use Rattle.picture.proofs.picture_at.Tie as tie
+use Rattle.picture.proofs.picture_at.Goals as goal
 
 fit : {at : ℕ} {usage : Usage} {bs : List ℕ} {r : Shaped} → Reads at usage bs r → {s : PicShape} → r ≡ Shaped.Shape s → Fit usage s
 fit k e = rw e at k.fits
@@ -29,25 +26,11 @@ module _ (at : ℕ) (usage : Usage) (sign : SignClause) (bs : List ℕ) {r : Sha
   unfolding picture ◌>>=◌
   refused e = rw (behind-refused k e)
 
-read-shape-requires : tie.Need-read-shape-requires
-read-shape-requires c κs = search rules
+pub kind_of-requires : goal.kind_of-requires
+kind_of-requires c = fit c.read_shape.ensures c.in-Shape.is
 
-enum-known-s : tie.Need-enum-known-s
-enum-known-s c = search rules
+pub returns-in-Shape : goal.returns-in-Shape
+returns-in-Shape c = search accepted
 
-kind-of-requires : tie.Need-kind-of-requires
-kind-of-requires c κs = fit c.before.before.before.read-shape.ensures c.before.s.given.1
-
-returns : tie.Need-returns
-returns c = search accepted
-
-enum-known-r : tie.Need-enum-known-r
-enum-known-r c = search rules
-
-returns-2 : tie.Need-returns-2
-returns-2 c = search refused
-
-pub picture-at-spec : {M : Type 1} → statement M
-picture-at-spec =
-    tie.close
-    (tie.spec read-shape-requires enum-known-s kind-of-requires returns enum-known-r returns-2)
+pub returns-in-Refused : goal.returns-in-Refused
+returns-in-Refused c = search refused

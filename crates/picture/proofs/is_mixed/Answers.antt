@@ -1,5 +1,4 @@
 -- `picture::is_mixed` meets its contract.
--- Assumes nothing.
 use Prim.Native.Nat.{◌≤◌, ◌<◌}
 use mathlib.Core.Path.{◌≡◌}
 use mathlib.Core.Bool.{true, false}
@@ -7,8 +6,7 @@ use native.Mathlib.Omega.{arith}
 use borrow.Author.Tests.{lt-ltb, le-ltb}
 use Rattle.picture.specs.declared.PicShape.{PicShape}
 use Rattle.picture.specs.Kinds.{mixed_by}
-use Rattle.picture.proofs.is_mixed.Statement.{statement}
-use Rattle.picture.proofs.is_mixed.Tie as tie
+use Rattle.picture.proofs.is_mixed.Goals as goal
 
 module _ (s : PicShape) where
   no_text : s.text ≡ 0 → false ≡ mixed_by s
@@ -20,14 +18,11 @@ module _ (s : PicShape) where
   else : (s.text ≡ 0 → ⊥) → s.digits ≤ 0 → s.edited ≡ mixed_by s
   else e h = rw (lt-ltb 0 s.text (omega arith), le-ltb 0 s.digits h)
 
-returns : tie.Need-returns
-returns c = search no_text
+pub returns-then-s-eq0 : goal.returns-then-s-eq0
+returns-then-s-eq0 c = search no_text
 
-returns-2 : tie.Need-returns-2
-returns-2 c = search with-digit
+pub returns-then-s-gt0 : goal.returns-then-s-gt0
+returns-then-s-gt0 c = search with-digit
 
-returns-3 : tie.Need-returns-3
-returns-3 c = search else
-
-pub is-mixed-spec : {M : Type 1} → statement M
-is-mixed-spec = tie.close (tie.spec returns returns-2 returns-3)
+pub returns : goal.returns
+returns c = search else

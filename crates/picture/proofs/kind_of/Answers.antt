@@ -1,5 +1,4 @@
 -- `picture::kind_of` meets its contract: a law for each exit, and that the digits are few.
--- Assumes nothing.
 use Prim.Native.Nat.{ℕ, ◌≤◌, ◌<◌, max}
 use mathlib.Core.Path.{◌≡◌}
 use mathlib.Core.Bool.{Bool, true, false, ◌&&◌}
@@ -10,15 +9,12 @@ use Rattle.definition.specs.declared.Usage.{Usage}
 use Rattle.definition.specs.declared.SignKind.{SignKind}
 use Rattle.definition.specs.declared.SignClause.{SignClause}
 use Rattle.definition.specs.declared.FieldKind.{FieldKind}
-use Rattle.definition.specs.declared.Pictured.{Pictured}
 use Rattle.definition.specs.Limits.{most_digits, longest_mask}
 use Rattle.definition.specs.Picture.{pictured, resolve_sign, storage_width, numeric}
 use Rattle.definition.proofs.Answers.{or-false}
 use Rattle.picture.specs.declared.PicShape.{PicShape}
 use Rattle.picture.specs.Kinds.{masked_by, kinded_by, Fit}
-use borrow.Author.Rules.{rules}
-use Rattle.picture.proofs.kind_of.Statement.{statement}
-use Rattle.picture.proofs.kind_of.Tie as tie
+use Rattle.picture.proofs.kind_of.Goals as goal
 
 module _ {usage : Usage} {s : PicShape} (fit : Fit usage s) (n : s.text ≤ 0) where
   digits-fit : s.digits ≤ most_digits
@@ -51,47 +47,23 @@ module _ (usage : Usage) (clause : SignClause) (s : PicShape) where
         pictured k w ≡ kinded_by usage clause s
     number y g q p = rw (le-ltb 0 s.text n, ← e, y, q, p, g)
 
-returns : tie.Need-returns
-returns c = search text
+pub returns-then-s-gt0 : goal.returns-then-s-gt0
+returns-then-s-gt0 c = search text
 
-is-masked-requires : tie.Need-is-masked-requires
-is-masked-requires c κs = search rules
+pub overflow_cast-result : goal.overflow_cast-result
+overflow_cast-result c = omega (arith, digits-fit c.requires c.if-s-gt0.false, c.one_at_least-precision.ensures)
 
-one-at-least-requires : tie.Need-one-at-least-requires
-one-at-least-requires c κs = search rules
+pub overflow_cast-result-then-is_masked : goal.overflow_cast-result-then-is_masked
+overflow_cast-result-then-is_masked c = omega (arith, scale-fits c.requires c.if-s-gt0.false)
 
-cast-t11 : tie.Need-overflow-cast-t11
-cast-t11 c = omega (arith, digits-fit c.before.before.before.before.before.requires c.before.before.before.if1.false, c.one-at-least.ensures)
+pub returns-then-is_masked : goal.returns-then-is_masked
+returns-then-is_masked c = search edited
 
-cast-t12 : tie.Need-overflow-cast-t12
-cast-t12 c = omega (arith, scale-fits c.before.before.before.before.before.before.requires c.before.before.before.before.if1.false)
+pub numeric-kind-requires : goal.numeric-kind-requires
+numeric-kind-requires c = (digits-fit c.requires c.if-s-gt0.false, scale-fits c.requires c.if-s-gt0.false)
 
-returns-2 : tie.Need-returns-2
-returns-2 c = search edited
+pub storage_width-width-requires : goal.storage_width-width-requires
+storage_width-width-requires c = stored-fits c.requires c.if-s-gt0.false
 
-resolve-sign-requires : tie.Need-resolve-sign-requires
-resolve-sign-requires c κs = search rules
-
-numeric-requires : tie.Need-numeric-requires
-numeric-requires c κs = (digits-fit c.before.before.before.before.before.requires c.before.before.before.if1.false, scale-fits c.before.before.before.before.before.requires c.before.before.before.if1.false)
-
-storage-width-requires : tie.Need-storage-width-requires
-storage-width-requires c κs = stored-fits c.before.before.before.before.before.before.requires c.before.before.before.before.if1.false
-
-returns-3 : tie.Need-returns-3
-returns-3 c = search number
-
-pub kind-of-spec : {M : Type 1} → statement M
-kind-of-spec =
-    tie.close
-    (tie.spec
-    returns
-    is-masked-requires
-    one-at-least-requires
-    cast-t11
-    cast-t12
-    returns-2
-    resolve-sign-requires
-    numeric-requires
-    storage-width-requires
-    returns-3)
+pub returns : goal.returns
+returns c = search number

@@ -1,5 +1,4 @@
 -- `picture::read_shape` meets its contract: the checks of the shape are those of the symbols.
--- Assumes nothing.
 use Prim.Native.Nat.{ℕ, ◌≤◌}
 use mathlib.Core.Path.{◌≡◌, refl, sym, ap, ◌∙◌}
 use mathlib.Core.List.{List}
@@ -16,9 +15,7 @@ use Rattle.picture.specs.declared.Shaped.{Shaped}
 use Rattle.symbols.specs.Shape.{Small, counted_of, counts, Counts}
 use Rattle.picture.specs.Kinds.{shape_of, Judged, Reads}
 use Rattle.picture.proofs.Shapes.{symbols-shape, counts-refused, counts-given}
-use borrow.Author.Rules.{rules}
-use Rattle.picture.proofs.read_shape.Statement.{statement}
-use Rattle.picture.proofs.read_shape.Tie as tie
+use Rattle.picture.proofs.read_shape.Goals as goal
 
 small : {at : ℕ} {w : List ℕ} {r : Counted} → Counts at w r → {t : Tallies} {half : Half} → r ≡ Counted.Symbols t half → Small t
 small k e = rw e at k.small
@@ -50,39 +47,14 @@ module _ (at : ℕ) (usage : Usage) (bs : List ℕ) {w : List ℕ} (trimmed : w 
       let goes = counts-given at (trim bs) usage (expand at 0 0 (trim bs)) refl same in
       record { same = rw p at j.same ∙ goes ∙ sym (symbols-shape at usage bs (expand at 0 0 (trim bs)) refl); fits = j.fits }
 
-trim-requires : tie.Need-trim-requires
-trim-requires c κs = search rules
+pub shape_of-s-requires-in-Symbols : goal.shape_of-s-requires-in-Symbols
+shape_of-s-requires-in-Symbols c = small c.count_symbols.ensures c.in-Symbols.is
 
-count-symbols-requires : tie.Need-count-symbols-requires
-count-symbols-requires c κs = search rules
+pub check_shape-requires : goal.check_shape-requires
+check_shape-requires c = parts c.in-Symbols.tallies c.shape_of-s.ensures
 
-enum-known-tallies : tie.Need-enum-known-tallies
-enum-known-tallies c = search rules
+pub returns-in-Symbols : goal.returns-in-Symbols
+returns-in-Symbols c = search accepted
 
-shape-of-requires : tie.Need-shape-of-requires
-shape-of-requires c κs = small c.before.before.before.count-symbols.ensures c.before.tallies.given.1
-
-check-shape-requires : tie.Need-check-shape-requires
-check-shape-requires c κs = parts c.before.before.tallies.given.0.0 c.shape-of.ensures
-
-returns : tie.Need-returns
-returns c = search accepted
-
-enum-known-r : tie.Need-enum-known-r
-enum-known-r c = search rules
-
-returns-2 : tie.Need-returns-2
-returns-2 c = search refused
-
-pub read-shape-spec : {M : Type 1} → statement M
-read-shape-spec =
-    tie.close
-    (tie.spec
-    trim-requires
-    count-symbols-requires
-    enum-known-tallies
-    shape-of-requires
-    check-shape-requires
-    returns
-    enum-known-r
-    returns-2)
+pub returns-in-Refused : goal.returns-in-Refused
+returns-in-Refused c = search refused

@@ -1,9 +1,9 @@
 -- The writing of a mask: what stands in the output after the mask of some symbols was written from a place on.
 -- Assumes nothing.
-use Rattle.std.specs.Prelude.{ℕ, ◌+◌, ◌≤◌, ◌≡◌, Bool, List, [], length, replicate}
+use Rattle.std.specs.Prelude.{ℕ, ◌+◌, ◌≤◌, ◌≡◌, Bool, List, [], length, replicate, if◌then◌else◌}
 use Rattle.std.proofs.lemmas.List.Edits.{sets}
 use Rattle.definition.specs.declared.Usage.{Usage}
-use Rattle.definition.specs.Basic.{if◌then◌else◌, among, Answer, refuse, give, ◌>>=◌}
+use Rattle.definition.specs.Basic.{among, Answer, refuse, give, ◌>>=◌}
 use Rattle.definition.specs.Picture.{mask, symbols, is_masked}
 use Rattle.definition.specs.Calls.{After, fitting}
 

@@ -1,4 +1,6 @@
 // The mask of an edited picture, written to a lent output. Leans on `definition`, `text`, `symbols` and `picture`.
+#![tactic(auto)]
+
 ghost use Rattle.std.specs.Prelude.{◌+◌, ◌≤◌, ◌≡◌, [], length, replicate};
 ghost use Rattle.std.proofs.lemmas.List.Edits.{sets};
 ghost use Rattle.definition.specs.Picture.{expand, mask as mask_of};

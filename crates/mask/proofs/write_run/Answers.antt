@@ -1,5 +1,4 @@
 -- `mask::write_run` meets its contract.
--- Assumes nothing.
 use Prim.Native.Nat.{ℕ, ◌+◌, ◌≤◌}
 use mathlib.Core.Path.{◌≡◌, ◌∙◌}
 use mathlib.Core.Bool.{Bool, true, false}
@@ -11,9 +10,7 @@ use lib.Seq.{sets}
 use Rattle.definition.specs.Picture.{mask}
 use Rattle.definition.proofs.PictureLaws.{without-run}
 use Rattle.mask.specs.Masks.{hidden, Wrote}
-use borrow.Author.Rules.{rules}
-use Rattle.mask.proofs.write_run.Statement.{statement}
-use Rattle.mask.proofs.write_run.Tie as tie
+use Rattle.mask.proofs.write_run.Goals as goal
 
 module _ (b n : ℕ) {t : Bool} (e : t ≡ hidden b) where
   unseen : t ≡ true → mask (replicate n b) ≡ []
@@ -32,24 +29,14 @@ module _ (b n : ℕ) {t : Bool} (e : t ≡ hidden b) where
     some : t ≡ false → (out : List ℕ) {out' : List ℕ} → out' ≡ sets out k (replicate n b) → Wrote out k b n (k + n) out'
     some y out h = record { next = rw (shown y, length-replicate n b); same = rw (shown y) h }
 
-is-hidden-requires : tie.Need-is-hidden-requires
-is-hidden-requires c κs = search rules
+pub returns-then-is_hidden : goal.returns-then-is_hidden
+returns-then-is_hidden c = search none
 
-returns : tie.Need-returns
-returns c = search none
+pub fill-requires : goal.fill-requires
+fill-requires c = room c.args.b c.args.n c.is_hidden.ensures c.args.k c.if-is_hidden.false c.requires
 
-fill-requires : tie.Need-fill-requires
-fill-requires c κs = room c.before.before.before.before.args.b c.before.before.before.before.args.n c.before.before.is_hidden.ensures c.before.before.before.before.args.k c.before.if1.false c.before.before.before.before.requires
+pub overflow_add-result : goal.overflow_add-result
+overflow_add-result c = omega (arith, room c.args.b c.args.n c.is_hidden.ensures c.args.k c.if-is_hidden.false c.requires)
 
-add-result : tie.Need-overflow-add-result
-add-result c = omega (arith, room c.before.before.before.before.before.before.before.args.b c.before.before.before.before.before.before.before.args.n c.before.before.before.before.before.is_hidden.ensures c.before.before.before.before.before.before.before.args.k c.before.before.before.before.if1.false c.before.before.before.before.before.before.before.requires)
-
-same_length : tie.Need-same-length
-same_length c = search rules
-
-returns-2 : tie.Need-returns-2
-returns-2 c = search some
-
-pub write-run-spec : {M : Type 1} → statement M
-write-run-spec =
-    tie.close (tie.spec is-hidden-requires returns fill-requires add-result same_length returns-2)
+pub returns : goal.returns
+returns c = search some

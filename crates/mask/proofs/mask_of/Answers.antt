@@ -1,6 +1,5 @@
 -- `mask::mask_of` meets its contract: a law for each exit.
--- Assumes nothing.
-use Prim.Native.Nat.{ℕ, ◌+◌, ◌≤◌, ◌<◌}
+use Prim.Native.Nat.{ℕ, ◌≤◌, ◌<◌}
 use mathlib.Core.Path.{◌≡◌, sym, ap, ap₂, ◌∙◌}
 use mathlib.Core.Bool.{Bool, true, false}
 use mathlib.Core.List.{List, [], ◌++◌}
@@ -19,9 +18,7 @@ use Rattle.picture.specs.declared.Shaped.{Shaped}
 use Rattle.picture.specs.Kinds.{masked_by, Reads}
 use Rattle.mask.specs.Masks.{MaskRoom, put, mask_in, mask_after}
 use Rattle.picture.proofs.Shapes.{Behind, behind, behind-refused}
-use borrow.Author.Rules.{rules}
-use Rattle.mask.proofs.mask_of.Statement.{statement}
-use Rattle.mask.proofs.mask_of.Tie as tie
+use Rattle.mask.proofs.mask_of.Goals as goal
 
 -- what stands in the output after a mask that has room
 whole : (m out : List ℕ) → length m ≤ length out → sets out 0 m ≡ m ++ drop (length m) out
@@ -65,51 +62,17 @@ module _ (usage : Usage) (bs out : List ℕ) {r : Shaped} (k : Reads 0 usage bs 
               rw (b.are, masked, y, le-ltb (length out) (length (mask b.list)) (omega (arith, wide)))
               (ap₂ mask_after (ap give (sym wide)) (p ∙ ap (λ (x : Answer (List ℕ)). put 0 x out) expanded ∙ whole (mask b.list) out (omega (arith, wide))))
 
-read-shape-requires : tie.Need-read-shape-requires
-read-shape-requires c κs = search rules
+pub returns-then-out-length : goal.returns-then-out-length
+returns-then-out-length c = search full
 
-enum-known-s : tie.Need-enum-known-s
-enum-known-s c = search rules
+pub write_mask-requires : goal.write_mask-requires
+write_mask-requires c = room c.args.usage c.args.pic.now c.args.out.now c.read_shape.ensures c.in-Shape.is c.is_masked.ensures c.if-is_masked.true c.if-out-length.false c.trim-word.ensures
 
-is-masked-requires : tie.Need-is-masked-requires
-is-masked-requires c κs = search rules
+pub returns-then-is_masked : goal.returns-then-is_masked
+returns-then-is_masked c = written c.args.usage c.args.pic.now c.args.out.now c.read_shape.ensures c.in-Shape.is c.is_masked.ensures c.if-is_masked.true c.if-out-length.false c.trim-word.ensures c.write_mask.ensures
 
-returns : tie.Need-returns
-returns c = search full
+pub returns-in-Shape : goal.returns-in-Shape
+returns-in-Shape c = search plain
 
-trim-requires : tie.Need-trim-requires
-trim-requires c κs = search rules
-
-write-mask-requires : tie.Need-write-mask-requires
-write-mask-requires c κs = room c.before.before.before.before.before.before.before.before.before.before.before.args.usage c.before.before.before.before.before.before.before.before.before.before.before.args.pic.now c.before.before.before.before.before.before.before.before.before.before.before.args.out.now c.before.before.before.before.before.before.before.before.read-shape.ensures c.before.before.before.before.before.before.s.given.1 c.before.before.before.before.is-masked.ensures c.before.before.before.if1.true c.before.before.if2.false c.before.trim.ensures
-
-same_length : tie.Need-same-length
-same_length c = search rules
-
-returns-2 : tie.Need-returns-2
-returns-2 c = written c.before.before.before.before.before.before.before.before.before.before.before.before.before.before.args.usage c.before.before.before.before.before.before.before.before.before.before.before.before.before.before.args.pic.now c.before.before.before.before.before.before.before.before.before.before.before.before.before.before.args.out.now c.before.before.before.before.before.before.before.before.before.before.before.read-shape.ensures c.before.before.before.before.before.before.before.before.before.s.given.1 c.before.before.before.before.before.before.before.is-masked.ensures c.before.before.before.before.before.before.if1.true c.before.before.before.before.before.if2.false c.before.before.before.before.trim.ensures c.before.before.write-mask.ensures
-
-returns-3 : tie.Need-returns-3
-returns-3 c = search plain
-
-enum-known-r : tie.Need-enum-known-r
-enum-known-r c = search rules
-
-returns-4 : tie.Need-returns-4
-returns-4 c = search refused
-
-pub mask-of-spec : {M : Type 1} → statement M
-mask-of-spec =
-    tie.close
-    (tie.spec
-    read-shape-requires
-    enum-known-s
-    is-masked-requires
-    returns
-    trim-requires
-    write-mask-requires
-    same_length
-    returns-2
-    returns-3
-    enum-known-r
-    returns-4)
+pub returns-in-Refused : goal.returns-in-Refused
+returns-in-Refused c = search refused

@@ -1,6 +1,6 @@
 -- Laws of the answer: what the search found makes the extract, and what each check says of the items.
 -- Assumes nothing.
-use Prim.Native.Nat.{ℕ, zero, suc, ◌+◌, ◌*◌, ◌-◌, ◌^◌, ◌≤◌, ◌<◌, min}
+use Prim.Native.Nat.{ℕ, suc, ◌+◌, ◌*◌, ◌-◌, ◌^◌, ◌≤◌, ◌<◌, min}
 use mathlib.Core.Path.{◌≡◌, refl, sym, ◌∙◌, ap}
 use mathlib.Core.Bool.{Bool, true, false, ◌&&◌}
 use mathlib.Core.List.{List, [], ◌∷◌}
@@ -11,7 +11,8 @@ use borrow.Author.Tests.{le-ltb, leb-true, eq-eqb, ne_eqb}
 use Rattle.definition.specs.declared.Extract.{Extract}
 use Rattle.definition.specs.declared.ExtractAnswer.{ExtractAnswer}
 use Rattle.definition.specs.Limits.{largest, most_items, least_weight, most_weight}
-use Rattle.definition.specs.Basic.{if◌then◌else◌, sum, give, ◌>>=◌}
+use Rattle.std.specs.Prelude.{if◌then◌else◌}
+use Rattle.definition.specs.Basic.{sum, give, ◌>>=◌}
 use Rattle.definition.specs.Extract.{Item, items, misweighed, weight_of, chosen, subsets#, up_from, examined}
 use Rattle.definition.specs.Extract.{heaviest, alone, off_by, extract}
 use Rattle.definition.specs.Calls.{extract_of, extract_answer_of}

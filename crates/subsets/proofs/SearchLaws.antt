@@ -1,22 +1,22 @@
 -- Laws of the search: the sums of a subset are those of its items; one law for each way through the search, and through
 -- the sum of the items that fit alone; and what the checks of the weights say.
 -- Assumes nothing.
-use Prim.Native.Nat.{ℕ, zero, suc, ◌+◌, ◌*◌, ◌-◌, ◌/◌, ◌%◌, ◌^◌, ◌≤◌, ◌<◌}
+use Prim.Native.Nat.{ℕ, suc, ◌+◌, ◌*◌, ◌-◌, ◌/◌, ◌%◌, ◌^◌, ◌≤◌, ◌<◌}
 use mathlib.Core.Path.{◌≡◌, refl, sym, ◌∙◌, ap, subst}
 use mathlib.Core.Bool.{Bool, true, false, ◌&&◌}
 use mathlib.Core.List.{List, [], ◌∷◌, ◌++◌}
 use native.Mathlib.Nat.{sub-zero}
 use native.Mathlib.Omega.{arith}
-use lib.Dec.{eqb, leb, ltb}
+use lib.Dec.{eqb, leb}
 use lib.ListN.{length, get_or, drop, drop_of_length-le}
 use borrow.Author.Tests.{lt-ltb, le-ltb, le-leb, lt-leb}
 use Rattle.definition.specs.Limits.{most_weight, least_weight}
-use Rattle.definition.specs.Basic.{if◌then◌else◌, sum}
+use Rattle.std.specs.Prelude.{if◌then◌else◌}
+use Rattle.definition.specs.Basic.{sum}
 use Rattle.definition.specs.Extract.{Item, items, misweighed, bytes_of, weight_of}
 use Rattle.definition.specs.Extract.{chosen, up_from, heavier, heaviest, alone}
 use Rattle.definition.proofs.Lists.{drop-next}
 use Rattle.subsets.specs.declared.Sums.{Sums}
-use Rattle.subsets.specs.declared.Found.{Found}
 use Rattle.subsets.specs.Sums.{sum_in, SumsAre, Weighable, HasNext, HasSubsets, FoundIs}
 
 -- ---------------------------------------------------------------- the items of a subset

@@ -1,7 +1,7 @@
 -- Laws of the sums of a subset: from one number to the next, and none larger than the sum of all.
 -- Assumes nothing.
 use Prim.Native.Nat.{ℕ, zero, suc, ◌+◌, ◌*◌, ◌-◌, ◌/◌, ◌%◌, ◌^◌, ◌≤◌, ◌<◌}
-use mathlib.Core.Path.{◌≡◌, refl, sym, ◌∙◌, ap}
+use mathlib.Core.Path.{◌≡◌, refl, ◌∙◌}
 use mathlib.Core.Bool.{Bool, true, false}
 use mathlib.Core.List.{List, [], ◌∷◌}
 use mathlib.Core.Logic.{⊎_elim}
@@ -9,9 +9,10 @@ use native.Mathlib.Nat.{pow-suc, sub-zero}
 use native.Mathlib.Omega.{arith}
 use lib.Dec.{eqb}
 use lib.ListN.{length, get_or, drop}
-use borrow.Author.Tests.{eq-eqb, ne_eqb}
+use borrow.Author.Tests.{eq-eqb}
 use Rattle.definition.specs.Limits.{largest, most_weight}
-use Rattle.definition.specs.Basic.{if◌then◌else◌, sum}
+use Rattle.std.specs.Prelude.{if◌then◌else◌}
+use Rattle.definition.specs.Basic.{sum}
 use Rattle.definition.proofs.Lists.{order, drop-next}
 use Rattle.subsets.specs.declared.Sums.{Sums}
 use Rattle.subsets.specs.Sums.{sum_in, SumsAre, Weighable, HasNext}

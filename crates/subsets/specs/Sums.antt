@@ -1,9 +1,9 @@
 -- The sums of a subset: what those of some numbers come to that it has, by its number alone. The widths and the weights
 -- of items are summed alike.
 -- Assumes nothing.
-use Rattle.std.specs.Prelude.{ℕ, zero, suc, ◌+◌, ◌*◌, ◌/◌, ◌%◌, ◌^◌, ◌≤◌, ◌<◌, ◌≡◌, List, [], ◌∷◌, eqb, length, get_or}
+use Rattle.std.specs.Prelude.{ℕ, suc, ◌+◌, ◌*◌, ◌/◌, ◌%◌, ◌^◌, ◌≤◌, ◌<◌, ◌≡◌, List, [], ◌∷◌, eqb, length, get_or, if◌then◌else◌}
 use Rattle.definition.specs.Limits.{most_items, largest, most_weight}
-use Rattle.definition.specs.Basic.{if◌then◌else◌, sum}
+use Rattle.definition.specs.Basic.{sum}
 use Rattle.definition.specs.Extract.{items, weight_of, chosen, heaviest, up_from}
 use Rattle.subsets.specs.declared.Sums.{Sums}
 use Rattle.subsets.specs.declared.Found.{Found}

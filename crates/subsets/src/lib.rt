@@ -1,6 +1,8 @@
 // The heaviest subset of some items that fits a limit, among as many as are looked at: an extract, from the widths and
 // the weights of the items. Subsets are numbered in binary, the first item being the lowest bit; width and weight are
 // kept from one to the next.
+#![tactic(auto)]
+
 ghost use Rattle.std.specs.Prelude.{◌≡◌, suc, ◌+◌, ◌*◌, ◌^◌, ◌≤◌, ◌<◌, min, length};
 ghost use Rattle.definition.specs.Calls.{extract_answer_of, extract_of};
 ghost use Rattle.definition.specs.Extract.{misweighed, items, weight_of, alone, extract};
@@ -10,14 +12,14 @@ ghost use Rattle.subsets.specs.Sums.{SumsAre, Weighable, HasNext, Budgeted, HasS
 use definition::{Extract, ExtractAnswer, LEAST_WEIGHT, MOST_WEIGHT, Refusal};
 
 // The bytes of a subset and its weight.
-#[derive(Drop)]
+#[derive(Clone, Copy)]
 pub struct Sums {
     pub width: usize,
     pub weight: usize,
 }
 
 // The heaviest of the subsets looked at, its weight, and their number.
-#[derive(Drop)]
+#[derive(Clone, Copy)]
 pub struct Found {
     pub subset: usize,
     pub weight: usize,

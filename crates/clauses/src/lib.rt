@@ -1,4 +1,6 @@
 // The words of a statement after its name, one at a time: what each does to the clauses, and what is expected next.
+#![tactic(auto)]
+
 ghost use Rattle.std.specs.Prelude.{◌≡◌};
 ghost use Rattle.definition.specs.Basic.{uppers, absent, count};
 ghost use Rattle.definition.specs.Statement.{no_clauses, with_picture, with_usage, with_sign, with_sync, with_occurs};
@@ -185,7 +187,7 @@ fn begin(k: Keyword, c: Clauses) -> Step
 // What a word does to a statement: a clause begins; the word is the picture, the target of REDEFINES or the name of
 // DEPENDING ON; it is a count, or the word of SIGN, which says LEADING or not; it does nothing, or it is refused. Where
 // more than one thing may come next, that is said too.
-#[derive(Drop)]
+#[derive(Clone, Copy)]
 pub enum Move {
     Begin(Keyword),
     Picture,

@@ -2,9 +2,9 @@
 -- answer: each token leaves less of the text.
 -- Assumes nothing.
 use Prim.Native.Nat.{ℕ, ◌+◌, ◌-◌, ◌<◌, ◌≤◌}
-use mathlib.Core.Path.{◌≡◌, refl, sym, ◌∙◌, ap}
+use mathlib.Core.Path.{◌≡◌, refl, ◌∙◌, ap}
 use mathlib.Core.Bool.{Bool, true, false}
-use mathlib.Core.List.{List, [], ◌∷◌}
+use mathlib.Core.List.{List, []}
 use mathlib.Core.Logic.{⊎_elim}
 use mathlib.Core.Option.{none, some}
 use native.Mathlib.Numerals.{add-one}
@@ -16,9 +16,9 @@ use Rattle.definition.specs.declared.ByteKind.TheVariants.{Newline}
 use Rattle.definition.specs.declared.Mode.{Mode}
 use Rattle.definition.specs.declared.Mode.TheVariants.{Between}
 use Rattle.definition.specs.declared.Said.{Said}
-use Rattle.definition.specs.declared.Said.TheVariants.{Before, Value, Literal}
+use Rattle.definition.specs.declared.Said.TheVariants.{Before, Literal}
 use Rattle.definition.specs.declared.Token.{Token}
-use Rattle.definition.specs.Basic.{if◌then◌else◌}
+use Rattle.std.specs.Prelude.{if◌then◌else◌}
 use Rattle.definition.specs.Calls.{literal_check}
 use Rattle.definition.specs.Unquoted.{closed}
 use Rattle.definition.specs.Words.{heard, unless_open, tokens_of, first_open}
@@ -26,7 +26,7 @@ use Rattle.definition.proofs.Lists.{order}
 use Rattle.definition.proofs.WordLaws.{closed_on}
 use Rattle.tokens.specs.declared.Next.{Next}
 use Rattle.tokens.specs.declared.Stand.{Stand}
-use Rattle.tokens.specs.Tokens.{VALUE, open_mark, last_mark, said_of, said_at, between, mode_at, tokens_at, FirstWord}
+use Rattle.tokens.specs.Tokens.{VALUE, open_mark, last_mark, said_of, said_at, between, mode_at, FirstWord}
 use Rattle.tokens.specs.Tokens.{FirstStop, FirstEnd, First, open_check}
 
 -- ---------------------------------------------------------------- marks

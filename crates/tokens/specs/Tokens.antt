@@ -1,13 +1,13 @@
 -- What the answers of the functions that walk over tokens say, in terms of the definition's tokens from a place on.
 -- Assumes nothing.
-use Rattle.std.specs.Prelude.{ℕ, zero, suc, ◌+◌, ◌-◌, ◌<◌, ◌≤◌, ◌≡◌, Bool, true, false, List, [], ◌∷◌, eqb, ltb, length, get_or, drop}
+use Rattle.std.specs.Prelude.{ℕ, zero, suc, ◌+◌, ◌-◌, ◌<◌, ◌≤◌, ◌≡◌, Bool, true, false, List, [], ◌∷◌, eqb, ltb, length, get_or, drop, if◌then◌else◌}
 use Rattle.definition.specs.declared.ByteKind.TheVariants.{Newline}
 use Rattle.definition.specs.declared.Mode.{Mode}
 use Rattle.definition.specs.declared.Mode.TheVariants.{Fresh, Between, Dropped, Within}
 use Rattle.definition.specs.declared.Said.{Said}
 use Rattle.definition.specs.declared.Said.TheVariants.{Before, Value, Literal}
 use Rattle.definition.specs.declared.Token.{Token}
-use Rattle.definition.specs.Basic.{if◌then◌else◌, span, part, Answer, give, refused}
+use Rattle.definition.specs.Basic.{span, part, Answer, give, refused}
 use Rattle.definition.specs.Unquoted.{closed}
 use Rattle.definition.specs.Words.{up_to, marked, heard, unless_open, tokens}
 use Rattle.tokens.specs.declared.Ahead.{Ahead}

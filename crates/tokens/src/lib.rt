@@ -2,6 +2,8 @@
 // where a reader stands, `tokenize` and `split_statements` of the Rust in one walk, and knows where a literal is; a
 // literal that its line does not close ends the tokens, so that where a reader stands then says whether the text is
 // refused (50).
+#![tactic(auto)]
+
 ghost use Rattle.std.specs.Prelude.{◌≡◌, ◌+◌, ◌≤◌, ◌<◌, length, drop, get_or};
 ghost use Rattle.definition.specs.Calls.{literal_check, check_of};
 ghost use Rattle.definition.specs.declared.Said.TheVariants.{Literal};
@@ -31,7 +33,7 @@ const QUOTE: u8 = 34;
 // Where a reader stands: the place that it has reached, and what its statement has said, as far as its literals go.
 // That is 0, 1 or 2 words, 2 standing for more, and no VALUE from the third on; VALUE; or VALUE and a literal that is
 // open, with this mark. Place 0 begins a line, and between words any other place stands behind a token.
-#[derive(Drop)]
+#[derive(Clone, Copy)]
 pub struct Stand {
     pub at: usize,
     pub said: usize,
@@ -275,7 +277,7 @@ fn behind_word(text: &[u8], i: usize, said: usize) -> Stand
 
 // What stands after blanks, comments and line ends: a word that begins at a place, the end of a statement and the place
 // behind it, or the end of all tokens.
-#[derive(Drop)]
+#[derive(Clone, Copy)]
 enum Ahead {
     Word(usize),
     Stop(usize),
@@ -342,7 +344,7 @@ fn look_inside(text: &[u8], at: usize) -> Ahead
 
 // A word and where the reader stands behind it; the end of a statement and where it stands behind that; or no more
 // tokens, and where it stands then: the text has ended, or the line of a literal has.
-#[derive(Drop)]
+#[derive(Clone, Copy)]
 pub enum Next {
     Word {
         start: usize,

@@ -1,6 +1,4 @@
 -- `tokens::look` meets its contract: inside a literal, or where none is open.
--- Assumes nothing.
-use borrow.Author.Rules.{rules}
 use Prim.Native.Nat.{ℕ, ◌≤◌, ◌<◌}
 use mathlib.Core.Path.{◌≡◌, sym, ◌∙◌, ap}
 use mathlib.Core.Bool.{Bool, true, false}
@@ -20,8 +18,7 @@ use Rattle.tokens.specs.declared.Stand.{Stand}
 use Rattle.tokens.specs.Tokens.{VALUE, open_mark, last_mark, said_of, said_at, between, tokens_from, tokens_at, AheadIs}
 use Rattle.tokens.specs.Tokens.{InsideIs, Looks}
 use Rattle.tokens.proofs.TokenLaws.{said-literal, said-closed, said-anywhere, mode-closed, mode-literal}
-use Rattle.tokens.proofs.look.Statement.{statement}
-use Rattle.tokens.proofs.look.Tie as tie
+use Rattle.tokens.proofs.look.Goals as goal
 
 module _ (t : List ℕ) (s : Stand) where
   -- inside a literal
@@ -83,11 +80,8 @@ module _ (t : List ℕ) (s : Stand) where
           within = omega (arith, g.last);
         }
 
-returns : tie.Need-returns
-returns c = search inside
+pub returns-then-s-gt-VALUE : goal.returns-then-s-gt-VALUE
+returns-then-s-gt-VALUE c = search inside
 
-returns-2 : tie.Need-returns-2
-returns-2 c = search ahead
-
-pub look_spec : {M : Type 1} → statement M
-look_spec = tie.close (tie.spec (λ c κs. search rules) returns (λ c κs. search rules) returns-2)
+pub returns : goal.returns
+returns c = search ahead

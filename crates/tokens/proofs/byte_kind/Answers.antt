@@ -1,6 +1,4 @@
 -- `tokens::byte_kind` meets its contract: each way through its tests decides those of `byte_kind`.
--- Assumes nothing.
-use borrow.Author.Rules.{rules}
 use Prim.Native.Nat.{ℕ, ◌+◌, ◌<◌}
 use mathlib.Core.Path.{◌≡◌, sym, ◌∙◌}
 use mathlib.Core.Bool.{Bool, true, false}
@@ -12,8 +10,7 @@ use Rattle.definition.specs.declared.ByteKind.TheVariants.{Newline, Blank, Cut, 
 use Rattle.definition.proofs.Lists.{drop-next}
 use Rattle.definition.proofs.WordLaws.{kind_at, kind-newline, kind-blank, kind-cut, kind-star, kind-plain, kind-period}
 use Rattle.definition.proofs.WordLaws.{kind-point}
-use Rattle.tokens.proofs.byte_kind.Statement.{statement}
-use Rattle.tokens.proofs.byte_kind.Tie as tie
+use Rattle.tokens.proofs.byte_kind.Goals as goal
 
 module _ (t : List ℕ) (i : ℕ) (h : i < length t) where
   newline : get_or t i 0 ≡ 10 → Newline ≡ kind_at t i
@@ -44,55 +41,23 @@ module _ (t : List ℕ) (i : ℕ) (h : i < length t) where
           point : {p : Bool} → get_or t i 0 ≡ 46 → p ≡ ends (drop (i + 1) t) → p ≡ false → Other ≡ kind_at t i
           point d g z = sym (kind-point _ _ n (sym e ∙ w) (cut-is ∙ y) s d (sym g ∙ z))
 
-shared-slice-read-b : tie.Need-shared-slice-read-b
-shared-slice-read-b c = search rules
+pub returns-then-b-eq10 : goal.returns-then-b-eq10
+returns-then-b-eq10 c = search newline
 
-returns : tie.Need-returns
-returns c = search newline
+pub returns-then-is_white : goal.returns-then-is_white
+returns-then-is_white c = search blank
 
-is-white-requires : tie.Need-is-white-requires
-is-white-requires c κs = search rules
+pub returns-then-cut_here : goal.returns-then-cut_here
+returns-then-cut_here c = search cut
 
-returns-2 : tie.Need-returns-2
-returns-2 c = search blank
+pub returns-then-b-eq42 : goal.returns-then-b-eq42
+returns-then-b-eq42 c = search star
 
-cut-here-requires : tie.Need-cut-here-requires
-cut-here-requires c κs = search rules
+pub returns-then-b-ne46 : goal.returns-then-b-ne46
+returns-then-b-ne46 c = search plain
 
-returns-3 : tie.Need-returns-3
-returns-3 c = search cut
+pub returns-then-ends_statement : goal.returns-then-ends_statement
+returns-then-ends_statement c = search period
 
-returns-4 : tie.Need-returns-4
-returns-4 c = search star
-
-returns-5 : tie.Need-returns-5
-returns-5 c = search plain
-
-add-ends-statement : tie.Need-overflow-add-ends-statement
-add-ends-statement c = search rules
-
-ends-statement-requires : tie.Need-ends-statement-requires
-ends-statement-requires c κs = search rules
-
-returns-6 : tie.Need-returns-6
-returns-6 c = search period
-
-returns-7 : tie.Need-returns-7
-returns-7 c = search point
-
-pub byte-kind-spec : {M : Type 1} → statement M
-byte-kind-spec =
-    tie.close
-    (tie.spec
-    shared-slice-read-b
-    returns
-    is-white-requires
-    returns-2
-    cut-here-requires
-    returns-3
-    returns-4
-    returns-5
-    add-ends-statement
-    ends-statement-requires
-    returns-6
-    returns-7)
+pub returns : goal.returns
+returns c = search point

@@ -1,9 +1,7 @@
 -- `tokens::next_token` meets its contract, by what is ahead.
--- Assumes nothing.
-use borrow.Author.Rules.{rules}
-use Prim.Native.Nat.{ℕ, ◌+◌, ◌-◌, ◌<◌}
+use Prim.Native.Nat.{ℕ, ◌-◌, ◌<◌}
 use mathlib.Core.Path.{◌≡◌, ◌∙◌}
-use mathlib.Core.List.{List, ◌∷◌}
+use mathlib.Core.List.{List}
 use native.Mathlib.Omega.{arith}
 use lib.ListN.{length}
 use Rattle.tokens.specs.declared.Ahead.{Ahead}
@@ -11,8 +9,7 @@ use Rattle.tokens.specs.declared.Next.{Next}
 use Rattle.tokens.specs.declared.Stand.{Stand}
 use Rattle.tokens.specs.Tokens.{behind, tokens_at, WordFrom, LooksWord, Looks, First}
 use Rattle.tokens.proofs.TokenLaws.{mode-behind}
-use Rattle.tokens.proofs.next_token.Statement.{statement}
-use Rattle.tokens.proofs.next_token.Tie as tie
+use Rattle.tokens.proofs.next_token.Goals as goal
 
 module _ (t : List ℕ) (s : Stand) {a : Ahead} (g : Looks t s a) where
   module _ {i : ℕ} (e : a ≡ Ahead.Word i) where
@@ -46,29 +43,14 @@ module _ (t : List ℕ) (s : Stand) {a : Ahead} (g : Looks t s a) where
   end : {i : ℕ} → a ≡ Ahead.End i → First (tokens_at t s) t s.at (Next.End (record { at = i; said = s.said }))
   end {i} e = let w : Looks t s (Ahead.End i) = rw e at g in w
 
-behind-word-requires : tie.Need-behind-word-requires
-behind-word-requires c κs = search within
+pub behind_word-next-requires : goal.behind_word-next-requires
+behind_word-next-requires c = search within
 
-returns : tie.Need-returns
-returns c = search word
+pub returns-in-Word : goal.returns-in-Word
+returns-in-Word c = search word
 
-returns-2 : tie.Need-returns-2
-returns-2 c = search stop
+pub returns-in-Stop : goal.returns-in-Stop
+returns-in-Stop c = search stop
 
-returns-3 : tie.Need-returns-3
-returns-3 c = search end
-
-pub next-token-spec : {M : Type 1} → statement M
-next-token-spec =
-    tie.close
-    (tie.spec
-    (λ c κs. search rules)
-    (λ c. search rules)
-    behind-word-requires
-    (λ c. search rules)
-    returns
-    (λ c. search rules)
-    (λ c κs. search rules)
-    returns-2
-    (λ c. search rules)
-    returns-3)
+pub returns-in-End : goal.returns-in-End
+returns-in-End c = search end

@@ -1,17 +1,14 @@
 -- `tokens::behind_word` meets its contract: before VALUE, or after it.
--- Assumes nothing.
-use borrow.Author.Rules.{rules}
-use Prim.Native.Nat.{ℕ, ◌+◌, ◌-◌, ◌≤◌, ◌<◌}
-use mathlib.Core.Path.{◌≡◌, refl, sym, ◌∙◌}
+use Prim.Native.Nat.{ℕ, ◌+◌, ◌-◌, ◌<◌}
+use mathlib.Core.Path.{refl}
 use mathlib.Core.List.{List}
 use native.Mathlib.Omega.{arith}
-use lib.ListN.{length, get_or, take, drop}
+use lib.ListN.{get_or}
 use Rattle.definition.specs.Basic.{span, part}
 use Rattle.tokens.specs.declared.Stand.{Stand}
 use Rattle.tokens.specs.Tokens.{WordCounted, PlainEnd, MarkSeen, WordEnd, WordFrom}
 use Rattle.tokens.proofs.TokenLaws.{said-before}
-use Rattle.tokens.proofs.behind_word.Statement.{statement}
-use Rattle.tokens.proofs.behind_word.Tie as tie
+use Rattle.tokens.proofs.behind_word.Goals as goal
 
 module _ (t : List ℕ) (i n : ℕ) where
   -- a word from i to e
@@ -22,25 +19,8 @@ module _ (t : List ℕ) (i n : ℕ) where
   valued : {q : ℕ} {r : Stand} → MarkSeen n (get_or t i 0) q → WordEnd t (i + 1) q r → WordFrom t i n r
   valued g w = record { up = omega (arith, w.up); within = w.within; rest = rw (← g.is t i refl) (w.rest i) }
 
-returns : tie.Need-returns
-returns c = search plain
+pub returns-then-said-lt-VALUE : goal.returns-then-said-lt-VALUE
+returns-then-said-lt-VALUE c = search plain
 
-returns-2 : tie.Need-returns-2
-returns-2 c = search valued
-
-pub behind-word-spec : {M : Type 1} → statement M
-behind-word-spec =
-    tie.close
-    (tie.spec
-    (λ c. search rules)
-    (λ c κs. search rules)
-    (λ c. search rules)
-    (λ c. search rules)
-    (λ c. search rules)
-    (λ c κs. search rules)
-    returns
-    (λ c. search rules)
-    (λ c. search rules)
-    (λ c κs. search rules)
-    (λ c κs. search rules)
-    returns-2)
+pub returns : goal.returns
+returns c = search valued

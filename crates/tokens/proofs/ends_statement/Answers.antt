@@ -1,6 +1,4 @@
 -- `tokens::ends_statement` meets its contract.
--- Assumes nothing.
-use borrow.Author.Rules.{rules}
 use Prim.Native.Nat.{ℕ, ◌≤◌, ◌<◌}
 use mathlib.Core.Path.{◌≡◌, ◌∙◌}
 use mathlib.Core.Bool.{Bool, true, false}
@@ -9,8 +7,7 @@ use lib.ListN.{length, get_or, drop, drop_of_length-le}
 use Rattle.definition.specs.Basic.{white}
 use Rattle.definition.specs.Words.{cut_here, ends}
 use Rattle.definition.proofs.Lists.{drop-next}
-use Rattle.tokens.proofs.ends_statement.Statement.{statement}
-use Rattle.tokens.proofs.ends_statement.Tie as tie
+use Rattle.tokens.proofs.ends_statement.Goals as goal
 
 module _ (t : List ℕ) (i : ℕ) where
   none : length t ≤ i → true ≡ ends (drop i t)
@@ -23,31 +20,11 @@ module _ (t : List ℕ) (i : ℕ) where
     cut : {q : Bool} → r ≡ false → q ≡ cut_here (drop i t) → q ≡ ends (drop i t)
     cut n f = f ∙ rw (drop-next t i h, ← e, n)
 
-returns : tie.Need-returns
-returns c = search none
+pub returns-then-text-i : goal.returns-then-text-i
+returns-then-text-i c = search none
 
-shared-slice-read-is-white : tie.Need-shared-slice-read-is-white
-shared-slice-read-is-white c = search rules
+pub returns-then-is_white : goal.returns-then-is_white
+returns-then-is_white c = search blank
 
-is-white-requires : tie.Need-is-white-requires
-is-white-requires c κs = search rules
-
-returns-2 : tie.Need-returns-2
-returns-2 c = search blank
-
-cut-here-requires : tie.Need-cut-here-requires
-cut-here-requires c κs = search rules
-
-returns-3 : tie.Need-returns-3
-returns-3 c = search cut
-
-pub ends-statement-spec : {M : Type 1} → statement M
-ends-statement-spec =
-    tie.close
-    (tie.spec
-    returns
-    shared-slice-read-is-white
-    is-white-requires
-    returns-2
-    cut-here-requires
-    returns-3)
+pub returns : goal.returns
+returns c = search cut

@@ -1,6 +1,4 @@
 -- `tokens::counted` meets its contract.
--- Assumes nothing.
-use borrow.Author.Rules.{rules}
 use Prim.Native.Nat.{ℕ, ◌+◌, ◌≤◌, ◌<◌}
 use mathlib.Core.Path.{◌≡◌}
 use mathlib.Core.Bool.{Bool, true, false}
@@ -10,8 +8,7 @@ use borrow.Author.Tests.{lt-leb, le-leb}
 use Rattle.definition.specs.Words.{is_value}
 use Rattle.tokens.specs.Tokens.{WordCounted}
 use Rattle.tokens.proofs.TokenLaws.{said-before}
-use Rattle.tokens.proofs.counted.Statement.{statement}
-use Rattle.tokens.proofs.counted.Tie as tie
+use Rattle.tokens.proofs.counted.Goals as goal
 
 -- the word is first or second, or it is third or later and VALUE, or not
 module _ (w : List ℕ) (n : ℕ) where
@@ -25,14 +22,11 @@ module _ (w : List ℕ) (n : ℕ) where
     other : n < 3 → r ≡ false → WordCounted n w n
     other l y = record { is = λ t a. rw (le-leb 2 n h, ← p, y) (said-before t n a l) }
 
-returns : tie.Need-returns
-returns c = search early
+pub returns-then-n-lt2 : goal.returns-then-n-lt2
+returns-then-n-lt2 c = search early
 
-returns-2 : tie.Need-returns-2
-returns-2 c = search value
+pub returns-then-is_value : goal.returns-then-is_value
+returns-then-is_value c = search value
 
-returns-3 : tie.Need-returns-3
-returns-3 c = search other
-
-pub counted_spec : {M : Type 1} → statement M
-counted_spec = tie.close (tie.spec (λ c. search rules) returns (λ c κs. search rules) returns-2 returns-3)
+pub returns : goal.returns
+returns c = search other

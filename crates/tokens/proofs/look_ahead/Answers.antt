@@ -1,7 +1,4 @@
--- `tokens::look_ahead` meets its contract. The loop's invariant: the tokens are those from i on.
--- Assumes nothing.
-use borrow.Author.Rules.{rules}
-use Prim.Native.Nat.{ℕ, ◌+◌, ◌-◌, ◌<◌, ◌≤◌}
+use Prim.Native.Nat.{ℕ, ◌+◌, ◌<◌, ◌≤◌}
 use mathlib.Core.Path.{◌≡◌, refl, ◌∙◌}
 use mathlib.Core.Bool.{Bool, true, false}
 use mathlib.Core.List.{List, [], ◌∷◌, ◌++◌}
@@ -17,8 +14,8 @@ use Rattle.definition.specs.Unquoted.{closed}
 use Rattle.definition.specs.Words.{next as mode_after, completed, completed_end, marked, said_next}
 use Rattle.definition.proofs.WordLaws.{kind_at, tokens-next, tokens-end, closed-seen, closed_on}
 use Rattle.tokens.specs.Tokens.{between, tokens_from, NextLine, AheadWord, AheadStop, AheadEnd}
-use Rattle.tokens.proofs.look_ahead.Statement.{statement}
-use Rattle.tokens.proofs.look_ahead.Tie as tie
+use Rattle.tokens.proofs.look_ahead.Invariants.{Left}
+use Rattle.tokens.proofs.look_ahead.Goals as goal
 
 -- what a byte at p between words gives and leads to, where it does not matter whether the line has only blanks so far
 module _ (t : List ℕ) (q : Said) (p : ℕ) where
@@ -62,12 +59,6 @@ end-next : (f : Bool) (p : ℕ) → completed_end (between f) p ≡ []
 end-next true p = refl
 end-next false p = refl
 
--- the tokens are those from i on
-record Left (t : List ℕ) (at : ℕ) (fresh : Bool) (i : ℕ) (f : Bool) : Type 0 where
-  up : at ≤ i
-  within : i ≤ length t
-  rest : (q : Said) → closed q ≡ true → tokens_from t q (between fresh) at ≡ tokens_from t q (between f) i
-
 start : {t : List ℕ} {at : ℕ} {fresh : Bool} → at ≤ length t → Left t at fresh at fresh
 start h = record { up = omega arith; within = h; rest = λ q c. refl }
 
@@ -105,69 +96,29 @@ module _ {t : List ℕ} {at : ℕ} {fresh : Bool} {i : ℕ} {f : Bool} (inv : Le
     period : k ≡ Period → AheadStop t at fresh (i + 1)
     period d = record { up = omega arith; within = omega arith; rest = λ q c. stepped d q c ∙ period-next t q i f }
 
-abbrev invariant-loop : tie.invariant-loop
-invariant-loop text at fresh i₀ f₀ i f = Left text at fresh i f
+pub loop-i-init : goal.loop-i-init
+loop-i-init c = search start
 
-abbrev decreases-loop : tie.decreases-loop
-decreases-loop text at fresh i₀ f₀ i f = length text - i
+pub loop-i-preserved-in-Newline : goal.loop-i-preserved-in-Newline
+loop-i-preserved-in-Newline c = search (newline c.loop-i.invariant)
 
-loop-holds : tie.Need-loop-init invariant-loop decreases-loop
-loop-holds c = search start
+pub loop-i-preserved-in-Blank : goal.loop-i-preserved-in-Blank
+loop-i-preserved-in-Blank c = search blank
 
-loop-again : tie.Need-loop-preserved invariant-loop decreases-loop
-loop-again c = search (newline c.before.before.before.before.loop.invariant)
+pub loop-i-preserved-in-Cut : goal.loop-i-preserved-in-Cut
+loop-i-preserved-in-Cut c = search (cut c.loop-i.invariant)
 
-loop-again-2 : tie.Need-loop-preserved-2 invariant-loop decreases-loop
-loop-again-2 c = search blank
+pub loop-i-preserved : goal.loop-i-preserved
+loop-i-preserved c = search note
 
-loop-again-3 : tie.Need-loop-preserved-3 invariant-loop decreases-loop
-loop-again-3 c = search (cut c.before.before.before.before.before.loop.invariant)
+pub returns-else-f : goal.returns-else-f
+returns-else-f c = search star
 
-loop-again-4 : tie.Need-loop-preserved-4 invariant-loop decreases-loop
-loop-again-4 c = search note
+pub returns-in-Period : goal.returns-in-Period
+returns-in-Period c = search period
 
-returns : tie.Need-returns invariant-loop decreases-loop
-returns c = search star
+pub returns-in-Other : goal.returns-in-Other
+returns-in-Other c = search other
 
-returns-2 : tie.Need-returns-2 invariant-loop decreases-loop
-returns-2 c = search period
-
-returns-3 : tie.Need-returns-3 invariant-loop decreases-loop
-returns-3 c = search other
-
-returns-4 : tie.Need-returns-4 invariant-loop decreases-loop
-returns-4 c = search done
-
-pub look-ahead-spec : {M : Type 1} → statement M
-look-ahead-spec =
-    tie.close
-    (tie.spec
-    invariant-loop
-    decreases-loop
-    loop-holds
-    (λ c κs. search rules)
-    (λ c. search rules)
-    (λ c. search rules)
-    (λ c. search rules)
-    loop-again
-    (λ c. search rules)
-    (λ c. search rules)
-    (λ c. search rules)
-    loop-again-2
-    (λ c. search rules)
-    (λ c. search rules)
-    (λ c κs. search rules)
-    (λ c. search rules)
-    loop-again-3
-    (λ c. search rules)
-    (λ c. search rules)
-    (λ c κs. search rules)
-    (λ c. search rules)
-    loop-again-4
-    returns
-    (λ c. search rules)
-    (λ c. search rules)
-    returns-2
-    (λ c. search rules)
-    returns-3
-    returns-4)
+pub returns : goal.returns
+returns c = search done

@@ -1,8 +1,4 @@
--- `tokens::look_inside` meets its contract. The loop's invariant: the tokens are those from i on, and no mark was
--- passed.
--- Assumes nothing.
-use borrow.Author.Rules.{rules}
-use Prim.Native.Nat.{ℕ, ◌+◌, ◌-◌, ◌≤◌, ◌<◌}
+use Prim.Native.Nat.{ℕ, ◌+◌, ◌≤◌, ◌<◌}
 use mathlib.Core.Path.{◌≡◌, refl, sym, ◌∙◌}
 use mathlib.Core.Bool.{Bool, true, false}
 use mathlib.Core.List.{List}
@@ -11,12 +7,12 @@ use lib.Dec.{eqb}
 use lib.ListN.{length, get_or}
 use Rattle.definition.specs.declared.Mode.TheVariants.{Between}
 use Rattle.definition.specs.declared.Said.TheVariants.{Literal}
-use Rattle.definition.specs.Basic.{if◌then◌else◌, white}
+use Rattle.std.specs.Prelude.{if◌then◌else◌}
+use Rattle.definition.specs.Basic.{white}
 use Rattle.definition.proofs.WordLaws.{never, tokens-end, literal-newline, literal-blank, literal-word}
 use Rattle.tokens.specs.Tokens.{open_mark, Skips, InsideWord, InsideEnd}
 use Rattle.tokens.proofs.TokenLaws.{mark-before}
-use Rattle.tokens.proofs.look_inside.Statement.{statement}
-use Rattle.tokens.proofs.look_inside.Tie as tie
+use Rattle.tokens.proofs.look_inside.Goals as goal
 
 -- no mark is white
 not_white : (x : Bool) → white (if x then 39 else 34) ≡ false
@@ -52,39 +48,17 @@ module _ {t : List ℕ} {at i : ℕ} (inv : Skips t at i) where
       word : w ≡ false → InsideWord t at i
       word y = record { skips = inv; within = h; begins = λ m a. literal-word t m a i h (sym p ∙ y) }
 
-abbrev invariant-loop : tie.invariant-loop
-invariant-loop text at i₀ i = Skips text at i
+pub loop-i-init : goal.loop-i-init
+loop-i-init c = search start
 
-abbrev decreases-loop : tie.decreases-loop
-decreases-loop text at i₀ i = length text - i
+pub returns-then-b-eq10 : goal.returns-then-b-eq10
+returns-then-b-eq10 c = search newline
 
-loop-holds : tie.Need-loop-init invariant-loop decreases-loop
-loop-holds c = search start
+pub loop-i-preserved : goal.loop-i-preserved
+loop-i-preserved c = search blank
 
-returns : tie.Need-returns invariant-loop decreases-loop
-returns c = search newline
+pub returns-else-is_white : goal.returns-else-is_white
+returns-else-is_white c = search word
 
-loop-again : tie.Need-loop-preserved invariant-loop decreases-loop
-loop-again c = search blank
-
-returns-2 : tie.Need-returns-2 invariant-loop decreases-loop
-returns-2 c = search word
-
-returns-3 : tie.Need-returns-3 invariant-loop decreases-loop
-returns-3 c = search done
-
-pub look-inside-spec : {M : Type 1} → statement M
-look-inside-spec =
-    tie.close
-    (tie.spec
-    invariant-loop
-    decreases-loop
-    loop-holds
-    (λ c. search rules)
-    returns
-    (λ c κs. search rules)
-    (λ c. search rules)
-    (λ c. search rules)
-    loop-again
-    returns-2
-    returns-3)
+pub returns : goal.returns
+returns c = search done

@@ -1,0 +1,19 @@
+-- `tokens::open_check` meets its contract. The loop's invariant: what is open first is so from where the reader stands.
+use Prim.Native.Nat.{ℕ, ◌-◌, ◌≤◌}
+use mathlib.Core.Path.{◌≡◌}
+use mathlib.Core.List.{List}
+use lib.ListN.{length}
+use Rattle.definition.specs.Words.{tokens_of, first_open}
+use Rattle.tokens.specs.declared.Stand.{Stand}
+use Rattle.tokens.specs.Tokens.{tokens_at}
+use Rattle.tokens.proofs.open_check.Given as goal
+
+pub record Left (t : List ℕ) (s : Stand) : Type 0 where
+  pub within : s.at ≤ length t
+  pub rest : first_open (tokens_of t) ≡ first_open (tokens_at t s)
+
+abbrev pub invariant-loop-next : goal.invariant-loop-next
+invariant-loop-next l = Left l.text l.s
+
+abbrev pub decreases-loop-next : goal.decreases-loop-next
+decreases-loop-next l = length l.text - l.s.at

@@ -1,0 +1,41 @@
+use Prim.Native.Nat.{ℕ, ◌+◌, ◌<◌, ◌≤◌}
+use mathlib.Core.Path.{◌≡◌, refl, ◌∙◌}
+use mathlib.Core.Bool.{Bool, true, false}
+use mathlib.Core.List.{List}
+use native.Mathlib.Omega.{arith}
+use lib.ListN.{length}
+use Rattle.definition.specs.declared.ByteKind.{ByteKind}
+use Rattle.definition.specs.declared.Said.TheVariants.{Before}
+use Rattle.definition.proofs.WordLaws.{kind_at, stays_within, word_next, word-stop, word-last}
+use Rattle.tokens.specs.Tokens.{PlainEnd}
+use Rattle.tokens.proofs.word_end.Invariants.{Left}
+use Rattle.tokens.proofs.word_end.Goals as goal
+
+start : {t : List ℕ} {at : ℕ} → at ≤ length t → Left t at at
+start h = record { up = omega arith; within = h; rest = λ n s. refl }
+
+module _ {t : List ℕ} {at i : ℕ} (inv : Left t at i) where
+  done : length t ≤ i → PlainEnd t at i
+  done h = record { up = inv.up; within = inv.within; rest = λ n s. inv.rest n s ∙ word-last t (Before n) s i h }
+
+  module _ (h : i < length t) {k : ByteKind} {r : Bool} (e : k ≡ kind_at t i) (p : r ≡ stays_within k) where
+    here : stays_within (kind_at t i) ≡ r
+    here = rw (p, e)
+
+    next : r ≡ true → Left t at (i + 1)
+    next y = record { up = omega arith; within = omega arith; rest = λ n s. inv.rest n s ∙ word_next t (Before n) s i h (here ∙ y) }
+
+    found : r ≡ false → PlainEnd t at i
+    found y = record { up = inv.up; within = inv.within; rest = λ n s. inv.rest n s ∙ word-stop t (Before n) s i h (here ∙ y) }
+
+pub loop-i-init : goal.loop-i-init
+loop-i-init c = search start
+
+pub loop-i-preserved : goal.loop-i-preserved
+loop-i-preserved c = search next
+
+pub returns-else-in_word : goal.returns-else-in_word
+returns-else-in_word c = search found
+
+pub returns : goal.returns
+returns c = search done

@@ -1,12 +1,12 @@
-// A word reader: it holds the copybook text and where it stands in it. The borrow checker covers no function over a
-// struct that holds a slice, so `reader_at` and `word_of` are proved by hand, and so is `word_at`, whose parameters are
-// plain: its callers are covered.
+// A word reader: it holds the copybook text and where it stands in it.
+#![tactic(auto)]
+
 ghost use Rattle.std.specs.Prelude.{◌≡◌, ◌≤◌, length};
 ghost use Rattle.tokens.specs.Tokens.{tokens_at, First};
 
 use tokens::{Next, Stand};
 
-#[derive(Drop)]
+#[derive(Clone, Copy)]
 pub struct WordReader<'a> {
     pub text: &'a [u8],
     pub stand: Stand,

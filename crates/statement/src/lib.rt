@@ -1,4 +1,6 @@
 // One statement of a copybook: its level, its name and its clauses, as `parse_stmt` of the Rust reads them.
+#![tactic(auto)]
+
 ghost use Rattle.std.specs.Prelude.{◌≡◌, ◌∷◌, ◌+◌, ◌≤◌, ◌<◌, length};
 ghost use Rattle.definition.specs.Basic.{span, refused};
 ghost use Rattle.definition.specs.Statement.{finish as finish_of, statement_of};
@@ -11,7 +13,7 @@ use text::Level;
 use tokens::{Next, Stand};
 
 // What the end of a statement gives: its clauses, or a refusal.
-#[derive(Drop)]
+#[derive(Clone, Copy)]
 enum Finished {
     Whole(Clauses),
     Refused(Refusal),
@@ -53,7 +55,7 @@ fn finish(at: usize, e: Expect, c: Clauses) -> Finished
 }
 
 // The clauses of a statement and where the reader stands after it, or a refusal.
-#[derive(Drop)]
+#[derive(Clone, Copy)]
 pub enum ClausesRead {
     Done(Clauses, Stand),
     Refused(Refusal),
@@ -153,7 +155,7 @@ fn statement_of(level: u8, at: usize, name: Span, c: Clauses) -> Statement
 }
 
 // A statement of the words after its level, and where the reader stands after it, or a refusal.
-#[derive(Drop)]
+#[derive(Clone, Copy)]
 enum NamedRead {
     Done(Statement, Stand),
     Refused(Refusal),
@@ -203,7 +205,7 @@ fn read_named(text: &[u8], at: usize, level: u8, from: Stand) -> NamedRead
 
 // A kept statement and where the reader stands after it; where it stands after one that is skipped; a refusal; or the
 // end of the tokens, and where the reader stands there.
-#[derive(Drop)]
+#[derive(Clone, Copy)]
 pub enum StatementRead {
     Kept(Statement, Stand),
     Skipped(Stand),

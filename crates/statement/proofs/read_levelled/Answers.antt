@@ -1,6 +1,4 @@
 -- `statement::read_levelled` meets its contract, by the level.
--- Assumes nothing.
-use borrow.Author.Rules.{rules}
 use Prim.Native.Nat.{ℕ, ◌+◌, ◌-◌}
 use mathlib.Core.Path.{◌≡◌, sym, ap, ◌∙◌}
 use mathlib.Core.List.{List, ◌∷◌}
@@ -22,8 +20,7 @@ use Rattle.text.specs.Words.{levelled}
 use Rattle.statement.specs.declared.NamedRead.{NamedRead}
 use Rattle.statement.specs.declared.StatementRead.{StatementRead}
 use Rattle.statement.specs.Reading.{words_from, Ends, NamedDone, NamedAre, Followed, FirstStatement}
-use Rattle.statement.proofs.read_levelled.Statement.{statement}
-use Rattle.statement.proofs.read_levelled.Tie as tie
+use Rattle.statement.proofs.read_levelled.Goals as goal
 
 -- the tokens of a statement whose first word is known
 abbrev all : List ℕ → ℕ → ℕ → Stand → List Token
@@ -77,67 +74,14 @@ module _ (t : List ℕ) (s l : ℕ) (from : Stand) {v : Level} (p : levelled v �
             all_are = sentences-word (tokens_at t from) (span s l);
           }
 
-add-level-of : tie.Need-overflow-add-level-of
-add-level-of c = search rules
+pub returns-then-level-eq88 : goal.returns-then-level-eq88
+returns-then-level-eq88 c = search skipped
 
-sub-level-of : tie.Need-overflow-sub-level-of
-sub-level-of c = search rules
+pub returns-in-Done : goal.returns-in-Done
+returns-in-Done c = search kept
 
-part-level-of-start : tie.Need-slice-bounds-level-of-start
-part-level-of-start c = search rules
+pub returns-in-Refused : goal.returns-in-Refused
+returns-in-Refused c = search refused
 
-part-level-of-end : tie.Need-slice-bounds-level-of-end
-part-level-of-end c = search rules
-
-level-of-requires : tie.Need-level-of-requires
-level-of-requires c κs = search rules
-
-enum-known-level : tie.Need-enum-known-level
-enum-known-level c = search rules
-
-skip-statement-requires : tie.Need-skip-statement-requires
-skip-statement-requires c κs = search rules
-
-returns : tie.Need-returns
-returns c = search skipped
-
-read-named-requires : tie.Need-read-named-requires
-read-named-requires c κs = search rules
-
-enum-known-s : tie.Need-enum-known-s
-enum-known-s c = search rules
-
-returns-2 : tie.Need-returns-2
-returns-2 c = search kept
-
-enum-known-r : tie.Need-enum-known-r
-enum-known-r c = search rules
-
-returns-3 : tie.Need-returns-3
-returns-3 c = search refused
-
-enum_told : tie.Need-enum-told
-enum_told c = search rules
-
-returns-4 : tie.Need-returns-4
-returns-4 c = search bad
-
-pub read-levelled-spec : {M : Type 1} → statement M
-read-levelled-spec =
-    tie.close
-    (tie.spec
-    add-level-of
-    sub-level-of
-    part-level-of-start
-    part-level-of-end
-    level-of-requires
-    enum-known-level
-    skip-statement-requires
-    returns
-    read-named-requires
-    enum-known-s
-    returns-2
-    enum-known-r
-    returns-3
-    enum_told
-    returns-4)
+pub returns-in-Bad : goal.returns-in-Bad
+returns-in-Bad c = search bad

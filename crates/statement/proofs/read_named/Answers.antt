@@ -1,6 +1,4 @@
 -- `statement::read_named` meets its contract: a name and clauses, or the statement ends.
--- Assumes nothing.
-use borrow.Author.Rules.{rules}
 use Prim.Native.Nat.{ℕ, ◌<◌, ◌≤◌}
 use mathlib.Core.Path.{◌≡◌, ap, ◌∙◌}
 use mathlib.Core.List.{List, []}
@@ -26,8 +24,7 @@ use Rattle.statement.specs.declared.ClausesRead.{ClausesRead}
 use Rattle.statement.specs.declared.NamedRead.{NamedRead}
 use Rattle.statement.specs.Reading.{words_from, Ends, ClausesDone, ClausesAre, NamedAre}
 use Rattle.statement.proofs.EndLaws.{reached-start, reached-word, ends-stop, ends-text, ends_on}
-use Rattle.statement.proofs.read_named.Statement.{statement}
-use Rattle.statement.proofs.read_named.Tie as tie
+use Rattle.statement.proofs.read_named.Goals as goal
 
 -- the words after the level, where the tokens from the place on are known
 tokens-named : (t : List ℕ) (at level : ℕ) {ts us : List Token} → ts ≡ us → named t at level (first_words ts) ≡ named t at level (first_words us)
@@ -98,47 +95,20 @@ module _ (t : List ℕ) (at level : ℕ) (from : Stand) (h : from.at ≤ length 
           let none = tokens-named t at level (end-first _ t from.at f q).opens in
           bare b (none ∙ ap (named t at level) (end-words (said_at t n))) p p' k (ends-text (reached-start h) f q)
 
-read-clauses-requires : tie.Need-read-clauses-requires
-read-clauses-requires c κs = search within
+pub read_clauses-requires : goal.read_clauses-requires
+read_clauses-requires c = search within
 
-returns : tie.Need-returns
-returns c =
-    let read = c.before.before.before.before in
-    let named = read.before.before in
-    let begun = named.before.before.before.before in
-    let a = begun.args in
-    done a.text.now a.at a.level a.from begun.requires.1 named.before.before.word_at.ensures
-    named.start.given.1 read.read-clauses.ensures begun.requires.0 c.before.before.c.given.1
-    c.statement-of.ensures
+pub returns-in-Done : goal.returns-in-Done
+returns-in-Done c = let a = c.args in
+    done a.text.now a.at a.level a.from c.requires.1 c.word_at.ensures
+    c.in-Word.is c.read_clauses.ensures c.requires.0 c.in-Done.is
+    c.statement_of.ensures
 
-returns-2 : tie.Need-returns-2
-returns-2 c = search refused
+pub returns-in-Refused : goal.returns-in-Refused
+returns-in-Refused c = search refused
 
-returns-3 : tie.Need-returns-3
-returns-3 c = search stopped
+pub returns-in-Stop : goal.returns-in-Stop
+returns-in-Stop c = search stopped
 
-returns-4 : tie.Need-returns-4
-returns-4 c = search ended
-
-pub read-named-spec : {M : Type 1} → statement M
-read-named-spec =
-    tie.close
-    (tie.spec
-    (λ c κs. search rules)
-    (λ c. search rules)
-    read-clauses-requires
-    (λ c. search rules)
-    (λ c κs. search rules)
-    returns
-    (λ c. search rules)
-    returns-2
-    (λ c. search rules)
-    (λ c κs. search rules)
-    (λ c κs. search rules)
-    (λ c κs. search rules)
-    returns-3
-    (λ c. search rules)
-    (λ c κs. search rules)
-    (λ c κs. search rules)
-    (λ c κs. search rules)
-    returns-4)
+pub returns-in-End : goal.returns-in-End
+returns-in-End c = search ended

@@ -1,7 +1,3 @@
--- `statement::read_clauses` meets its contract. The loop's invariant: the clauses are those of the words from `place`
--- on, with what was read before, and what was read fits.
--- Assumes nothing.
-use borrow.Author.Rules.{rules}
 use Prim.Native.Nat.{ℕ, ◌+◌, ◌-◌, ◌<◌, ◌≤◌, ◌^◌}
 use mathlib.Core.Path.{◌≡◌, sym, ap, ◌∙◌}
 use mathlib.Core.List.{List}
@@ -26,17 +22,11 @@ use Rattle.tokens.specs.Tokens.{said_at, tokens_at, FirstWord, First}
 use Rattle.tokens.proofs.TokenLaws.{end-first, word_first, word-less, stop-first}
 use Rattle.statement.specs.declared.ClausesRead.{ClausesRead}
 use Rattle.definition.proofs.SpanLaws.{none-spans, step-spans, AnswerSpans, finish-spans}
-use Rattle.clauses.specs.Places.{SpanInside, Fits}
+use Rattle.clauses.specs.Places.{SpanInside}
 use Rattle.statement.specs.Reading.{words_from, Ends, closing, ClausesAre}
-use Rattle.statement.proofs.EndLaws.{Reached, reached-start, reached-word, ends-stop, ends-text}
-use Rattle.statement.proofs.read_clauses.Statement.{statement}
-use Rattle.statement.proofs.read_clauses.Tie as tie
-
--- the clauses are those of the words from `place` on, after what was read
-record Left (t : List ℕ) (at : ℕ) (from place : Stand) (e : Expect) (c : Clauses) : Type 0 where
-  reached : Reached t from place
-  same : clauses t at Expect.Clause no_clauses (words_from t from) ≡ clauses t at e c (words_from t place)
-  fits : Fits t c
+use Rattle.statement.proofs.EndLaws.{reached-start, reached-word, ends-stop, ends-text}
+use Rattle.statement.proofs.read_clauses.Invariants.{Left}
+use Rattle.statement.proofs.read_clauses.Goals as goal
 
 -- before the first word
 start : {t : List ℕ} {at : ℕ} {from : Stand} {c : Clauses} → from.at ≤ length t → c ≡ no_clauses → Left t at from from Expect.Clause c
@@ -99,59 +89,26 @@ module _ {t : List ℕ} {at : ℕ} {from place : Stand} {e : Expect} {c : Clause
   end-closed {n} q p =
       rw p (closes t at from n (finish at e c) (rest inv (end-first _ t place.at f q).opens ∙ ap (clauses t at e c) (end-words (said_at t n)) ∙ clauses-none t at e c) (finish-spans (SpanInside t) at e inv.fits) (ends-text inv.reached f q))
 
-abbrev invariant-loop : tie.invariant-loop
-invariant-loop text at place₀ e₀ c₀ place e c = Left text at place₀ place e c
+pub loop-start-init : goal.loop-start-init
+loop-start-init c = search start
 
-abbrev decreases-loop : tie.decreases-loop
-decreases-loop text at place₀ e₀ c₀ place e c = length text - place.at
+pub overflow_add-start : goal.overflow_add-start
+overflow_add-start c = search room
 
-loop-holds : tie.Need-loop-init invariant-loop decreases-loop
-loop-holds c = search start
+pub slice_bounds-step-end : goal.slice_bounds-step-end
+slice_bounds-step-end c = search inside
 
-add_step : tie.Need-overflow-add-step invariant-loop decreases-loop
-add_step c = search room
+pub loop-start-smaller : goal.loop-start-smaller
+loop-start-smaller c = search word-less
 
-part-step-end : tie.Need-slice-bounds-step-end invariant-loop decreases-loop
-part-step-end c = search inside
+pub loop-start-preserved : goal.loop-start-preserved
+loop-start-preserved c = search go
 
-loop-less : tie.Need-loop-smaller invariant-loop decreases-loop
-loop-less c = search word-less
+pub returns-in-Fail : goal.returns-in-Fail
+returns-in-Fail c = search fail
 
-loop-again : tie.Need-loop-preserved invariant-loop decreases-loop
-loop-again c = search go
+pub returns-in-Stop : goal.returns-in-Stop
+returns-in-Stop c = search stop-closed
 
-returns : tie.Need-returns invariant-loop decreases-loop
-returns c = search fail
-
-returns-2 : tie.Need-returns-2 invariant-loop decreases-loop
-returns-2 c = search stop-closed
-
-returns-3 : tie.Need-returns-3 invariant-loop decreases-loop
-returns-3 c = search end-closed
-
-pub read-clauses-spec : {M : Type 1} → statement M
-read-clauses-spec =
-    tie.close
-    (tie.spec
-    invariant-loop
-    decreases-loop
-    (λ c κs. search rules)
-    loop-holds
-    (λ c κs. search rules)
-    (λ c. search rules)
-    add_step
-    (λ c. search rules)
-    (λ c. search rules)
-    part-step-end
-    (λ c κs. search rules)
-    (λ c. search rules)
-    loop-less
-    loop-again
-    (λ c. search rules)
-    returns
-    (λ c. search rules)
-    (λ c κs. search rules)
-    returns-2
-    (λ c. search rules)
-    (λ c κs. search rules)
-    returns-3)
+pub returns-in-End : goal.returns-in-End
+returns-in-End c = search end-closed

@@ -1,13 +1,11 @@
 -- `statement::read_statement` meets its contract: its tokens are those that the first word begins, a period, or none.
--- Assumes nothing.
-use borrow.Author.Rules.{rules}
 use Prim.Native.Nat.{ℕ, ◌+◌, ◌<◌, ◌≤◌}
 use mathlib.Core.Path.{◌≡◌, refl}
 use mathlib.Core.List.{List, ◌∷◌}
 use native.Mathlib.Omega.{arith}
 use lib.ListN.{length}
 use Rattle.definition.specs.declared.Token.{Token}
-use Rattle.definition.specs.declared.Token.TheVariants.{Word, Stop}
+use Rattle.definition.specs.declared.Token.TheVariants.{Word}
 use Rattle.definition.specs.Basic.{span}
 use Rattle.definition.specs.Words.{first_open}
 use Rattle.definition.proofs.StatementLaws.{statement-empty}
@@ -18,8 +16,7 @@ use Rattle.tokens.specs.Tokens.{tokens_at, FirstWord, First}
 use Rattle.tokens.proofs.TokenLaws.{end-first, word_first, stop-first}
 use Rattle.statement.specs.declared.StatementRead.{StatementRead}
 use Rattle.statement.specs.Reading.{Followed, FirstStatement}
-use Rattle.statement.proofs.read_statement.Statement.{statement}
-use Rattle.statement.proofs.read_statement.Tie as tie
+use Rattle.statement.proofs.read_statement.Goals as goal
 
 -- what holds from a later place on holds from an earlier one on
 earlier-followed : {ts : List Token} {t : List ℕ} {low later : ℕ} {n : Stand} → low ≤ later → Followed ts t later n → Followed ts t low n
@@ -55,27 +52,14 @@ module _ (t : List ℕ) (from : Stand) {r : Next} (f : First (tokens_at t from) 
   ended : {n : Stand} → r ≡ Next.End n → FirstStatement (tokens_at t from) t (from.at + 1) (StatementRead.End n)
   ended q = let s = end-first _ t from.at f q in record { ends = s.opens; within = s.within }
 
-read-levelled-requires : tie.Need-read-levelled-requires
-read-levelled-requires c κs = let a = c.before.before.before.before.before.args in places a.text.now a.from c.before.before.before.word_at.ensures c.before.start.given.1
+pub read_levelled-requires : goal.read_levelled-requires
+read_levelled-requires c = let a = c.args in places a.text.now a.from c.word_at.ensures c.in-Word.is
 
-returns : tie.Need-returns
-returns c = search begun
+pub returns-in-Word : goal.returns-in-Word
+returns-in-Word c = search begun
 
-returns-2 : tie.Need-returns-2
-returns-2 c = search empty
+pub returns-in-Stop : goal.returns-in-Stop
+returns-in-Stop c = search empty
 
-returns-3 : tie.Need-returns-3
-returns-3 c = search ended
-
-pub read-statement-spec : {M : Type 1} → statement M
-read-statement-spec =
-    tie.close
-    (tie.spec
-    (λ c κs. search rules)
-    (λ c. search rules)
-    read-levelled-requires
-    returns
-    (λ c. search rules)
-    returns-2
-    (λ c. search rules)
-    returns-3)
+pub returns-in-End : goal.returns-in-End
+returns-in-End c = search ended

@@ -2,7 +2,7 @@
 -- (`Columns` names what stands where). A statement is stored in its columns, and read back from them.
 -- A span is one number, for a text has at most 65,535 bytes; a count takes two.
 -- Assumes nothing.
-use Rattle.std.specs.Prelude.{ℕ, zero, suc, ◌+◌, ◌*◌, ◌/◌, ◌%◌, ◌≤◌, ◌<◌, List, [], ◌∷◌, eqb, get_or}
+use Rattle.std.specs.Prelude.{ℕ, zero, suc, ◌+◌, ◌*◌, ◌/◌, ◌%◌, ◌≤◌, ◌<◌, List, [], ◌∷◌, eqb, get_or, if◌then◌else◌}
 use Rattle.std.proofs.lemmas.List.Edits.{sets}
 use Rattle.definition.specs.declared.Span.{Span}
 use Rattle.definition.specs.declared.Occurs.{Occurs}
@@ -10,7 +10,7 @@ use Rattle.definition.specs.declared.ItemUsage.{ItemUsage}
 use Rattle.definition.specs.declared.Clauses.{Clauses}
 use Rattle.definition.specs.declared.Statement.{Statement}
 use Rattle.definition.specs.Limits.{most_bytes}
-use Rattle.definition.specs.Basic.{if◌then◌else◌, span}
+use Rattle.definition.specs.Basic.{span}
 use Rattle.definition.specs.Listing.{flag}
 use Rattle.definition.specs.Statement.{clauses_of}
 use Rattle.kinds.specs.Usages.{item_usage_byte, item_usage_at, usage_code, usage_clause_at, sign_code, sign_words_at}

@@ -1,6 +1,4 @@
 -- `rows::clauses_at` meets its contract, part by part.
--- Assumes nothing.
-use borrow.Author.Rules.{rules}
 use Prim.Native.Nat.{ℕ, ◌/◌, ◌%◌}
 use mathlib.Core.Path.{◌≡◌}
 use mathlib.Core.List.{List}
@@ -13,8 +11,7 @@ use Rattle.definition.specs.Statement.{clauses_of}
 use Rattle.kinds.specs.Usages.{usage_clause_at, sign_words_at}
 use Rattle.rows.specs.Columns.{PICTURE, DEPENDING, REDEFINES, SAID}
 use Rattle.rows.specs.Table.{span_at, occurs_in, cell, clauses_at}
-use Rattle.rows.proofs.clauses_at.Statement.{statement}
-use Rattle.rows.proofs.clauses_at.Tie as tie
+use Rattle.rows.proofs.clauses_at.Goals as goal
 
 module _ (w : List ℕ) (k : ℕ) {p d r : Span} {u : UsageClause} {s : SignWords} {o : Occurs} where
   -- the clauses of parts that are read
@@ -28,35 +25,5 @@ module _ (w : List ℕ) (k : ℕ) {p d r : Span} {u : UsageClause} {s : SignWord
       clauses_of p u s (eqb (cell w k SAID / 64 % 2) 1) o d r ≡ clauses_at w k
   read ep eu es eo ed er = rw (ep, eu, es, eo, ed, er)
 
-returns : tie.Need-returns
+pub returns : goal.returns
 returns c = search read
-
-pub clauses-at-spec : {M : Type 1} → statement M
-clauses-at-spec =
-    tie.close
-    (tie.spec
-    (λ c. search rules)
-    (λ c. search rules)
-    (λ c. search rules)
-    (λ c. search rules)
-    (λ c. search rules)
-    (λ c. search rules)
-    (λ c. search rules)
-    (λ c. search rules)
-    (λ c κs. search rules)
-    (λ c. search rules)
-    (λ c κs. search rules)
-    (λ c. search rules)
-    (λ c κs. search rules)
-    (λ c κs. search rules)
-    (λ c. search rules)
-    (λ c. search rules)
-    (λ c. search rules)
-    (λ c. search rules)
-    (λ c κs. search rules)
-    (λ c. search rules)
-    (λ c. search rules)
-    (λ c. search rules)
-    (λ c. search rules)
-    (λ c κs. search rules)
-    returns)

@@ -1,17 +1,14 @@
 -- `rows::put_clauses` meets its contract: a run of stores and two more are one run.
--- Assumes nothing.
 use borrow.Author.Rules.{rules}
 use Prim.Native.Nat.{ℕ, ◌+◌, ◌/◌, ◌%◌}
-use mathlib.Core.Path.{◌≡◌, ◌∙◌}
+use mathlib.Core.Path.{◌≡◌}
 use mathlib.Core.List.{List, [], ◌∷◌}
 use native.Mathlib.Numerals.{towards_suc}
-use native.Mathlib.Omega.{arith}
 use lib.ListN.{set, length-set}
 use lib.Seq.{sets}
 use Rattle.definition.specs.declared.Clauses.{Clauses}
 use Rattle.rows.specs.Table.{span_code, count_of, said_code, clause_cells}
-use Rattle.rows.proofs.put_clauses.Statement.{statement}
-use Rattle.rows.proofs.put_clauses.Tie as tie
+use Rattle.rows.proofs.put_clauses.Goals as goal
 
 module _ (w : List ℕ) {w₁ : List ℕ} (at : ℕ) (c : Clauses) {p d r u n : ℕ} where
   -- the first four columns, and the two parts of the count
@@ -25,29 +22,8 @@ module _ (w : List ℕ) {w₁ : List ℕ} (at : ℕ) (c : Clauses) {p d r u n : 
       set (set w₁ (at + 4) (n % 4294967296)) (at + 5) (n / 4294967296) ≡ sets w at (clause_cells c)
   one-run e₁ ep ed er eu en = rw (e₁, ep, ed, er, eu, en) (simp towards_suc)
 
-slice-write-work-2 : tie.Need-slice-write-work-2
-slice-write-work-2 c = simp length-set (search rules)
+pub bounds-work-at-2 : goal.bounds-work-at-2
+bounds-work-at-2 c = simp length-set (search rules)
 
-returns : tie.Need-returns
+pub returns : goal.returns
 returns c = search one-run
-
-pub put-clauses-spec : {M : Type 1} → statement M
-put-clauses-spec =
-    tie.close
-    (tie.spec
-    (λ c κs. search rules)
-    (λ c κs. search rules)
-    (λ c κs. search rules)
-    (λ c κs. search rules)
-    (λ c κs. search rules)
-    (λ c κs. search rules)
-    (λ c. search rules)
-    (λ c. search rules)
-    (λ c. search rules)
-    (λ c. search rules)
-    (λ c. search rules)
-    (λ c. search rules)
-    (λ c. search rules)
-    slice-write-work-2
-    (λ c. search rules)
-    returns)

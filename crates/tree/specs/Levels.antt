@@ -1,10 +1,9 @@
 -- The open levels of the code as the definition's list of open statements, the innermost first; and what closing and
 -- opening a level says of them.
 -- Assumes nothing.
-use Rattle.std.specs.Prelude.{ℕ, zero, suc, ◌+◌, ◌-◌, ◌*◌, ◌≤◌, ◌<◌, ◌≡◌, List, [], ◌∷◌, ltb, length, get_or}
+use Rattle.std.specs.Prelude.{ℕ, zero, suc, ◌-◌, ◌*◌, ◌≤◌, ◌<◌, ◌≡◌, List, [], ◌∷◌, ltb, length, get_or, if◌then◌else◌}
 use Rattle.definition.specs.declared.ItemUsage.{ItemUsage}
 use Rattle.definition.specs.Statement.{outermost}
-use Rattle.definition.specs.Basic.{if◌then◌else◌}
 use Rattle.definition.specs.Tree.{Open, opened, still_open, innermost}
 use Rattle.definition.proofs.ParentLaws.{Fit}
 use Rattle.rows.specs.Columns.{ROW, PARENT}

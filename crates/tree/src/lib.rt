@@ -1,5 +1,7 @@
 // A text read into rows of work memory: the open levels that give each statement its parent, the usage that it takes
 // from there, and the reading.
+#![tactic(auto)]
+
 ghost use Rattle.std.specs.Prelude.{◌≡◌, ◌+◌, ◌*◌, ◌-◌, ◌≤◌, ◌<◌, length};
 ghost use Rattle.definition.specs.Limits.{most_bytes, least_work, most_statements};
 ghost use Rattle.rows.specs.Columns.{ROW, PARENT};
@@ -22,7 +24,7 @@ fn wide(n: u32) -> usize
 
 // The levels that are open, the innermost last, and how many; the row of the innermost and 1, or 0 for none. The rows
 // of the others follow by the parents.
-#[derive(Drop)]
+#[derive(Clone, Copy)]
 pub struct OpenLevels {
     pub levels: [u8; 256],
     pub count: usize,
@@ -131,14 +133,14 @@ fn add_row(work: &mut [u32], k: usize, o: OpenLevels, s: Statement) -> OpenLevel
 }
 
 // The number of rows that a text has, or why it is refused.
-#[derive(Drop)]
+#[derive(Clone, Copy)]
 pub enum RowsRead {
     Rows(usize),
     Refused(Refusal),
 }
 
 // The number of rows, and where the reader stands at the end of the tokens; or the refusal of a statement.
-#[derive(Drop)]
+#[derive(Clone, Copy)]
 enum StatementsRead {
     Rows(usize, Stand),
     Refused(Refusal),

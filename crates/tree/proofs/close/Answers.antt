@@ -1,7 +1,3 @@
--- `tree::close` meets its contract. The loop's invariant: what stays open of all levels is what stays open of those
--- that are left.
--- Assumes nothing.
-use borrow.Author.Rules.{rules}
 use Prim.Native.Nat.{ℕ, ◌*◌, ◌-◌, ◌≤◌, ◌<◌}
 use mathlib.Core.Path.{◌≡◌, refl, sym, ap, subst, ◌∙◌}
 use mathlib.Core.List.{List, [], ◌∷◌}
@@ -13,18 +9,8 @@ use Rattle.rows.specs.Columns.{ROW, PARENT}
 use Rattle.rows.specs.Table.{cell, usage_in}
 use Rattle.tree.specs.Levels.{top_down, Closed}
 use Rattle.tree.proofs.LevelLaws.{down-none, down-next, length-down}
-use Rattle.tree.proofs.close.Statement.{statement}
-use Rattle.tree.proofs.close.Tie as tie
-
--- n of n₀ levels are left, the innermost in row `row`
-record Left (w : List ℕ) (level k : ℕ) (levels : List ℕ) (n₀ row₀ n row : ℕ) : Type 0 where
-  byte : level < 256
-  few : n₀ ≤ 256
-  there : ROW * k ≤ length w
-  whole : Fit k (top_down w levels n₀ row₀)
-  fit : Fit k (top_down w levels n row)
-  within : n ≤ n₀
-  rest : still_open level (top_down w levels n₀ row₀) ≡ still_open level (top_down w levels n row)
+use Rattle.tree.proofs.close.Invariants.{Left}
+use Rattle.tree.proofs.close.Goals as goal
 
 -- all are left
 start : {w : List ℕ} {level k : ℕ} {levels : List ℕ} {n row : ℕ} → level < 256 → n ≤ 256 → ROW * k ≤ length w → Fit k (top_down w levels n row) → Left w level k levels n row n row
@@ -90,51 +76,17 @@ module _ {w : List ℕ} {level k : ℕ} {levels : List ℕ} {n₀ row₀ n row :
       let none : (r : ℕ) → top_down w levels n r ≡ [] = λ r. ap (λ (m : ℕ). top_down w levels m r) e ∙ down-none w levels r in
       all_stay 0 (none 0 ∙ sym (open_none level) ∙ ap (still_open level) (sym (none row))) (sym (ap innermost (none 0))) (omega arith)
 
-abbrev invariant-loop : tie.invariant-loop
-invariant-loop work level k levels n₀ row₀ n row = Left work level k levels n₀ row₀ n row
+pub loop-n-init : goal.loop-n-init
+loop-n-init c = search start
 
-abbrev decreases-loop : tie.decreases-loop
-decreases-loop work level k levels n₀ row₀ n row = n
+pub returns-then-levels-n : goal.returns-then-levels-n
+returns-then-levels-n c = found c.loop-n.invariant (omega arith) (omega arith)
 
-loop-holds : tie.Need-loop-init invariant-loop decreases-loop
-loop-holds c = search start
+pub parent_of-row-requires : goal.parent_of-row-requires
+parent_of-row-requires c = row_in c.loop-n.invariant (omega arith)
 
-sub-if1 : tie.Need-overflow-sub-if1 invariant-loop decreases-loop
-sub-if1 c = search rules
+pub loop-n-preserved : goal.loop-n-preserved
+loop-n-preserved c = search next
 
-array-read-if1 : tie.Need-array-read-if1 invariant-loop decreases-loop
-array-read-if1 c = search rules
-
-returns : tie.Need-returns invariant-loop decreases-loop
-returns c = found c.before.before.loop.invariant (omega arith) (omega arith)
-
-parent-of-requires : tie.Need-parent-of-requires invariant-loop decreases-loop
-parent-of-requires c κs = row_in c.before.before.loop.invariant (omega arith)
-
-sub-n : tie.Need-overflow-sub-n invariant-loop decreases-loop
-sub-n c = search rules
-
-loop-less : tie.Need-loop-smaller invariant-loop decreases-loop
-loop-less c = search rules
-
-loop-again : tie.Need-loop-preserved invariant-loop decreases-loop
-loop-again c = search next
-
-returns-2 : tie.Need-returns-2 invariant-loop decreases-loop
-returns-2 c = none_left c.before.loop.invariant (omega arith)
-
-pub close_spec : {M : Type 1} → statement M
-close_spec =
-    tie.close
-    (tie.spec
-    invariant-loop
-    decreases-loop
-    loop-holds
-    sub-if1
-    array-read-if1
-    returns
-    parent-of-requires
-    sub-n
-    loop-less
-    loop-again
-    returns-2)
+pub returns : goal.returns
+returns c = none_left c.loop-n.invariant (omega arith)

@@ -1,7 +1,3 @@
--- `tree::read_statements` meets its contract. The loop's invariant: the statements that are left, from the next row on
--- and with the levels that are open, lead to what all statements lead to from row 0 on.
--- Assumes nothing.
-use borrow.Author.Rules.{rules}
 use Prim.Native.Nat.{ℕ, ◌+◌, ◌*◌, ◌-◌, ◌≤◌, ◌<◌}
 use mathlib.Core.Path.{◌≡◌, refl, sym, ap, subst, ◌∙◌}
 use mathlib.Core.List.{List, [], ◌∷◌}
@@ -13,10 +9,9 @@ use Rattle.definition.specs.declared.Refusal.{Refusal}
 use Rattle.definition.specs.declared.Span.{Span}
 use Rattle.definition.specs.declared.Statement.{Statement}
 use Rattle.definition.specs.Limits.{most_bytes, least_work, most_statements}
-use Rattle.definition.specs.Basic.{Answer, refuse, give, ◌>>=◌}
-use Rattle.definition.specs.Statement.{statements}
+use Rattle.definition.specs.Basic.{refuse, give, ◌>>=◌}
 use Rattle.definition.specs.Tree.{Open}
-use Rattle.definition.specs.Words.{tokens_of, first_open, sentences, statement_words}
+use Rattle.definition.specs.Words.{first_open, statement_words}
 use Rattle.definition.proofs.ParentLaws.{Fit}
 use Rattle.definition.proofs.WordLaws.{end-sentences}
 use Rattle.definition.proofs.StatementLaws.{statements-none, statements-refused, statements-skipped, statements-full}
@@ -35,31 +30,12 @@ use Rattle.tree.specs.declared.StatementsRead.{StatementsRead}
 use Rattle.tree.specs.Levels.{top_down, stack_of, NoneOpen, Nested}
 use Rattle.rows.specs.Columns.{ROW}
 use Rattle.rows.specs.Table.{Short, Placed, put_rows}
-use Rattle.tree.specs.Reading.{Added, outcome, Held, StatementsAre}
+use Rattle.tree.specs.Reading.{Added, outcome, StatementsAre}
 use Rattle.rows.proofs.TableLaws.{length-put_row}
 use Rattle.tree.proofs.LevelLaws.{down-none}
 use Rattle.tree.proofs.ReadingLaws.{outcome-kept, held_kept}
-use Rattle.tree.proofs.read_statements.Statement.{statement}
-use Rattle.tree.proofs.read_statements.Tie as tie
-
--- all kept statements, and those of the tokens from where the reader stands, where n are kept already
-abbrev whole : List ℕ → Answer (List Statement)
-whole t = statements t 0 (statement_words t)
-
-abbrev rest : List ℕ → Stand → ℕ → Answer (List Statement)
-rest t from n = statements t n (sentences (tokens_at t from))
-
--- n statements were stored
-record Left (t w₀ w : List ℕ) (from : Stand) (n : ℕ) (o : OpenLevels) : Type 0 where
-  within : from.at ≤ length t
-  short : length t ≤ most_bytes
-  room : least_work ≤ length w
-  long : length w ≡ length w₀
-  few : n ≤ most_statements
-  nested : Nested w n o
-  opens : first_open (tokens_of t) ≡ first_open (tokens_at t from)
-  same : outcome w₀ 0 [] (whole t) ≡ outcome w n (stack_of w o) (rest t from n)
-  held : Held n (rest t from n) → Held 0 (whole t)
+use Rattle.tree.proofs.read_statements.Invariants.{whole, rest, Left}
+use Rattle.tree.proofs.read_statements.Goals as goal
 
 -- before the first statement
 start : {t w : List ℕ} {from : Stand} {o : OpenLevels} → length t ≤ most_bytes → least_work ≤ length w → from ≡ at_start → NoneOpen o → Left t w w from 0 o
@@ -184,73 +160,38 @@ module _ {t w₀ w : List ℕ} {from : Stand} {n : ℕ} {o : OpenLevels} (inv : 
             held = λ h. inv.held (rw p (held_kept n s d.storable later h));
           }
 
-abbrev invariant-loop : tie.invariant-loop
-invariant-loop text work₀ from₀ n₀ levels₀ work from n levels = Left text work₀ work from n levels
+pub loop-s-init : goal.loop-s-init
+loop-s-init c = search start
 
-abbrev decreases-loop : tie.decreases-loop
-decreases-loop text work₀ from₀ n₀ levels₀ work from n levels = length text - from.at
+pub shape_of-work-then-n-ge-MOST_STATEMENTS : goal.shape_of-work-then-n-ge-MOST_STATEMENTS
+shape_of-work-then-n-ge-MOST_STATEMENTS c = c.loop-s.invariant.long
 
-loop-holds : tie.Need-loop-init invariant-loop decreases-loop
-loop-holds c = search start
+pub returns-then-n-ge-MOST_STATEMENTS : goal.returns-then-n-ge-MOST_STATEMENTS
+returns-then-n-ge-MOST_STATEMENTS c = search (full c.loop-s.invariant)
 
-same_length : tie.Need-same-length invariant-loop decreases-loop
-same_length c = c.before.before.before.before.before.loop.invariant.long
+pub add_row-levels-requires : goal.add_row-levels-requires
+add_row-levels-requires c = addable c.loop-s.invariant c.read_statement.ensures c.in-Kept.is (omega arith)
 
-returns : tie.Need-returns invariant-loop decreases-loop
-returns c = search (full c.before.before.before.before.before.loop.invariant)
+pub loop-s-smaller-in-Kept : goal.loop-s-smaller-in-Kept
+loop-s-smaller-in-Kept c = search (kept_less c.loop-s.invariant)
 
-add-row-requires : tie.Need-add-row-requires invariant-loop decreases-loop
-add-row-requires c κs =
-    let read = c.before.before.before.before.before in
-    addable read.before.loop.invariant read.read-statement.ensures c.before.before.before.s.given.1 (omega arith)
+pub loop-s-preserved-in-Kept : goal.loop-s-preserved-in-Kept
+loop-s-preserved-in-Kept c = search (add c.loop-s.invariant)
 
-loop-less : tie.Need-loop-smaller invariant-loop decreases-loop
-loop-less c = search (kept_less c.before.before.before.before.before.before.before.before.before.loop.invariant)
+pub loop-s-smaller : goal.loop-s-smaller
+loop-s-smaller c = search (skip-less c.loop-s.invariant)
 
-loop-again : tie.Need-loop-preserved invariant-loop decreases-loop
-loop-again c = search (add c.before.before.before.before.before.before.before.before.before.loop.invariant)
+pub loop-s-preserved : goal.loop-s-preserved
+loop-s-preserved c = search (skip c.loop-s.invariant)
 
-loop-less-2 : tie.Need-loop-smaller-2 invariant-loop decreases-loop
-loop-less-2 c = search (skip-less c.before.before.before.before.loop.invariant)
+pub shape_of-work-in-Refused : goal.shape_of-work-in-Refused
+shape_of-work-in-Refused c = c.loop-s.invariant.long
 
-loop-again-2 : tie.Need-loop-preserved-2 invariant-loop decreases-loop
-loop-again-2 c = search (skip c.before.before.before.before.loop.invariant)
+pub returns-in-Refused : goal.returns-in-Refused
+returns-in-Refused c = search (bad c.loop-s.invariant)
 
-same-length-2 : tie.Need-same-length-2 invariant-loop decreases-loop
-same-length-2 c = c.before.before.before.before.loop.invariant.long
+pub shape_of-work-in-End : goal.shape_of-work-in-End
+shape_of-work-in-End c = c.loop-s.invariant.long
 
-returns-2 : tie.Need-returns-2 invariant-loop decreases-loop
-returns-2 c = search (bad c.before.before.before.before.loop.invariant)
-
-same-length-3 : tie.Need-same-length-3 invariant-loop decreases-loop
-same-length-3 c = c.before.before.before.before.loop.invariant.long
-
-returns-3 : tie.Need-returns-3 invariant-loop decreases-loop
-returns-3 c = search (done c.before.before.before.before.loop.invariant)
-
-pub read-statements-spec : {M : Type 1} → statement M
-read-statements-spec =
-    tie.close
-    (tie.spec
-    invariant-loop
-    decreases-loop
-    (λ c κs. search rules)
-    (λ c κs. search rules)
-    loop-holds
-    (λ c κs. search rules)
-    (λ c. search rules)
-    same_length
-    returns
-    add-row-requires
-    (λ c. search rules)
-    loop-less
-    loop-again
-    (λ c. search rules)
-    loop-less-2
-    loop-again-2
-    (λ c. search rules)
-    same-length-2
-    returns-2
-    (λ c. search rules)
-    same-length-3
-    returns-3)
+pub returns-in-End : goal.returns-in-End
+returns-in-End c = search (done c.loop-s.invariant)

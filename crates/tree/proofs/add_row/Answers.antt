@@ -1,6 +1,5 @@
 -- `tree::add_row` meets its contract: the innermost level that stays open is the statement's parent, and the usage of
 -- its row holds around the statement.
--- Assumes nothing.
 use borrow.Author.Rules.{rules}
 use Prim.Native.Nat.{ℕ, suc, ◌+◌, ◌*◌, ◌≤◌}
 use mathlib.Core.Path.{◌≡◌, sym, ap, ap₂, subst, ◌∙◌}
@@ -12,16 +11,15 @@ use Rattle.definition.specs.declared.Statement.{Statement}
 use Rattle.definition.specs.Tree.{Open, opened, still_open, innermost}
 use Rattle.definition.specs.Usages.{inheriting, around}
 use Rattle.definition.proofs.ParentLaws.{Fit}
-use Rattle.rows.specs.Columns.{ROW, PARENT}
-use Rattle.rows.specs.Table.{Placed, Storable, cell, usage_in, put_row}
+use Rattle.rows.specs.Columns.{ROW}
+use Rattle.rows.specs.Table.{Placed, Storable, put_row}
 use Rattle.rows.proofs.TableLaws.{length-put_row, usage-put, parent-put}
 use Rattle.tree.specs.declared.OpenLevels.{OpenLevels}
 use Rattle.tree.specs.Levels.{top_down, stack_of, usage_around, Nested, Closed, Opened}
 use Rattle.tree.specs.Reading.{Added}
 use Rattle.tree.proofs.LevelLaws.{length-down, down-put, down-around, fit-more}
 use Rattle.tree.proofs.ReadingLaws.{inheriting-placed}
-use Rattle.tree.proofs.add_row.Statement.{statement}
-use Rattle.tree.proofs.add_row.Tie as tie
+use Rattle.tree.proofs.add_row.Goals as goal
 
 module _
     (w : List ℕ) (k : ℕ) (s : Statement) {o u : OpenLevels}
@@ -91,21 +89,11 @@ module _
 placed-so : (a : ItemUsage) (s : Statement) {t : Statement} → Placed s → t ≡ inheriting a s → Placed t
 placed-so a s placed e = rw e (inheriting-placed a s placed)
 
-put-row-requires : tie.Need-put-row-requires
-put-row-requires c κs = (search rules, search placed-so)
+pub usage_around-around-requires : goal.usage_around-around-requires
+usage_around-around-requires c = search row_in
 
-returns : tie.Need-returns
+pub put_row-requires : goal.put_row-requires
+put_row-requires c = (search rules, search placed-so)
+
+pub returns : goal.returns
 returns c = search added
-
-pub add-row-spec : {M : Type 1} → statement M
-add-row-spec =
-    tie.close
-    (tie.spec
-    (λ c κs. search rules)
-    (λ c κs. search row_in)
-    (λ c. search rules)
-    (λ c κs. search rules)
-    put-row-requires
-    (λ c κs. search rules)
-    (λ c. search rules)
-    returns)

@@ -1,6 +1,4 @@
 -- `tree::read_rows` meets its contract: 50, or else what the statements lead to.
--- Assumes nothing.
-use borrow.Author.Rules.{rules}
 use Prim.Native.Nat.{ℕ, ◌≤◌}
 use mathlib.Core.Path.{◌≡◌, refl, sym, ◌∙◌, ap, subst}
 use mathlib.Core.List.{List}
@@ -18,8 +16,7 @@ use Rattle.tokens.specs.Tokens.{open_check}
 use Rattle.tree.specs.declared.RowsRead.{RowsRead}
 use Rattle.tree.specs.declared.StatementsRead.{StatementsRead}
 use Rattle.tree.specs.Reading.{RowsOf, StatementsAre, RowsAre}
-use Rattle.tree.proofs.read_rows.Statement.{statement}
-use Rattle.tree.proofs.read_rows.Tie as tie
+use Rattle.tree.proofs.read_rows.Goals as goal
 
 module _ {t w w' : List ℕ} {a : Check} where
   -- no literal is left open
@@ -62,39 +59,17 @@ module _ {t w w' : List ℕ} {x : StatementsRead} (g : StatementsAre t w x w') w
     before : {o : Refusal} → a ≡ Refused o → RowsAre t w (RowsRead.Refused o) w'
     before h = bad p h
 
-left-open-requires : tie.Need-left-open-requires
-left-open-requires c κs = search within
+pub left_open-requires : goal.left_open-requires
+left_open-requires c = search within
 
-returns : tie.Need-returns
-returns c = search shut
+pub returns-in-Passed : goal.returns-in-Passed
+returns-in-Passed c = search shut
 
-returns-2 : tie.Need-returns-2
-returns-2 c = search opened
+pub returns-in-Refused-left_open : goal.returns-in-Refused-left_open
+returns-in-Refused-left_open c = search opened
 
-returns-3 : tie.Need-returns-3
-returns-3 c = search refused
+pub returns-in-Passed-open_check : goal.returns-in-Passed-open_check
+returns-in-Passed-open_check c = search refused
 
-returns-4 : tie.Need-returns-4
-returns-4 c = search before
-
-pub read-rows-spec : {M : Type 1} → statement M
-read-rows-spec =
-    tie.close
-    (tie.spec
-    (λ c κs. search rules)
-    (λ c. search rules)
-    left-open-requires
-    (λ c. search rules)
-    (λ c. search rules)
-    (λ c. search rules)
-    (λ c κs. search rules)
-    (λ c. search rules)
-    (λ c. search rules)
-    (λ c. search rules)
-    returns
-    (λ c. search rules)
-    returns-2
-    (λ c. search rules)
-    returns-3
-    (λ c. search rules)
-    returns-4)
+pub returns-in-Refused-open_check : goal.returns-in-Refused-open_check
+returns-in-Refused-open_check c = search before

@@ -1,5 +1,4 @@
 -- `tree::open` meets its contract: fewer levels than the level itself are open, so there is room.
--- Assumes nothing.
 use borrow.Author.Rules.{rules}
 use Prim.Native.Nat.{ℕ, ◌+◌, ◌≤◌, ◌<◌}
 use mathlib.Core.Path.{◌≡◌}
@@ -8,8 +7,7 @@ use lib.ListN.{length, set}
 use Rattle.tree.specs.declared.OpenLevels.{OpenLevels}
 use Rattle.tree.specs.Levels.{Opened}
 use Rattle.tree.proofs.LevelLaws.{down-more}
-use Rattle.tree.proofs.open.Statement.{statement}
-use Rattle.tree.proofs.open.Tie as tie
+use Rattle.tree.proofs.open.Goals as goal
 
 module _ (o : OpenLevels) (level k : ℕ) where
   -- one more level
@@ -20,8 +18,5 @@ module _ (o : OpenLevels) (level k : ℕ) where
       Opened o level k (record { levels = set o.levels o.count level; count = o.count + 1; row = k + 1 })
   opening e b h = record { is = λ w. down-more w o.levels o.count level k (omega arith); few = omega arith }
 
-returns : tie.Need-returns
-returns c = opening c.before.args.o c.before.args.level c.before.args.k (search rules) (omega arith) c.before.requires.0
-
-pub open_spec : {M : Type 1} → statement M
-open_spec = tie.close (tie.spec (λ c. search rules) (λ c. search rules) (λ c. search rules) returns)
+pub returns : goal.returns
+returns c = opening c.args.o c.args.level c.args.k (search rules) (omega arith) c.requires.0

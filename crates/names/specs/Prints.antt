@@ -1,9 +1,9 @@
 -- The fingerprint of a name: its length and its last three bytes, case aside, as one number of 32 bits. Names that are
 -- the same have the same one.
 -- Assumes nothing.
-use Rattle.std.specs.Prelude.{ℕ, suc, ◌+◌, ◌*◌, ◌-◌, ◌%◌, List, ltb, length, get_or}
+use Rattle.std.specs.Prelude.{ℕ, suc, ◌+◌, ◌*◌, ◌-◌, ◌%◌, List, ltb, length, get_or, if◌then◌else◌}
 use Rattle.definition.specs.declared.Span.{Span}
-use Rattle.definition.specs.Basic.{if◌then◌else◌, uppers}
+use Rattle.definition.specs.Basic.{uppers}
 use Rattle.definition.specs.Fold.{name_of}
 
 -- the byte k places before the last, or 0 where there is none

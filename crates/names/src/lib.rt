@@ -1,7 +1,9 @@
 // Names in a text: the part that a span fills, whether two names are the same, case aside or case included, and a
 // name's fingerprint; an absent name means FILLER. Leans on `definition` and `text`.
-ghost use Rattle.std.specs.Prelude.{◌≡◌, ◌+◌, ◌<◌};
-ghost use Rattle.definition.specs.Basic.{if◌then◌else◌, given, part, uppers};
+#![tactic(auto)]
+
+ghost use Rattle.std.specs.Prelude.{◌≡◌, ◌+◌, ◌<◌, if◌then◌else◌};
+ghost use Rattle.definition.specs.Basic.{given, part, uppers};
 ghost use Rattle.definition.specs.Fold.{same_name, same_spelling};
 ghost use Rattle.names.specs.Prints.{byte_back, print_of, name_print};
 

@@ -1,16 +1,13 @@
 -- `names::part_of` meets its contract: past the text's end, over its end, and within it.
--- Assumes nothing.
-use borrow.Author.Rules.{rules}
 use Prim.Native.Nat.{ℕ, ◌+◌, ◌-◌, ◌≤◌, ◌<◌}
-use mathlib.Core.Path.{◌≡◌, refl, sym, ◌∙◌}
+use mathlib.Core.Path.{◌≡◌, sym, ◌∙◌}
 use mathlib.Core.List.{List}
 use native.Mathlib.Nat.{add-sub_cancel_left}
 use native.Mathlib.Omega.{arith}
 use lib.ListN.{length, take, drop, drop_of_length-le, length-drop}
 use lib.Seq.{take_all, take-nil}
 use Rattle.definition.proofs.Lists.{rest_part}
-use Rattle.names.proofs.part_of.Statement.{statement}
-use Rattle.names.proofs.part_of.Tie as tie
+use Rattle.names.proofs.part_of.Goals as goal
 
 module _ (t : List ℕ) (start len : ℕ) where
   beyond : length t ≤ start → take 0 (drop 0 t) ≡ take len (drop start t)
@@ -22,30 +19,11 @@ module _ (t : List ℕ) (start len : ℕ) where
   within : {end : ℕ} → end ≡ start + len → take (end - start) (drop start t) ≡ take len (drop start t)
   within e = rw (e, add-sub_cancel_left)
 
-returns : tie.Need-returns
-returns c = search beyond
+pub returns-then-text-start : goal.returns-then-text-start
+returns-then-text-start c = search beyond
 
-returns-2 : tie.Need-returns-2
-returns-2 c = search over
+pub returns-then-text-start-2 : goal.returns-then-text-start-2
+returns-then-text-start-2 c = search over
 
-returns-3 : tie.Need-returns-3
-returns-3 c = search within
-
-pub part-of-spec : {M : Type 1} → statement M
-part-of-spec =
-    tie.close
-    (tie.spec
-    (λ c. search rules)
-    (λ c. search rules)
-    (λ c. search rules)
-    returns
-    (λ c. search rules)
-    (λ c. search rules)
-    (λ c. search rules)
-    (λ c. search rules)
-    returns-2
-    (λ c. search rules)
-    (λ c. search rules)
-    (λ c. search rules)
-    (λ c. search rules)
-    returns-3)
+pub returns : goal.returns
+returns c = search within

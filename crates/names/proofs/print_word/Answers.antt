@@ -1,6 +1,4 @@
 -- `names::print_word` meets its contract.
--- Assumes nothing.
-use borrow.Author.Rules.{rules}
 use Prim.Native.Nat.{ℕ, ◌+◌, ◌*◌, ◌%◌}
 use mathlib.Core.Path.{◌≡◌, sym}
 use mathlib.Core.List.{List}
@@ -8,8 +6,7 @@ use lib.ListN.{length}
 use Rattle.definition.specs.Basic.{uppers}
 use Rattle.names.specs.Prints.{byte_back, print_of}
 use Rattle.names.proofs.SameLaws.{upper-length}
-use Rattle.names.proofs.print_word.Statement.{statement}
-use Rattle.names.proofs.print_word.Tie as tie
+use Rattle.names.proofs.print_word.Goals as goal
 
 together :
     (l : List ℕ) {x y z : ℕ} →
@@ -20,24 +17,5 @@ together :
 unfolding print_of
 together l p q r = λ i. ((sym (upper-length l) i % 256 * 256 + p i) * 256 + q i) * 256 + r i
 
-returns : tie.Need-returns
+pub returns : goal.returns
 returns c = search together
-
-pub print-word-spec : {M : Type 1} → statement M
-print-word-spec =
-    tie.close
-    (tie.spec
-    (λ c κs. search rules)
-    (λ c. search rules)
-    (λ c κs. search rules)
-    (λ c. search rules)
-    (λ c κs. search rules)
-    (λ c. search rules)
-    (λ c. search rules)
-    (λ c. search rules)
-    (λ c. search rules)
-    (λ c. search rules)
-    (λ c. search rules)
-    (λ c. search rules)
-    (λ c. search rules)
-    returns)

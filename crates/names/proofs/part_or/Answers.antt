@@ -1,14 +1,12 @@
 -- `names::part_or` meets its contract.
--- Assumes nothing.
-use borrow.Author.Rules.{rules}
 use Prim.Native.Nat.{ℕ, ◌≤◌, ◌<◌}
 use mathlib.Core.Path.{◌≡◌}
 use mathlib.Core.List.{List}
 use borrow.Author.Tests.{lt-ltb, le-ltb}
 use Rattle.definition.specs.declared.Span.{Span}
-use Rattle.definition.specs.Basic.{if◌then◌else◌, given, part}
-use Rattle.names.proofs.part_or.Statement.{statement}
-use Rattle.names.proofs.part_or.Tie as tie
+use Rattle.std.specs.Prelude.{if◌then◌else◌}
+use Rattle.definition.specs.Basic.{given, part}
+use Rattle.names.proofs.part_or.Goals as goal
 
 module _ (t filler : List ℕ) (w : Span) {r : List ℕ} where
   present : 0 < w.len → r ≡ part t w → r ≡ (if given w then part t w else filler)
@@ -17,11 +15,8 @@ module _ (t filler : List ℕ) (w : Span) {r : List ℕ} where
   absent : w.len ≤ 0 → r ≡ filler → r ≡ (if given w then part t w else filler)
   absent h e = rw (le-ltb 0 w.len h) e
 
-returns : tie.Need-returns
-returns c = search present
+pub returns-then-w-gt0 : goal.returns-then-w-gt0
+returns-then-w-gt0 c = search present
 
-returns-2 : tie.Need-returns-2
-returns-2 c = search absent
-
-pub part-or-spec : {M : Type 1} → statement M
-part-or-spec = tie.close (tie.spec (λ c κs. search rules) returns returns-2)
+pub returns : goal.returns
+returns c = search absent

@@ -11,8 +11,7 @@ use lib.Dec.{lit<}
 use lib.ListN.{length, set, length-set}
 use lib.Seq.{get_or-set_other, get_or-set_same}
 use Rattle.definition.specs.declared.Span.{Span}
-use Rattle.definition.specs.Basic.{if◌then◌else◌}
-use Rattle.definition.specs.Fold.{same_name}
+use Rattle.std.specs.Prelude.{if◌then◌else◌}
 use Rattle.definition.proofs.Lists.{order}
 use Rattle.names.specs.Prints.{name_print}
 use Rattle.names.proofs.SameLaws.{print-apart}

@@ -10,11 +10,12 @@ use native.Mathlib.Omega.{arith}
 use lib.Dec.{lit<, eqb}
 use borrow.Author.Tests.{eq-eqb, ne_eqb}
 use Rattle.definition.specs.declared.Span.{Span}
-use Rattle.definition.specs.Basic.{if◌then◌else◌, given}
+use Rattle.std.specs.Prelude.{if◌then◌else◌}
+use Rattle.definition.specs.Basic.{given}
 use Rattle.definition.specs.Fold.{Place, Search, search_back, find, same_name}
 use Rattle.definition.proofs.LayoutLaws.{search-none, search-hit, search-miss, find_none, find-hit, find-miss}
 use Rattle.definition.proofs.Lists.{order}
-use Rattle.rows.specs.Columns.{ROW, NAME, REDEFINES, OFFSET, BEFORE, PLACERS}
+use Rattle.rows.specs.Columns.{ROW, NAME, REDEFINES, BEFORE, PLACERS}
 use Rattle.rows.specs.Table.{cell, span_at}
 use Rattle.redefines.specs.declared.SearchEnd.{SearchEnd}
 use Rattle.redefines.specs.Targets.{place_at, left_out, seen_from, seen_at, is_target, row_from, looked_from, offset_of}

@@ -1,6 +1,8 @@
 // The search that a REDEFINES makes among the earlier siblings in the rows, backward from the item: for its target (28
 // where none has the name), with the count of names compared, and for its base; and the siblings that may place it.
 // Fingerprints of the names are put into the rows first: where they differ, the names do.
+#![tactic(auto)]
+
 ghost use Rattle.std.specs.Prelude.{◌≡◌, ◌+◌, ◌*◌, ◌≤◌, ◌<◌, length};
 ghost use Rattle.definition.specs.Basic.{or_refuse};
 ghost use Rattle.redefines.specs.Targets.{left_out, is_target, Ended, seen_at, search_of, target_search, target_from};
@@ -74,7 +76,7 @@ fn pass_back(work: &[u32], last: usize, print: u32) -> usize
 }
 
 // Where a search ended, as the row and 1, or 0 where nothing has the name; and how many names it compared.
-#[derive(Drop)]
+#[derive(Clone, Copy)]
 pub struct SearchEnd {
     pub row: usize,
     pub compared: usize,
@@ -126,7 +128,7 @@ pub fn target_of(text: &[u8], work: &[u32], redefines: Span, last: usize) -> Sea
 }
 
 // Where an item starts, and the row that it redefines (a row and 1, or 0 for none); or why it cannot be placed.
-#[derive(Drop)]
+#[derive(Clone, Copy)]
 pub enum Start {
     At { target: usize, offset: usize },
     Refused(Refusal),

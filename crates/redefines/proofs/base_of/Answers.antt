@@ -1,23 +1,19 @@
 -- `redefines::base_of` meets its contract: no target, a target that is a base, and one that is a redefiner.
--- Assumes nothing.
 use borrow.Author.Rules.{rules}
-use Prim.Native.Nat.{ℕ, suc, ◌*◌, ◌-◌, ◌≤◌, ◌<◌}
-use mathlib.Core.Path.{◌≡◌, refl, sym, ap, subst, ◌∙◌}
+use Prim.Native.Nat.{ℕ, suc, ◌-◌, ◌≤◌, ◌<◌}
+use mathlib.Core.Path.{◌≡◌, sym, ap, subst, ◌∙◌}
 use mathlib.Core.Bool.{Bool, true, false}
 use mathlib.Core.List.{List}
 use native.Mathlib.Omega.{arith}
-use lib.ListN.{length}
 use Rattle.definition.specs.declared.Span.{Span}
-use Rattle.definition.specs.Basic.{if◌then◌else◌}
-use Rattle.rows.specs.Columns.{ROW, BEFORE}
+use Rattle.std.specs.Prelude.{if◌then◌else◌}
+use Rattle.rows.specs.Columns.{BEFORE}
 use Rattle.rows.specs.Table.{cell}
 use Rattle.redefines.specs.declared.SearchEnd.{SearchEnd}
 use Rattle.redefines.specs.Targets.{left_out, is_target, Ended, Named, base_from}
-use Rattle.redefines.specs.Prints.{Printed}
 use Rattle.redefines.proofs.SearchLaws.{row_low, row-over, row_here, back_none}
 use Rattle.redefines.proofs.PrintLaws.{printed-less}
-use Rattle.redefines.proofs.base_of.Statement.{statement}
-use Rattle.redefines.proofs.base_of.Tie as tie
+use Rattle.redefines.proofs.base_of.Goals as goal
 
 -- there is no target
 no_target : (t w : List ℕ) (name : Span) {target : ℕ} → target ≡ 0 → 0 ≡ base_from t name w target target
@@ -56,36 +52,18 @@ module _ (t w : List ℕ) (name : Span) {target : ℕ} (h : target ≡ 0 → ⊥
         second : n ≤ row → {r : SearchEnd} → Ended t name true w n r → r.row ≡ base_from t name w target target
         second l x = x.row ∙ sym (before ∙ ap (base_from t name w row) (sym q) ∙ row_low t w name true row n l)
 
-returns : tie.Need-returns
-returns c = (search no_target, search rules)
+pub returns-then-target-eq0 : goal.returns-then-target-eq0
+returns-then-target-eq0 c = (search no_target, search rules)
 
-returns-2 : tie.Need-returns-2
-returns-2 c = (search broken, search rules)
+pub returns-then-row-before : goal.returns-then-row-before
+returns-then-row-before c = (search broken, search rules)
 
-search-back-requires : tie.Need-search-back-requires
-search-back-requires c κs =
-    let p = c.before.before.before.before.before.before.before.before.requires in
-    (omega (arith, p.0, c.if3.false), printed-less p.1 (omega (arith, c.if3.false)))
+pub search_back-found-requires : goal.search_back-found-requires
+search_back-found-requires c = let p = c.requires in
+    (omega (arith, p.0, c.if-row-before.false), printed-less p.1 (omega (arith, c.if-row-before.false)))
 
-returns-3 : tie.Need-returns-3
-returns-3 c = (search second, search rules)
+pub returns-then-passed_over : goal.returns-then-passed_over
+returns-then-passed_over c = (search second, search rules)
 
-returns-4 : tie.Need-returns-4
-returns-4 c = (search base, search rules)
-
-pub base-of-spec : {M : Type 1} → statement M
-base-of-spec =
-    tie.close
-    (tie.spec
-    returns
-    (λ c. search rules)
-    (λ c κs. search rules)
-    (λ c. search rules)
-    (λ c. search rules)
-    (λ c. search rules)
-    (λ c. search rules)
-    (λ c κs. search rules)
-    returns-2
-    search-back-requires
-    returns-3
-    returns-4)
+pub returns : goal.returns
+returns c = (search base, search rules)

@@ -1,5 +1,4 @@
 -- `redefines::start_over` meets its contract: with a target, and without.
--- Assumes nothing.
 use borrow.Author.Rules.{rules}
 use Prim.Native.Nat.{ℕ, suc, ◌-◌, ◌≤◌, ◌<◌}
 use mathlib.Core.Path.{◌≡◌, sym, ap, ◌∙◌}
@@ -12,8 +11,7 @@ use Rattle.rows.specs.Columns.{OFFSET}
 use Rattle.rows.specs.Table.{cell}
 use Rattle.redefines.specs.declared.SearchEnd.{SearchEnd}
 use Rattle.redefines.specs.Targets.{offset_of, seen_at, search_of, target_search, target_from}
-use Rattle.redefines.proofs.start_over.Statement.{statement}
-use Rattle.redefines.proofs.start_over.Tie as tie
+use Rattle.redefines.proofs.start_over.Goals as goal
 
 module _
     (t w : List ℕ) (s : Span) (at last : ℕ)
@@ -39,22 +37,8 @@ module _
 no_target : (t w : List ℕ) (s : Span) (last : ℕ) {k : ℕ} → k ≡ target_from t s w last → k ≤ 0 → 0 ≡ target_from t s w last
 no_target t w s last p h = omega (arith, p)
 
-returns : tie.Need-returns
-returns c = (search starts, search rules, search rules)
+pub returns-then-target-gt0 : goal.returns-then-target-gt0
+returns-then-target-gt0 c = (search starts, search rules, search rules)
 
-returns-2 : tie.Need-returns-2
-returns-2 c = (search missing, search no_target, search rules)
-
-pub start-over-spec : {M : Type 1} → statement M
-start-over-spec =
-    tie.close
-    (tie.spec
-    (λ c κs. search rules)
-    (λ c. search rules)
-    (λ c. search rules)
-    (λ c. search rules)
-    (λ c. search rules)
-    (λ c. search rules)
-    (λ c κs. search rules)
-    returns
-    returns-2)
+pub returns : goal.returns
+returns c = (search missing, search no_target, search rules)

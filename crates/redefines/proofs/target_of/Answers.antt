@@ -1,5 +1,4 @@
 -- `redefines::target_of` meets its contract: with a name, and without.
--- Assumes nothing.
 use borrow.Author.Rules.{rules}
 use Prim.Native.Nat.{ℕ, ◌≤◌, ◌<◌}
 use mathlib.Core.Path.{◌≡◌, sym, ap, ◌∙◌}
@@ -7,13 +6,12 @@ use mathlib.Core.Bool.{Bool, false}
 use mathlib.Core.List.{List}
 use borrow.Author.Tests.{lt-ltb, le-ltb}
 use Rattle.definition.specs.declared.Span.{Span}
-use Rattle.definition.specs.Basic.{if◌then◌else◌}
+use Rattle.std.specs.Prelude.{if◌then◌else◌}
 use Rattle.definition.specs.Fold.{search_back}
 use Rattle.redefines.specs.declared.SearchEnd.{SearchEnd}
 use Rattle.redefines.specs.Targets.{no_search, row_from, Ended, seen_at, search_of, target_search, target_from}
 use Rattle.redefines.proofs.SearchLaws.{searched}
-use Rattle.redefines.proofs.target_of.Statement.{statement}
-use Rattle.redefines.proofs.target_of.Tie as tie
+use Rattle.redefines.proofs.target_of.Goals as goal
 
 module _ (t w : List ℕ) (s : Span) (last : ℕ) where
   module _ (h : 0 < s.len) {r : SearchEnd} (p : Ended t s false w last r) where
@@ -32,16 +30,8 @@ module _ (t w : List ℕ) (s : Span) (last : ℕ) where
     uncounted : no_search ≡ target_search t s (seen_at w last)
     uncounted = sym (ap (λ (b : Bool). if b then search_back t s (seen_at w last) else no_search) (le-ltb 0 s.len h))
 
-returns : tie.Need-returns
-returns c = (search counted, search named, search rules)
+pub returns-then-redefines-gt0 : goal.returns-then-redefines-gt0
+returns-then-redefines-gt0 c = (search counted, search named, search rules)
 
-returns-2 : tie.Need-returns-2
-returns-2 c = (search uncounted, search unnamed, search rules)
-
-pub target-of-spec : {M : Type 1} → statement M
-target-of-spec =
-    tie.close
-    (tie.spec
-    (λ c κs. search rules)
-    returns
-    returns-2)
+pub returns : goal.returns
+returns c = (search uncounted, search unnamed, search rules)

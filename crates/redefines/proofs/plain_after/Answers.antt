@@ -1,20 +1,16 @@
 -- `redefines::plain_after` meets its contract.
--- Assumes nothing.
-use borrow.Author.Rules.{rules}
 use Prim.Native.Nat.{ℕ, zero, suc, ◌-◌, ◌/◌, ◌≤◌, ◌<◌}
 use mathlib.Core.Path.{◌≡◌, refl, sym, ap, ◌∙◌}
-use mathlib.Core.Bool.{Bool}
 use mathlib.Core.List.{List}
 use native.Mathlib.Omega.{arith}
-use lib.Dec.{ltb}
 use borrow.Author.Tests.{lt-ltb, le-ltb}
 use Rattle.definition.specs.declared.Span.{Span}
-use Rattle.definition.specs.Basic.{if◌then◌else◌, given}
+use Rattle.std.specs.Prelude.{if◌then◌else◌}
+use Rattle.definition.specs.Basic.{given}
 use Rattle.rows.specs.Columns.{REDEFINES, PLACERS}
 use Rattle.rows.specs.Table.{cell, span_at}
 use Rattle.redefines.specs.Targets.{plain_after}
-use Rattle.redefines.proofs.plain_after.Statement.{statement}
-use Rattle.redefines.proofs.plain_after.Tie as tie
+use Rattle.redefines.proofs.plain_after.Goals as goal
 
 module _ (w : List ℕ) where
   plain_by :
@@ -43,38 +39,13 @@ module _ (w : List ℕ) where
   none zero h = (refl, omega arith)
   none (suc k) h = absurd (omega arith)
 
-returns : tie.Need-returns
-returns c =
-    let found = c.before.before.before.before in
-    let s = found.before.before.before.before in
-    named s.args.work.now s.args.last found.before.before.if1.true found.span-at.ensures
-    c.before.before.if2.true c.wide.ensures
+pub returns-then-redefines-gt0 : goal.returns-then-redefines-gt0
+returns-then-redefines-gt0 c = named c.args.work.now c.args.last c.if-last-gt0.true c.span_at-redefines.ensures
+    c.if-redefines-gt0.true c.wide.ensures
 
-returns-2 : tie.Need-returns-2
-returns-2 c =
-    let found = c.before.before in
-    let s = found.before.before.before.before in
-    itself s.args.work.now s.args.last found.before.before.if1.true found.span-at.ensures
-    c.if2.false s.requires.1
+pub returns-then-last-gt0 : goal.returns-then-last-gt0
+returns-then-last-gt0 c = itself c.args.work.now c.args.last c.if-last-gt0.true c.span_at-redefines.ensures
+    c.if-redefines-gt0.false c.requires.1
 
-returns-3 : tie.Need-returns-3
-returns-3 c = let a = c.before.before.args in none a.work.now a.last c.if1.false
-
-pub plain-after-spec : {M : Type 1} → statement M
-plain-after-spec =
-    tie.close
-    (tie.spec
-    (λ c. search rules)
-    (λ c. search rules)
-    (λ c. search rules)
-    (λ c. search rules)
-    (λ c. search rules)
-    (λ c κs. search rules)
-    (λ c. search rules)
-    (λ c. search rules)
-    (λ c. search rules)
-    (λ c. search rules)
-    (λ c κs. search rules)
-    returns
-    returns-2
-    returns-3)
+pub returns : goal.returns
+returns c = let a = c.args in none a.work.now a.last c.if-last-gt0.false

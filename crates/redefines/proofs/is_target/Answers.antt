@@ -1,9 +1,7 @@
 -- `redefines::is_target` meets its contract: a row that is passed over, one whose name may be it, and one with another
 -- fingerprint.
--- Assumes nothing.
-use borrow.Author.Rules.{rules}
 use Prim.Native.Nat.{ℕ}
-use mathlib.Core.Path.{◌≡◌, refl, sym, ap, ◌∙◌}
+use mathlib.Core.Path.{◌≡◌, sym, ap, ◌∙◌}
 use mathlib.Core.Bool.{Bool, true, false}
 use mathlib.Core.List.{List}
 use Rattle.definition.specs.declared.Span.{Span}
@@ -14,8 +12,7 @@ use Rattle.rows.specs.Table.{span_at, cell}
 use Rattle.redefines.specs.Targets.{left_out, is_target}
 use Rattle.redefines.specs.Prints.{PrintedRow}
 use Rattle.redefines.proofs.PrintLaws.{not-target}
-use Rattle.redefines.proofs.is_target.Statement.{statement}
-use Rattle.redefines.proofs.is_target.Tie as tie
+use Rattle.redefines.proofs.is_target.Goals as goal
 
 module _ (t : List ℕ) (target : Span) (bases : Bool) (w : List ℕ) (k : ℕ) {o : Bool} (p : o ≡ left_out bases w k) where
   out : o ≡ true → false ≡ is_target t target bases w k
@@ -32,30 +29,11 @@ other :
     false ≡ is_target t target bases w k
 other t w target bases k p e n = sym (not-target t w target bases e k p n)
 
-returns : tie.Need-returns
-returns c = search out
+pub returns-then-passed_over : goal.returns-then-passed_over
+returns-then-passed_over c = search out
 
-returns-2 : tie.Need-returns-2
-returns-2 c = search in-turn
+pub returns-then-work-k : goal.returns-then-work-k
+returns-then-work-k c = search in-turn
 
-returns-3 : tie.Need-returns-3
-returns-3 c = search other
-
-pub is-target-spec : {M : Type 1} → statement M
-is-target-spec =
-    tie.close
-    (tie.spec
-    (λ c κs. search rules)
-    returns
-    (λ c. search rules)
-    (λ c. search rules)
-    (λ c. search rules)
-    (λ c. search rules)
-    (λ c. search rules)
-    (λ c. search rules)
-    (λ c. search rules)
-    (λ c. search rules)
-    (λ c κs. search rules)
-    (λ c κs. search rules)
-    returns-2
-    returns-3)
+pub returns : goal.returns
+returns c = search other

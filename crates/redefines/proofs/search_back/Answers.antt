@@ -1,15 +1,11 @@
--- `redefines::search_back` meets its contract: what is found from k back is what is found from the last sibling back,
--- and so many siblings were looked at before.
--- Assumes nothing.
-use borrow.Author.Rules.{rules}
 use Prim.Native.Nat.{ℕ, suc, ◌+◌, ◌*◌, ◌-◌, ◌≤◌, ◌<◌}
-use mathlib.Core.Path.{◌≡◌, refl, sym, ap, ◌∙◌}
+use mathlib.Core.Path.{◌≡◌, sym, ap, ◌∙◌}
 use mathlib.Core.Bool.{Bool, true, false}
 use mathlib.Core.List.{List}
 use native.Mathlib.Omega.{arith}
 use lib.ListN.{length}
 use Rattle.definition.specs.declared.Span.{Span}
-use Rattle.definition.specs.Basic.{if◌then◌else◌}
+use Rattle.std.specs.Prelude.{if◌then◌else◌}
 use Rattle.names.specs.Prints.{name_print}
 use Rattle.rows.specs.Columns.{ROW, BEFORE}
 use Rattle.rows.specs.Table.{cell}
@@ -17,16 +13,8 @@ use Rattle.redefines.specs.Targets.{is_target, row_from, looked_from, Ended}
 use Rattle.redefines.specs.Prints.{PrintedRow, Printed, PassedBack}
 use Rattle.redefines.proofs.SearchLaws.{row_low, row-over, row_here, looked-low, looked-over, looked-here}
 use Rattle.redefines.proofs.PrintLaws.{printed-less, passed}
-use Rattle.redefines.proofs.search_back.Statement.{statement}
-use Rattle.redefines.proofs.search_back.Tie as tie
-
--- the search goes on from k back, and passed so many rows that are no siblings
-record Left (t w : List ℕ) (target : Span) (bases : Bool) (last k gaps : ℕ) : Type 0 where
-  fits : ROW * last ≤ length w
-  printed : Printed t w last
-  less : gaps + k ≤ last
-  row : row_from t target bases w last last ≡ row_from t target bases w k k
-  looked : looked_from t target bases w last last + gaps + k ≡ last + looked_from t target bases w k k
+use Rattle.redefines.proofs.search_back.Invariants.{Left}
+use Rattle.redefines.proofs.search_back.Goals as goal
 
 start :
     {t w : List ℕ} {target : Span} {bases : Bool} {last print k : ℕ} →
@@ -141,54 +129,20 @@ module _ {t w : List ℕ} {target : Span} {bases : Bool} {last k gaps : ℕ} (in
         low = omega arith;
       }
 
-abbrev invariant-loop : tie.invariant-loop
-invariant-loop text work target last bases print k₀ gaps₀ k gaps = Left text work target bases last k gaps
+pub loop-k-init : goal.loop-k-init
+loop-k-init c = search start
 
-abbrev decreases-loop : tie.decreases-loop
-decreases-loop text work target last bases print k₀ gaps₀ k gaps = k
+pub is_target-requires : goal.is_target-requires
+is_target-requires c = ready c.loop-k.invariant c.loop-k-test.true c.print_of-print.ensures
 
-loop-holds : tie.Need-loop-init invariant-loop decreases-loop
-loop-holds c = search start
+pub returns-then-is_target : goal.returns-then-is_target
+returns-then-is_target c = search found
 
-is-target-requires : tie.Need-is-target-requires invariant-loop decreases-loop
-is-target-requires c κs =
-    ready c.before.loop.invariant c.loop-test.true c.before.before.before.print-of.ensures
+pub returns-then-row-before : goal.returns-then-row-before
+returns-then-row-before c = search broken
 
-returns : tie.Need-returns invariant-loop decreases-loop
-returns c = search found
+pub loop-k-preserved : goal.loop-k-preserved
+loop-k-preserved c = search next
 
-returns-2 : tie.Need-returns-2 invariant-loop decreases-loop
-returns-2 c = search broken
-
-loop-again : tie.Need-loop-preserved invariant-loop decreases-loop
-loop-again c = search next
-
-returns-3 : tie.Need-returns-3 invariant-loop decreases-loop
-returns-3 c = search done
-
-pub search-back-spec : {M : Type 1} → statement M
-search-back-spec =
-    tie.close
-    (tie.spec
-    invariant-loop
-    decreases-loop
-    (λ c κs. search rules)
-    (λ c κs. search rules)
-    loop-holds
-    (λ c. search rules)
-    (λ c. search rules)
-    (λ c. search rules)
-    is-target-requires
-    returns
-    (λ c. search rules)
-    (λ c. search rules)
-    (λ c. search rules)
-    (λ c. search rules)
-    (λ c κs. search rules)
-    returns-2
-    (λ c. search rules)
-    (λ c κs. search rules)
-    (λ c. search rules)
-    loop-again
-    (λ c. search rules)
-    returns-3)
+pub returns : goal.returns
+returns c = search done

@@ -9,7 +9,8 @@ use borrow.Author.Tests.{ltb-false}
 use Rattle.definition.specs.declared.Entry.{Entry}
 use Rattle.definition.specs.declared.Refusal.{Refusal}
 use Rattle.definition.specs.Limits.{largest}
-use Rattle.definition.specs.Basic.{if◌then◌else◌, Answer, refuse, give, refused}
+use Rattle.std.specs.Prelude.{if◌then◌else◌}
+use Rattle.definition.specs.Basic.{Answer, refuse, give, refused}
 use Rattle.definition.specs.Fold.{times, total, entry_end}
 use Rattle.definition.specs.Layout.{too_large}
 use Rattle.definition.proofs.Answers.{or-false}

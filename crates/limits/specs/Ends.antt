@@ -1,9 +1,9 @@
 -- Where an entry ends, or refusal 29.
 -- Assumes nothing.
-use Rattle.std.specs.Prelude.{ℕ}
+use Rattle.std.specs.Prelude.{ℕ, if◌then◌else◌}
 use Rattle.definition.specs.declared.Entry.{Entry}
 use Rattle.definition.specs.declared.Refusal.{Refusal}
-use Rattle.definition.specs.Basic.{if◌then◌else◌, Answer, refuse, give, refused}
+use Rattle.definition.specs.Basic.{Answer, refuse, give, refused}
 use Rattle.definition.specs.Fold.{entry_end}
 use Rattle.definition.specs.Layout.{too_large}
 use Rattle.limits.specs.declared.Ending.{Ending}

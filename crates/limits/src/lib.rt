@@ -1,5 +1,7 @@
 // What is too large and what too short: refusal 29, where an entry ends unless one of its numbers is above the largest,
 // and refusal 42. Leans on `definition`.
+#![tactic(auto)]
+
 ghost use Rattle.std.specs.Prelude.{◌≡◌, ◌+◌, ◌*◌, ◌≤◌, ◌<◌, max};
 ghost use Rattle.definition.specs.Calls.{record_check, check_of};
 ghost use Rattle.definition.specs.Limits.{largest};
@@ -30,7 +32,7 @@ pub fn too_large(at: usize) -> Refusal
 }
 
 // Where an entry ends, or why it is refused.
-#[derive(Drop)]
+#[derive(Clone, Copy)]
 pub enum Ending {
     At(usize),
     Refused(Refusal),

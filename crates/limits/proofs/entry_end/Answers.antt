@@ -1,8 +1,6 @@
 -- `limits::entry_end` meets its contract, test by test, in the order of `too_large`.
--- Assumes nothing.
-use borrow.Author.Rules.{rules}
 use Prim.Native.Nat.{ℕ, ◌+◌, ◌*◌, ◌≤◌, ◌<◌}
-use mathlib.Core.Path.{◌≡◌, refl}
+use mathlib.Core.Path.{◌≡◌}
 use native.Mathlib.Nat.{mul-le-mul, add-zero}
 use native.Mathlib.Omega.{arith}
 use borrow.Author.Tests.{lt-ltb, le-ltb}
@@ -12,8 +10,7 @@ use Rattle.definition.specs.Limits.{largest}
 use Rattle.definition.specs.Basic.{refuse, give}
 use Rattle.definition.specs.Fold.{times}
 use Rattle.limits.specs.Ends.{refusal29, end_of}
-use Rattle.limits.proofs.entry_end.Statement.{statement}
-use Rattle.limits.proofs.entry_end.Tie as tie
+use Rattle.limits.proofs.entry_end.Goals as goal
 
 module _ (e : Entry) {n : ℕ} (p : n ≡ times e.occurs) where
   many : largest < n → {r : Refusal} → r ≡ refusal29 e.at → refuse r ≡ end_of e
@@ -52,44 +49,24 @@ module _ (e : Entry) {n : ℕ} (p : n ≡ times e.occurs) where
 product : (a b : ℕ) → a ≤ largest → b ≤ largest → a * b ≤ 4611686014132420609
 product a b ha hb = mul-le-mul ha hb
 
-returns : tie.Need-returns
-returns c = search many
+pub returns-then-n-gt-LARGEST_COUNT : goal.returns-then-n-gt-LARGEST_COUNT
+returns-then-n-gt-LARGEST_COUNT c = search many
 
-returns-2 : tie.Need-returns-2
-returns-2 c = search far
+pub returns-then-offset-gt-LARGEST : goal.returns-then-offset-gt-LARGEST
+returns-then-offset-gt-LARGEST c = search far
 
-mul-total : tie.Need-overflow-mul-total
-mul-total c =
-    let n = c.before.before.before.times-of.result in
-    omega (arith, product c.before.before.before.before.args.e.width n (omega arith) (omega arith))
+pub overflow_mul-total : goal.overflow_mul-total
+overflow_mul-total c = let n = c.times_of-n.result in
+    omega (arith, product c.args.e.width n (omega arith) (omega arith))
 
-returns-3 : tie.Need-returns-3
-returns-3 c = search wide
+pub returns-then-total-gt-LARGEST : goal.returns-then-total-gt-LARGEST
+returns-then-total-gt-LARGEST c = search wide
 
-returns-4 : tie.Need-returns-4
-returns-4 c = search none-reserved
+pub returns-then-depending-gt0 : goal.returns-then-depending-gt0
+returns-then-depending-gt0 c = search none-reserved
 
-returns-5 : tie.Need-returns-5
-returns-5 c = search beyond
+pub returns-then-offset-total-gt-LARGEST : goal.returns-then-offset-total-gt-LARGEST
+returns-then-offset-total-gt-LARGEST c = search beyond
 
-returns-6 : tie.Need-returns-6
-returns-6 c = search fits
-
-pub entry-end-spec : {M : Type 1} → statement M
-entry-end-spec =
-    tie.close
-    (tie.spec
-    (λ c κs. search rules)
-    (λ c κs. search rules)
-    returns
-    (λ c κs. search rules)
-    returns-2
-    mul-total
-    (λ c κs. search rules)
-    returns-3
-    returns-4
-    (λ c. search rules)
-    (λ c κs. search rules)
-    returns-5
-    (λ c. search rules)
-    returns-6)
+pub returns : goal.returns
+returns c = search fits

@@ -12,7 +12,8 @@ use Rattle.definition.specs.declared.Statement.{Statement}
 use Rattle.definition.specs.declared.Entry.{Entry}
 use Rattle.definition.specs.declared.Pictured.{Pictured}
 use Rattle.definition.specs.declared.Span.{Span}
-use Rattle.definition.specs.Basic.{if◌then◌else◌, given}
+use Rattle.std.specs.Prelude.{if◌then◌else◌}
+use Rattle.definition.specs.Basic.{given}
 use Rattle.definition.specs.Tree.{Forest, leaf, item, above, not_above, forest, higher}
 use Rattle.definition.specs.Fold.{Entries, end, entry, same_name}
 use Rattle.definition.specs.Picture.{pictured}

@@ -1,4 +1,6 @@
 // The rows as entries: the end of each row's children, the place of an item in its row, its entry read back.
+#![tactic(auto)]
+
 ghost use Rattle.std.specs.Prelude.{◌≡◌, ◌+◌, ◌*◌, ◌≤◌, ◌<◌, length};
 ghost use Rattle.definition.specs.Layout.{entry_of};
 ghost use Rattle.places.specs.Places.{put_place, entry_in, rows_forest};

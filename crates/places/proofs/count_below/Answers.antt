@@ -1,6 +1,3 @@
--- `places::count_below` meets its contract: the rows from k on have their counts.
--- Assumes nothing.
-use borrow.Author.Rules.{rules}
 use Prim.Native.Nat.{ℕ, suc, ◌+◌, ◌*◌, ◌-◌, ◌≤◌, ◌<◌}
 use mathlib.Core.Path.{◌≡◌, refl, sym, ap, subst, ◌∙◌}
 use mathlib.Core.List.{List}
@@ -17,8 +14,8 @@ use Rattle.places.specs.Places.{rows_forest}
 use Rattle.places.specs.Children.{ChildrenEnd, BelowCounted, BelowPut}
 use Rattle.places.proofs.RowLaws.{stretch-cons, forest-empty, forest-split}
 use Rattle.places.proofs.EntriesLaws.{size-stretch, counted_same}
-use Rattle.places.proofs.count_below.Statement.{statement}
-use Rattle.places.proofs.count_below.Tie as tie
+use Rattle.places.proofs.count_below.Invariants.{Counting}
+use Rattle.places.proofs.count_below.Goals as goal
 
 -- counted rows, of the trees above a level and of the others
 counted-sides :
@@ -65,15 +62,6 @@ module _ {w : List ℕ} {m n e : ℕ} (fits : ROW * n ≤ length w) (c : Childre
         counted_same w one-put (not_above s.level f) (suc m + size (above s.level f))
             (λ j l. others j (omega arith)) sides.1,
       )
-
--- what the loop keeps
-record Counting (w₀ : List ℕ) (n k : ℕ) (w : List ℕ) : Type 0 where
-  fits : ROW * n ≤ length w₀
-  small : n < 65536
-  within : k ≤ n
-  long : length w ≡ length w₀
-  same : (j c : ℕ) → c < BELOW → cell w j c ≡ cell w₀ j c
-  counted : BelowCounted w k (rows_forest w k n)
 
 start : (w : List ℕ) (n : ℕ) → (ROW * n ≤ length w) × (n < 65536) → Counting w n n w
 start w n h =
@@ -122,43 +110,17 @@ module _ {w₀ w : List ℕ} {n k : ℕ} (inv : Counting w₀ n k w) where
             subst (λ (m : ℕ). BelowCounted w m (rows_forest w m n)) (let e : k ≡ 0 = omega arith in e) inv.counted;
       }
 
-abbrev invariant-loop : tie.invariant-loop
-invariant-loop work₀ n k₀ work k = Counting work₀ n k work
+pub loop-k-init : goal.loop-k-init
+loop-k-init c = search start
 
-abbrev decreases-loop : tie.decreases-loop
-decreases-loop work₀ n k₀ work k = k
+pub end_of-end-requires : goal.end_of-end-requires
+end_of-end-requires c = behind c.loop-k.invariant c.loop-k-test.true
 
-loop-holds : tie.Need-loop-init invariant-loop decreases-loop
-loop-holds c = search start
+pub loop-k-preserved : goal.loop-k-preserved
+loop-k-preserved c = search next
 
-end-of-requires : tie.Need-end-of-requires invariant-loop decreases-loop
-end-of-requires c κs = behind c.before.before.loop.invariant c.before.loop-test.true
+pub shape_of-work : goal.shape_of-work
+shape_of-work c = c.loop-k.invariant.long
 
-loop-again : tie.Need-loop-preserved invariant-loop decreases-loop
-loop-again c = search next
-
-same_length : tie.Need-same-length invariant-loop decreases-loop
-same_length c = c.before.loop.invariant.long
-
-returns : tie.Need-returns invariant-loop decreases-loop
+pub returns : goal.returns
 returns c = search done
-
-pub count-below-spec : {M : Type 1} → statement M
-count-below-spec =
-    tie.close
-    (tie.spec
-    invariant-loop
-    decreases-loop
-    loop-holds
-    (λ c. search rules)
-    end-of-requires
-    (λ c. search rules)
-    (λ c. search rules)
-    (λ c. search rules)
-    (λ c. search rules)
-    (λ c. search rules)
-    (λ c. search rules)
-    (λ c. search rules)
-    loop-again
-    same_length
-    returns)

@@ -1,6 +1,3 @@
--- `places::end_of` meets its contract: the run of higher levels from j on is what is left of the run from i + 1 on.
--- Assumes nothing.
-use borrow.Author.Rules.{rules}
 use Prim.Native.Nat.{ℕ, suc, ◌+◌, ◌-◌, ◌*◌, ◌%◌, ◌≤◌, ◌<◌}
 use mathlib.Core.Path.{◌≡◌, refl, sym, ap, ◌∙◌}
 use mathlib.Core.List.{List}
@@ -15,17 +12,8 @@ use Rattle.places.specs.Places.{rows_forest}
 use Rattle.places.specs.Children.{ChildrenEnd, Numbered, BelowCounted}
 use Rattle.places.proofs.RowLaws.{stretch-cons, stretch-none, higher-past}
 use Rattle.places.proofs.EntriesLaws.{counted_step, counted-numbered}
-use Rattle.places.proofs.end_of.Statement.{statement}
-use Rattle.places.proofs.end_of.Tie as tie
-
--- the run goes on at j
-record Left (w : List ℕ) (i to level j : ℕ) : Type 0 where
-  same-level : level ≡ (statement_at w i).level
-  low : i < j
-  high : j ≤ to
-  fits : ROW * to ≤ length w
-  counted : BelowCounted w j (rows_forest w j to)
-  is : j + higher level (statements_from w j (to - j)) ≡ suc i + higher level (statements_from w (suc i) (to - suc i))
+use Rattle.places.proofs.end_of.Invariants.{Left}
+use Rattle.places.proofs.end_of.Goals as goal
 
 start :
     (w : List ℕ) (i to : ℕ) →
@@ -43,7 +31,7 @@ start w i to h =
 
 module _ {w : List ℕ} {i to level j : ℕ} (inv : Left w i to level j) where
   numbered : j < to → Numbered w j to
-  numbered h = counted-numbered w j to inv.ranges h inv.counted
+  numbered h = counted-numbered w j to inv.fits h inv.counted
 
   next : level < get_or w (ROW * j + LEVEL) 0 % 256 → {j' : ℕ} → ChildrenEnd w j to j' → Left w i to level j'
   next l {j'} c =
@@ -73,48 +61,20 @@ module _ {w : List ℕ} {i to level j : ℕ} (inv : Left w i to level j) where
   done : to ≤ j → ChildrenEnd w i to j
   done h = ended (ap (higher level) (stretch-none w j to h) ∙ higher-none level)
 
-abbrev invariant-loop : tie.invariant-loop
-invariant-loop work i to level j₀ j = Left work i to level j
+pub loop-j-init : goal.loop-j-init
+loop-j-init c = search start
 
-abbrev decreases-loop : tie.decreases-loop
-decreases-loop work i to level j₀ j = to - j
+pub returns-then-work-j : goal.returns-then-work-j
+returns-then-work-j c = search found
 
-loop-holds : tie.Need-loop-init invariant-loop decreases-loop
-loop-holds c = search start
+pub next_of-j-requires : goal.next_of-j-requires
+next_of-j-requires c = numbered c.loop-j.invariant c.loop-j-test.true
 
-returns : tie.Need-returns invariant-loop decreases-loop
-returns c = search found
+pub loop-j-smaller : goal.loop-j-smaller
+loop-j-smaller c = search falls
 
-next-of-requires : tie.Need-next-of-requires invariant-loop decreases-loop
-next-of-requires c κs = numbered c.before.before.before.loop.invariant c.before.before.loop-test.true
+pub loop-j-preserved : goal.loop-j-preserved
+loop-j-preserved c = search next
 
-loop-less : tie.Need-loop-smaller invariant-loop decreases-loop
-loop-less c = search falls
-
-loop-again : tie.Need-loop-preserved invariant-loop decreases-loop
-loop-again c = search next
-
-returns-2 : tie.Need-returns-2 invariant-loop decreases-loop
-returns-2 c = search done
-
-pub end-of-spec : {M : Type 1} → statement M
-end-of-spec =
-    tie.close
-    (tie.spec
-    invariant-loop
-    decreases-loop
-    (λ c. search rules)
-    (λ c. search rules)
-    (λ c. search rules)
-    (λ c. search rules)
-    (λ c. search rules)
-    loop-holds
-    (λ c. search rules)
-    (λ c. search rules)
-    (λ c. search rules)
-    (λ c. search rules)
-    returns
-    next-of-requires
-    loop-less
-    loop-again
-    returns-2)
+pub returns : goal.returns
+returns c = search done

@@ -1,6 +1,4 @@
 -- `places::entry_at` meets its contract: a statement and its place make the entry.
--- Assumes nothing.
-use borrow.Author.Rules.{rules}
 use Prim.Native.Nat.{ℕ}
 use mathlib.Core.Path.{◌≡◌, ◌∙◌}
 use mathlib.Core.List.{List}
@@ -13,8 +11,7 @@ use Rattle.kinds.specs.Kinds.{kind_at}
 use Rattle.rows.specs.Columns.{OFFSET, WIDTH, KIND, SLACK}
 use Rattle.rows.specs.Table.{cell, statement_at}
 use Rattle.places.specs.Places.{entry_in}
-use Rattle.places.proofs.entry_at.Statement.{statement}
-use Rattle.places.proofs.entry_at.Tie as tie
+use Rattle.places.proofs.entry_at.Goals as goal
 
 in_row :
     (w : List ℕ) (k : ℕ) {s : Statement} {kind : FieldKind} {width offset slack : ℕ} {e : Entry} →
@@ -27,33 +24,5 @@ in_row :
     e ≡ entry_in w k
 in_row w k ps pk pw po pl e = e ∙ (λ i. entry_of (ps i) (pictured (pk i) (pw i)) (po i) (pl i))
 
-returns : tie.Need-returns
+pub returns : goal.returns
 returns c = search in_row
-
-pub entry-at-spec : {M : Type 1} → statement M
-entry-at-spec =
-    tie.close
-    (tie.spec
-    (λ c κs. search rules)
-    (λ c. search rules)
-    (λ c. search rules)
-    (λ c. search rules)
-    (λ c. search rules)
-    (λ c κs. search rules)
-    (λ c. search rules)
-    (λ c. search rules)
-    (λ c. search rules)
-    (λ c. search rules)
-    (λ c κs. search rules)
-    (λ c. search rules)
-    (λ c. search rules)
-    (λ c. search rules)
-    (λ c. search rules)
-    (λ c κs. search rules)
-    (λ c. search rules)
-    (λ c. search rules)
-    (λ c. search rules)
-    (λ c. search rules)
-    (λ c κs. search rules)
-    (λ c κs. search rules)
-    returns)

@@ -10,7 +10,8 @@ use lib.Dec.{ltb}
 use lib.ListN.{length}
 use Rattle.definition.specs.declared.Refusal.{Refusal}
 use Rattle.definition.specs.declared.Entry.{Entry}
-use Rattle.definition.specs.Basic.{if◌then◌else◌, given, Answer, refuse, give, ◌>>=◌, refuse_if}
+use Rattle.std.specs.Prelude.{if◌then◌else◌}
+use Rattle.definition.specs.Basic.{given, Answer, refuse, give, ◌>>=◌, refuse_if}
 use Rattle.definition.specs.Tree.{Forest}
 use Rattle.definition.specs.Fold.{Entries, entry, Place, place_of, find, fold_check}
 use Rattle.rows.specs.Columns.{ROW, AT, REDEFINES, OFFSET, BASE}

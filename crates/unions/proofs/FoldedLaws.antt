@@ -9,7 +9,8 @@ use mathlib.Core.Option.{Option, none, some}
 use native.Mathlib.Omega.{arith}
 use Rattle.definition.specs.declared.Span.{Span}
 use Rattle.definition.specs.declared.Entry.{Entry}
-use Rattle.definition.specs.Basic.{if◌then◌else◌, given}
+use Rattle.std.specs.Prelude.{if◌then◌else◌}
+use Rattle.definition.specs.Basic.{given}
 use Rattle.definition.specs.Fold.{Entries, end, entry, append, same_name, same_spelling, Place, place_of, find, has_member}
 use Rattle.definition.specs.Fold.{rebased, redefiners, widest, with_redefiners, folded_list, folded_below, folded_all}
 use Rattle.definition.specs.Listing.{members#}

@@ -11,7 +11,8 @@ use mathlib.Core.List.{List}
 use mathlib.Core.Logic.{⊎_elim}
 use native.Mathlib.Numerals.{add-one}
 use native.Mathlib.Omega.{arith}
-use Rattle.definition.specs.Basic.{if◌then◌else◌, given}
+use Rattle.std.specs.Prelude.{if◌then◌else◌}
+use Rattle.definition.specs.Basic.{given}
 use Rattle.definition.specs.Fold.{Entries, end, entry, append, Place, find, same_name, rebased, has_base}
 use Rattle.definition.proofs.Lists.{order}
 use Rattle.definition.specs.Tree.{Forest, leaf, item, higher}

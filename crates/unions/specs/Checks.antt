@@ -1,9 +1,9 @@
 -- Refusal 30: the check of one entry of a list, and of the row that holds it.
 -- Assumes nothing.
-use Rattle.std.specs.Prelude.{ℕ, List, ltb}
+use Rattle.std.specs.Prelude.{ℕ, List, ltb, if◌then◌else◌}
 use Rattle.std.proofs.Math.Option.{Option, none, some}
 use Rattle.definition.specs.declared.Entry.{Entry}
-use Rattle.definition.specs.Basic.{if◌then◌else◌, given, Answer, give, refuse_if}
+use Rattle.definition.specs.Basic.{given, Answer, give, refuse_if}
 use Rattle.definition.specs.Fold.{Place, find}
 use Rattle.rows.specs.Columns.{AT, OFFSET, BASE}
 use Rattle.rows.specs.Table.{cell}

@@ -1,9 +1,8 @@
 -- What linking the rows of each union does: from the last row back each comes before what its base names, and so each
 -- names the next of its union.
 -- Assumes nothing.
-use Rattle.std.specs.Prelude.{ℕ, zero, suc, ◌+◌, ◌*◌, ◌-◌, ◌≤◌, ◌<◌, ◌≡◌, List, eqb, ltb, length, set}
+use Rattle.std.specs.Prelude.{ℕ, zero, suc, ◌+◌, ◌*◌, ◌-◌, ◌≤◌, ◌<◌, ◌≡◌, List, eqb, ltb, length, set, if◌then◌else◌}
 use Rattle.definition.specs.Limits.{most_statements}
-use Rattle.definition.specs.Basic.{if◌then◌else◌}
 use Rattle.rows.specs.Columns.{ROW, BASE, NEXT}
 use Rattle.rows.specs.Table.{cell}
 use Rattle.unions.specs.Shown.{union_of}

@@ -1,10 +1,10 @@
 -- The folded list of a stretch of rows, entry by entry: how the entry of a row stands in it, and what it comes to.
 -- Assumes nothing.
-use Rattle.std.specs.Prelude.{ℕ, suc, ◌+◌, ◌*◌, ◌≤◌, ◌<◌, ◌≡◌, Bool, true, false, eqb, ltb, List, ◌∷◌, length}
+use Rattle.std.specs.Prelude.{ℕ, suc, ◌+◌, ◌*◌, ◌≤◌, ◌<◌, ◌≡◌, Bool, true, false, eqb, ltb, List, ◌∷◌, length, if◌then◌else◌}
 use Rattle.definition.specs.declared.Span.{Span}
 use Rattle.definition.specs.declared.Entry.{Entry}
 use Rattle.definition.specs.Limits.{largest}
-use Rattle.definition.specs.Basic.{if◌then◌else◌, given}
+use Rattle.definition.specs.Basic.{given}
 use Rattle.definition.specs.Tree.{Forest, leaf, item}
 use Rattle.definition.specs.Fold.{Entries, end, entry, total, same_name, same_spelling, Place, place_of, find, redefiners}
 use Rattle.definition.specs.Fold.{with_redefiners, has_base, folded_list, folded_below, folded_all}

@@ -1,5 +1,7 @@
 // Unions: no redefiner starts before its base (30); each base of a laid table linked with its redefiners; how the rows
 // stand in the folded lists.
+#![tactic(auto)]
+
 ghost use Rattle.std.specs.Prelude.{◌≡◌, ◌+◌, ◌*◌, ◌≤◌, ◌<◌, [], length};
 ghost use Rattle.definition.specs.Calls.{check_of};
 ghost use Rattle.definition.specs.Fold.{total, same_spelling, fold_check, has_member, folded_all};
@@ -89,7 +91,7 @@ pub fn link_unions(work: &mut [u32], from: usize, to: usize)
 // ---------------------------------------------------------------- how a row stands
 
 // How an entry stands in the folded list.
-#[derive(Drop)]
+#[derive(Clone, Copy)]
 pub enum Standing {
     Under,
     Alone,

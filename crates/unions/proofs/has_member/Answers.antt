@@ -1,34 +1,21 @@
--- `unions::has_member` meets its contract: no entry that is done has the name.
--- Assumes nothing.
-use borrow.Author.Rules.{rules}
-use Prim.Native.Nat.{ℕ, suc, ◌+◌, ◌-◌, ◌*◌, ◌≤◌, ◌<◌}
+use Prim.Native.Nat.{ℕ, suc, ◌+◌, ◌≤◌, ◌<◌}
 use mathlib.Core.Path.{◌≡◌, refl, sym, ap, ◌∙◌}
 use mathlib.Core.Bool.{Bool, true, false}
 use mathlib.Core.List.{List}
 use native.Mathlib.Omega.{arith}
-use lib.ListN.{length}
 use Rattle.definition.specs.declared.Span.{Span}
-use Rattle.definition.specs.Basic.{if◌then◌else◌}
-use Rattle.definition.specs.Fold.{Entries, end, append, has_member, folded_below, folded_all}
+use Rattle.std.specs.Prelude.{if◌then◌else◌}
+use Rattle.definition.specs.Fold.{end, append, has_member, folded_below, folded_all}
 use Rattle.redefines.specs.Targets.{bases_at}
 use Rattle.places.specs.Places.{entry_in}
 use Rattle.places.specs.Children.{ChildrenEnd, Numbered}
 use Rattle.places.proofs.RowLaws.{children-end}
-use Rattle.rows.specs.Columns.{ROW}
 use Rattle.unions.specs.Shown.{standing, shown_named, list_in, folded_rest, shown_at, Tree}
 use Rattle.unions.proofs.FoldedLaws.{member-append, shown-named}
 use Rattle.unions.proofs.ShownLaws.{walking-ends, walking_here}
-use Rattle.unions.proofs.WidthLaws.{Along, along-starts, along-numbered, along-known, along-on}
-use Rattle.unions.proofs.has_member.Statement.{statement}
-use Rattle.unions.proofs.has_member.Tie as tie
-
--- what the loop keeps
-record Left (t w : List ℕ) (from to : ℕ) (name : Span) (i last : ℕ) : Type 0 where
-  fits : ROW * to ≤ length w
-  back : last ≤ i
-  done : Entries
-  along : Along t w from to i last done
-  is : has_member t name done ≡ false
+use Rattle.unions.proofs.WidthLaws.{along-starts, along-numbered, along-known, along-on}
+use Rattle.unions.proofs.has_member.Invariants.{Left}
+use Rattle.unions.proofs.has_member.Goals as goal
 
 start : {t w : List ℕ} {from to : ℕ} {name : Span} → Tree t w from to → Left t w from to name from 0
 unfolding has_member
@@ -74,41 +61,20 @@ module _ {t w : List ℕ} {from to : ℕ} {name : Span} {i last : ℕ} (inv : Le
               ∙ e;
         }
 
-abbrev invariant-loop : tie.invariant-loop
-invariant-loop text work from to name i₀ last₀ i last = Left text work from to name i last
+pub loop-i-init : goal.loop-i-init
+loop-i-init c = search start
 
-abbrev decreases-loop : tie.decreases-loop
-decreases-loop text work from to name i₀ last₀ i last = to - i
+pub shown_named-requires : goal.shown_named-requires
+shown_named-requires c = along-known c.loop-i.invariant.along c.loop-i-test.true
 
-loop-holds : tie.Need-loop-init invariant-loop decreases-loop
-loop-holds c = search start
+pub returns-then-shown_named : goal.returns-then-shown_named
+returns-then-shown_named c = search hit
 
-shown-named-requires : tie.Need-shown-named-requires invariant-loop decreases-loop
-shown-named-requires c κs = along-known c.before.loop.invariant.along c.loop-test.true
+pub next_of-i-requires : goal.next_of-i-requires
+next_of-i-requires c = numbered c.loop-i.invariant c.loop-i-test.true
 
-returns : tie.Need-returns invariant-loop decreases-loop
-returns c = search hit
+pub loop-i-preserved : goal.loop-i-preserved
+loop-i-preserved c = search next
 
-next-of-requires : tie.Need-next-of-requires invariant-loop decreases-loop
-next-of-requires c κs = numbered c.before.before.before.loop.invariant c.before.before.loop-test.true
-
-loop-again : tie.Need-loop-preserved invariant-loop decreases-loop
-loop-again c = search next
-
-returns-2 : tie.Need-returns-2 invariant-loop decreases-loop
-returns-2 c = search done
-
-pub has-member-spec : {M : Type 1} → statement M
-has-member-spec =
-    tie.close
-    (tie.spec
-    invariant-loop
-    decreases-loop
-    loop-holds
-    shown-named-requires
-    returns
-    (λ c. search rules)
-    next-of-requires
-    (λ c. search rules)
-    loop-again
-    returns-2)
+pub returns : goal.returns
+returns c = search done

@@ -1,6 +1,4 @@
 -- `unions::check_row` meets its contract: a row with a base, and one without.
--- Assumes nothing.
-use borrow.Author.Rules.{rules}
 use Prim.Native.Nat.{ℕ, suc, ◌-◌, ◌≤◌, ◌<◌}
 use mathlib.Core.Path.{◌≡◌, sym, ap, ◌∙◌}
 use mathlib.Core.List.{List}
@@ -11,8 +9,7 @@ use Rattle.rows.specs.Columns.{AT, OFFSET, BASE}
 use Rattle.rows.specs.Table.{cell}
 use Rattle.redefines.specs.Targets.{offset_of}
 use Rattle.unions.specs.Checks.{check_base, check_row}
-use Rattle.unions.proofs.check_row.Statement.{statement}
-use Rattle.unions.proofs.check_row.Tie as tie
+use Rattle.unions.proofs.check_row.Goals as goal
 
 module _ (w : List ℕ) (i : ℕ) {b : ℕ} (p : b ≡ cell w i BASE) where
   by-base : {n : ℕ} → b ≡ n → check_base (cell w i AT) (cell w i OFFSET) (offset_of w n) ≡ check_row w i
@@ -30,38 +27,11 @@ module _ (w : List ℕ) (i : ℕ) {b : ℕ} (p : b ≡ cell w i BASE) where
   plain : b ≤ 0 → give tt ≡ check_row w i
   plain h = by-base (let e : b ≡ 0 = omega arith in e)
 
-returns : tie.Need-returns
-returns c = search before
+pub returns-then-work-i : goal.returns-then-work-i
+returns-then-work-i c = search before
 
-returns-2 : tie.Need-returns-2
-returns-2 c = search after
+pub returns-then-base-gt0 : goal.returns-then-base-gt0
+returns-then-base-gt0 c = search after
 
-returns-3 : tie.Need-returns-3
-returns-3 c = search plain
-
-pub check-row-spec : {M : Type 1} → statement M
-check-row-spec =
-    tie.close
-    (tie.spec
-    (λ c. search rules)
-    (λ c. search rules)
-    (λ c. search rules)
-    (λ c. search rules)
-    (λ c κs. search rules)
-    (λ c. search rules)
-    (λ c. search rules)
-    (λ c. search rules)
-    (λ c. search rules)
-    (λ c. search rules)
-    (λ c. search rules)
-    (λ c. search rules)
-    (λ c. search rules)
-    (λ c. search rules)
-    (λ c. search rules)
-    (λ c. search rules)
-    (λ c. search rules)
-    (λ c. search rules)
-    (λ c κs. search rules)
-    returns
-    returns-2
-    returns-3)
+pub returns : goal.returns
+returns c = search plain

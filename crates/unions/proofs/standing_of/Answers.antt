@@ -1,13 +1,12 @@
 -- `unions::standing_of` meets its contract, case by case.
--- Assumes nothing.
-use borrow.Author.Rules.{rules}
 use Prim.Native.Nat.{ℕ, ◌≤◌, ◌<◌}
 use mathlib.Core.Path.{◌≡◌, sym, ap, ap₂, ◌∙◌}
-use mathlib.Core.Bool.{Bool, true, false}
+use mathlib.Core.Bool.{Bool, true}
 use mathlib.Core.List.{List}
 use borrow.Author.Tests.{lt-ltb, le-ltb}
 use Rattle.definition.specs.declared.Span.{Span}
-use Rattle.definition.specs.Basic.{if◌then◌else◌, given}
+use Rattle.std.specs.Prelude.{if◌then◌else◌}
+use Rattle.definition.specs.Basic.{given}
 use Rattle.definition.specs.Fold.{find, has_base}
 use Rattle.rows.specs.Columns.{REDEFINES, BASE}
 use Rattle.rows.specs.Table.{span_at, cell}
@@ -15,8 +14,7 @@ use Rattle.redefines.specs.Targets.{bases_at}
 use Rattle.places.specs.Places.{entry_in}
 use Rattle.unions.specs.declared.Standing.{Standing}
 use Rattle.unions.specs.Shown.{standing, Known}
-use Rattle.unions.proofs.standing_of.Statement.{statement}
-use Rattle.unions.proofs.standing_of.Tie as tie
+use Rattle.unions.proofs.standing_of.Goals as goal
 
 -- what the two tests say
 abbrev told : Bool → Bool → Standing
@@ -36,28 +34,11 @@ module _ (t w : List ℕ) (i last : ℕ) {s : Span} (p : s ≡ span_at (cell w i
   base : s.len ≤ 0 → Standing.Base ≡ standing t (bases_at w last) (entry_in w i)
   base h = sym (ap (λ (g : Bool). told g (has_base (find t (span_at (cell w i REDEFINES)) (bases_at w last)))) (ap given (sym p) ∙ le-ltb 0 s.len h))
 
-returns : tie.Need-returns
-returns c = search under
+pub returns-then-work-i-gt0 : goal.returns-then-work-i-gt0
+returns-then-work-i-gt0 c = search under
 
-returns-2 : tie.Need-returns-2
-returns-2 c = search alone
+pub returns-then-redefines-gt0 : goal.returns-then-redefines-gt0
+returns-then-redefines-gt0 c = search alone
 
-returns-3 : tie.Need-returns-3
-returns-3 c = search base
-
-pub standing-of-spec : {M : Type 1} → statement M
-standing-of-spec =
-    tie.close
-    (tie.spec
-    (λ c. search rules)
-    (λ c. search rules)
-    (λ c. search rules)
-    (λ c. search rules)
-    (λ c κs. search rules)
-    (λ c. search rules)
-    (λ c. search rules)
-    (λ c. search rules)
-    (λ c. search rules)
-    returns
-    returns-2
-    returns-3)
+pub returns : goal.returns
+returns c = search base

@@ -1,4 +1,6 @@
 // What an item without children holds, by the usage that holds for it: what its picture says, or a float.
+#![tactic(auto)]
+
 ghost use Rattle.std.specs.Prelude.{◌≡◌, ◌*◌};
 ghost use Rattle.definition.specs.Calls.{picture_of};
 ghost use Rattle.definition.specs.Statement.{sign_of};

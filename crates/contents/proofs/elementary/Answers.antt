@@ -1,6 +1,4 @@
 -- `contents::elementary` meets its contract, usage by usage.
--- Assumes nothing.
-use borrow.Author.Rules.{rules}
 use Prim.Native.Nat.{ℕ}
 use mathlib.Core.Path.{◌≡◌, refl, sym, ap, ◌∙◌}
 use mathlib.Core.List.{List}
@@ -10,8 +8,7 @@ use Rattle.definition.specs.declared.Pictured.{Pictured}
 use Rattle.definition.specs.declared.Statement.{Statement}
 use Rattle.definition.specs.Basic.{Answer}
 use Rattle.definition.specs.Layout.{by_picture, float, under_usage, elementary}
-use Rattle.contents.proofs.elementary.Statement.{statement}
-use Rattle.contents.proofs.elementary.Tie as tie
+use Rattle.contents.proofs.elementary.Goals as goal
 
 module _ (t : List ℕ) (s : Statement) where
   read : {u : Usage} → s.usage ≡ ItemUsage.Picture u → {a : Answer Pictured} → a ≡ by_picture t s u → a ≡ elementary t s
@@ -23,25 +20,17 @@ module _ (t : List ℕ) (s : Statement) where
   double : s.usage ≡ ItemUsage.Comp2 → {a : Answer Pictured} → a ≡ float s 8 → a ≡ elementary t s
   double e p = p ∙ ap (under_usage t s) (sym e)
 
-returns : tie.Need-returns
-returns c = search read
+pub float-requires : goal.float-requires
+float-requires c = refl
 
-returns-2 : tie.Need-returns-2
-returns-2 c = search single
+pub float-requires-in-Comp2 : goal.float-requires-in-Comp2
+float-requires-in-Comp2 c = refl
 
-returns-3 : tie.Need-returns-3
-returns-3 c = search double
+pub returns-in-Picture : goal.returns-in-Picture
+returns-in-Picture c = search read
 
-pub elementary-spec : {M : Type 1} → statement M
-elementary-spec =
-    tie.close
-    (tie.spec
-    (λ c. search rules)
-    (λ c κs. search rules)
-    (λ c. search rules)
-    (λ c κs. refl)
-    (λ c. search rules)
-    (λ c κs. refl)
-    returns
-    returns-2
-    returns-3)
+pub returns-in-Comp1 : goal.returns-in-Comp1
+returns-in-Comp1 c = search single
+
+pub returns-in-Comp2 : goal.returns-in-Comp2
+returns-in-Comp2 c = search double

@@ -1,8 +1,6 @@
 -- `contents::by_picture` meets its contract.
--- Assumes nothing.
-use borrow.Author.Rules.{rules}
 use Prim.Native.Nat.{ℕ, ◌≤◌, ◌<◌}
-use mathlib.Core.Path.{◌≡◌, refl}
+use mathlib.Core.Path.{◌≡◌}
 use mathlib.Core.List.{List}
 use borrow.Author.Tests.{lt-ltb, le-ltb}
 use Rattle.definition.specs.declared.Usage.{Usage}
@@ -13,8 +11,7 @@ use Rattle.definition.specs.Basic.{part, Answer, refused, ◌>>=◌}
 use Rattle.definition.specs.Statement.{sign_of}
 use Rattle.definition.specs.Picture.{picture}
 use Rattle.definition.specs.Layout.{by_picture}
-use Rattle.contents.proofs.by_picture.Statement.{statement}
-use Rattle.contents.proofs.by_picture.Tie as tie
+use Rattle.contents.proofs.by_picture.Goals as goal
 
 module _ (t : List ℕ) (s : Statement) (u : Usage) where
   pictured :
@@ -31,18 +28,8 @@ module _ (t : List ℕ) (s : Statement) (u : Usage) where
   unfolding ◌>>=◌
   missing h = rw (le-ltb 0 s.clauses.picture.len h)
 
-returns : tie.Need-returns
-returns c = search pictured
+pub returns-then-picture-gt0 : goal.returns-then-picture-gt0
+returns-then-picture-gt0 c = search pictured
 
-returns-2 : tie.Need-returns-2
-returns-2 c = search missing
-
-pub by-picture-spec : {M : Type 1} → statement M
-by-picture-spec =
-    tie.close
-    (tie.spec
-    (λ c κs. search rules)
-    (λ c κs. search rules)
-    (λ c κs. search rules)
-    returns
-    returns-2)
+pub returns : goal.returns
+returns c = search missing

@@ -1,5 +1,4 @@
 -- `contents::float` meets its contract: with a picture, and without.
--- Assumes nothing.
 use Prim.Native.Nat.{ℕ, ◌*◌, ◌≤◌, ◌<◌}
 use mathlib.Core.Path.{◌≡◌}
 use borrow.Author.Tests.{lt-ltb, le-ltb}
@@ -8,8 +7,7 @@ use Rattle.definition.specs.declared.Statement.{Statement}
 use Rattle.definition.specs.Basic.{give, refused, ◌>>=◌}
 use Rattle.definition.specs.Picture.{pictured}
 use Rattle.definition.specs.Layout.{float}
-use Rattle.contents.proofs.float.Statement.{statement}
-use Rattle.contents.proofs.float.Tie as tie
+use Rattle.contents.proofs.float.Goals as goal
 
 module _ (s : Statement) (bits width : ℕ) where
   shown : 0 < s.clauses.picture.len → refused 52 s.at ≡ float s width
@@ -20,11 +18,8 @@ module _ (s : Statement) (bits width : ℕ) where
   unfolding ◌>>=◌
   plain h e = rw (le-ltb 0 s.clauses.picture.len h, e)
 
-returns : tie.Need-returns
-returns c = search shown
+pub returns-then-picture-gt0 : goal.returns-then-picture-gt0
+returns-then-picture-gt0 c = search shown
 
-returns-2 : tie.Need-returns-2
-returns-2 c = search plain
-
-pub float-spec : {M : Type 1} → statement M
-float-spec = tie.close (tie.spec returns returns-2)
+pub returns : goal.returns
+returns c = search plain

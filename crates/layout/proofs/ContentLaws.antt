@@ -17,7 +17,8 @@ use Rattle.definition.specs.declared.FieldKind.{FieldKind}
 use Rattle.definition.specs.declared.Pictured.{Pictured}
 use Rattle.definition.specs.declared.Statement.{Statement}
 use Rattle.definition.specs.Limits.{most_bytes, most_digits, longest_mask}
-use Rattle.definition.specs.Basic.{if◌then◌else◌, upper, give, ◌>>=◌}
+use Rattle.std.specs.Prelude.{if◌then◌else◌}
+use Rattle.definition.specs.Basic.{upper, give}
 use Rattle.definition.specs.Tree.{Forest, leaf, item}
 use Rattle.definition.specs.Picture.{expand, all_digits, stored_digits, fraction, is_text, is_masked, mask, pictured}
 use Rattle.definition.specs.Picture.{is_embedded, sign_bytes, storage_width, display, numeric, kinded, too_long, symbols}

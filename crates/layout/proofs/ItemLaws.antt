@@ -1,7 +1,7 @@
 -- Laws of one item: one step of placing it.
 -- Assumes nothing.
 use Prim.Native.Nat.{ℕ}
-use mathlib.Core.Path.{◌≡◌, refl}
+use mathlib.Core.Path.{◌≡◌}
 use mathlib.Core.Bool.{false}
 use mathlib.Core.List.{List}
 use Rattle.definition.specs.declared.Refusal.{Refusal}

@@ -15,7 +15,8 @@ use Rattle.definition.specs.declared.Pictured.{Pictured}
 use Rattle.definition.specs.declared.Statement.{Statement}
 use Rattle.definition.specs.declared.Entry.{Entry}
 use Rattle.definition.specs.Limits.{largest}
-use Rattle.definition.specs.Basic.{if◌then◌else◌, given, Answer, refuse, give, ◌>>=◌}
+use Rattle.std.specs.Prelude.{if◌then◌else◌}
+use Rattle.definition.specs.Basic.{given, Answer, refuse, give, ◌>>=◌}
 use Rattle.definition.specs.Tree.{Forest, leaf, item, forest}
 use Rattle.definition.specs.Picture.{pictured}
 use Rattle.definition.specs.Fold.{Entries, end, entry, entry_end, Place, place_of, fold_check}

@@ -1,7 +1,9 @@
 // Sibling lists laid out in the rows of work memory: the place of each item, and the checks of each list.
-ghost use Rattle.std.specs.Prelude.{◌≡◌, ◌+◌, ◌*◌, ◌-◌, ◌≤◌, ◌<◌, length};
+#![tactic(auto)]
+
+ghost use Rattle.std.specs.Prelude.{◌≡◌, ◌+◌, ◌*◌, ◌-◌, ◌≤◌, ◌<◌, length, if◌then◌else◌};
 ghost use Rattle.definition.specs.Limits.{deepest, largest};
-ghost use Rattle.definition.specs.Basic.{if◌then◌else◌, given, fewest};
+ghost use Rattle.definition.specs.Basic.{given, fewest};
 ghost use Rattle.definition.specs.Layout.{start, slack_from};
 ghost use Rattle.redefines.specs.Targets.{seen_at, target_from, start_of, target_in};
 ghost use Rattle.redefines.specs.Prints.{Printed};
@@ -87,14 +89,14 @@ fn advanced(cursor: usize, redefines: Span, end: usize) -> usize
 }
 
 // The cursor after an item and where the item ends, or why it is refused.
-#[derive(Drop)]
+#[derive(Clone, Copy)]
 pub enum ItemAnswer {
     Done { cursor: usize, end: usize },
     Refused(Refusal),
 }
 
 // How wide a list is and its last sibling, or why it is refused.
-#[derive(Drop)]
+#[derive(Clone, Copy)]
 pub enum LaidList {
     Done { width: usize, last: usize },
     Refused(Refusal),
@@ -143,7 +145,7 @@ fn place(
 
 // Lays out row i, whose children are the rows up to j, after the sibling `last`. 20 for an inner list that is too deep;
 // then the inner list and its check; then the item's own checks.
-#[cycle(lay_item_lay_list)]
+#[cycle(layout)]
 fn lay_item(
     text: &[u8],
     work: &mut [u32],
@@ -206,7 +208,7 @@ fn lay_item(
 
 // Lays out the siblings in the rows from `from` up to `to`: each starts where the cursor is, and the list is as wide as
 // its largest end. The remaining depth falls at each group.
-#[cycle(lay_item_lay_list)]
+#[cycle(layout)]
 pub fn lay_list(text: &[u8], work: &mut [u32], from: usize, to: usize, depth_left: u32) -> LaidList
     requires { Room text.now work.old from to × (depth_left ≤ deepest) }
     ensures { list_of result work.new

@@ -1,6 +1,4 @@
 -- `layout::place` meets its contract.
--- Assumes nothing.
-use borrow.Author.Rules.{rules}
 use Prim.Native.Nat.{ℕ, ◌+◌, ◌*◌, ◌-◌, ◌≤◌, ◌<◌}
 use mathlib.Core.Bool.{Bool, true, false}
 use mathlib.Core.Path.{◌≡◌, sym, ap, subst, ◌∙◌}
@@ -12,7 +10,8 @@ use Rattle.definition.specs.declared.Statement.{Statement}
 use Rattle.definition.specs.declared.Entry.{Entry}
 use Rattle.definition.specs.declared.Pictured.{Pictured}
 use Rattle.definition.specs.Limits.{largest}
-use Rattle.definition.specs.Basic.{if◌then◌else◌, given, Answer, give}
+use Rattle.std.specs.Prelude.{if◌then◌else◌}
+use Rattle.definition.specs.Basic.{given, Answer, give}
 use Rattle.definition.specs.Layout.{start, slack_from, entry_of, too_large}
 use Rattle.rows.specs.Table.{statement_at}
 use Rattle.limits.specs.declared.Ending.{Ending}
@@ -27,8 +26,7 @@ use Rattle.limits.proofs.EndLaws.{ends_at}
 use Rattle.layout.specs.Bare.{placed_entry}
 use Rattle.layout.specs.Outcomes.{halted, placing, after_own, place_row}
 use Rattle.layout.proofs.ItemLaws.{placed-refused, placed-large, placed-fits}
-use Rattle.layout.proofs.place.Statement.{statement}
-use Rattle.layout.proofs.place.Tie as tie
+use Rattle.layout.proofs.place.Goals as goal
 
 slack-low : (cursor : ℕ) (s : Statement) (offset : ℕ) → slack_from cursor s offset ≤ offset
 slack-low cursor s offset = by-test (given s.clauses.redefines)
@@ -131,96 +129,53 @@ module _ {o : Start} {k offset : ℕ} (e : o ≡ Start.At k offset) where
   of-name : (t w : List ℕ) (r : Span) (last : ℕ) → target_in o ≡ target_from t r w last → Named t r w k
   of-name t w r last h = target-named t w r last (sym (ap target_in e) ∙ h)
 
-entry-end-requires : tie.Need-entry-end-requires
-entry-end-requires c κs =
-    let said = c.before.before.before.before.before.before.before.before.before in
-    narrow said.statement-at.result c.entry_of.ensures said.before.before.before.before.requires.4
-
-start-of-requires : tie.Need-start-of-requires
-start-of-requires c κs =
-    let p = c.before.before.before.before.before.before.before.requires in
+pub start_of-requires : goal.start_of-requires
+start_of-requires c = let p = c.requires in
     (omega (arith, p.0, p.1), printed-less p.5 p.1, p.3, p.4)
 
-base-of-requires : tie.Need-base-of-requires
-base-of-requires c κs =
-    let start = c.before.before.before.before.before.before.before.before in
-    let found = start.before.before.start_of_lem.ensures in
-    let p = start.before.before.before.before.before.before.before.before.before.before.requires in
-    let before = earlier start.target.given.1 found.2 in (
+pub entry_end-requires : goal.entry_end-requires
+entry_end-requires c = narrow c.statement_at-s.result c.entry_of-e.ensures c.requires.4
+
+pub base_of-base-requires : goal.base_of-base-requires
+base_of-base-requires c = let found = c.start_of.ensures in
+    let p = c.requires in
+    let before = earlier c.in-At.is found.2 in (
       omega (arith, before, p.0, p.1),
       printed-less p.5 (omega (arith, before, p.1)),
-      of-name start.target.given.1 _ _ _ _ found.1,
+      of-name c.in-At.is _ _ _ _ found.1,
     )
 
-placers-of-requires : tie.Need-placers-of-requires
-placers-of-requires c κs =
-    let start = c.before.before.before.before.before.before.before.before.before.before in
-    let p = start.before.before.before.before.before.before.before.before.before.before.requires in
-    let before = earlier start.target.given.1 start.before.before.start_of_lem.ensures.2 in
+pub placers_of-placers-requires : goal.placers_of-placers-requires
+placers_of-placers-requires c = let p = c.requires in
+    let before = earlier c.in-At.is c.start_of.ensures.2 in
     (omega (arith, p.0, p.1), omega (arith, p.1, p.2), omega (arith, before, p.1, p.2))
 
-put-place-requires : tie.Need-put-place-requires
-put-place-requires c κs =
-    let f = c.before.before in
-    let ends = f.before.before.before.before.before.before.entry-end.ensures in
-    let end = f.before.before.before.before.end.given.1 in
-    let d = f.before.before.before.before.before.before.before.entry_of in
-    let slack = f.before.before.before.before.before.before.before.before.slack-from.ensures in
-    let start = f.before.before.before.before.before.before.before.before.before.before in
-    let said = start.before.before.before.before.before.before.statement-at.result in
-    let s = start.before.before.before.before.before.before.before.before.before.before in
-    let p = s.requires in
-    let before = earlier start.target.given.1 start.before.before.start_of_lem.ensures.2 in (
+pub put_place-requires : goal.put_place-requires
+put_place-requires c = let ends = c.entry_end.ensures in
+    let end = c.in-At-entry_end.is in
+    let d = c.entry_of-e in
+    let slack = c.slack_from.ensures in
+    let said = c.statement_at-s.result in
+    let p = c.requires in
+    let before = earlier c.in-At.is c.start_of.ensures.2 in (
       p.0,
       omega (arith, p.1, p.2),
-      omega (arith, f.before.base-of.ensures.1, before, p.1, p.2),
+      omega (arith, c.base_of-base.ensures.1, before, p.1, p.2),
       near d.result ends end,
       slim said d.ensures p.4,
-      close said d.ensures s.args.cursor slack ends end,
+      close said d.ensures c.args.cursor slack ends end,
     )
 
-returns : tie.Need-returns
-returns c =
-    let placed = c.before.before.before in
-    let reached = placed.before.before in
-    let found = reached.before.before in
-    let end = found.before.before.before in
-    let made = end.before.before.before in
-    let start = made.before.before.before in
-    let over = start.before.before.start_of_lem.ensures in
-    let said = start.before.before.before.before.before.before in
-    let a = said.before.before.before.before.args in
-    fits a.text.now a.work.now a.i a.last a.cursor a.c said.statement-at.ensures
-    over.0 start.target.given.1 made.before.slack-from.ensures made.entry_of.ensures
-    over.1 end.before.before.entry-end.ensures end.end.given.1
-    found.base-of.ensures.0 reached.placers-of.ensures placed.put-place.ensures c.advanced.ensures
+pub returns-in-At-entry_end : goal.returns-in-At-entry_end
+returns-in-At-entry_end c = let over = c.start_of.ensures in
+    let a = c.args in
+    fits a.text.now a.work.now a.i a.last a.cursor a.c c.statement_at-s.ensures
+    over.0 c.in-At.is c.slack_from.ensures c.entry_of-e.ensures
+    over.1 c.entry_end.ensures c.in-At-entry_end.is
+    c.base_of-base.ensures.0 c.placers_of-placers.ensures c.put_place.ensures c.advanced.ensures
 
-returns-2 : tie.Need-returns-2
-returns-2 c = search large
+pub returns-in-Refused-entry_end : goal.returns-in-Refused-entry_end
+returns-in-Refused-entry_end c = search large
 
-returns-3 : tie.Need-returns-3
-returns-3 c = search no_start
-
-pub place-spec : {M : Type 1} → statement M
-place-spec =
-    tie.close
-    (tie.spec
-    (λ c κs. search rules)
-    start-of-requires
-    (λ c. search rules)
-    (λ c κs. search rules)
-    (λ c κs. search rules)
-    entry-end-requires
-    (λ c. search rules)
-    base-of-requires
-    placers-of-requires
-    put-place-requires
-    (λ c κs. search rules)
-    (λ c. search rules)
-    returns
-    (λ c. search rules)
-    (λ c. search rules)
-    returns-2
-    (λ c. search rules)
-    (λ c. search rules)
-    returns-3)
+pub returns-in-Refused : goal.returns-in-Refused
+returns-in-Refused c = search no_start

@@ -1,13 +1,11 @@
 -- `layout::slack_from` meets its contract.
--- Assumes nothing.
 use Prim.Native.Nat.{ℕ, ◌-◌, ◌≤◌, ◌<◌}
 use mathlib.Core.Path.{◌≡◌}
 use native.Mathlib.Omega.{arith}
 use borrow.Author.Tests.{lt-ltb, le-ltb}
 use Rattle.definition.specs.declared.Statement.{Statement}
 use Rattle.definition.specs.Layout.{slack_from}
-use Rattle.layout.proofs.slack_from.Statement.{statement}
-use Rattle.layout.proofs.slack_from.Tie as tie
+use Rattle.layout.proofs.slack_from.Goals as goal
 
 module _ (s : Statement) (cursor offset : ℕ) where
   redefined : 0 < s.clauses.redefines.len → 0 ≡ slack_from cursor s offset
@@ -19,14 +17,11 @@ module _ (s : Statement) (cursor offset : ℕ) where
   after : s.clauses.redefines.len ≤ 0 → offset - cursor ≡ slack_from cursor s offset
   after h = rw (le-ltb 0 s.clauses.redefines.len h)
 
-returns : tie.Need-returns
-returns c = search redefined
+pub returns-then-redefines-gt0 : goal.returns-then-redefines-gt0
+returns-then-redefines-gt0 c = search redefined
 
-returns-2 : tie.Need-returns-2
-returns-2 c = search before
+pub returns-then-offset-cursor : goal.returns-then-offset-cursor
+returns-then-offset-cursor c = search before
 
-returns-3 : tie.Need-returns-3
-returns-3 c = search after
-
-pub slack-from-spec : {M : Type 1} → statement M
-slack-from-spec = tie.close (tie.spec returns returns-2 returns-3)
+pub returns : goal.returns
+returns c = search after

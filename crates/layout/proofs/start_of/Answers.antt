@@ -1,5 +1,4 @@
 -- `layout::start_of` meets its contract, case by case.
--- Assumes nothing.
 use borrow.Author.Rules.{rules}
 use Prim.Native.Nat.{ℕ, ◌+◌, ◌≤◌, ◌<◌}
 use mathlib.Core.Path.{◌≡◌, ◌∙◌}
@@ -14,8 +13,7 @@ use Rattle.definition.specs.Picture.{is_alignable}
 use Rattle.definition.specs.Fold.{Place, find}
 use Rattle.definition.specs.Layout.{start}
 use Rattle.redefines.specs.Targets.{seen_at, target_search, target_from}
-use Rattle.layout.proofs.start_of.Statement.{statement}
-use Rattle.layout.proofs.start_of.Tie as tie
+use Rattle.layout.proofs.start_of.Goals as goal
 
 module _ (t w : List ℕ) (s : Statement) (c : Pictured) (last cursor : ℕ) where
   abbrev seen : List Place
@@ -46,29 +44,16 @@ module _ (t w : List ℕ) (s : Statement) (c : Pictured) (last cursor : ℕ) whe
       no-slack : b ≡ false → give cursor ≡ start t s c seen cursor
       no-slack y = rw (le-ltb 0 s.clauses.redefines.len h, e, ← p, y)
 
-returns : tie.Need-returns
-returns c =
-    let e = c.start-over.ensures in
-    let a = c.before.before.before.before.before.before.before.args in
-    (over a.text.now a.work.now a.s a.c a.last a.cursor c.before.if1.true e.0, e.1, e.2)
+pub returns-then-redefines-gt0 : goal.returns-then-redefines-gt0
+returns-then-redefines-gt0 c = let e = c.start_over.ensures in
+    let a = c.args in
+    (over a.text.now a.work.now a.s a.c a.last a.cursor c.if-redefines-gt0.true e.0, e.1, e.2)
 
-returns-2 : tie.Need-returns-2
-returns-2 c = (search slack, search nothing, search rules)
+pub returns-then-is_alignable : goal.returns-then-is_alignable
+returns-then-is_alignable c = (search slack, search nothing, search rules)
 
-returns-3 : tie.Need-returns-3
-returns-3 c = (search no-slack, search nothing, search rules)
+pub returns-else-is_alignable : goal.returns-else-is_alignable
+returns-else-is_alignable c = (search no-slack, search nothing, search rules)
 
-returns-4 : tie.Need-returns-4
-returns-4 c = (search loose, search nothing, search rules)
-
-pub start-of-spec : {M : Type 1} → statement M
-start-of-spec =
-    tie.close
-    (tie.spec
-    (λ c κs. search rules)
-    returns
-    (λ c κs. search rules)
-    (λ c κs. search rules)
-    returns-2
-    returns-3
-    returns-4)
+pub returns-else-clauses : goal.returns-else-clauses
+returns-else-clauses c = (search loose, search nothing, search rules)

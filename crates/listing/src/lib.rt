@@ -1,6 +1,8 @@
 // The bytes of the layout listing, put into a lent output from a place on: numbers, places, the record's head, one
 // entry. A byte past the output's end is counted and not written, so that on an empty output the same functions only
 // count. Each answers the place after its bytes. Leans on `definition` and `kinds`.
+#![tactic(auto)]
+
 ghost use Rattle.std.specs.Prelude.{◌%◌, ◌≡◌, [], ◌∷◌, set};
 ghost use Rattle.definition.specs.Basic.{le4, le8};
 ghost use Rattle.definition.specs.Fold.{union};
@@ -228,7 +230,7 @@ pub fn put_head(out: &mut [u8], at: usize, length: usize, variable: bool, top: u
 
 // What the listing says of an entry: its kind, name, offset and width, how often it stands, the names of DEPENDING ON
 // and REDEFINES, and its picture.
-#[derive(Drop)]
+#[derive(Clone, Copy)]
 pub struct Line {
     pub kind: FieldKind,
     pub name: Span,

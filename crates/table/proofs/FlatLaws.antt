@@ -1,19 +1,19 @@
 -- Laws of the listing's entries one after the other: two lists, how many there are; what is asked of the folded listing
 -- is asked of them.
 -- Assumes nothing.
-use Prim.Native.Nat.{ℕ, zero, suc, ◌+◌, ◌*◌, max, ◌≤◌}
-use mathlib.Core.Path.{◌≡◌, refl, sym, ap, ap₂, ◌∙◌}
+use Prim.Native.Nat.{ℕ, ◌+◌, max, ◌≤◌}
+use mathlib.Core.Path.{◌≡◌, refl, sym, ap, ◌∙◌}
 use mathlib.Core.Bool.{Bool, true, false, ◌||◌}
-use mathlib.Core.List.{List, [], ◌∷◌, ◌++◌, append_assoc, append-nil}
+use mathlib.Core.List.{List, [], ◌∷◌, ◌++◌, append_assoc}
 use native.Mathlib.Omega.{arith}
 use lib.Dec.{eqb, ltb}
 use lib.ListN.{length, length-append}
 use borrow.Author.Tests.{ne_eqb}
 use Rattle.definition.specs.Limits.{largest}
-use Rattle.definition.specs.Basic.{if◌then◌else◌, given, Answer, refuse, give, ◌>>=◌, refuse_if}
+use Rattle.definition.specs.Basic.{given, Answer, refuse, give, ◌>>=◌, refuse_if}
 use Rattle.definition.specs.Fold.{Entries, end, entry, append, entry_end}
 use Rattle.definition.specs.Record.{record_length, variable, ends_fit}
-use Rattle.definition.specs.Listing.{members#, entry_bytes, entries_bytes}
+use Rattle.definition.specs.Listing.{members#, entries_bytes}
 use Rattle.definition.specs.Search.{entries#}
 use Rattle.table.specs.Entered.{Shown, flat_in, flat_bytes, flat_varies, top_end, flat_length, flat_fits}
 

@@ -1,17 +1,16 @@
 -- What the loops over the table keep: what is asked of all entries is what was found and what is asked of the rest.
 -- Assumes nothing.
-use Prim.Native.Nat.{ℕ, zero, suc, ◌+◌, ◌*◌, ◌-◌, max, ◌≤◌, ◌<◌}
-use mathlib.Core.Path.{◌≡◌, refl, sym, ap, subst, ◌∙◌}
+use Prim.Native.Nat.{ℕ, suc, ◌+◌, ◌*◌, ◌-◌, max, ◌≤◌, ◌<◌}
+use mathlib.Core.Path.{◌≡◌, sym, ap, subst, ◌∙◌}
 use mathlib.Core.Bool.{Bool, true, false}
 use mathlib.Core.List.{List, [], ◌∷◌, ◌++◌, append_assoc, append-nil}
 use native.Mathlib.Numerals.{add-one}
 use native.Mathlib.Omega.{arith}
 use lib.ListN.{length, length-append}
-use Rattle.definition.specs.declared.Entry.{Entry}
 use Rattle.definition.specs.declared.Check.{Check}
 use Rattle.definition.specs.declared.Refusal.{Refusal}
 use Rattle.definition.specs.Limits.{largest}
-use Rattle.definition.specs.Basic.{given, Answer, give, ◌>>=◌, refused, refuse_if}
+use Rattle.definition.specs.Basic.{given, ◌>>=◌}
 use Rattle.definition.specs.Calls.{check_of}
 use borrow.Author.Tests.{lt-ltb, le-ltb}
 use Rattle.definition.specs.Listing.{entry_bytes}

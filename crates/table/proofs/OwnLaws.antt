@@ -11,7 +11,8 @@ use lib.ListN.{get_or}
 use borrow.Author.Tests.{eq-eqb, ne_eqb}
 use Rattle.definition.specs.declared.Span.{Span}
 use Rattle.definition.specs.declared.Entry.{Entry}
-use Rattle.definition.specs.Basic.{if◌then◌else◌, given}
+use Rattle.std.specs.Prelude.{if◌then◌else◌}
+use Rattle.definition.specs.Basic.{given}
 use Rattle.definition.specs.Fold.{total, reserved, entry_end, union}
 use Rattle.definition.proofs.Lists.{order}
 use Rattle.rows.specs.Columns.{AT, DEPENDING, OFFSET}

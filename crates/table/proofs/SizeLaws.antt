@@ -11,7 +11,8 @@ use native.Mathlib.Omega.{arith}
 use lib.ListN.{length, length-append}
 use Rattle.definition.specs.declared.Span.{Span}
 use Rattle.definition.specs.declared.Entry.{Entry}
-use Rattle.definition.specs.Basic.{if◌then◌else◌, given}
+use Rattle.std.specs.Prelude.{if◌then◌else◌}
+use Rattle.definition.specs.Basic.{given}
 use Rattle.definition.specs.Fold.{Entries, end, entry, append, same_name, Place, place_of, find, has_member, rebased}
 use Rattle.definition.specs.Fold.{redefiners, with_redefiners, has_base, folded_list, folded_below, folded_all}
 use Rattle.definition.specs.Listing.{members#, entry_bytes, entries_bytes}

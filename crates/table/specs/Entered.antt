@@ -1,13 +1,13 @@
 -- What a table of entries says, by the rows that it names: the folded listing, one entry after the other. `own_of` reads
 -- an entry back.
 -- Assumes nothing.
-use Rattle.std.specs.Prelude.{ℕ, zero, suc, ◌+◌, ◌*◌, max, ◌≤◌, ◌<◌, ◌≡◌, Bool, true, false, ◌||◌, List, [], ◌∷◌, ◌++◌, eqb, ltb, length}
+use Rattle.std.specs.Prelude.{ℕ, ◌+◌, ◌*◌, max, ◌≤◌, ◌<◌, ◌≡◌, Bool, false, ◌||◌, List, [], ◌∷◌, ◌++◌, eqb, ltb, length, if◌then◌else◌}
 use Rattle.definition.specs.declared.Entry.{Entry}
 use Rattle.definition.specs.declared.FieldKind.{FieldKind}
 use Rattle.definition.specs.declared.Occurs.{Occurs}
 use Rattle.listing.specs.declared.Line.{Line}
 use Rattle.definition.specs.Limits.{largest}
-use Rattle.definition.specs.Basic.{if◌then◌else◌, absent, given, Answer, give, ◌>>=◌, refuse_if}
+use Rattle.definition.specs.Basic.{absent, given, Answer, give, ◌>>=◌, refuse_if}
 use Rattle.definition.specs.Fold.{Entries, end, entry, total, entry_end, union, folded_all}
 use Rattle.definition.specs.Listing.{members#, entry_bytes}
 use Rattle.definition.specs.Search.{entries#}

@@ -1,5 +1,7 @@
 // The table of entries: the folded listing in work memory, each entry as ITEM numbers that name a row, in the order of
 // the listing. What is asked of the folded listing is asked of the table, by a loop. `entries` makes it.
+#![tactic(auto)]
+
 ghost use Rattle.std.specs.Prelude.{◌≡◌, ◌+◌, ◌*◌, ◌≤◌, ◌<◌, length};
 ghost use Rattle.std.proofs.lemmas.List.Edits.{sets};
 ghost use Rattle.definition.specs.Fold.{entry_end};
@@ -44,7 +46,7 @@ pub const UNION: usize = 2;
 
 // An entry in the table: the row that it names and its mark; offset and width; how many members it has and how many
 // entries stand below it; how deep it stands.
-#[derive(Drop)]
+#[derive(Clone, Copy)]
 pub struct Item {
     pub row: usize,
     pub mark: usize,
@@ -324,7 +326,8 @@ pub fn ends_fit(work: &[u32], entries: &[u32], n: usize) -> Check
 {
     let mut k = 0;
     while k < n {
-        if LARGEST < top_end(work, entries, k) {
+        let over = LARGEST < top_end(work, entries, k);
+        if over {
             return Check::Refused(limits::too_large(position_of(work, entries, k)));
         }
         k += 1;

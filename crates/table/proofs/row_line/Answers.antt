@@ -1,6 +1,4 @@
 -- `table::row_line` meets its contract: the columns of a row, each read by itself.
--- Assumes nothing.
-use borrow.Author.Rules.{rules}
 use Prim.Native.Nat.{ℕ, ◌<◌}
 use mathlib.Core.Path.{◌≡◌}
 use mathlib.Core.List.{List}
@@ -12,8 +10,7 @@ use Rattle.rows.specs.Columns.{NAME, PICTURE, DEPENDING, REDEFINES, OFFSET, WIDT
 use Rattle.rows.specs.Table.{cell, span_at, occurs_in}
 use Rattle.places.specs.Places.{entry_in}
 use Rattle.listing.specs.Puts.{line_of}
-use Rattle.table.proofs.row_line.Statement.{statement}
-use Rattle.table.proofs.row_line.Tie as tie
+use Rattle.table.proofs.row_line.Goals as goal
 
 in_row :
     (w : List ℕ) (k : ℕ) {f : FieldKind} {n d r p : Span} {a b : ℕ} {o : Occurs} →
@@ -40,47 +37,5 @@ in_row w k f n a b o d r p =
       picture = p i;
     }
 
-returns : tie.Need-returns
+pub returns : goal.returns
 returns c = search in_row
-
-pub row-line-spec : {M : Type 1} → statement M
-row-line-spec =
-    tie.close
-    (tie.spec
-    (λ c. search rules)
-    (λ c. search rules)
-    (λ c. search rules)
-    (λ c. search rules)
-    (λ c κs. search rules)
-    (λ c. search rules)
-    (λ c. search rules)
-    (λ c. search rules)
-    (λ c. search rules)
-    (λ c κs. search rules)
-    (λ c. search rules)
-    (λ c. search rules)
-    (λ c. search rules)
-    (λ c. search rules)
-    (λ c κs. search rules)
-    (λ c. search rules)
-    (λ c. search rules)
-    (λ c. search rules)
-    (λ c. search rules)
-    (λ c κs. search rules)
-    (λ c κs. search rules)
-    (λ c. search rules)
-    (λ c. search rules)
-    (λ c. search rules)
-    (λ c. search rules)
-    (λ c κs. search rules)
-    (λ c. search rules)
-    (λ c. search rules)
-    (λ c. search rules)
-    (λ c. search rules)
-    (λ c κs. search rules)
-    (λ c. search rules)
-    (λ c. search rules)
-    (λ c. search rules)
-    (λ c. search rules)
-    (λ c κs. search rules)
-    returns)

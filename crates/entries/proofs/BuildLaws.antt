@@ -1,11 +1,10 @@
 -- Laws of the table's blocks, over plain variables: an item closed; entries after others; an entry before its members;
 -- room for the rest.
 -- Assumes nothing.
-use Prim.Native.Nat.{ℕ, zero, suc, ◌+◌, ◌*◌, ◌-◌, max, ◌≤◌, ◌<◌}
+use Prim.Native.Nat.{ℕ, suc, ◌+◌, ◌*◌, ◌-◌, max, ◌≤◌, ◌<◌}
 use mathlib.Core.Path.{◌≡◌, refl, sym, ap, ap₂, subst, ◌∙◌}
 use mathlib.Core.Bool.{Bool, true, false}
 use mathlib.Core.List.{List, [], ◌∷◌, ◌++◌, append_assoc, append-nil}
-use native.Mathlib.Numerals.{add-one}
 use native.Mathlib.Omega.{arith}
 use lib.ListN.{length, set, length-append}
 use lib.Seq.{sets, length-sets, set_comm}
@@ -16,16 +15,16 @@ use Rattle.definition.specs.Listing.{flag, members#}
 use Rattle.definition.specs.Search.{entries#}
 use Rattle.definition.proofs.Lists.{sets-append}
 use Rattle.rows.specs.Columns.{ROW, OFFSET, WIDTH}
-use Rattle.rows.specs.Table.{cell, span_at}
+use Rattle.rows.specs.Table.{cell}
 use Rattle.places.specs.Places.{entry_in}
 use Rattle.unions.specs.Shown.{SizedRow, Measured}
 use Rattle.unions.proofs.FoldedLaws.{count-append, widest-append}
 use Rattle.table.specs.declared.Item.{Item}
 use Rattle.entries.specs.declared.Block.{Block}
 use Rattle.table.specs.Items.{item_cells, all_cells}
-use Rattle.table.specs.Entered.{Shown, flat_in, own_of, shown_of, shown_all, Sound, Rows, RowsWithin}
+use Rattle.table.specs.Entered.{Shown, flat_in, shown_of, shown_all, Sound, Rows, RowsWithin}
 use Rattle.table.specs.Items.{ItemSmall}
-use Rattle.entries.specs.Building.{stands_as, block, within, TableRoom, Built, own_item, union_item, ItemOpen}
+use Rattle.entries.specs.Building.{stands_as, within, TableRoom, Built, own_item, union_item, ItemOpen}
 use Rattle.entries.specs.Building.{ItemClosed}
 use Rattle.table.proofs.FlatLaws.{flat_append, flat-length, size-append, members-few}
 

@@ -1,16 +1,13 @@
 -- Laws of reading the table: the items that were put are read back; one item after the other.
 -- Assumes nothing.
-use Prim.Native.Nat.{ℕ, zero, suc, ◌+◌, ◌*◌, ◌-◌, ◌≤◌, ◌<◌}
+use Prim.Native.Nat.{ℕ, suc, ◌+◌, ◌*◌, ◌≤◌, ◌<◌}
 use mathlib.Core.Path.{◌≡◌, refl, sym, ap, ap₂, subst, ◌∙◌}
 use mathlib.Core.List.{List, [], ◌∷◌, ◌++◌}
-use native.Mathlib.Numerals.{add-one}
 use native.Mathlib.Omega.{arith}
 use lib.Dec.{lit<}
 use lib.ListN.{length, get_or}
 use lib.Seq.{sets, length-sets}
 use Rattle.definition.specs.Limits.{most_statements}
-use Rattle.definition.specs.Fold.{Entries, folded_all}
-use Rattle.definition.specs.Listing.{members#}
 use Rattle.definition.specs.Search.{entries#}
 use Rattle.definition.proofs.Lists.{sets-append}
 use Rattle.rows.proofs.TableLaws.{get_or-below, get_or-in}
@@ -21,7 +18,7 @@ use Rattle.unions.proofs.ShownLaws.{entries-size}
 use Rattle.table.specs.declared.Item.{Item}
 use Rattle.entries.specs.declared.Block.{Block}
 use Rattle.table.specs.Items.{item_cells, all_cells, item_at, items_from}
-use Rattle.table.specs.Entered.{Shown, flat_in, shown_all, Rows, RowsWithin, Entered}
+use Rattle.table.specs.Entered.{shown_all, Rows, RowsWithin, Entered}
 use Rattle.table.specs.Entered.{listed}
 use Rattle.entries.specs.Building.{block, TableRoom, Built, Roomy}
 use Rattle.entries.proofs.BuildLaws.{built-many, built-length}

@@ -8,7 +8,7 @@ use mathlib.Core.List.{List}
 use native.Mathlib.Numerals.{add-one}
 use native.Mathlib.Omega.{arith}
 use Rattle.definition.specs.declared.Entry.{Entry}
-use Rattle.definition.specs.Basic.{if◌then◌else◌}
+use Rattle.std.specs.Prelude.{if◌then◌else◌}
 use Rattle.definition.specs.Fold.{Entries, end, entry, append, rebased, redefiners, widest, union, union_members}
 use Rattle.definition.specs.Fold.{with_redefiners, folded_below, folded_all}
 use Rattle.definition.specs.Search.{entries#}

@@ -4,7 +4,7 @@ use Rattle.std.specs.Prelude.{ℕ, suc, ◌+◌, ◌*◌, ◌-◌, max, ◌≤�
 use Rattle.std.proofs.lemmas.List.Edits.{sets}
 use Rattle.definition.specs.declared.Entry.{Entry}
 use Rattle.definition.specs.Limits.{most_statements, largest}
-use Rattle.definition.specs.Fold.{Entries, end, entry, has_member, rebased, redefiners, union_members, union, widest}
+use Rattle.definition.specs.Fold.{Entries, end, entry, has_member, rebased, redefiners, union_members, widest}
 use Rattle.definition.specs.Fold.{folded_below, folded_all}
 use Rattle.definition.specs.Listing.{flag, members#}
 use Rattle.definition.specs.Search.{entries#}

@@ -1,5 +1,7 @@
 // The table of entries made: the folded listing of a laid and marked record, in the order of the listing, in one walk
 // over the rows.
+#![tactic(auto)]
+
 ghost use Rattle.std.specs.Prelude.{◌≡◌, ◌+◌, ◌*◌, ◌-◌, ◌≤◌, ◌<◌, length};
 ghost use Rattle.definition.specs.Limits.{most_statements, largest};
 ghost use Rattle.definition.specs.Fold.{total};
@@ -19,7 +21,7 @@ use unions::Standing;
 
 // What a part of the table comes to: the place after it, how many of its entries stand at its own depth, and the widest
 // of them.
-#[derive(Drop)]
+#[derive(Clone, Copy)]
 pub struct Block {
     pub next: usize,
     pub count: usize,
@@ -117,7 +119,7 @@ fn close_union(
 // ---------------------------------------------------------------- the walk
 
 // Builds row i, whose members end at j, by itself or as a member of the union that starts there.
-#[cycle(build_item_build_list_build_members_build_redefiners_build_shown)]
+#[cycle(build)]
 fn build_item(
     text: &[u8],
     work: &[u32],
@@ -152,7 +154,7 @@ fn build_item(
 }
 
 // Builds the redefiners of row i among the rows from j up to `to`: each names the next.
-#[cycle(build_item_build_list_build_members_build_redefiners_build_shown)]
+#[cycle(build)]
 fn build_redefiners(
     text: &[u8],
     work: &[u32],
@@ -191,7 +193,7 @@ fn has_own(text: &[u8], work: &[u32], i: usize, j: usize, to: usize) -> bool
 
 // Builds the members of the union of row i with its redefiners: those of row i, where one of them has its name, or row
 // i itself, and then the redefiners.
-#[cycle(build_item_build_list_build_members_build_redefiners_build_shown)]
+#[cycle(build)]
 fn build_members(
     text: &[u8],
     work: &[u32],
@@ -217,7 +219,7 @@ fn build_members(
 }
 
 // Builds what row i, whose children end at j, comes to in the folded list, after the sibling `last`.
-#[cycle(build_item_build_list_build_members_build_redefiners_build_shown)]
+#[cycle(build)]
 fn build_shown(
     text: &[u8],
     work: &[u32],
@@ -266,7 +268,7 @@ fn build_shown(
 }
 
 // Builds the folded list of the rows from `from` up to `to`, each entry with its members.
-#[cycle(build_item_build_list_build_members_build_redefiners_build_shown)]
+#[cycle(build)]
 fn build_list(
     text: &[u8],
     work: &[u32],

@@ -1,8 +1,6 @@
 -- `entries::has_own` meets its contract.
--- Assumes nothing.
-use borrow.Author.Rules.{rules}
-use Prim.Native.Nat.{ℕ, suc, ◌+◌, ◌-◌, ◌*◌, ◌≤◌, ◌<◌}
-use mathlib.Core.Path.{◌≡◌, refl, sym, ap, ◌∙◌}
+use Prim.Native.Nat.{ℕ, suc, ◌+◌}
+use mathlib.Core.Path.{◌≡◌, ap, ◌∙◌}
 use mathlib.Core.Bool.{Bool}
 use mathlib.Core.List.{List}
 use native.Mathlib.Numerals.{add-one}
@@ -13,8 +11,7 @@ use Rattle.rows.specs.Table.{cell, span_at}
 use Rattle.unions.specs.Shown.{list_in}
 use Rattle.unions.proofs.WidthLaws.{own-tree}
 use Rattle.entries.specs.Building.{own_member}
-use Rattle.entries.proofs.has_own.Statement.{statement}
-use Rattle.entries.proofs.has_own.Tie as tie
+use Rattle.entries.proofs.has_own.Goals as goal
 
 own_is :
     (t w : List ℕ) (i j : ℕ) {name : Span} {o : Bool} →
@@ -26,21 +23,8 @@ own_is t w i j {name} q p =
     ∙ ap (λ (n : ℕ). has_member t name (folded_all t (list_in w n j))) (add-one i)
     ∙ ap (λ (s : Span). has_member t s (folded_all t (list_in w (suc i) j))) q
 
-has-member-requires : tie.Need-has-member-requires
-has-member-requires c κs = search own-tree
+pub has_member-requires : goal.has_member-requires
+has_member-requires c = search own-tree
 
-returns : tie.Need-returns
+pub returns : goal.returns
 returns c = search own_is
-
-pub has-own-spec : {M : Type 1} → statement M
-has-own-spec =
-    tie.close
-    (tie.spec
-    (λ c. search rules)
-    (λ c. search rules)
-    (λ c. search rules)
-    (λ c. search rules)
-    (λ c κs. search rules)
-    (λ c. search rules)
-    has-member-requires
-    returns)

@@ -1,4 +1,6 @@
 // A record laid out in work memory: a copybook read, laid and checked, its redefiners linked and its table made.
+#![tactic(auto)]
+
 ghost use Rattle.std.specs.Prelude.{◌≡◌, ◌+◌, ◌*◌, ◌≤◌, ◌<◌, length};
 ghost use Rattle.definition.specs.Limits.{most_statements};
 ghost use Rattle.definition.specs.Basic.{give};
@@ -52,7 +54,7 @@ pub const ENTRIES: usize = 8400;
 
 // The rows that hold a record, its length, and how many entries its table has, in all and at the top; or why it is
 // refused.
-#[derive(Drop)]
+#[derive(Clone, Copy)]
 pub enum RecordLaid {
     Record {
         from: usize,

@@ -1,0 +1,17 @@
+-- `record::first_field` meets its contract, case by case.
+use native.Mathlib.Omega.{arith}
+use Rattle.places.proofs.EntriesLaws.{counted-numbered}
+use Rattle.record.proofs.LaidLaws.{few-rows, roots_kept, root-dropped}
+use Rattle.record.proofs.first_field.Goals as goal
+
+pub returns-then-n-lt2 : goal.returns-then-n-lt2
+returns-then-n-lt2 c = search few-rows
+
+pub next_of-requires : goal.next_of-requires
+next_of-requires c = counted-numbered c.args.work.now 0 c.args.n c.requires.0 (omega (arith, c.if-n-lt2.false)) c.requires.1
+
+pub returns-then-next_of-n : goal.returns-then-next_of-n
+returns-then-next_of-n c = search roots_kept
+
+pub returns : goal.returns
+returns c = search root-dropped

@@ -10,26 +10,24 @@ use native.Mathlib.Numerals.{add-one}
 use native.Mathlib.Nat.{zero-add, add-zero, suc-add, div-add-mod', div-mul-le_self}
 use native.Mathlib.Omega.{arith}
 use lib.ListN.{length}
-use Rattle.definition.specs.declared.Entry.{Entry}
 use Rattle.definition.specs.declared.Owner.{Owner}
 use Rattle.definition.specs.declared.OwnerAnswer.{OwnerAnswer}
 use Rattle.definition.specs.declared.Refusal.{Refusal}
 use Rattle.definition.specs.declared.Statement.{Statement}
 use Rattle.definition.specs.Basic.{given, Answer, refuse, give, ◌>>=◌}
 use Rattle.definition.specs.Calls.{record_fields, owner_in, byte_owner, owner_answer_of}
-use Rattle.definition.specs.Fold.{Entries, end, entry, times, total, folded_list, folded_below, folded_all}
-use Rattle.definition.specs.Owner.{size, overlaid, pieces, owner_of}
+use Rattle.definition.specs.Fold.{Entries, entry, times, total, folded_list, folded_below, folded_all}
+use Rattle.definition.specs.Owner.{size, overlaid}
 use Rattle.definition.specs.Record.{record_length, layout, unfolded}
 use Rattle.definition.specs.Search.{entries#, Row, row_of, rows, walk}
 use Rattle.definition.specs.Tree.{Forest, leaf, item, above, not_above, forest}
-use Rattle.definition.proofs.Answers.{given-same, through}
 use Rattle.definition.proofs.Cover.{Plain, plain, Unfolded, fold-plain}
 use Rattle.definition.specs.Demand.{told}
 use Rattle.definition.proofs.Demand3.{refuses-40, refuses-41, one-owner, walked, computed}
 use Rattle.definition.proofs.Lists.{order, tested}
 use Rattle.definition.proofs.Pieces.{owned-someone, positive}
 use Rattle.definition.proofs.Walk.{walk-slack, walk-piece, walk-in, walk-later, walk-skip}
-use Rattle.rows.specs.Columns.{ROW, DEPENDING, REDEFINES, OFFSET, WIDTH, BELOW}
+use Rattle.rows.specs.Columns.{ROW, OFFSET, WIDTH, BELOW}
 use Rattle.rows.specs.Table.{cell, statement_at, statements_from}
 use Rattle.places.specs.Places.{entry_in, entries_in, rows_forest}
 use Rattle.record.proofs.LaidLaws.{layout_is}

@@ -1,5 +1,7 @@
 // The byte owner over a record laid out in work memory: which piece or slack a byte belongs to, found from row to row
 // with no piece laid.
+#![tactic(auto)]
+
 ghost use Rattle.std.specs.Prelude.{◌≡◌, ◌+◌, ◌*◌, ◌≤◌, ◌<◌, length};
 ghost use Rattle.definition.specs.Basic.{give};
 ghost use Rattle.definition.specs.Calls.{owner_answer_of, owner_in};
@@ -57,7 +59,8 @@ pub fn walk_rows(work: &[u32], from: usize, to: usize, position: usize) -> Owner
     let mut q = position;
     while k < to {
         let offset = rows::wide(work[ROW * k + OFFSET]);
-        if q < offset {
+        let before = q < offset;
+        if before {
             return Owner::Slack { entry: k - from };
         }
         let width = rows::wide(work[ROW * k + WIDTH]);

@@ -1,6 +1,4 @@
 -- `owner::is_overlay` meets its contract.
--- Assumes nothing.
-use borrow.Author.Rules.{rules}
 use Prim.Native.Nat.{ℕ, ◌≤◌, ◌<◌}
 use mathlib.Core.Path.{◌≡◌, sym, ap, ap₂, ◌∙◌}
 use mathlib.Core.Bool.{Bool, true, false, ◌||◌}
@@ -11,8 +9,7 @@ use Rattle.definition.specs.Basic.{given}
 use Rattle.rows.specs.Columns.{DEPENDING, REDEFINES}
 use Rattle.rows.specs.Table.{span_at, cell, statement_at}
 use Rattle.owner.specs.Walked.{overlays}
-use Rattle.owner.proofs.is_overlay.Statement.{statement}
-use Rattle.owner.proofs.is_overlay.Tie as tie
+use Rattle.owner.proofs.is_overlay.Goals as goal
 
 module _ (w : List ℕ) (k : ℕ) {r : Span} (p : r ≡ span_at (cell w k REDEFINES)) where
   redefines : 0 < r.len → true ≡ overlays (statement_at w k)
@@ -29,29 +26,11 @@ module _ (w : List ℕ) (k : ℕ) {r : Span} (p : r ≡ span_at (cell w k REDEFI
     neither : d.len ≤ 0 → false ≡ overlays (statement_at w k)
     neither l = sym (le-ltb 0 d.len l) ∙ other
 
-returns : tie.Need-returns
-returns c = search redefines
+pub returns-then-redefines-gt0 : goal.returns-then-redefines-gt0
+returns-then-redefines-gt0 c = search redefines
 
-returns-2 : tie.Need-returns-2
-returns-2 c = search depends
+pub returns-then-depending-gt0 : goal.returns-then-depending-gt0
+returns-then-depending-gt0 c = search depends
 
-returns-3 : tie.Need-returns-3
-returns-3 c = search neither
-
-pub is-overlay-spec : {M : Type 1} → statement M
-is-overlay-spec =
-    tie.close
-    (tie.spec
-    (λ c. search rules)
-    (λ c. search rules)
-    (λ c. search rules)
-    (λ c. search rules)
-    (λ c κs. search rules)
-    returns
-    (λ c. search rules)
-    (λ c. search rules)
-    (λ c. search rules)
-    (λ c. search rules)
-    (λ c κs. search rules)
-    returns-2
-    returns-3)
+pub returns : goal.returns
+returns c = search neither

@@ -1,15 +1,13 @@
 -- Laws of the extract of a record: what is handed to the search, and each answer; then the call, by what was read.
 -- Assumes nothing.
-use Prim.Native.Nat.{ℕ, zero, suc, ◌+◌, ◌*◌, ◌-◌, ◌≤◌, ◌<◌}
-use mathlib.Core.Path.{◌≡◌, refl, sym, ◌∙◌, ap, ap₂, subst}
-use mathlib.Core.Bool.{Bool, true, false, ◌||◌, not}
-use mathlib.Core.List.{List, [], ◌∷◌, ◌++◌}
+use Prim.Native.Nat.{ℕ, ◌+◌, ◌-◌, ◌≤◌, ◌<◌}
+use mathlib.Core.Path.{◌≡◌, sym, ◌∙◌, ap, ap₂, subst}
+use mathlib.Core.Bool.{Bool, true, false}
+use mathlib.Core.List.{List}
 use native.Mathlib.Omega.{arith}
-use lib.Dec.{eqb, ltb}
-use lib.ListN.{length, get_or, take, drop}
+use lib.ListN.{length, take, drop}
 use lib.Seq.{sets, sets-eq, take_at}
 use borrow.Author.Tests.{lt-ltb}
-use Rattle.definition.specs.declared.Extract.{Extract}
 use Rattle.definition.specs.declared.ExtractAnswer.{ExtractAnswer}
 use Rattle.definition.specs.declared.Refusal.{Refusal}
 use Rattle.definition.specs.Limits.{largest, most_items}
@@ -17,7 +15,6 @@ use Rattle.definition.specs.Basic.{Answer, refuse, give, ◌>>=◌}
 use Rattle.definition.specs.Calls.{record_fields, extract_of, extract_in, extract_answer, extract_answer_of}
 use Rattle.definition.specs.Extract.{widths}
 use Rattle.definition.specs.Fold.{Entries, total, folded_all}
-use Rattle.definition.specs.Listing.{members#}
 use Rattle.definition.specs.Owner.{size, overlaid}
 use Rattle.definition.specs.Record.{layout, unfolded}
 use Rattle.definition.specs.Tree.{Forest}

@@ -1,24 +1,24 @@
 -- Laws of the items' bytes: one law for each way through the loop that gathers them; they are the reserved widths, as
 -- many as the record has items, and none is too large.
 -- Assumes nothing.
-use Prim.Native.Nat.{ℕ, zero, suc, ◌+◌, ◌*◌, ◌-◌, ◌≤◌, ◌<◌}
-use mathlib.Core.Path.{◌≡◌, refl, sym, ◌∙◌, ap, ap₂, subst}
+use Prim.Native.Nat.{ℕ, zero, suc, ◌+◌, ◌-◌, ◌≤◌, ◌<◌}
+use mathlib.Core.Path.{◌≡◌, refl, sym, ◌∙◌, ap, ap₂}
 use mathlib.Core.Bool.{false}
-use mathlib.Core.List.{List, [], ◌∷◌}
+use mathlib.Core.List.{List, ◌∷◌}
 use native.Mathlib.Numerals.{add-one}
 use native.Mathlib.Omega.{arith}
 use lib.ListN.{length, get_or, set, length-set}
 use lib.Seq.{sets}
 use Rattle.definition.specs.declared.Statement.{Statement}
 use Rattle.definition.specs.Limits.{largest}
-use Rattle.definition.specs.Basic.{if◌then◌else◌, given}
+use Rattle.std.specs.Prelude.{if◌then◌else◌}
+use Rattle.definition.specs.Basic.{given}
 use Rattle.definition.specs.Extract.{widths}
 use Rattle.definition.specs.Fold.{Entries, end, entry, total}
 use Rattle.definition.specs.Listing.{members#}
 use Rattle.definition.specs.Owner.{size, overlaid}
 use Rattle.definition.specs.Tree.{Forest, leaf, item}
 use Rattle.definition.proofs.Cover.{Plain, plain}
-use Rattle.rows.specs.Columns.{ROW}
 use Rattle.places.specs.Children.{ChildrenEnd, Numbered}
 use Rattle.places.specs.Places.{entry_in, entries_in, rows_forest}
 use Rattle.places.proofs.EntriesLaws.{Rows, rows-forest}

@@ -1,5 +1,7 @@
 // The extract of a record laid out in work memory: the bytes of its top-level items, and the heaviest choice of them
 // that fits.
+#![tactic(auto)]
+
 ghost use Rattle.std.specs.Prelude.{◌≡◌, ℕ, ◌≤◌};
 ghost use Rattle.std.proofs.lemmas.List.Edits.{sets};
 ghost use Rattle.definition.specs.Calls.{extract_answer_of, extract_in};

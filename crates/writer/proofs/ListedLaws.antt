@@ -1,21 +1,19 @@
 -- Laws of the listing of a record in the table: how many bytes it has, its parts, and what the output holds after it.
 -- Assumes nothing.
-use Prim.Native.Nat.{ℕ, suc, ◌+◌, ◌*◌, ◌-◌, ◌≤◌, ◌<◌}
-use mathlib.Core.Path.{◌≡◌, sym, ◌∙◌, ap}
-use mathlib.Core.Bool.{Bool}
-use mathlib.Core.List.{List, [], ◌∷◌, ◌++◌}
+use Prim.Native.Nat.{ℕ, ◌+◌, ◌*◌, ◌≤◌}
+use mathlib.Core.Path.{◌≡◌, ap}
+use mathlib.Core.List.{List, []}
 use native.Mathlib.Omega.{arith}
 use lib.ListN.{length, length-append}
 use Rattle.definition.specs.declared.Writing.{Writing}
 use Rattle.definition.specs.Calls.{fitting, left, after_writing, writing_of}
-use Rattle.definition.specs.Fold.{Entries}
-use Rattle.definition.specs.Listing.{members#, entries_bytes, listing}
+use Rattle.definition.specs.Listing.{members#, entries_bytes}
 use Rattle.definition.specs.Record.{record_length, variable}
 use Rattle.places.specs.Places.{rows_forest}
 use Rattle.places.proofs.EntriesLaws.{size-stretch}
 use Rattle.table.proofs.SizeLaws.{listing-few}
 use Rattle.listing.specs.Puts.{Put, head_bytes}
-use Rattle.listing.proofs.PutLaws.{◌and◌, room, listing-parts}
+use Rattle.listing.proofs.PutLaws.{room, listing-parts}
 use Rattle.unions.specs.Shown.{list_in}
 use Rattle.unions.proofs.ShownLaws.{entries-size}
 use Rattle.writer.specs.Listed.{entries_of, listing_of}

@@ -1,5 +1,7 @@
 // The listing of a record, written from its table of entries. A byte past the output's end is counted and not written,
 // so that the same loop measures; nothing is written unless all of it has room.
+#![tactic(auto)]
+
 ghost use Rattle.std.specs.Prelude.{◌≡◌, [], ◌≤◌, length};
 ghost use Rattle.definition.specs.Calls.{after_writing, fitting, left, writing_of};
 ghost use Rattle.listing.specs.Puts.{Put};
@@ -66,7 +68,8 @@ fn write_measured(
         out.old [] }
 {
     let needed = measure(text, work, entries, from, to, long, count, top);
-    if out.len() < needed {
+    let lacks = out.len() < needed;
+    if lacks {
         return Writing::Refused(Refusal {
             number: 31,
             position: 0,

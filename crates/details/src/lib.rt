@@ -1,5 +1,7 @@
 // The details of a record's entries, written from its table of entries: 47 bytes for each, and nothing unless all of it
 // has room.
+#![tactic(auto)]
+
 ghost use Rattle.std.specs.Prelude.{◌≡◌, [], ◌+◌, ◌*◌, ◌≤◌, ◌<◌, length, get_or, replicate};
 ghost use Rattle.definition.specs.Calls.{after_writing, fitting, left, writing_of};
 ghost use Rattle.definition.specs.Details.{detail, detail_bytes};

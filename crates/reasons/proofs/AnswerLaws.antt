@@ -1,37 +1,31 @@
 -- The answer of the reasons of an entry, by the rows and the table of a record; and what a laid record has for it.
 -- Assumes nothing.
-use Prim.Native.Nat.{ℕ, suc, ◌+◌, ◌*◌, ◌-◌, ◌≤◌, ◌<◌}
-use mathlib.Core.Path.{◌≡◌, refl, sym, ap, ap₂, subst, ◌∙◌}
-use mathlib.Core.Bool.{Bool, true, false}
-use mathlib.Core.List.{List, [], ◌∷◌, ◌++◌}
+use Prim.Native.Nat.{ℕ, suc, ◌+◌, ◌-◌, ◌≤◌, ◌<◌}
+use mathlib.Core.Path.{◌≡◌, refl, sym, ap, subst, ◌∙◌}
+use mathlib.Core.List.{List, []}
 use mathlib.Core.Option.{Option, none, some}
 use native.Mathlib.Omega.{arith}
-use lib.ListN.{length}
 use Rattle.definition.specs.declared.Entry.{Entry}
-use Rattle.definition.specs.declared.Refusal.{Refusal}
 use Rattle.definition.specs.declared.Reason.{Reason}
-use Rattle.definition.specs.declared.Writing.{Writing}
 use Rattle.definition.specs.declared.Statement.{Statement}
-use Rattle.definition.specs.Basic.{Answer, refuse, give, ◌>>=◌, refused, or_refuse, given}
+use Rattle.definition.specs.Basic.{Answer, give, ◌>>=◌, refused, or_refuse, given}
 use Rattle.definition.specs.Tree.{Forest, leaf, item}
 use Rattle.definition.specs.Fold.{Entries, folded_all}
 use Rattle.definition.specs.Record.{unfolded}
 use Rattle.definition.specs.Owner.{size}
-use Rattle.definition.specs.Calls.{record_fields, fitting, entry_reasons, left, after_writing, writing_of}
+use Rattle.definition.specs.Calls.{record_fields, fitting, entry_reasons}
 use Rattle.definition.specs.Demand.{Among}
 use Rattle.definition.specs.Reasons.{Chain, chain, chains, chain_at, flat, numbered, reasons_in, reasons_bytes}
-use Rattle.definition.proofs.Answers.{through, given-same}
-use Rattle.definition.proofs.Begins.{Rises, beginnings, fields-begin}
-use Rattle.definition.proofs.Why.{went, starts, chains-begin, chain-of}
-use Rattle.rows.specs.Columns.{AT, REDEFINES}
-use Rattle.rows.specs.Table.{cell, span_at, statement_at}
+use Rattle.definition.proofs.Begins.{Rises, fields-begin}
+use Rattle.definition.proofs.Why.{went, chains-begin, chain-of}
+use Rattle.rows.specs.Columns.{AT}
+use Rattle.rows.specs.Table.{cell}
 use Rattle.places.specs.Places.{rows_forest}
 use Rattle.places.proofs.EntriesLaws.{Rows, rows-forest, size-stretch}
 use Rattle.unions.specs.Shown.{list_in}
 use Rattle.unions.proofs.ShownLaws.{marked-linked}
 use Rattle.table.specs.Items.{item_at}
-use Rattle.table.specs.Entered.{own_of, Entered}
-use Rattle.record.specs.Laying.{laid_of, Listed}
+use Rattle.record.specs.Laying.{Listed}
 use Rattle.reasons.specs.Chained.{chain_of, Settled, reasons_of, ChainedTable}
 use Rattle.reasons.proofs.ChainLaws.{seen_none, row_chains, Redefining, ListExplained, list-explained, settled_at}
 use Rattle.reasons.proofs.ChainLaws.{chain-among}

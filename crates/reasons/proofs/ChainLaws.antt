@@ -1,9 +1,9 @@
 -- The chain of a row, by the rows, is the definition's chain of its statement.
 -- Assumes nothing.
-use Prim.Native.Nat.{ℕ, zero, suc, ◌+◌, ◌*◌, ◌-◌, ◌/◌, ◌%◌, ◌≤◌, ◌<◌}
+use Prim.Native.Nat.{ℕ, zero, suc, ◌+◌, ◌/◌, ◌%◌, ◌≤◌, ◌<◌}
 use mathlib.Core.Path.{◌≡◌, refl, sym, ap, ap₂, subst, ◌∙◌}
 use mathlib.Core.Bool.{Bool, true, false}
-use mathlib.Core.List.{List, [], ◌∷◌, ◌++◌, append_assoc}
+use mathlib.Core.List.{List, [], ◌∷◌, ◌++◌}
 use mathlib.Core.Logic.{inl, inr, ⊎_elim}
 use mathlib.Core.Option.{Option, none, some}
 use native.Mathlib.Omega.{arith}
@@ -13,24 +13,25 @@ use Rattle.definition.specs.declared.Span.{Span}
 use Rattle.definition.specs.declared.Statement.{Statement}
 use Rattle.definition.specs.declared.Entry.{Entry}
 use Rattle.definition.specs.declared.Reason.{Reason}
-use Rattle.definition.specs.Basic.{if◌then◌else◌, absent, given}
+use Rattle.std.specs.Prelude.{if◌then◌else◌}
+use Rattle.definition.specs.Basic.{absent, given}
 use Rattle.definition.specs.Tree.{Forest, leaf, item}
 use Rattle.definition.specs.Fold.{same_name}
 use Rattle.definition.specs.Owner.{size}
 use Rattle.definition.specs.Demand.{Among}
 use Rattle.definition.specs.Reasons.{reason, first_in, after, slack_of, over, inside, latest, plain, has_name, or_first}
 use Rattle.definition.specs.Reasons.{placing, own, Chain, chain, chains}
-use Rattle.definition.specs.Explained.{Because, Explains, added}
+use Rattle.definition.specs.Explained.{Because, Explains}
 use Rattle.definition.proofs.Lists.{order}
 use Rattle.definition.proofs.Pieces.{among-left, among-right}
 use Rattle.definition.proofs.Why.{latest-hit, latest-miss, latest-next, latest-empty, added-own, added-slack}
-use Rattle.rows.specs.Columns.{PARENT, AT, NAME, REDEFINES, OFFSET, SLACK, PLACERS}
+use Rattle.rows.specs.Columns.{PARENT, AT, NAME, REDEFINES, OFFSET, SLACK}
 use Rattle.rows.specs.Table.{cell, span_at}
-use Rattle.redefines.specs.Targets.{plain_after, placers_after, target_from}
+use Rattle.redefines.specs.Targets.{plain_after, target_from}
 use Rattle.redefines.proofs.SearchLaws.{found, found_none, found-step, row-most}
 use Rattle.places.specs.Places.{entry_in, entries_in, RowLinked, Linked}
 use Rattle.record.specs.Laying.{Under}
-use Rattle.reasons.specs.Chained.{plain_at, target_at, name_at, added_at, placing_at, own_at, group_at, outward_at}
+use Rattle.reasons.specs.Chained.{plain_at, target_at, name_at, added_at, placing_at, own_at, outward_at}
 use Rattle.reasons.specs.Chained.{chain_of, RowSettled}
 use Rattle.reasons.proofs.OutwardLaws.{outward-step}
 

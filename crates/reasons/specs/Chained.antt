@@ -1,12 +1,11 @@
 -- The reasons of a row, read from the rows: what placed it and its slack, then outward by the parents; and what the
 -- reasons of an entry need.
 -- Assumes nothing.
-use Rattle.std.specs.Prelude.{ℕ, zero, suc, ◌+◌, ◌*◌, ◌-◌, ◌/◌, ◌%◌, ◌≤◌, ◌<◌, ◌≡◌, List, [], ◌∷◌, ◌++◌, eqb, ltb, length}
+use Rattle.std.specs.Prelude.{ℕ, zero, suc, ◌*◌, ◌-◌, ◌/◌, ◌%◌, ◌≤◌, ◌<◌, ◌≡◌, List, [], ◌∷◌, ◌++◌, eqb, ltb, length, if◌then◌else◌}
 use Rattle.definition.specs.declared.Span.{Span}
-use Rattle.definition.specs.declared.Entry.{Entry}
 use Rattle.definition.specs.declared.Reason.{Reason}
 use Rattle.definition.specs.Limits.{most_statements}
-use Rattle.definition.specs.Basic.{if◌then◌else◌, absent, given, Answer, ◌>>=◌, or_refuse}
+use Rattle.definition.specs.Basic.{absent, given, Answer, ◌>>=◌, or_refuse}
 use Rattle.definition.specs.Calls.{fitting}
 use Rattle.definition.specs.Fold.{folded_all}
 use Rattle.definition.specs.Reasons.{reason, slack_of, chains, chain_at, flat, numbered, reasons_bytes}
@@ -40,14 +39,14 @@ placing_at w k =
     else if eqb (plain_at w k) 0 then reason 1 absent (added_at w k)
     else reason 2 (name_at w (plain_at w k)) (added_at w k)
 
-abbrev pub field_own : List ℕ → ℕ → List Reason
-field_own w k = placing_at w k ∷ slack_of (cell w k SLACK)
+abbrev pub own_at : List ℕ → ℕ → List Reason
+own_at w k = placing_at w k ∷ slack_of (cell w k SLACK)
 
 -- ---------------------------------------------------------------- outward
 
 -- the reasons of the group of row k: inside it, and its own
 abbrev pub group_at : List ℕ → ℕ → List Reason
-group_at w k = reason 5 (span_at (cell w k NAME)) 0 ∷ field_own w k
+group_at w k = reason 5 (span_at (cell w k NAME)) 0 ∷ own_at w k
 
 -- among the first n rows, those of the groups from the row p outward, which is given with 1, of a record whose fields
 -- begin at row `from`
@@ -62,7 +61,7 @@ outward_at w from p = outward_in w from p p
 
 -- the chain of row k
 abbrev pub chain_of : List ℕ → ℕ → ℕ → List Reason
-chain_of w from k = field_own w k ++ outward_at w from (cell w k PARENT)
+chain_of w from k = own_at w k ++ outward_at w from (cell w k PARENT)
 
 -- ---------------------------------------------------------------- the rows of a record
 

@@ -1,5 +1,7 @@
 // The reasons of an entry's place, written from the rows: the row behind the entry, then one step for each group
 // outward. Leans on `rows`, `listing` and `table`.
+#![tactic(auto)]
+
 ghost use Rattle.std.specs.Prelude.{◌≡◌, [], ◌+◌, ◌*◌, ◌≤◌, ◌<◌, length};
 ghost use Rattle.definition.specs.Calls.{fitting, after_writing, left, writing_of};
 ghost use Rattle.definition.specs.Reasons.{slack_of, reason_bytes, reasons_bytes};
@@ -89,7 +91,8 @@ fn put_slack(out: &mut [u8], at: usize, slack: usize) -> usize
     requires { at ≤ 65536 }
     ensures { Put out.old at (reasons_bytes (slack_of slack)) result out.new }
 {
-    if slack == 0 {
+    let is_none = slack == 0;
+    if is_none {
         return at;
     }
     put_reason(

@@ -1,11 +1,8 @@
 -- `reasons::put_chain` meets its contract: its own reasons, then those outward.
--- Assumes nothing.
-use borrow.Author.Rules.{rules}
 use Prim.Native.Nat.{ℕ, ◌+◌, ◌*◌, ◌≤◌, ◌<◌}
 use mathlib.Core.Path.{◌≡◌, sym, ap, subst, ◌∙◌}
 use mathlib.Core.List.{List, ◌++◌}
 use native.Mathlib.Omega.{arith}
-use lib.ListN.{length}
 use Rattle.definition.specs.Reasons.{reasons_bytes}
 use Rattle.listing.specs.Puts.{Put}
 use Rattle.listing.proofs.PutLaws.{◌and◌}
@@ -13,8 +10,7 @@ use Rattle.rows.specs.Columns.{PARENT}
 use Rattle.rows.specs.Table.{cell}
 use Rattle.reasons.specs.Chained.{own_at, outward_at, chain_of, Settled, RowIn}
 use Rattle.reasons.proofs.OutwardLaws.{bytes-both, own-long}
-use Rattle.reasons.proofs.put_chain.Statement.{statement}
-use Rattle.reasons.proofs.put_chain.Tie as tie
+use Rattle.reasons.proofs.put_chain.Goals as goal
 
 module _ {w : List ℕ} {from to k : ℕ} (i : RowIn w from to k) {out mid : List ℕ} {m p : ℕ}
     (q : Put out 0 (reasons_bytes (own_at w k)) m mid) (e : (p ≡ cell w k PARENT) × (p < 4294967296)) where
@@ -34,48 +30,11 @@ module _ {w : List ℕ} {from to k : ℕ} (i : RowIn w from to k) {out mid : Lis
       ∙ sym (bytes-both (own_at w k) (outward_at w from (cell w k PARENT))))
       (q and r)
 
-put-own-requires : tie.Need-put-own-requires
-put-own-requires c κs = search rules
+pub put_outward-requires : goal.put_outward-requires
+put_outward-requires c = outward-room c.requires
+    c.put_own-place.ensures c.wide.ensures
 
-mul_wide : tie.Need-overflow-mul-wide
-mul_wide c = search rules
-
-add_wide : tie.Need-overflow-add-wide
-add_wide c = search rules
-
-mul-wide-2 : tie.Need-overflow-mul-wide-2
-mul-wide-2 c = search rules
-
-shared-slice-read-wide : tie.Need-shared-slice-read-wide
-shared-slice-read-wide c = search rules
-
-wide-requires : tie.Need-wide-requires
-wide-requires c κs = search rules
-
-put-outward-requires : tie.Need-put-outward-requires
-put-outward-requires c κs =
-    outward-room c.before.before.before.before.before.before.before.before.before.requires
-    c.before.before.before.before.before.put-own.ensures c.before.wide.ensures
-
-same_length : tie.Need-same-length
-same_length c = search rules
-
-returns : tie.Need-returns
-returns c =
-    both c.before.before.before.before.before.before.before.before.before.before.before.before.requires
-    c.before.before.before.before.before.before.before.before.put-own.ensures
-    c.before.before.before.before.wide.ensures c.before.before.put-outward.ensures
-
-pub put-chain-spec : {M : Type 1} → statement M
-put-chain-spec =
-    tie.close
-    (tie.spec
-    put-own-requires
-    mul_wide
-    add_wide
-    mul-wide-2
-    shared-slice-read-wide
-    wide-requires
-    put-outward-requires
-    same_length
-    returns)
+pub returns : goal.returns
+returns c = both c.requires
+    c.put_own-place.ensures
+    c.wide.ensures c.put_outward.ensures

@@ -1,17 +1,14 @@
 -- `reasons::put_slack` meets its contract: nothing, or one reason.
--- Assumes nothing.
-use borrow.Author.Rules.{rules}
-use Prim.Native.Nat.{ℕ, zero, suc, ◌+◌, ◌*◌, ◌-◌, ◌/◌, ◌%◌, ◌≤◌, ◌<◌}
-use mathlib.Core.Path.{◌≡◌, refl, sym, ap, ap₂, subst, ◌∙◌}
-use mathlib.Core.List.{List, [], ◌∷◌, ◌++◌}
+use Prim.Native.Nat.{ℕ, zero, suc}
+use mathlib.Core.Path.{◌≡◌, refl, sym, subst}
+use mathlib.Core.List.{List}
 use native.Mathlib.Omega.{arith}
 use Rattle.definition.specs.Basic.{absent}
 use Rattle.definition.specs.Reasons.{reason, slack_of, reason_bytes, reasons_bytes}
 use Rattle.listing.specs.Puts.{Put}
 use Rattle.listing.proofs.PutLaws.{put-none}
 use Rattle.reasons.proofs.OutwardLaws.{bytes-none, bytes_one}
-use Rattle.reasons.proofs.put_slack.Statement.{statement}
-use Rattle.reasons.proofs.put_slack.Tie as tie
+use Rattle.reasons.proofs.put_slack.Goals as goal
 
 none : (out : List ℕ) (at n : ℕ) → n ≡ 0 → Put out at (reasons_bytes (slack_of n)) at out
 none out at zero e = subst (λ (bs : List ℕ). Put out at bs at out) (sym bytes-none) (put-none out at)
@@ -26,19 +23,8 @@ some zero h p = absurd (h refl)
 some (suc n) {out} {after} {at} {m} h p =
     subst (λ (bs : List ℕ). Put out at bs m after) (sym (bytes_one (reason 3 absent (suc n)))) p
 
-returns : tie.Need-returns
-returns c = let a = c.before.before.args in none a.out.now a.at a.slack c.if1.true
+pub returns-then-is_none : goal.returns-then-is_none
+returns-then-is_none c = none c.args.out.now c.args.at c.args.slack (omega arith)
 
-put-reason-requires : tie.Need-put-reason-requires
-put-reason-requires c κs = search rules
-
-same_length : tie.Need-same-length
-same_length c = search rules
-
-returns-2 : tie.Need-returns-2
-returns-2 c =
-    some c.before.before.before.before.before.before.args.slack c.before.before.before.before.if1.false
-    c.before.before.put-reason.ensures
-
-pub put-slack-spec : {M : Type 1} → statement M
-put-slack-spec = tie.close (tie.spec returns put-reason-requires same_length returns-2)
+pub returns : goal.returns
+returns c = some c.args.slack (λ e. omega arith) c.put_reason.ensures

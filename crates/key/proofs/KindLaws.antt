@@ -1,6 +1,5 @@
 -- Two kinds by their numbers: they are the same where the details in the listing are.
 -- Assumes nothing.
-use Prim.Native.Nat.{ℕ, ◌≤◌}
 use mathlib.Core.Path.{◌≡◌, refl, ap}
 use mathlib.Core.Bool.{Bool, true, false, ◌&&◌}
 use lib.Dec.{eqb}

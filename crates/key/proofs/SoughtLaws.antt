@@ -1,20 +1,20 @@
 -- The search of a table finds the definition's key: the entries at the top of the folded listing are those of depth 0,
 -- and what stands below an entry stands before the later ones.
 -- Assumes nothing.
-use Prim.Native.Nat.{ℕ, ◌+◌, ◌*◌, ◌-◌, ◌≤◌, ◌<◌}
+use Prim.Native.Nat.{ℕ, ◌+◌, ◌*◌, ◌≤◌, ◌<◌}
 use mathlib.Core.Path.{◌≡◌, refl, sym, ◌∙◌, ap, ap₂}
 use mathlib.Core.Bool.{Bool, true, false, ◌||◌}
 use mathlib.Core.List.{List, [], ◌∷◌, ◌++◌, append_assoc}
-use mathlib.Core.Option.{Option, none, some}
+use mathlib.Core.Option.{none, some}
 use native.Mathlib.Omega.{arith}
 use lib.Dec.{eqb}
 use lib.ListN.{length}
 use borrow.Author.Tests.{ne_eqb}
-use Rattle.definition.specs.declared.Entry.{Entry}
-use Rattle.definition.specs.Basic.{if◌then◌else◌, given}
+use Rattle.std.specs.Prelude.{if◌then◌else◌}
+use Rattle.definition.specs.Basic.{given}
 use Rattle.definition.specs.Fold.{Entries, end, entry}
 use Rattle.definition.specs.Record.{variable}
-use Rattle.definition.specs.Key.{is_named, Named, named, named_in, may_be_key, Key, key_of, one_key, key_among}
+use Rattle.definition.specs.Key.{is_named, Named, named, named_in, may_be_key, key_of, one_key, key_among}
 use Rattle.table.specs.Items.{item_at, items_from}
 use Rattle.table.specs.Entered.{Shown, flat_in, own_of, shown_of, shown_all, Rows}
 use Rattle.table.proofs.LoopLaws.{At, all, rest, rest_all, at-starts, at_next, none_left, rest-next}

@@ -1,9 +1,9 @@
 -- What the search of a table for a key comes to: the entries of the name one by one, and the key that was found.
 -- Assumes nothing.
-use Rattle.std.specs.Prelude.{ℕ, ◌≤◌, ◌≡◌, Bool, true, false, ◌&&◌, ◌||◌, List, [], ◌∷◌, eqb, length, take}
+use Rattle.std.specs.Prelude.{ℕ, ◌≤◌, ◌≡◌, Bool, ◌&&◌, ◌||◌, List, [], ◌∷◌, eqb, length, take, if◌then◌else◌}
 use Rattle.std.proofs.Math.Option.{Option, none, some}
 use Rattle.definition.specs.declared.Entry.{Entry}
-use Rattle.definition.specs.Basic.{if◌then◌else◌, given}
+use Rattle.definition.specs.Basic.{given}
 use Rattle.definition.specs.Key.{is_named, Named, named, may_be_key, key_mask, Key}
 use Rattle.kinds.specs.declared.KindNumbers.{KindNumbers}
 use Rattle.table.specs.Entered.{Shown}

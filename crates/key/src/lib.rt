@@ -1,5 +1,7 @@
 // The key of a record laid out in work memory: the one entry of a name at the top, found in the table of entries, and
 // whether two copybooks' keys agree. Leans on `table` for the entries and on `mask` for edited pictures.
+#![tactic(auto)]
+
 ghost use Rattle.std.specs.Prelude.{◌≡◌, ◌||◌, ◌+◌, ◌*◌, ◌≤◌, length};
 ghost use Rattle.std.proofs.Math.Bool.{Bool.false};
 ghost use Rattle.definition.specs.Limits.{longest_mask};
@@ -15,7 +17,7 @@ use definition::{Entry, FieldKind, LONGEST_MASK, Occurs, Span, Usage, Writing};
 use kinds::KindNumbers;
 
 // A column that may be a key: its place, what it holds, and its picture in the text.
-#[derive(Drop)]
+#[derive(Clone, Copy)]
 pub struct KeyColumn {
     pub offset: usize,
     pub width: usize,
@@ -24,7 +26,7 @@ pub struct KeyColumn {
 }
 
 // What a search has found: no entry of the name; one, which may be a key; or one that may not, or several.
-#[derive(Drop)]
+#[derive(Clone, Copy)]
 pub enum Sought {
     Nothing,
     One(KeyColumn),

@@ -1,8 +1,6 @@
 -- `key::key_mask` meets its contract, kind by kind.
--- Assumes nothing.
-use borrow.Author.Rules.{rules}
-use Prim.Native.Nat.{ℕ, ◌≤◌}
-use mathlib.Core.Path.{◌≡◌, refl, sym, ap, subst}
+use Prim.Native.Nat.{ℕ}
+use mathlib.Core.Path.{◌≡◌, sym, ap, subst}
 use mathlib.Core.Bool.{Bool}
 use mathlib.Core.List.{List, []}
 use native.Mathlib.Omega.{arith}
@@ -16,8 +14,7 @@ use Rattle.definition.specs.Basic.{part}
 use Rattle.definition.specs.Calls.{picture_mask}
 use Rattle.definition.specs.Key.{mask_answered, key_mask}
 use Rattle.key.specs.Sought.{Masked}
-use Rattle.key.proofs.key_mask.Statement.{statement}
-use Rattle.key.proofs.key_mask.Tie as tie
+use Rattle.key.proofs.key_mask.Goals as goal
 
 module _ (text : List ℕ) (w : Span) (out : List ℕ) (k : FieldKind) where
   none : key_mask text k w ≡ [] → Masked out (key_mask text k w) 0
@@ -49,44 +46,23 @@ module _ (text : List ℕ) (w : Span) (out : List ℕ) (k : FieldKind) where
   no-float : {b : ℕ} → k ≡ FieldKind.Float b → Masked out (key_mask text k w) 0
   no-float e = none (ap (λ (x : FieldKind). key_mask text x w) e)
 
-returns : tie.Need-returns
-returns c = search no_text
+pub returns-in-Text : goal.returns-in-Text
+returns-in-Text c = search no_text
 
-returns-2 : tie.Need-returns-2
-returns-2 c = search no-int
+pub returns-in-Int : goal.returns-in-Int
+returns-in-Int c = search no-int
 
-returns-3 : tie.Need-returns-3
-returns-3 c = search no-binary
+pub returns-in-Binary : goal.returns-in-Binary
+returns-in-Binary c = search no-binary
 
-returns-4 : tie.Need-returns-4
-returns-4 c = search no-decimal
+pub returns-in-Decimal : goal.returns-in-Decimal
+returns-in-Decimal c = search no-decimal
 
-returns-5 : tie.Need-returns-5
-returns-5 c = search edited
+pub returns-in-Edited : goal.returns-in-Edited
+returns-in-Edited c = search edited
 
-returns-6 : tie.Need-returns-6
-returns-6 c = search no-group
+pub returns-in-Group : goal.returns-in-Group
+returns-in-Group c = search no-group
 
-returns-7 : tie.Need-returns-7
-returns-7 c = search no-float
-
-pub key-mask-spec : {M : Type 1} → statement M
-key-mask-spec =
-    tie.close
-    (tie.spec
-    (λ c. search rules)
-    (λ c. search rules)
-    (λ c. search rules)
-    (λ c. search rules)
-    (λ c. search rules)
-    (λ c κs. search rules)
-    (λ c. search rules)
-    (λ c. search rules)
-    returns
-    returns-2
-    returns-3
-    returns-4
-    (λ c. search rules)
-    returns-5
-    returns-6
-    returns-7)
+pub returns-in-Float : goal.returns-in-Float
+returns-in-Float c = search no-float

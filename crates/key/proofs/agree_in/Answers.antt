@@ -1,6 +1,4 @@
 -- `key::agree_in` meets its contract, by what was found in both.
--- Assumes nothing.
-use borrow.Author.Rules.{rules}
 use Prim.Native.Nat.{ℕ}
 use mathlib.Core.Path.{◌≡◌, sym, ap₂, ◌∙◌}
 use mathlib.Core.Bool.{Bool}
@@ -9,8 +7,7 @@ use Rattle.definition.specs.Key.{same_key, agree}
 use Rattle.key.specs.declared.KeyColumn.{KeyColumn}
 use Rattle.key.specs.declared.Sought.{Sought}
 use Rattle.key.specs.Sought.{key_at, found_key}
-use Rattle.key.proofs.agree_in.Statement.{statement}
-use Rattle.key.proofs.agree_in.Tie as tie
+use Rattle.key.proofs.agree_in.Goals as goal
 
 both :
     (first second : List ℕ) (a b : Sought) {x y : KeyColumn} →
@@ -22,22 +19,5 @@ both :
 both first second a b p q e =
     e ∙ sym (ap₂ (λ (s t : Sought). agree (found_key first s) (found_key second t)) p q)
 
-returns-3 : tie.Need-returns-3
-returns-3 c = search both
-
-pub agree-in-spec : {M : Type 1} → statement M
-agree-in-spec =
-    tie.close
-    (tie.spec
-    (λ c. search rules)
-    (λ c. search rules)
-    (λ c. search rules)
-    (λ c. search rules)
-    (λ c. search rules)
-    (λ c. search rules)
-    (λ c κs. search rules)
-    returns-3
-    (λ c. search rules)
-    (λ c. search rules)
-    (λ c. search rules)
-    (λ c. search rules))
+pub returns-in-One-b : goal.returns-in-One-b
+returns-in-One-b c = search both

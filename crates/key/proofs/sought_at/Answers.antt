@@ -1,15 +1,12 @@
 -- `key::sought_at` meets its contract: an entry counts at the top, and if it has the name.
--- Assumes nothing.
-use borrow.Author.Rules.{rules}
 use Prim.Native.Nat.{ℕ, ◌+◌, ◌*◌, ◌≤◌, ◌<◌}
 use mathlib.Core.Path.{◌≡◌, sym, ap, ◌∙◌}
 use mathlib.Core.Bool.{Bool, true, false}
 use mathlib.Core.List.{List}
-use lib.Dec.{eqb}
 use lib.ListN.{length}
 use borrow.Author.Tests.{eq-eqb, ne_eqb}
 use Rattle.definition.specs.declared.Entry.{Entry}
-use Rattle.definition.specs.Basic.{if◌then◌else◌}
+use Rattle.std.specs.Prelude.{if◌then◌else◌}
 use Rattle.definition.specs.Key.{is_named, named}
 use Rattle.table.specs.declared.Item.{Item}
 use Rattle.table.specs.Items.{item_at}
@@ -17,8 +14,7 @@ use Rattle.table.specs.Entered.{own_of, shown_of, Sound}
 use Rattle.table.proofs.OwnLaws.{sound-read}
 use Rattle.key.specs.declared.Sought.{Sought}
 use Rattle.key.specs.Sought.{met, sought_at}
-use Rattle.key.proofs.sought_at.Statement.{statement}
-use Rattle.key.proofs.sought_at.Tie as tie
+use Rattle.key.proofs.sought_at.Goals as goal
 
 there :
     (w t : List ℕ) (k : ℕ) {x : Item} →
@@ -58,30 +54,17 @@ module _ (text name w t : List ℕ) (k : ℕ) (b : Bool) (f : Sought) {x : Item}
     other_name : q ≡ false → f ≡ sought_at text name b f (shown_of w (item_at t k))
     other_name y = sym (at_top ∙ ap (λ (v : Bool). if v then met f (named e b) else f) y)
 
-own-of-requires : tie.Need-own-of-requires
-own-of-requires c κs = search there
+pub own_of-e-requires : goal.own_of-e-requires
+own_of-e-requires c = search there
 
-returns : tie.Need-returns
-returns c = search has-name
+pub returns-then-is_named : goal.returns-then-is_named
+returns-then-is_named c = search has-name
 
-returns-2 : tie.Need-returns-2
-returns-2 c = search other_name
+pub returns-then-x-eq0 : goal.returns-then-x-eq0
+returns-then-x-eq0 c = search other_name
 
-returns-3 : tie.Need-returns-3
-returns-3 c =
-    let a = c.before.before.before.before.before.before.before.args in
+pub returns : goal.returns
+returns c = let a = c.args in
     below a.text.now a.name.now a.work.now a.entries.now a.k a.behind a.found
-    c.before.before.item-at.ensures
-    c.if1.false
-
-pub sought-at-spec : {M : Type 1} → statement M
-sought-at-spec =
-    tie.close
-    (tie.spec
-    (λ c κs. search rules)
-    own-of-requires
-    (λ c κs. search rules)
-    (λ c κs. search rules)
-    returns
-    returns-2
-    returns-3)
+    c.item_at-x.ensures
+    c.if-x-eq0.false

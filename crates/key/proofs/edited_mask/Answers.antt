@@ -1,9 +1,7 @@
 -- `key::edited_mask` meets its contract: the mask that was written, or none where the picture is refused.
--- Assumes nothing.
-use borrow.Author.Rules.{rules}
-use Prim.Native.Nat.{ℕ, ◌+◌, ◌≤◌}
-use mathlib.Core.Path.{◌≡◌, refl, sym, ap, subst, ◌∙◌}
-use mathlib.Core.List.{List, [], ◌++◌}
+use Prim.Native.Nat.{ℕ}
+use mathlib.Core.Path.{◌≡◌, refl, sym, ap, ◌∙◌}
+use mathlib.Core.List.{List, []}
 use native.Mathlib.Omega.{arith}
 use lib.ListN.{length, take, drop, length-append}
 use lib.Seq.{take-append_seam}
@@ -11,13 +9,12 @@ use Rattle.definition.specs.declared.Refusal.{Refusal}
 use Rattle.definition.specs.declared.Usage.{Usage}
 use Rattle.definition.specs.declared.Writing.{Writing}
 use Rattle.definition.specs.Limits.{longest_mask}
-use Rattle.definition.specs.Basic.{Answer, refuse, give, part}
+use Rattle.definition.specs.Basic.{Answer, refuse, give}
 use Rattle.definition.specs.Calls.{After, left, picture_mask, after_writing, mask_call, writing_of}
 use Rattle.definition.specs.Key.{mask_answered}
 use Rattle.definition.proofs.Answers.{given-same}
 use Rattle.key.specs.Sought.{Masked}
-use Rattle.key.proofs.edited_mask.Statement.{statement}
-use Rattle.key.proofs.edited_mask.Tie as tie
+use Rattle.key.proofs.edited_mask.Goals as goal
 
 -- what was written is the mask
 written :
@@ -64,21 +61,8 @@ module _ (p : List ℕ) {bs : List ℕ} (is : bs ≡ p) (out out' : List ℕ) (l
       unwritten (picture_mask Usage.Display p longest_mask) out out' r
       (ap (λ (w : Writing). left (writing_of w) out' []) (sym e) ∙ asked)
 
-returns : tie.Need-returns
-returns c = search some-mask
+pub returns-in-Written : goal.returns-in-Written
+returns-in-Written c = search some-mask
 
-returns-2 : tie.Need-returns-2
-returns-2 c = search no-mask
-
-pub edited-mask-spec : {M : Type 1} → statement M
-edited-mask-spec =
-    tie.close
-    (tie.spec
-    (λ c κs. search rules)
-    (λ c κs. search rules)
-    (λ c. search rules)
-    (λ c. search rules)
-    returns
-    (λ c. search rules)
-    (λ c. search rules)
-    returns-2)
+pub returns-in-Refused : goal.returns-in-Refused
+returns-in-Refused c = search no-mask

@@ -1,14 +1,11 @@
 -- `key::same_numbers` meets its contract: the first number that differs tells.
--- Assumes nothing.
-use Prim.Native.Nat.{ℕ}
 use mathlib.Core.Path.{◌≡◌}
 use mathlib.Core.Bool.{false}
 use lib.Dec.{eqb}
 use borrow.Author.Tests.{eq-eqb, ne_eqb}
 use Rattle.kinds.specs.declared.KindNumbers.{KindNumbers}
 use Rattle.key.specs.Sought.{same_numbers}
-use Rattle.key.proofs.same_numbers.Statement.{statement}
-use Rattle.key.proofs.same_numbers.Tie as tie
+use Rattle.key.proofs.same_numbers.Goals as goal
 
 module _ (m n : KindNumbers) where
   kinds-differ : (m.kind ≡ n.kind → ⊥) → false ≡ same_numbers m n
@@ -58,23 +55,20 @@ module _ (m n : KindNumbers) where
                 eq-eqb m.signed n.signed f,
               )
 
-returns : tie.Need-returns
-returns c = search kinds-differ
+pub returns-then-m-n : goal.returns-then-m-n
+returns-then-m-n c = search kinds-differ
 
-returns-2 : tie.Need-returns-2
-returns-2 c = search precisions-differ
+pub returns-then-m-n-2 : goal.returns-then-m-n-2
+returns-then-m-n-2 c = search precisions-differ
 
-returns-3 : tie.Need-returns-3
-returns-3 c = search scales-differ
+pub returns-then-m-n-3 : goal.returns-then-m-n-3
+returns-then-m-n-3 c = search scales-differ
 
-returns-4 : tie.Need-returns-4
-returns-4 c = search storages-differ
+pub returns-then-m-n-4 : goal.returns-then-m-n-4
+returns-then-m-n-4 c = search storages-differ
 
-returns-5 : tie.Need-returns-5
-returns-5 c = search signed-differ
+pub returns-then-m-n-5 : goal.returns-then-m-n-5
+returns-then-m-n-5 c = search signed-differ
 
-returns-6 : tie.Need-returns-6
-returns-6 c = search signs-tell
-
-pub same-numbers-spec : {M : Type 1} → statement M
-same-numbers-spec = tie.close (tie.spec returns returns-2 returns-3 returns-4 returns-5 returns-6)
+pub returns : goal.returns
+returns c = search signs-tell

@@ -1,15 +1,12 @@
 -- `key::may_be_key` meets its contract: the first reason against it tells.
--- Assumes nothing.
-use borrow.Author.Rules.{rules}
-use Prim.Native.Nat.{ℕ, ◌≤◌, ◌<◌}
+use Prim.Native.Nat.{◌≤◌, ◌<◌}
 use mathlib.Core.Path.{◌≡◌, sym, ap, ◌∙◌}
 use mathlib.Core.Bool.{Bool, true, false, ◌&&◌, not}
 use borrow.Author.Tests.{lt-ltb, le-ltb}
 use Rattle.definition.specs.declared.Entry.{Entry}
 use Rattle.definition.specs.Basic.{given}
 use Rattle.definition.specs.Key.{named, is_once, is_group, may_be_key}
-use Rattle.key.proofs.may_be_key.Statement.{statement}
-use Rattle.key.proofs.may_be_key.Tie as tie
+use Rattle.key.proofs.may_be_key.Goals as goal
 
 module _ (e : Entry) (b : Bool) where
   behind : b ≡ true → false ≡ may_be_key (named e b)
@@ -52,22 +49,17 @@ module _ (e : Entry) (b : Bool) where
         a_key : g ≡ false → true ≡ may_be_key (named e b)
         a_key z = sym (group-tells ∙ ap not z)
 
-returns : tie.Need-returns
-returns c = search behind
+pub returns-then-behind : goal.returns-then-behind
+returns-then-behind c = search behind
 
-returns-2 : tie.Need-returns-2
-returns-2 c = search laid-over
+pub returns-then-redefines-gt0 : goal.returns-then-redefines-gt0
+returns-then-redefines-gt0 c = search laid-over
 
-returns-3 : tie.Need-returns-3
-returns-3 c = search a-group
+pub returns-then-is_group : goal.returns-then-is_group
+returns-then-is_group c = search a-group
 
-returns-4 : tie.Need-returns-4
-returns-4 c = search a_key
+pub returns-then-is_once : goal.returns-then-is_once
+returns-then-is_once c = search a_key
 
-returns-5 : tie.Need-returns-5
-returns-5 c = search repeated
-
-pub may-be-key-spec : {M : Type 1} → statement M
-may-be-key-spec =
-    tie.close
-    (tie.spec returns (λ c κs. search rules) returns-2 (λ c κs. search rules) returns-3 returns-4 returns-5)
+pub returns : goal.returns
+returns c = search repeated

@@ -1,14 +1,11 @@
 -- `key::is_group` meets its contract: the number of a kind tells.
--- Assumes nothing.
-use borrow.Author.Rules.{rules}
 use Prim.Native.Nat.{ℕ}
 use mathlib.Core.Path.{◌≡◌, refl, ap, ◌∙◌}
 use lib.Dec.{eqb}
 use Rattle.definition.specs.declared.FieldKind.{FieldKind}
 use Rattle.definition.specs.Listing.{kind_byte}
 use Rattle.definition.specs.Key.{is_group}
-use Rattle.key.proofs.is_group.Statement.{statement}
-use Rattle.key.proofs.is_group.Tie as tie
+use Rattle.key.proofs.is_group.Goals as goal
 
 told : (k : FieldKind) → eqb (kind_byte k) 6 ≡ is_group k
 told FieldKind.Text = refl
@@ -22,8 +19,5 @@ told (FieldKind.Float b) = refl
 said : (k : FieldKind) {n : ℕ} → n ≡ kind_byte k → eqb n 6 ≡ is_group k
 said k e = ap (λ (x : ℕ). eqb x 6) e ∙ told k
 
-returns : tie.Need-returns
+pub returns : goal.returns
 returns c = search said
-
-pub is-group-spec : {M : Type 1} → statement M
-is-group-spec = tie.close (tie.spec (λ c κs. search rules) returns)

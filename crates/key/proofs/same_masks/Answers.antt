@@ -1,6 +1,4 @@
 -- `key::same_masks` meets its contract: both masks are written, and compared byte by byte.
--- Assumes nothing.
-use borrow.Author.Rules.{rules}
 use Prim.Native.Nat.{ℕ, ◌-◌}
 use mathlib.Core.Path.{◌≡◌, ap, ap₂, ◌∙◌}
 use mathlib.Core.Bool.{Bool}
@@ -11,8 +9,7 @@ use Rattle.definition.specs.Basic.{same}
 use Rattle.definition.specs.Key.{key_mask}
 use Rattle.key.specs.declared.KeyColumn.{KeyColumn}
 use Rattle.key.specs.Sought.{key_at, Masked}
-use Rattle.key.proofs.same_masks.Statement.{statement}
-use Rattle.key.proofs.same_masks.Tie as tie
+use Rattle.key.proofs.same_masks.Goals as goal
 
 told :
     (first : List ℕ) (a : KeyColumn) (second : List ℕ) (b : KeyColumn) {x y : List ℕ} {m n : ℕ} →
@@ -27,22 +24,5 @@ told first a second b {x} {y} {m} {n} p q e =
     (ap (λ (k : ℕ). take k x) (sub-zero m) ∙ p.is)
     (ap (λ (k : ℕ). take k y) (sub-zero n) ∙ q.is)
 
-returns : tie.Need-returns
+pub returns : goal.returns
 returns c = search told
-
-pub same-masks-spec : {M : Type 1} → statement M
-same-masks-spec =
-    tie.close
-    (tie.spec
-    (λ c. search rules)
-    (λ c κs. search rules)
-    (λ c. search rules)
-    (λ c κs. search rules)
-    (λ c. search rules)
-    (λ c. search rules)
-    (λ c. search rules)
-    (λ c. search rules)
-    (λ c. search rules)
-    (λ c. search rules)
-    (λ c κs. search rules)
-    returns)

@@ -1,6 +1,4 @@
 -- `key::same_keys` meets its contract: the first thing in which they differ tells.
--- Assumes nothing.
-use borrow.Author.Rules.{rules}
 use Prim.Native.Nat.{ℕ}
 use mathlib.Core.Path.{◌≡◌, sym, ap, ◌∙◌}
 use mathlib.Core.Bool.{Bool, true, false, ◌&&◌}
@@ -11,8 +9,7 @@ use Rattle.definition.specs.Basic.{same}
 use Rattle.definition.specs.Key.{kind_details, same_key}
 use Rattle.key.specs.declared.KeyColumn.{KeyColumn}
 use Rattle.key.specs.Sought.{key_at}
-use Rattle.key.proofs.same_keys.Statement.{statement}
-use Rattle.key.proofs.same_keys.Tie as tie
+use Rattle.key.proofs.same_keys.Goals as goal
 
 module _ (first : List ℕ) (a : KeyColumn) (second : List ℕ) (b : KeyColumn) where
   abbrev kinds-agree : Bool
@@ -53,19 +50,14 @@ module _ (first : List ℕ) (a : KeyColumn) (second : List ℕ) (b : KeyColumn) 
       kinds-differ : k ≡ false → false ≡ same_key (key_at first a) (key_at second b)
       kinds-differ y = sym (kind-tells ∙ ap (λ (x : Bool). x && masks-agree) y)
 
-returns : tie.Need-returns
-returns c = search offsets-differ
+pub returns-then-a-b : goal.returns-then-a-b
+returns-then-a-b c = search offsets-differ
 
-returns-2 : tie.Need-returns-2
-returns-2 c = search widths-differ
+pub returns-then-a-b-2 : goal.returns-then-a-b-2
+returns-then-a-b-2 c = search widths-differ
 
-returns-3 : tie.Need-returns-3
-returns-3 c = search kinds-same
+pub returns-then-same_kind : goal.returns-then-same_kind
+returns-then-same_kind c = search kinds-same
 
-returns-4 : tie.Need-returns-4
-returns-4 c = search kinds-differ
-
-pub same-keys-spec : {M : Type 1} → statement M
-same-keys-spec =
-    tie.close
-    (tie.spec returns returns-2 (λ c κs. search rules) (λ c κs. search rules) returns-3 returns-4)
+pub returns : goal.returns
+returns c = search kinds-differ

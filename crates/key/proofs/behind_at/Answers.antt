@@ -1,6 +1,4 @@
 -- `key::behind_at` meets its contract: a DEPENDING ON before, or on this entry.
--- Assumes nothing.
-use borrow.Author.Rules.{rules}
 use Prim.Native.Nat.{ℕ, ◌+◌, ◌*◌, ◌≤◌, ◌<◌}
 use mathlib.Core.Path.{◌≡◌, sym, ap, ◌∙◌}
 use mathlib.Core.Bool.{Bool, false, ◌||◌}
@@ -13,8 +11,7 @@ use Rattle.table.specs.declared.Item.{Item}
 use Rattle.table.specs.Items.{item_at}
 use Rattle.table.specs.Entered.{own_of, Sound}
 use Rattle.table.proofs.OwnLaws.{sound-read}
-use Rattle.key.proofs.behind_at.Statement.{statement}
-use Rattle.key.proofs.behind_at.Tie as tie
+use Rattle.key.proofs.behind_at.Goals as goal
 
 module _ (w t : List ℕ) (k : ℕ) {x : Item} (e : (x ≡ item_at t k) × (x.offset < 4294967296)) where
   there : Sound w (item_at t k) → 20 * x.row + 20 ≤ length w
@@ -30,11 +27,8 @@ module _ (w t : List ℕ) (k : ℕ) {x : Item} (e : (x ≡ item_at t k) × (x.of
       ap (λ (z : Entry). given z.depending) (p ∙ ap (own_of w) e.0)
       ∙ ap (λ (z : Bool). z || given (own_of w (item_at t k)).depending) (sym y)
 
-own-of-requires : tie.Need-own-of-requires
-own-of-requires c κs = search there
+pub own_of-e-requires : goal.own_of-e-requires
+own_of-e-requires c = search there
 
-returns-2 : tie.Need-returns-2
-returns-2 c = search this-too
-
-pub behind-at-spec : {M : Type 1} → statement M
-behind-at-spec = tie.close (tie.spec (λ c. search rules) (λ c κs. search rules) own-of-requires returns-2)
+pub returns : goal.returns
+returns c = search this-too

@@ -1,6 +1,4 @@
 -- `key::is_named` meets its contract.
--- Assumes nothing.
-use borrow.Author.Rules.{rules}
 use Prim.Native.Nat.{ℕ}
 use mathlib.Core.Path.{◌≡◌}
 use mathlib.Core.Bool.{Bool}
@@ -9,17 +7,12 @@ use Rattle.definition.specs.declared.Entry.{Entry}
 use Rattle.definition.specs.Basic.{same, uppers}
 use Rattle.definition.specs.Fold.{name_of}
 use Rattle.definition.specs.Key.{is_named}
-use Rattle.key.proofs.is_named.Statement.{statement}
-use Rattle.key.proofs.is_named.Tie as tie
+use Rattle.key.proofs.is_named.Goals as goal
 
 named :
     (text name : List ℕ) (e : Entry) {p : List ℕ} {r : Bool} →
     p ≡ name_of text e.name → r ≡ same (uppers name) (uppers p) → r ≡ is_named text name e
 named text name e q s = rw (← q) s
 
-returns : tie.Need-returns
+pub returns : goal.returns
 returns c = search named
-
-pub is-named-spec : {M : Type 1} → statement M
-is-named-spec =
-    tie.close (tie.spec (λ c. search rules) (λ c κs. search rules) (λ c κs. search rules) returns)

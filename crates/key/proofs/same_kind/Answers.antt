@@ -1,6 +1,4 @@
 -- `key::same_kind` meets its contract: kinds whose numbers are the same have the same details.
--- Assumes nothing.
-use borrow.Author.Rules.{rules}
 use mathlib.Core.Path.{◌≡◌, ◌∙◌, ap₂}
 use mathlib.Core.Bool.{Bool}
 use Rattle.definition.specs.declared.FieldKind.{FieldKind}
@@ -10,8 +8,7 @@ use Rattle.kinds.specs.declared.KindNumbers.{KindNumbers}
 use Rattle.kinds.specs.Kinds.{numbers_of}
 use Rattle.key.specs.Sought.{same_numbers}
 use Rattle.key.proofs.KindLaws.{kinds-same}
-use Rattle.key.proofs.same_kind.Statement.{statement}
-use Rattle.key.proofs.same_kind.Tie as tie
+use Rattle.key.proofs.same_kind.Goals as goal
 
 told :
     (a b : FieldKind) {m n : KindNumbers} →
@@ -22,8 +19,5 @@ told :
     r ≡ same (kind_details a) (kind_details b)
 told a b p q e = e ∙ ap₂ same_numbers p q ∙ kinds-same a b
 
-returns : tie.Need-returns
+pub returns : goal.returns
 returns c = search told
-
-pub same-kind-spec : {M : Type 1} → statement M
-same-kind-spec = tie.close (tie.spec (λ c κs. search rules) (λ c κs. search rules) (λ c κs. search rules) returns)

@@ -1,16 +1,14 @@
 -- The key of one copybook, by what was read and laid of it.
 -- Assumes nothing.
-use Prim.Native.Nat.{ℕ, ◌+◌, ◌*◌, ◌≤◌}
+use Prim.Native.Nat.{ℕ}
 use mathlib.Core.Path.{◌≡◌, refl, sym, ◌∙◌, ap}
-use mathlib.Core.Bool.{Bool, true, false}
+use mathlib.Core.Bool.{false}
 use mathlib.Core.List.{List}
-use mathlib.Core.Option.{Option}
-use lib.ListN.{length}
 use Rattle.definition.specs.declared.Refusal.{Refusal}
 use Rattle.definition.specs.Basic.{Answer, refuse, give, ◌>>=◌}
 use Rattle.definition.specs.Calls.{record_fields, entries}
 use Rattle.definition.specs.Fold.{Entries, folded_all}
-use Rattle.definition.specs.Key.{Key, key_among, key_in}
+use Rattle.definition.specs.Key.{key_among, key_in}
 use Rattle.definition.specs.Record.{layout}
 use Rattle.definition.specs.Tree.{Forest}
 use Rattle.record.proofs.LaidLaws.{layout_is}

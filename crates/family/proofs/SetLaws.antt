@@ -5,7 +5,7 @@ use Prim.Native.Nat.{ℕ, ◌+◌, ◌-◌, ◌≤◌, ◌<◌}
 use mathlib.Core.Path.{◌≡◌, refl, sym, ◌∙◌, ap, subst}
 use mathlib.Core.Bool.{Bool, true, false, ◌&&◌, not}
 use mathlib.Core.List.{List, [], ◌∷◌}
-use mathlib.Core.Option.{Option, none, some}
+use mathlib.Core.Option.{Option, none}
 use native.Mathlib.Nat.{sub-zero}
 use native.Mathlib.Omega.{arith}
 use lib.Dec.{eqb, leb}
@@ -15,7 +15,8 @@ use borrow.Author.Tests.{eq-eqb, ne_eqb, eqb-true, le-leb, lt-leb, leb-true}
 use Rattle.definition.specs.declared.Refusal.{Refusal}
 use Rattle.definition.specs.declared.KeyAnswer.{KeyAnswer}
 use Rattle.definition.specs.Limits.{fewest_in_set, most_in_set}
-use Rattle.definition.specs.Basic.{if◌then◌else◌, sum, Answer, refuse, give, ◌>>=◌, refused, refuse_if, or_refuse}
+use Rattle.std.specs.Prelude.{if◌then◌else◌}
+use Rattle.definition.specs.Basic.{sum, Answer, refuse, give, ◌>>=◌, refused, refuse_if, or_refuse}
 use Rattle.definition.specs.Calls.{left, cleared}
 use Rattle.definition.specs.Key.{Key, key_in, agree, all_agree, common, keys_in, copybooks, is_set, key_of_texts, key_call}
 use Rattle.definition.specs.Key.{key_answer_of}

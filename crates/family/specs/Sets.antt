@@ -1,8 +1,8 @@
 -- What reading a set of copybooks says: what was found in each, whether the later ones agree with the first, and the
 -- answer of the set.
 -- Assumes nothing.
-use Rattle.std.specs.Prelude.{ℕ, ◌+◌, ◌≤◌, ◌≡◌, Bool, true, false, ◌&&◌, List, [], ◌∷◌, length, get_or, take, drop}
-use Rattle.std.proofs.Math.Option.{Option, none, some}
+use Rattle.std.specs.Prelude.{ℕ, ◌≤◌, ◌≡◌, Bool, true, ◌&&◌, List, [], ◌∷◌, length, get_or, take, drop}
+use Rattle.std.proofs.Math.Option.{Option}
 use Rattle.definition.specs.Basic.{sum, Answer, refuse, give, ◌>>=◌, refused, or_refuse}
 use Rattle.definition.specs.Key.{Key, key_in, keys_in, agree, common, copybooks}
 use Rattle.key.specs.declared.Sought.{Sought}

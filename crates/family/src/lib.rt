@@ -1,9 +1,11 @@
 // One key for a family of records: the copybooks of a set are read one after the other in the same work memory, and the
 // key of the first is held against those of the others. Of the first, its column is kept; its text stays lent.
 // Leans on `record` for the reading and the laying, and on `key` for the keys.
-ghost use Rattle.std.specs.Prelude.{ℕ, ◌-◌, ◌≤◌, ◌≡◌, [], eqb, length, take, drop};
+#![tactic(auto)]
+
+ghost use Rattle.std.specs.Prelude.{ℕ, ◌-◌, ◌≤◌, ◌≡◌, [], eqb, length, take, drop, if◌then◌else◌};
 ghost use Rattle.std.proofs.Math.Bool.{Bool.true};
-ghost use Rattle.definition.specs.Basic.{if◌then◌else◌, refused, sum};
+ghost use Rattle.definition.specs.Basic.{refused, sum};
 ghost use Rattle.definition.specs.Calls.{left};
 ghost use Rattle.definition.specs.Key.{key_in, is_set, key_of_texts, key_call, key_answer_of};
 ghost use Rattle.entries.specs.Building.{Roomy};
@@ -19,7 +21,7 @@ use tree::RowsRead;
 // ---------------------------------------------------------------- one copybook
 
 // What a copybook has for a key, or why it is refused.
-#[derive(Drop)]
+#[derive(Clone, Copy)]
 pub enum KeyRead {
     Read(Sought),
     Refused(Refusal),
@@ -70,7 +72,7 @@ fn key_of(text: &[u8], work: &mut [u32], name: &[u8]) -> KeyRead
 // ---------------------------------------------------------------- the later ones
 
 // Whether all copybooks so far have the key of the first, or why one is refused.
-#[derive(Drop)]
+#[derive(Clone, Copy)]
 pub enum Agreed {
     So(bool),
     Refused(Refusal),
@@ -149,7 +151,8 @@ fn adds_up(lengths: &[u64], n: usize) -> bool
     let mut i = 0;
     while i < lengths.len() {
         let len = lengths[i] as usize;
-        if left < len {
+        let over = left < len;
+        if over {
             return false;
         }
         left = left - len;

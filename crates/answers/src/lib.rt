@@ -3,6 +3,8 @@
 // entries of as many, the record laid out, the answer, and work memory cleared. `copybook` has the public entries over
 // these.
 // Leans on `record` for the reading and the laying, and on one crate for each answer.
+#![tactic(auto)]
+
 ghost use Rattle.std.specs.Prelude.{ℕ, ◌≡◌, [], length};
 ghost use Rattle.definition.specs.Cards.{Form.free_text, Form.card_text};
 ghost use Rattle.definition.specs.Calls.{left, after_writing, report as report_of, byte_owner, report_call_in, owner_call_in};

@@ -2,6 +2,8 @@
 // of them fit into a short record. Each answers in full or with one refusal of document 01's table; a refusal changes
 // no byte of the output, and work memory is zero after every call. `proofs/Demand3` says what the answers of the
 // listing and of the byte owner have to do with each other.
+#![tactic(auto)]
+
 ghost use Rattle.std.specs.Prelude.{◌≡◌, []};
 ghost use Rattle.definition.specs.Calls.{left, layout_call, details_call, reasons_call, owner_call};
 ghost use Rattle.definition.specs.Calls.{layout_cards_call, details_cards_call, reasons_cards_call, owner_cards_call};

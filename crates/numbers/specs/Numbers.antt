@@ -2,11 +2,11 @@
 -- `answer`. Every call writes as many numbers as its definition here has, 2, 4 or 7, whatever it answers; where
 -- `answer` has fewer, it keeps its values.
 -- Assumes nothing.
-use Rattle.std.specs.Prelude.{ℕ, Bool, not, List, [], ◌∷◌, ◌++◌, eqb, ltb, length, drop}
+use Rattle.std.specs.Prelude.{ℕ, Bool, not, List, [], ◌∷◌, ◌++◌, eqb, ltb, length, drop, if◌then◌else◌}
 use Rattle.definition.specs.declared.Pictured.{Pictured}
 use Rattle.definition.specs.declared.Owner.{Owner}
 use Rattle.definition.specs.declared.Extract.{Extract}
-use Rattle.definition.specs.Basic.{if◌then◌else◌, Answer, refuse, give}
+use Rattle.definition.specs.Basic.{Answer, refuse, give}
 use Rattle.definition.specs.Listing.{kind_byte}
 use Rattle.kinds.specs.declared.KindNumbers.{KindNumbers}
 use Rattle.kinds.specs.Kinds.{numbers_of}

@@ -1,5 +1,7 @@
 // How the answers become numbers for C, and what numbers come in: a usage, a sign, and the numbers that a call returns
 // and writes to a lent slice (`specs/Numbers`). Leans on `definition` and `kinds`.
+#![tactic(auto)]
+
 ghost use Rattle.std.specs.Prelude.{◌≡◌, [], ◌∷◌};
 ghost use Rattle.definition.specs.Calls.{picture_of, writing_of, owner_answer_of, extract_answer_of};
 ghost use Rattle.definition.specs.Key.{key_answer_of};

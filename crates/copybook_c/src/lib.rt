@@ -1,8 +1,9 @@
 // The public entries for C: `include/copybook.h` declares them. A slice is a pointer and a length. Each call returns 0
 // or the number of its refusal, and writes the other numbers of its answer to a lent slice, as `numbers` says. Leans on
 // `copybook`, `numbers` and `definition`.
-ghost use Rattle.std.specs.Prelude.{◌≡◌, ◌||◌};
-ghost use Rattle.definition.specs.Basic.{if◌then◌else◌};
+#![tactic(auto)]
+
+ghost use Rattle.std.specs.Prelude.{◌≡◌, ◌||◌, if◌then◌else◌};
 ghost use Rattle.definition.specs.Calls.{layout_call, details_call, picture_answer, mask_call, owner_call, record_check};
 ghost use Rattle.definition.specs.Calls.{reasons_call, layout_cards_call, details_cards_call, owner_cards_call};
 ghost use Rattle.definition.specs.Calls.{reasons_cards_call, extract_call};

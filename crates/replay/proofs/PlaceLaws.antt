@@ -1,19 +1,17 @@
 -- What a caller learns of the places from a token, from the place that was reached, and from a word.
 -- Assumes nothing.
-use Prim.Native.Nat.{ℕ, ◌+◌, ◌-◌, ◌<◌, ◌≤◌, ◌^◌}
+use Prim.Native.Nat.{ℕ, ◌≤◌}
 use mathlib.Core.Path.{◌≡◌}
 use mathlib.Core.List.{List}
 use native.Mathlib.Omega.{arith}
-use lib.ListN.{length, take, length-take}
-use Rattle.io.specs.Counts.{IsPrefixLen}
-use mir.Val.{Fits}
-use mir.Syntax.{w64}
+use lib.ListN.{length, length-take}
 use Rattle.definition.specs.declared.Token.{Token}
 use Rattle.tokens.specs.declared.Next.{Next}
 use Rattle.tokens.specs.declared.Stand.{Stand}
 use Rattle.tokens.specs.Tokens.{First}
 use Rattle.replay.specs.declared.Reached.{Reached}
 use Rattle.replay.specs.declared.Word.{Word}
+use Rattle.std.specs.Counts.{IsPrefixLen}
 use Rattle.replay.specs.Places.{Later, WordIn, Bounded, Inside, Holds}
 
 -- a token of the text lies within the list

@@ -6,7 +6,7 @@ use Rattle.replay.specs.declared.Reached.{Reached}
 use Rattle.replay.specs.declared.Word.{Word}
 use Rattle.replay.specs.declared.Input.{Input}
 use Rattle.replay.specs.declared.Tally.{Tally}
-use Rattle.io.specs.Counts.{IsPrefixLen}
+use Rattle.std.specs.Counts.{IsPrefixLen}
 
 -- r comes after a place, within the list
 pub record Later (list : List ℕ) (at r : ℕ) : Type 0 where

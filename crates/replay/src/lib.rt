@@ -3,19 +3,22 @@
 // is a comment. An input is one word, in which %XX stands for a byte; the word % is the empty input. An expected answer
 // is a word for each of its numbers. A case is read word by word, and the reading goes on from one word to the next as
 // long as each is the expected one.
-ghost use Rattle.std.specs.Prelude.{◌≡◌, ◌+◌, ◌≤◌, ◌<◌, length};
-ghost use Rattle.io.specs.Counts.{IsPrefixLen};
+#![tactic(auto)]
+
+ghost use Rattle.std.specs.Prelude.{◌≡◌, ◌+◌, ◌≤◌, ◌<◌, length, IfOk};
+ghost use Rattle.std.specs.Io.{ReadsAtMost};
 ghost use Rattle.replay.specs.Places.{Later, Bounded, Inside, Holds, Decodes, Filled, Fair};
 
 use definition::{Refusal, Writing};
-use libc::STDOUT_FILENO;
+use std::rt::Files;
+use std::{fs, io};
 use text::Number;
 use tokens::{Next, Stand};
 
 // ---------------------------------------------------------------- places in a list
 
 // The place that the reading of a case has reached, or that some word was not the expected one.
-#[derive(Drop)]
+#[derive(Clone, Copy)]
 pub enum Reached {
     At(usize),
     Differs,
@@ -91,7 +94,7 @@ pub fn is_whole(list: &[u8], p: Reached) -> bool
 // ---------------------------------------------------------------- words
 
 // A word of a list, and the place after it.
-#[derive(Drop)]
+#[derive(Clone, Copy)]
 pub struct Word {
     pub start: usize,
     pub len: usize,
@@ -129,7 +132,7 @@ fn next_word(list: &[u8], p: Reached) -> Word
 }
 
 // A number of a list, and the place after it.
-#[derive(Drop)]
+#[derive(Clone, Copy)]
 pub struct Taken {
     pub value: u64,
     pub place: Reached,
@@ -235,7 +238,7 @@ fn hex_value(b: u8) -> u8
 }
 
 // A byte of an input, and the place after what stands for it.
-#[derive(Drop)]
+#[derive(Clone, Copy)]
 pub struct Decoded {
     pub byte: u8,
     pub next: usize,
@@ -266,7 +269,7 @@ fn byte_at(word: &[u8], i: usize) -> Decoded
 }
 
 // How many bytes an input has, and the place after its word.
-#[derive(Drop)]
+#[derive(Clone, Copy)]
 pub struct Input {
     pub len: usize,
     pub place: Reached,
@@ -405,29 +408,14 @@ pub fn writing(list: &[u8], p: Reached, w: Writing, out: &[u8]) -> Reached
     }
 }
 
-// ---------------------------------------------------------------- files, and what is printed
+// ---------------------------------------------------------------- tallies
 
-// Reads a list from its file to the start of the buffer, and answers its length; 0 where the file cannot be opened.
-pub fn read_list(name: &[u8], buf: &mut [u8]) -> usize
-    ensures { IsPrefixLen result buf.new }
-{
-    let fd = os::open_read(name);
-    if fd < 0 {
-        io::write_all(STDOUT_FILENO, b"cannot be opened: ");
-        io::write_all(STDOUT_FILENO, name);
-        io::write_all(STDOUT_FILENO, b"\n");
-        return 0;
-    }
-    let n = io::read_full(fd, buf);
-    libc::close(fd);
-    n
-}
-
-// How many cases there were, and how many agreed.
-#[derive(Drop)]
+// How many cases there were, how many agreed, and the first that differed, counted from 1.
+#[derive(Clone, Copy)]
 pub struct Tally {
     pub cases: u64,
     pub agree: u64,
+    pub first_difference: Option<u64>,
 }
 
 // The most cases that are counted.
@@ -437,11 +425,15 @@ const MOST_CASES: u64 = 1000000;
 pub fn no_cases() -> Tally
     ensures { Fair result }
 {
-    Tally { cases: 0, agree: 0 }
+    Tally {
+        cases: 0,
+        agree: 0,
+        first_difference: None,
+    }
 }
 
-// One case more, up to the most that are counted; the first that differs is named, counted from 1.
-pub fn add_case(what: &[u8], t: Tally, agrees: bool) -> Tally
+// One case more, up to the most that are counted.
+pub fn add_case(t: Tally, agrees: bool) -> Tally
     requires { Fair t }
     ensures { Fair result }
 {
@@ -453,33 +445,67 @@ pub fn add_case(what: &[u8], t: Tally, agrees: bool) -> Tally
         return Tally {
             cases,
             agree: t.agree + 1,
+            first_difference: t.first_difference,
         };
-    }
-    if t.agree == t.cases {
-        io::write_all(STDOUT_FILENO, what);
-        io::write_all(STDOUT_FILENO, b": the first that differs is ");
-        io::print_decimal(STDOUT_FILENO, cases);
-        io::write_all(STDOUT_FILENO, b"\n");
     }
     Tally {
         cases,
         agree: t.agree,
+        first_difference: t.first_difference.or(Some(cases)),
+    }
+}
+
+// ---------------------------------------------------------------- files, and what is printed
+
+// Prints that a file cannot be opened, and answers that 0 bytes were read.
+fn not_opened(rt: &impl Print, name: &[u8]) -> io::Result<usize>
+    ensures { IfOk result (λ n. n ≡ 0) }
+{
+    printing::word(rt, b"cannot be opened: ")?;
+    printing::word(rt, name)?;
+    printing::word(rt, b"\n")?;
+    Ok(0)
+}
+
+// Reads a list from its file to the start of the buffer, and answers its length; 0 where the file cannot be opened, or
+// its name is no text, which this prints.
+pub fn read_list(rt: &(impl Files + Print), name: &[u8], buf: &mut [u8]) -> io::Result<usize>
+    ensures { ReadsAtMost result buf.new }
+{
+    match str::from_utf8(name) {
+        Ok(path) => match fs::open(rt, path) {
+            Ok(mut file) => printing::read_full(&mut file, buf),
+            Err(_) => not_opened(rt, name),
+        },
+        Err(_) => not_opened(rt, name),
     }
 }
 
 // Prints what the next lines are about.
-pub fn print_heading(what: &[u8]) {
-    io::write_all(STDOUT_FILENO, b"of ");
-    io::write_all(STDOUT_FILENO, what);
-    io::write_all(STDOUT_FILENO, b"\n");
+pub fn print_heading(rt: &impl Print, what: &[u8]) -> io::Result<()> {
+    printing::word(rt, b"of ")?;
+    printing::word(rt, what)?;
+    printing::word(rt, b"\n")
+}
+
+// Prints which case was the first that differed, if one did after those that were there before.
+pub fn print_difference(
+    rt: &impl Print,
+    what: &[u8],
+    before: Tally,
+    after: Tally,
+) -> io::Result<()> {
+    match (before.first_difference, after.first_difference) {
+        (None, Some(first)) => {
+            printing::word(rt, what)?;
+            println!(rt; ": the first that differs is {first}")
+        }
+        _ => Ok(()),
+    }
 }
 
 // Prints how many of the cases agreed.
-pub fn print_tally(what: &[u8], t: Tally) {
-    io::write_all(STDOUT_FILENO, what);
-    io::write_all(STDOUT_FILENO, b" ");
-    io::print_decimal(STDOUT_FILENO, t.agree);
-    io::write_all(STDOUT_FILENO, b" agree of ");
-    io::print_decimal(STDOUT_FILENO, t.cases);
-    io::write_all(STDOUT_FILENO, b"\n");
+pub fn print_tally(rt: &impl Print, what: &[u8], t: Tally) -> io::Result<()> {
+    printing::word(rt, what)?;
+    println!(rt; " {} agree of {}", t.agree, t.cases)
 }

@@ -1,72 +1,86 @@
-// What the programs print on standard output, and how they read the bytes of a layout listing back. A place past the
-// end of a listing reads as 0, so nothing is asked of the bytes.
+// What the programs print on standard output, how they read what they are given, and how they read the bytes of a
+// layout listing back. A place past the end of a listing reads as 0, so nothing is asked of the bytes.
+#![tactic(auto)]
+
 ghost use Rattle.std.specs.Prelude.{◌+◌, ◌≤◌, ◌<◌, length};
+ghost use Rattle.std.specs.Io.{ReadsAtMost};
 
 use definition::{Refusal, Span};
-use libc::STDOUT_FILENO;
+use std::io;
+use std::io::Read;
 
 // ---------------------------------------------------------------- words and numbers
 
 // Prints these bytes.
-pub fn word(s: &[u8]) {
-    io::write_all(STDOUT_FILENO, s);
+pub fn word(rt: &impl Print, s: &[u8]) -> io::Result<()> {
+    rt.write_all(s)
 }
 
 // Prints a number in decimal.
-pub fn number(n: u64) {
-    io::print_decimal(STDOUT_FILENO, n);
+pub fn number(rt: &impl Print, n: u64) -> io::Result<()> {
+    print!(rt; "{n}")
 }
 
 // Prints a blank and a number.
-pub fn next_number(n: u64) {
-    word(b" ");
-    number(n);
+pub fn next_number(rt: &impl Print, n: u64) -> io::Result<()> {
+    print!(rt; " {n}")
 }
 
 // Prints the part of the text that a span fills, and the other word where the span has length 0.
-pub fn name(text: &[u8], w: Span, absent: &[u8]) {
+pub fn name(rt: &impl Print, text: &[u8], w: Span, absent: &[u8]) -> io::Result<()> {
     let start = w.start;
     let len = w.len;
     if len == 0 {
-        word(absent);
-        return;
+        return word(rt, absent);
     }
     if text.len() < start {
-        word(absent);
-        return;
+        return word(rt, absent);
     }
     if text.len() - start < len {
-        word(absent);
-        return;
+        return word(rt, absent);
     }
-    word(&text[start..start + len]);
+    word(rt, &text[start..start + len])
 }
 
 // Prints a blank and that part or word.
-pub fn next_name(text: &[u8], w: Span, absent: &[u8]) {
-    word(b" ");
-    name(text, w, absent);
+pub fn next_name(rt: &impl Print, text: &[u8], w: Span, absent: &[u8]) -> io::Result<()> {
+    word(rt, b" ")?;
+    name(rt, text, w, absent)
 }
 
 // Prints a blank and the word for a kind.
-pub fn kind(kind: u8) {
+pub fn kind(rt: &impl Print, kind: u8) -> io::Result<()> {
     match kind {
-        1 => word(b" text"),
-        2 => word(b" int"),
-        3 => word(b" bin"),
-        4 => word(b" dec"),
-        5 => word(b" edit"),
-        7 => word(b" float"),
-        _ => word(b" group"),
+        1 => word(rt, b" text"),
+        2 => word(rt, b" int"),
+        3 => word(rt, b" bin"),
+        4 => word(rt, b" dec"),
+        5 => word(rt, b" edit"),
+        7 => word(rt, b" float"),
+        _ => word(rt, b" group"),
     }
 }
 
 // Prints the line of a refusal: its number and its position.
-pub fn refusal(r: Refusal) {
-    word(b"refused");
-    next_number(r.number as u64);
-    next_number(r.position as u64);
-    word(b"\n");
+pub fn refusal(rt: &impl Print, r: Refusal) -> io::Result<()> {
+    println!(rt; "refused {} {}", r.number, r.position)
+}
+
+// ---------------------------------------------------------------- what is read
+
+// Reads to the start of the buffer until the input ends or the buffer is full, and answers how many bytes stand there.
+pub fn read_full(input: &mut impl Read, buf: &mut [u8]) -> io::Result<usize>
+    ensures { ReadsAtMost result buf.new }
+{
+    let mut n = 0;
+    while n < buf.len() {
+        let got = input.read(&mut buf[n..])?;
+        if got == 0 {
+            break;
+        }
+        n += got;
+    }
+    Ok(n)
 }
 
 // ---------------------------------------------------------------- the bytes of a listing

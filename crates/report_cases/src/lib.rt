@@ -6,6 +6,8 @@
 // reasons/reasons.txt, where the entry's number stands between the two. Each folder has limits.txt. Each answer is
 // asked for with different lengths of output, each time over work memory that is not zero and an output that holds a
 // pattern: work memory must be zero afterwards, and the pattern must stand wherever nothing was to be written.
+#![tactic(auto)]
+
 ghost use Rattle.std.specs.Prelude.{◌≤◌, ◌<◌, length};
 ghost use Rattle.replay.specs.Places.{Inside};
 
@@ -18,7 +20,7 @@ const ROOM: usize = 80000;
 // ---------------------------------------------------------------- one answer
 
 // What is asked for, and whether the text is cards.
-#[derive(Drop)]
+#[derive(Clone, Copy)]
 struct Asked {
     report: Report,
     cards: bool,

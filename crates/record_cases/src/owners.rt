@@ -9,6 +9,8 @@ ghost use Rattle.replay.specs.Places.{Inside, Fair};
 
 use definition::OwnerAnswer;
 use replay::{Reached, Tally};
+use std::io;
+use std::rt::Files;
 
 // ---------------------------------------------------------------- one position and its answer
 
@@ -112,7 +114,7 @@ fn is_owned(text: &[u8], position: usize, run: Run, begin: usize) -> bool
 }
 
 // A run, and the place after it.
-#[derive(Drop)]
+#[derive(Clone, Copy)]
 struct Run {
     mark: u64,
     entry: u64,
@@ -153,14 +155,6 @@ fn run_end(begin: usize, run: Run) -> usize
     begin + run.width as usize
 }
 
-// One position more.
-fn add_position(t: Tally, agrees: bool) -> Tally
-    requires { Fair t }
-    ensures { Fair result }
-{
-    replay::add_case(b"positions", t, agrees)
-}
-
 // Replays every position of a run.
 fn replay_run(text: &[u8], run: Run, begin: usize, end: usize, before: Tally) -> Tally
     requires { Fair before }
@@ -169,7 +163,7 @@ fn replay_run(text: &[u8], run: Run, begin: usize, end: usize, before: Tally) ->
     let mut t = before;
     let mut position = begin;
     while position < end {
-        t = add_position(t, is_owned(text, position, run, begin));
+        t = replay::add_case(t, is_owned(text, position, run, begin));
         position += 1;
     }
     t
@@ -196,10 +190,10 @@ fn replay_far(text: &[u8], position: usize, t: Tally) -> Tally
     requires { Fair t }
     ensures { Fair result }
 {
-    let t = add_position(t, is_past(text, position));
-    let t = add_position(t, is_past(text, 4294967296));
-    let t = add_position(t, is_past(text, 9223372036854775808));
-    add_position(t, is_past(text, 18446744073709551615))
+    let t = replay::add_case(t, is_past(text, position));
+    let t = replay::add_case(t, is_past(text, 4294967296));
+    let t = replay::add_case(t, is_past(text, 9223372036854775808));
+    replay::add_case(t, is_past(text, 18446744073709551615))
 }
 
 // Replays the end of a record.
@@ -207,7 +201,7 @@ fn replay_end(list: &[u8], p: Reached, text: &[u8], length: usize, t: Tally) -> 
     requires { Inside list.now p × Fair t }
     ensures { Fair result }
 {
-    let t = add_position(t, is_end(list, p, text, length));
+    let t = replay::add_case(t, is_end(list, p, text, length));
     if 65535 < length {
         return t;
     }
@@ -256,7 +250,7 @@ fn is_no_worse(before: Tally, after: Tally) -> bool
 }
 
 // How many records and positions there were, and how many agreed.
-#[derive(Drop)]
+#[derive(Clone, Copy)]
 struct Counts {
     records: Tally,
     positions: Tally,
@@ -269,7 +263,7 @@ fn add_record(c: Counts, after: Tally) -> Counts
 {
     let before = c.positions;
     let records = c.records;
-    let records = replay::add_case(b"records", records, is_no_worse(before, after));
+    let records = replay::add_case(records, is_no_worse(before, after));
     Counts {
         records,
         positions: after,
@@ -311,11 +305,12 @@ fn replay_records(list: &[u8]) -> Counts
 }
 
 // Reads the list of records, replays it, and prints how many records and positions agree.
-pub fn print_records(room: &mut [u8], name: &[u8]) {
-    let n = replay::read_list(name, room);
+pub fn print_records(rt: &(impl Files + Print), room: &mut [u8], name: &[u8]) -> io::Result<()> {
+    let n = replay::read_list(rt, name, room)?;
     let c = replay_records(&room[..n]);
-    let records = c.records;
-    let positions = c.positions;
-    replay::print_tally(b"records", records);
-    replay::print_tally(b"positions", positions);
+    let none = replay::no_cases();
+    replay::print_difference(rt, b"positions", none, c.positions)?;
+    replay::print_difference(rt, b"records", none, c.records)?;
+    replay::print_tally(rt, b"records", c.records)?;
+    replay::print_tally(rt, b"positions", c.positions)
 }

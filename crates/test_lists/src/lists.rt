@@ -1,11 +1,13 @@
 // Lists of questions: a list is read from its file and replayed, case by case. In a list of limits each case begins
 // with two numbers more: how much work memory is lent, and how many bytes stand before the text: blanks, or X before a
 // picture.
-ghost use Rattle.std.specs.Prelude.{◌≤◌, ◌<◌, length};
+ghost use Rattle.std.specs.Prelude.{◌≤◌, ◌<◌, length, IfOk};
 ghost use Rattle.replay.specs.Places.{Inside, Fair};
 
 use record_cases::{extracts, keys, owners};
 use replay::{Reached, Tally};
+use std::io;
+use std::rt::Files;
 use text_cases::{pictures, readings};
 
 // The numbers of work memory that a call needs, and the most that a case lends.
@@ -14,7 +16,7 @@ const WORK: usize = 16384;
 const MOST_WORK: usize = 17000;
 
 // What the cases of a list ask for.
-#[derive(Drop)]
+#[derive(Clone, Copy)]
 pub enum Question {
     RustPicture,
     Picture,
@@ -80,32 +82,25 @@ fn is_agreed(list: &[u8], at: usize, question: Question, limits: bool) -> bool
 }
 
 // Replays the case at a place, if there is one.
-fn replay_case(
-    list: &[u8],
-    at: usize,
-    what: &[u8],
-    question: Question,
-    limits: bool,
-    t: Tally,
-) -> Tally
+fn replay_case(list: &[u8], at: usize, question: Question, limits: bool, t: Tally) -> Tally
     requires { (at < length list.now) × Fair t }
     ensures { Fair result }
 {
     if replay::is_case(list, at) {
-        return replay::add_case(what, t, is_agreed(list, at, question, limits));
+        return replay::add_case(t, is_agreed(list, at, question, limits));
     }
     t
 }
 
 // Replays the cases of a list, after those of others.
-fn replay_list(list: &[u8], what: &[u8], question: Question, limits: bool, before: Tally) -> Tally
+fn replay_list(list: &[u8], question: Question, limits: bool, before: Tally) -> Tally
     requires { Fair before }
     ensures { Fair result }
 {
     let mut t = before;
     let mut at = 0;
     while at < list.len() {
-        t = replay_case(list, at, what, question, limits, t);
+        t = replay_case(list, at, question, limits, t);
         at = replay::after_case(list, at);
     }
     t
@@ -113,29 +108,45 @@ fn replay_list(list: &[u8], what: &[u8], question: Question, limits: bool, befor
 
 // Reads a list of questions and replays it, after the cases of others.
 pub fn replay_file(
+    rt: &(impl Files + Print),
     room: &mut [u8],
     name: &[u8],
     what: &[u8],
     question: Question,
     before: Tally,
-) -> Tally
+) -> io::Result<Tally>
     requires { Fair before }
-    ensures { Fair result }
+    ensures { IfOk result (λ t. Fair t) }
 {
-    let n = replay::read_list(name, room);
-    replay_list(&room[..n], what, question, false, before)
+    let n = replay::read_list(rt, name, room)?;
+    let t = replay_list(&room[..n], question, false, before);
+    replay::print_difference(rt, what, before, t)?;
+    Ok(t)
 }
 
 // Reads a list of questions, replays it, and prints how many of its cases agree.
-pub fn print_list(room: &mut [u8], name: &[u8], what: &[u8], question: Question) {
-    let n = replay::read_list(name, room);
-    let t = replay_list(&room[..n], what, question, false, replay::no_cases());
-    replay::print_tally(what, t);
+pub fn print_list(
+    rt: &(impl Files + Print),
+    room: &mut [u8],
+    name: &[u8],
+    what: &[u8],
+    question: Question,
+) -> io::Result<()> {
+    let t = replay_file(rt, room, name, what, question, replay::no_cases())?;
+    replay::print_tally(rt, what, t)
 }
 
 // The same for a list of limits.
-pub fn print_limits(room: &mut [u8], name: &[u8], what: &[u8], question: Question) {
-    let n = replay::read_list(name, room);
-    let t = replay_list(&room[..n], what, question, true, replay::no_cases());
-    replay::print_tally(what, t);
+pub fn print_limits(
+    rt: &(impl Files + Print),
+    room: &mut [u8],
+    name: &[u8],
+    what: &[u8],
+    question: Question,
+) -> io::Result<()> {
+    let n = replay::read_list(rt, name, room)?;
+    let none = replay::no_cases();
+    let t = replay_list(&room[..n], question, true, none);
+    replay::print_difference(rt, what, none, t)?;
+    replay::print_tally(rt, what, t)
 }

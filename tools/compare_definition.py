@@ -44,33 +44,34 @@ def fail(message):
 
 # Every name of the definition that is used here: where its calls stand, and the name that opens what is sealed.
 CALLS = """
-use Rattle·definition.specs.declared.Usage.{Usage}
-use Rattle·definition.specs.declared.SignKind.{SignKind}
-use Rattle·definition.specs.declared.SignClause.{SignClause}
-use Rattle·definition.specs.declared.NumRepr.{NumRepr}
-use Rattle·definition.specs.declared.FieldKind.{FieldKind}
-use Rattle·definition.specs.declared.Pictured.{Pictured}
-use Rattle·definition.specs.Basic.{if_then_else_, Answer, refuse, give}
-use Rattle·definition.specs.Calls.{layoutListing, pictureAnswer, pictureMask}
+use Rattle.definition.specs.declared.Usage.{Usage}
+use Rattle.definition.specs.declared.SignKind.{SignKind}
+use Rattle.definition.specs.declared.SignClause.{SignClause}
+use Rattle.definition.specs.declared.NumRepr.{NumRepr}
+use Rattle.definition.specs.declared.FieldKind.{FieldKind}
+use Rattle.definition.specs.declared.Pictured.{Pictured}
+use Rattle.std.specs.Prelude.{if◌then◌else◌}
+use Rattle.definition.specs.Basic.{Answer, refuse, give}
+use Rattle.definition.specs.Calls.{layout_listing, picture_answer, picture_mask}
 """
-SEALED = "use Rattle·definition.specs.Computing.{computing}"
+SEALED = "use Rattle.definition.specs.Computing.{computing}"
 UNFOLDING = "computing"
 USAGES = ["Usage.Display", "Usage.Comp3", "Usage.Comp"]
 SIGNS = ["SignClause.Absent"] + [f"(SignClause.Given SignKind.{k})" for k in ("Unsigned", "Embedded", "LeadingSeparate", "TrailingSeparate")]
 
 # What a call answers, in the oracle's numbers.
 ANSWERS = """-- What the definition's calls answer, as the list of numbers that the oracle writes.
-use Prim.Native.Nat.{ℕ, zero, suc, _+_, _*_, _-_, _/_, _%_}
+use Prim.Native.Nat.{ℕ, zero, suc, ◌+◌, ◌*◌, ◌-◌, ◌/◌, ◌%◌}
 use Prim.Native.Char.{code}
-use Prim.Native.String.{String, [] as ε, _∷_ as _∷ᶜ_}
+use Prim.Native.String.{String, [] as ε, ◌∷◌ as ◌∷ᶜ◌}
 use mathlib.Core.Bool.{Bool, true, false}
-use mathlib.Core.List.{List, [], _∷_, _++_}
+use mathlib.Core.List.{List, [], ◌∷◌, ◌++◌}
 use lib.Dec.{eqb}
 use lib.ListN.{take, drop, length}
 @CALLS@
 -- the numbers that a text's characters stand for, in front of others
-infixr 67 _⋯_
-abbrev pub _⋯_ : String → List ℕ → List ℕ
+infixr 67 ◌⋯◌
+abbrev pub ◌⋯◌ : String → List ℕ → List ℕ
 ε ⋯ l = l
 (c ∷ᶜ s) ⋯ l = code c ∷ (s ⋯ l)
 
@@ -111,7 +112,7 @@ nameAt absent n body text =
     else sized (partAt n body text)
 
 abbrev pub maskOf : Usage → List ℕ → List ℕ
-maskOf usage picture = elim (pictureMask usage picture 65535) [ refuse r ↦ broken | give m ↦ sized m ]
+maskOf usage picture = elim (picture_mask usage picture 65535) [ refuse r ↦ broken | give m ↦ sized m ]
 
 -- how long the body of a kind is
 abbrev pub bodyLength : ℕ → ℕ
@@ -168,11 +169,11 @@ kindNumbers (FieldKind.Float bits) m = broken
 
 -- the two questions
 abbrev pub copybook : List ℕ → List ℕ
-copybook text = elim (layoutListing text 16384 1000000) [ refuse r ↦ 0 ∷ r .number ∷ [] | give bytes ↦ 1 ∷ listingIn text bytes ]
+copybook text = elim (layout_listing text 16384 1000000) [ refuse r ↦ 0 ∷ r.number ∷ [] | give bytes ↦ 1 ∷ listingIn text bytes ]
 
 abbrev pub picture : Usage → SignClause → List ℕ → List ℕ
 picture usage sign text =
-    elim (pictureAnswer usage sign text) [ refuse r ↦ 0 ∷ r .number ∷ [] | give p ↦ 1 ∷ p .width ∷ kindNumbers (p .kind) (maskOf usage text) ]
+    elim (picture_answer usage sign text) [ refuse r ↦ 0 ∷ r.number ∷ [] | give p ↦ 1 ∷ p.width ∷ kindNumbers (p.kind) (maskOf usage text) ]
 
 -- the number of the refusal, or 0
 abbrev pub refusal : List ℕ → ℕ
@@ -190,14 +191,14 @@ bit (suc n) k = bit n (k / 2)
 CLAIMS = """-- Claims about the answers, each proved by computing or refused.
 use Prim.Native.Nat.{ℕ}
 use mathlib.Core.Bool.{Bool, true, false}
-use mathlib.Core.List.{List, [], _∷_}
-use mathlib.Core.Path.{_≡_}
+use mathlib.Core.List.{List, [], ◌∷◌, ◌++◌}
+use mathlib.Core.Path.{◌≡◌}
 use lib.Dec.{T, eqb}
-use Rattle·definition.specs.declared.Usage.{Usage}
-use Rattle·definition.specs.declared.SignKind.{SignKind}
-use Rattle·definition.specs.declared.SignClause.{SignClause}
+use Rattle.definition.specs.declared.Usage.{Usage}
+use Rattle.definition.specs.declared.SignKind.{SignKind}
+use Rattle.definition.specs.declared.SignClause.{SignClause}
 @SEALED@
-use Rattle·compare·specs.specs.Answers.{_⋯_, equal, copybook, picture, refusal, bit}
+use Rattle.compare.specs.Answers.{◌⋯◌, equal, copybook, picture, refusal, bit}
 """
 
 
@@ -241,14 +242,14 @@ class Definition:
                 crate = repo / "crates" / name
                 # Where no function is to be proved, the proofs are laws of the definition, and not needed here.
                 code = any("fn " in f.read_text() for f in crate.glob("src/*.rt"))
-                shutil.copytree(crate, self.top / "crates" / name, ignore=shutil.ignore_patterns("must-fail", *([] if code else ["proofs"])))
+                shutil.copytree(crate, self.top / "crates" / name, ignore=shutil.ignore_patterns("must-fail", "out", *([] if code else ["proofs"])))
                 lines.append(f"{name}:{deps[name]}")
                 wanted += [d for d in deps[name].split() if d not in wanted]
         (self.top / "crates.txt").write_text("\n".join(lines) + "\n")
         crate = self.top / "crates" / "compare"
         (crate / "src").mkdir(parents=True)
         (crate / "specs").mkdir()
-        (crate / "src" / "lib.rt").write_text("// All is in specs/.\npub struct Nothing {\n    pub nothing: u8,\n}\n")
+        (crate / "src" / "lib.rt").write_text("// All is in specs/.\n\n#![tactic(auto)]\n\npub struct Nothing {\n    pub nothing: u8,\n}\n")
         (crate / "specs" / "Lib.antt").write_text("pub mod Answers\npub mod Claims\n")
         (crate / "specs" / "Answers.antt").write_text(ANSWERS.replace("@CALLS@", CALLS))
         self.claims = crate / "specs" / "Claims.antt"
@@ -257,7 +258,7 @@ class Definition:
         """What antt says of these declarations, and of a false one behind them, which it has to refuse: so it read them all."""
         last = "\nlast : T false\nlast = tt\n"
         self.claims.write_text(CLAIMS.replace("@SEALED@", SEALED) + "".join(lines) + last)
-        p = subprocess.run(["rt", "dev", "compare", *words], cwd=self.top, capture_output=True, text=True, env=dict(os.environ, RT_CUT="0"))
+        p = subprocess.run(["rt", "check", *words], cwd=self.claims.parents[1], capture_output=True, text=True)
         said = p.stdout + p.stderr
         refused = re.findall(r"^\S*Claims\.antt:\d+:\d+: error: `(\w+)`", said, re.M)
         if len(refused) != len(re.findall(r"\berror: ", said)) or refused[-1:] != ["last"] or "was not admitted" in said:
@@ -272,8 +273,9 @@ class Definition:
 
     def shown(self, term):
         """The list that the term computes to, if antt shows it (it gives up where that takes long)."""
-        said = self.run([f"\nshown : {term} ≡ []\nunfolding {UNFOLDING}\nshown = ?h\n"], "--allow-holes")[0]
-        m = re.search(r"\(unfolded: Path \(List ℕ\) \(([\d\s∷]*)\[\]\) \[\]\)", said)
+        # Behind `++` no call is left in what is shown.
+        said = self.run([f"\nshown : {term} ++ [] ≡ []\nunfolding {UNFOLDING}\nshown = ?h\n"], "--allow-holes")[0]
+        m = re.search(r"List ℕ[)}] \(([\d\s∷]*)\[\]\) \[\]", said)
         return [int(n) for n in re.findall(r"\d+", m.group(1))] if m else None
 
 

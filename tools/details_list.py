@@ -5,7 +5,7 @@ It shares nothing with the crates. `answer(text)` is what the details have to an
 `0 NUMBER POSITION NEEDED`. As a program it compares `copybook_details` of a shared library with that, on copybooks of inputs.py, and asks
 again with an output that is one byte short:
 
-    rt staticlib copybook_c
+    tools/build library
     cc -shared -o target/copybook.so -Wl,--whole-archive target/staticlib/libcopybook_c.a -Wl,--no-whole-archive
     tools/details_list.py target/copybook.so COUNT SEED
 """

@@ -1,6 +1,6 @@
 """The library's calls from here, and what it answers otherwise than the readings of docs/RULES.md that share no code with it.
 
-Takes the library of the folder COPYBOOK_LIB, or target/staticlib, as it is (`rt staticlib copybook_c` makes it). Needs cc."""
+Takes the library of the folder COPYBOOK_LIB, or target/staticlib, as it is (`tools/build library` makes it). Needs cc."""
 import collections
 import ctypes
 import os

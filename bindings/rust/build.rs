@@ -1,5 +1,5 @@
 //! Links the static library of the crate `copybook_c`: from the folder that the environment variable COPYBOOK_LIB
-//! names, or else from this repository, where `rt staticlib copybook_c` proves the crate and makes it.
+//! names, or else from this repository, where `tools/build library` proves the crate and makes it.
 
 use std::path::{Path, PathBuf};
 use std::process::Command;
@@ -26,6 +26,20 @@ fn named(folder: &str) -> PathBuf {
     folder
 }
 
+/// Has cargo come back when a source of the library changes. What rt makes in a crate's folder `out` is none: it is new
+/// after each run.
+fn watch(repository: &Path) {
+    let crates = repository.join("crates");
+    let folders = fs::read_dir(&crates).unwrap_or_else(|e| panic!("{}: {e}", crates.display()));
+    let parts = folders
+        .map(|folder| folder.unwrap_or_else(|e| panic!("{}: {e}", crates.display())).path())
+        .flat_map(|folder| ["src", "specs", "proofs"].map(|part| folder.join(part)))
+        .filter(|part| part.is_dir());
+    for source in ["crates.txt", "tools/build"].map(|file| repository.join(file)).into_iter().chain(parts) {
+        println!("cargo:rerun-if-changed={}", source.display());
+    }
+}
+
 /// Proves the crate and makes the library, in the repository that this crate stands in.
 fn made() -> PathBuf {
     let repository = Path::new(&set("CARGO_MANIFEST_DIR")).join("../..");
@@ -33,19 +47,13 @@ fn made() -> PathBuf {
         repository.join("crates/copybook_c").is_dir(),
         "no crates/copybook_c two folders above this crate: set COPYBOOK_LIB to the folder of {LIBRARY}"
     );
-    for source in ["crates.txt", "crates"] {
-        println!("cargo:rerun-if-changed={}", repository.join(source).display());
-    }
-    let made = Command::new("rt").args(["staticlib", "copybook_c"]).current_dir(&repository).output();
-    let ran = made.unwrap_or_else(|e| {
-        panic!(
-            "rt, the command of the Rattle kit, could not be run ({e}): install it, \
-             or set COPYBOOK_LIB to the folder of a {LIBRARY} that it made"
-        )
-    });
+    watch(&repository);
+    let build = repository.join("tools/build");
+    let ran = Command::new(&build).arg("library").output().unwrap_or_else(|e| panic!("{}: {e}", build.display()));
     assert!(
         ran.status.success(),
-        "rt staticlib copybook_c: {}\n{}{}",
+        "tools/build library: {}. It needs rt, the command of the Rattle kit: install it, \
+         or set COPYBOOK_LIB to the folder of a {LIBRARY} that it made\n{}{}",
         ran.status,
         String::from_utf8_lossy(&ran.stdout),
         String::from_utf8_lossy(&ran.stderr)

@@ -80,7 +80,7 @@ fn printed(program: &mut Command, text: &[u8]) -> Vec<u8> {
 #[test]
 fn the_same_bytes_as_the_small_program() {
     let program = root().join("target/bin/copybook_layout");
-    assert!(program.exists(), "`rt check copybook_layout` makes target/bin/copybook_layout, which is compared with");
+    assert!(program.exists(), "`tools/build layout` makes target/bin/copybook_layout, which is compared with");
     let mut texts = copybooks();
     texts.extend((0..texts.len()).step_by(4).map(|i| damaged(&texts[i], i)).collect::<Vec<_>>());
     texts.extend([Vec::new(), vec![b' '; 65_535], vec![b' '; 65_536], vec![0xff], b"\0".to_vec()]);

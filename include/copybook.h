@@ -1,7 +1,7 @@
 /*
  * What the columns of a COBOL copybook are: the C interface of the crate `copybook_c`. C99, or C++.
  *
- * `tools/build library` proves the crate and writes target/staticlib/libcopybook_c.a, for x86-64 Linux; link it
+ * `tools/build library` proves the crate and writes target/staticlib/libcopybook_c.a, for x86-64-v2 Linux; link it
  * beside a program, with nothing but the C library (it calls memcpy and memset). tools/install puts both where
  * pkg-config finds them; examples/c shows how they are used.
  *

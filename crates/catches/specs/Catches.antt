@@ -4,10 +4,9 @@
 use Rattle.std.specs.Prelude.{ℕ, zero, suc, ◌+◌, ◌*◌, ◌-◌, ◌≡◌, refl, Bool, true, false, ◌&&◌, List, [], ◌∷◌, ◌++◌, T, eqb, ltb, length, if◌then◌else◌}
 use Prim.Native.Char.{code}
 use Prim.Native.String.{String, [] as ε, ◌∷◌ as ◌∷ᶜ◌}
-use Rattle.std.proofs.Math.Option.{Option, none, some}
+use Rattle.std.specs.Prelude.{Option, None, Some}
 use Rattle.definition.specs.declared.Usage.{Usage}
 use Rattle.definition.specs.declared.SignKind.{SignKind}
-use Rattle.definition.specs.declared.SignClause.{SignClause}
 use Rattle.definition.specs.declared.NumRepr.{NumRepr}
 use Rattle.definition.specs.declared.FieldKind.{FieldKind}
 use Rattle.definition.specs.declared.FieldKind.TheVariants.{Text, Int, Binary, Decimal, Edited, Group, Float}
@@ -16,12 +15,13 @@ use Rattle.definition.specs.declared.Owner.{Owner}
 use Rattle.definition.specs.declared.Extract.{Extract}
 use Rattle.definition.specs.declared.Span.{Span}
 use Rattle.definition.specs.Basic.{bytes, among, given, same, span, absent, le4, le8}
-use Rattle.definition.specs.Basic.{Answer, refuse, give, ◌>>=◌}
+use Rattle.definition.specs.Basic.{Answer, Err, Ok, ◌>>=◌}
 use Rattle.definition.specs.Tree.{Forest, leaf, item}
 use Rattle.definition.specs.Fold.{Entries, end, entry, Place, search_back}
 use Rattle.definition.specs.Record.{record_length, variable}
 use Rattle.definition.specs.Listing.{flag, span_bytes, kind_byte, details}
 use Rattle.definition.specs.Cards.{Form, free_text, card_text}
+use Rattle.definition.specs.Refusals.{refusal_number, refusal_position, refusal_needed}
 use Rattle.definition.specs.Calls.{entries, layout_listing, layout_details, picture_answer, picture_mask, byte_owner}
 use Rattle.definition.specs.Calls.{record_fields, entry_reasons, extract_answer, indicator_check, called}
 use Rattle.definition.specs.Key.{key_of_texts}
@@ -37,11 +37,11 @@ hex_digit c = if ltb c 58 then c - 48 else c - 87
 -- bytes written in pairs of hexadecimal digits, with blanks between pairs; `high` is the first digit of a pair
 abbrev hex_from : Option ℕ → String → List ℕ
 hex_from high ε = []
-hex_from none (c ∷ᶜ s) = elim (eqb (code c) 32) [ true ↦ hex_from none s | false ↦ hex_from (some (hex_digit (code c))) s ]
-hex_from (some high) (c ∷ᶜ s) = (high * 16 + hex_digit (code c)) ∷ hex_from none s
+hex_from None (c ∷ᶜ s) = elim (eqb (code c) 32) [ true ↦ hex_from None s | false ↦ hex_from (Some (hex_digit (code c))) s ]
+hex_from (Some high) (c ∷ᶜ s) = (high * 16 + hex_digit (code c)) ∷ hex_from None s
 
 abbrev pub hex : String → List ℕ
-hex s = hex_from none s
+hex s = hex_from None s
 
 -- a column: its offset, the width of one occurrence, and what it holds
 abbrev pub column : ℕ → ℕ → FieldKind → List ℕ
@@ -68,24 +68,24 @@ abbrev pub extract_shown : Extract → List ℕ
 extract_shown a = a.subset ∷ a.weight ∷ a.examined ∷ a.off ∷ []
 
 -- no sign, and each of the four
-abbrev pub every_sign : List SignClause
+abbrev pub every_sign : List (Option SignKind)
 every_sign =
-    SignClause.Absent
-    ∷ SignClause.Given SignKind.Unsigned
-    ∷ SignClause.Given SignKind.Embedded
-    ∷ SignClause.Given SignKind.LeadingSeparate
-    ∷ SignClause.Given SignKind.TrailingSeparate
+    None
+    ∷ Some SignKind.Unsigned
+    ∷ Some SignKind.Embedded
+    ∷ Some SignKind.LeadingSeparate
+    ∷ Some SignKind.TrailingSeparate
     ∷ []
 
 -- the width in a picture answer, or none
 abbrev pub width_in : Answer Pictured → List ℕ
-width_in (refuse r) = []
-width_in (give p) = p.width ∷ []
+width_in (Err r) = []
+width_in (Ok p) = p.width ∷ []
 
 -- the widths of a picture: under DISPLAY with each of these signs, under COMP-3, under COMP
-abbrev pub widths_of : List ℕ → List SignClause → List ℕ
+abbrev pub widths_of : List ℕ → List (Option SignKind) → List ℕ
 widths_of bs [] =
-    width_in (picture_answer Usage.Comp3 SignClause.Absent bs) ++ width_in (picture_answer Usage.Comp SignClause.Absent bs)
+    width_in (picture_answer Usage.Comp3 None bs) ++ width_in (picture_answer Usage.Comp None bs)
 widths_of bs (c ∷ cs) = width_in (picture_answer Usage.Display c bs) ++ widths_of bs cs
 
 -- how many names each search for a target compares in a list, after the earlier siblings, the latest first
@@ -98,12 +98,13 @@ compared_in text seen (item s kids later) =
 
 -- the answer is such a value, or that refusal: number, position and needed length
 abbrev pub gives : {A : Type 0} → (A → Bool) → Answer A → Bool
-gives f (refuse r) = false
-gives f (give a) = f a
+gives f (Err r) = false
+gives f (Ok a) = f a
 
 abbrev pub refuses : {A : Type 0} → ℕ → ℕ → ℕ → Answer A → Bool
-refuses n p l (refuse r) = eqb r.number n && (eqb r.position p && eqb r.needed l)
-refuses n p l (give a) = false
+refuses n p l (Err r) =
+    eqb (refusal_number r) n && (eqb (refusal_position r) p && eqb (refusal_needed r) l)
+refuses n p l (Ok a) = false
 
 -- ---------------------------------------------------------------- the table
 
@@ -121,7 +122,7 @@ pub data Catch : Type 0 where
   -- a copybook, the length of the lent output, and the needed length of the details' refusal 31
   no_details : String → ℕ → ℕ → Catch
   -- a picture with a usage and a sign, its width, and what it holds
-  pictured : String → Usage → SignClause → ℕ → FieldKind → Catch
+  pictured : String → Usage → Option SignKind → ℕ → FieldKind → Catch
   -- a picture, and its widths: under DISPLAY with no sign and with each of the four, under COMP-3, under COMP
   widths : String → List ℕ → Catch
   -- a picture with a usage, and the number of its refusal
@@ -196,13 +197,13 @@ right_in form (no_details text room needed) =
 right_in form (pictured text u s width kind) =
     gives (λ p. same (column 0 p.width p.kind) (column 0 width kind)) (picture_answer u s (bytes text))
 right_in form (widths text ws) = same (widths_of (bytes text) every_sign) ws
-right_in form (unread text u n) = refuses n 0 0 (picture_answer u SignClause.Absent (bytes text))
+right_in form (unread text u n) = refuses n 0 0 (picture_answer u None (bytes text))
 right_in form (masked text m) = gives (same (bytes m)) (picture_mask Usage.Display (bytes text) (length (bytes m)))
 right_in form (owned text p o) =
     gives (λ a. same (owner_shown a) (owner_shown o)) (asked form (λ t. byte_owner t 16384 p) (bytes text))
 right_in form (not_owned text p n) = refuses n 0 0 (asked form (λ t. byte_owner t 16384 p) (bytes text))
 right_in form (searched text counts) =
-    gives (same counts) (asked form (λ t. record_fields t 16384 >>= λ f. give (compared_in t [] f)) (bytes text))
+    gives (same counts) (asked form (λ t. record_fields t 16384 >>= λ f. Ok (compared_in t [] f)) (bytes text))
 right_in form (reasoned text k l) =
     gives (same l) (asked form (λ t. entry_reasons t 16384 k (length l)) (bytes text))
 right_in form (not_reasoned text k room n p needed) =
@@ -212,7 +213,7 @@ right_in form (extracts text weights limit budget l) =
 right_in form (not_extracted text weights limit budget n) =
     refuses n 0 0 (extract_answer (bytes text) 16384 weights limit budget)
 right_in form (keyed name texts offset width) =
-    gives (λ k. eqb k.0 offset && eqb k.1 width)
+    gives (λ k. eqb k.offset offset && eqb k.width width)
     (key_of_texts (one_after_other texts) (lengths_of texts) (bytes name) 16384)
 right_in form (not_keyed name texts n p) =
     refuses n p 0 (key_of_texts (one_after_other texts) (lengths_of texts) (bytes name) 16384)
@@ -347,15 +348,15 @@ table =
     ∷ accepted "01 R OCCURS 9. 05 A PIC X." 1 false (column 0 1 Text ∷ [])
     -- pictures
     ∷ accepted "05 A PIC ZZ9.99." 6 false (column 0 6 (Edited 5 2 false) ∷ [])
-    ∷ pictured "$$$9" Usage.Display SignClause.Absent 4 (Edited 3 0 false)
-    ∷ pictured "9(4)" Usage.Comp SignClause.Absent 2 (Binary false)
-    ∷ pictured "9(5)" Usage.Comp SignClause.Absent 4 (Binary false)
-    ∷ pictured "9(9)" Usage.Comp SignClause.Absent 4 (Binary false)
-    ∷ pictured "9(10)" Usage.Comp SignClause.Absent 8 (Binary false)
-    ∷ pictured "S" Usage.Comp3 SignClause.Absent 1 (Decimal 0 0 NumRepr.Comp3 SignKind.Embedded)
-    ∷ pictured "9(5)" Usage.Comp3 SignClause.Absent 3 (Decimal 5 0 NumRepr.Comp3 SignKind.Embedded)
-    ∷ pictured "S9(4)" Usage.Display (SignClause.Given SignKind.TrailingSeparate) 5 (Int true SignKind.TrailingSeparate)
-    ∷ pictured "9(4)" Usage.Display (SignClause.Given SignKind.LeadingSeparate) 4 (Int false SignKind.Unsigned)
+    ∷ pictured "$$$9" Usage.Display None 4 (Edited 3 0 false)
+    ∷ pictured "9(4)" Usage.Comp None 2 (Binary false)
+    ∷ pictured "9(5)" Usage.Comp None 4 (Binary false)
+    ∷ pictured "9(9)" Usage.Comp None 4 (Binary false)
+    ∷ pictured "9(10)" Usage.Comp None 8 (Binary false)
+    ∷ pictured "S" Usage.Comp3 None 1 (Decimal 0 0 NumRepr.Comp3 SignKind.Embedded)
+    ∷ pictured "9(5)" Usage.Comp3 None 3 (Decimal 5 0 NumRepr.Comp3 SignKind.Embedded)
+    ∷ pictured "S9(4)" Usage.Display (Some SignKind.TrailingSeparate) 5 (Int true SignKind.TrailingSeparate)
+    ∷ pictured "9(4)" Usage.Display (Some SignKind.LeadingSeparate) 4 (Int false SignKind.Unsigned)
     ∷ accepted "05 A PIC S9(4) SIGN TRAILING SEPARATE." 5 false (column 0 5 (Int true SignKind.TrailingSeparate) ∷ [])
     ∷ accepted "05 A PIC 9(4) SIGN LEADING SEPARATE." 4 false (column 0 4 (Int false SignKind.Unsigned) ∷ [])
     -- P holds no byte of a number; precision and scale count it
@@ -368,17 +369,17 @@ table =
     ∷ widths "9(5)P" (5 ∷ 5 ∷ 5 ∷ 5 ∷ 5 ∷ 3 ∷ 4 ∷ [])
     ∷ widths "9(9)P" (9 ∷ 9 ∷ 9 ∷ 9 ∷ 9 ∷ 5 ∷ 4 ∷ [])
     ∷ widths "9(10)P" (10 ∷ 10 ∷ 10 ∷ 10 ∷ 10 ∷ 6 ∷ 8 ∷ [])
-    ∷ pictured "99P" Usage.Display SignClause.Absent 2 (Decimal 3 1 NumRepr.Display SignKind.Unsigned)
-    ∷ pictured "P(3)9" Usage.Display SignClause.Absent 1 (Decimal 4 3 NumRepr.Display SignKind.Unsigned)
-    ∷ pictured "VP9" Usage.Comp3 SignClause.Absent 1 (Decimal 2 2 NumRepr.Comp3 SignKind.Embedded)
-    ∷ pictured "S9P(4)" Usage.Display SignClause.Absent 1 (Decimal 5 4 NumRepr.Zoned SignKind.Embedded)
-    ∷ pictured "S9P(4)" Usage.Display (SignClause.Given SignKind.LeadingSeparate) 2
+    ∷ pictured "99P" Usage.Display None 2 (Decimal 3 1 NumRepr.Display SignKind.Unsigned)
+    ∷ pictured "P(3)9" Usage.Display None 1 (Decimal 4 3 NumRepr.Display SignKind.Unsigned)
+    ∷ pictured "VP9" Usage.Comp3 None 1 (Decimal 2 2 NumRepr.Comp3 SignKind.Embedded)
+    ∷ pictured "S9P(4)" Usage.Display None 1 (Decimal 5 4 NumRepr.Zoned SignKind.Embedded)
+    ∷ pictured "S9P(4)" Usage.Display (Some SignKind.LeadingSeparate) 2
     (Decimal 5 4 NumRepr.Display SignKind.LeadingSeparate)
-    ∷ pictured "P" Usage.Display SignClause.Absent 0 (Decimal 1 1 NumRepr.Display SignKind.Unsigned)
+    ∷ pictured "P" Usage.Display None 0 (Decimal 1 1 NumRepr.Display SignKind.Unsigned)
     -- nor of an edited item, whose mask keeps it
-    ∷ pictured "ZZ9P" Usage.Display SignClause.Absent 3 (Edited 4 1 false)
+    ∷ pictured "ZZ9P" Usage.Display None 3 (Edited 4 1 false)
     ∷ masked "ZZ9P" "ZZ9P"
-    ∷ pictured "zp(2)9.9" Usage.Display SignClause.Absent 4 (Edited 5 3 false)
+    ∷ pictured "zp(2)9.9" Usage.Display None 4 (Edited 5 3 false)
     ∷ masked "zp(2)9.9" "ZPP9.9"
     ∷ masked "SVZ" "Z"
     -- 31 digits and no more, P included
@@ -391,8 +392,8 @@ table =
     ∷ widths "$(32)" (32 ∷ 32 ∷ 32 ∷ 32 ∷ 32 ∷ 16 ∷ 8 ∷ [])
     ∷ widths "+(32)" (32 ∷ 32 ∷ 32 ∷ 32 ∷ 32 ∷ 16 ∷ 8 ∷ [])
     ∷ widths "-(32)" (32 ∷ 32 ∷ 32 ∷ 32 ∷ 32 ∷ 16 ∷ 8 ∷ [])
-    ∷ pictured "9(31)" Usage.Comp3 SignClause.Absent 16 (Decimal 31 0 NumRepr.Comp3 SignKind.Embedded)
-    ∷ pictured "9(30)P" Usage.Display SignClause.Absent 30 (Decimal 31 1 NumRepr.Display SignKind.Unsigned)
+    ∷ pictured "9(31)" Usage.Comp3 None 16 (Decimal 31 0 NumRepr.Comp3 SignKind.Embedded)
+    ∷ pictured "9(30)P" Usage.Display None 30 (Decimal 31 1 NumRepr.Display SignKind.Unsigned)
     ∷ unread "9(32)" Usage.Display 27
     ∷ unread "9(32)" Usage.Comp3 27
     ∷ unread "9(32)" Usage.Comp 27
@@ -405,19 +406,19 @@ table =
     ∷ unread "+(33)" Usage.Display 27
     ∷ unread "-(33)" Usage.Comp 27
     ∷ turned_down "05 Z PIC X. 05 A PIC 9(32)." 27 12
-    ∷ pictured "X(32)" Usage.Display SignClause.Absent 32 Text
+    ∷ pictured "X(32)" Usage.Display None 32 Text
     -- a mask of 255 bytes and no more, P included
-    ∷ pictured "B(255)" Usage.Display SignClause.Absent 255 (Edited 1 0 false)
-    ∷ pictured "9,(254)" Usage.Display SignClause.Absent 255 (Edited 1 0 false)
-    ∷ pictured "0(255)" Usage.Display SignClause.Absent 255 (Edited 1 0 false)
-    ∷ pictured "/(254)Z" Usage.Display SignClause.Absent 255 (Edited 1 0 false)
-    ∷ pictured "B(253)9P" Usage.Display SignClause.Absent 254 (Edited 2 1 false)
+    ∷ pictured "B(255)" Usage.Display None 255 (Edited 1 0 false)
+    ∷ pictured "9,(254)" Usage.Display None 255 (Edited 1 0 false)
+    ∷ pictured "0(255)" Usage.Display None 255 (Edited 1 0 false)
+    ∷ pictured "/(254)Z" Usage.Display None 255 (Edited 1 0 false)
+    ∷ pictured "B(253)9P" Usage.Display None 254 (Edited 2 1 false)
     ∷ unread "B(256)" Usage.Display 27
     ∷ unread "9,(255)" Usage.Display 27
     ∷ unread "0(256)" Usage.Display 27
     ∷ unread "/(255)Z" Usage.Display 27
     ∷ unread "B(254)9P" Usage.Display 27
-    ∷ pictured "B(256)9" Usage.Comp SignClause.Absent 2 (Binary false)
+    ∷ pictured "B(256)9" Usage.Comp None 2 (Binary false)
     -- SEPARATE counts after VALUE, which ends the reading of the other clauses
     ∷ accepted "05 A PIC S9(4) SIGN TRAILING VALUE 5 SEPARATE COMP." 5 false
     (column 0 5 (Int true SignKind.TrailingSeparate) ∷ [])

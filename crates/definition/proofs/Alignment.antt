@@ -1,20 +1,15 @@
 -- One fact of alignment, over the width: what `fewest` gives is below the width, brings the place to a multiple of it,
 -- and is the smallest such number.
 -- Assumes nothing.
-use Prim.Native.Nat.{ℕ, zero, suc, ◌+◌, ◌-◌, ◌%◌, ◌≤◌, ◌<◌}
-use mathlib.Core.Path.{◌≡◌, refl, sym, ◌∙◌, ap}
-use mathlib.Core.Logic.{◌⊎◌, inl, inr, ⊎_elim}
+use Prim.Native.Nat.{ℕ, ◌+◌, ◌-◌, ◌%◌, ◌≤◌, ◌<◌}
+use mathlib.Core.Path.{◌≡◌, sym, ◌∙◌, ap}
+use mathlib.Core.Logic.{⊎_elim}
 use native.Mathlib.Omega.{arith}
 use native.Mathlib.Nat.{mod-lt, mod-eq_of_lt, mod_self, mod-add-mod}
 use native.Mathlib.Nat.{sub-zero, add-zero}
 use Rattle.definition.specs.Basic.{fewest}
 use Rattle.definition.specs.Demand.{Fewest}
 use Rattle.definition.proofs.Lists.{order}
-
--- place r < w: either r = 0 and nothing is wanted, or w - r
-cases : (r : ℕ) → (r ≡ 0) ⊎ (0 < r)
-cases zero = inl refl
-cases (suc n) = inr (omega arith)
 
 module _ (w p : ℕ) (pos : 0 < w) where
   at_zero : p % w ≡ 0 → fewest w p ≡ 0
@@ -38,16 +33,14 @@ module _ (w p : ℕ) (pos : 0 < w) where
   pub fewest-slack : Fewest w p (fewest w p)
   fewest-slack =
       ⊎_elim
-      (λ (z : p % w ≡ 0). rw (at_zero z) (record { small = pos; reaches = rw add-zero z; least = λ m e. omega arith }))
       (λ (h : 0 < p % w).
       rw
       (at_some h)
-      (record {
-        small = omega (arith, mod-lt p pos);
-        reaches = sum_self h;
-        least = λ m e. ⊎_elim (λ (l : m < w - p % w). absurd (too_small m h l e)) (λ (l : w - p % w ≤ m). l) (order m (w - p % w));
-      }))
-      (cases (p % w))
+      (record { small = omega (arith, mod-lt p pos); reaches = sum_self h; least = λ m e. grind (arith, too_small m h) }))
+      (λ (z : p % w ≤ 0).
+      let none : p % w ≡ 0 = omega arith in
+      rw (at_zero none) (record { small = pos; reaches = rw add-zero none; least = λ m e. omega arith }))
+      (order 0 (p % w))
 
   -- two numbers that are the fewest are equal, so that the record says all there is to say
   pub fewest-only : (n : ℕ) → Fewest w p n → n ≡ fewest w p

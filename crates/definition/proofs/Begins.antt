@@ -2,26 +2,25 @@
 -- it from all others.
 -- Assumes nothing.
 use Prim.Native.Nat.{ℕ, suc, ◌+◌, ◌≤◌, ◌<◌}
-use mathlib.Core.Path.{◌≡◌, refl, sym, ◌∙◌, ap, ap₂, subst}
-use mathlib.Core.Bool.{Bool, true, false}
+use mathlib.Core.Path.{◌≡◌, refl, sym, ◌∙◌, subst}
 use mathlib.Core.List.{List, [], ◌∷◌, ◌++◌, append_assoc, append-nil}
-use mathlib.Core.Option.{Option, none, some}
+use Rattle.std.specs.Prelude.{Option, None, Some}
 use native.Mathlib.Omega.{arith}
-use lib.Dec.{eqb, leb, ltb}
+use lib.Dec.{leb}
 use Rattle.definition.specs.declared.Span.{Span}
 use Rattle.definition.specs.declared.ByteKind.{ByteKind}
-use Rattle.definition.specs.declared.ByteKind.TheVariants.{Newline, Blank, Cut, Star, Period, Other}
+use Rattle.definition.specs.declared.ByteKind.TheVariants.{Newline}
 use Rattle.definition.specs.declared.Mode.{Mode}
 use Rattle.definition.specs.declared.Mode.TheVariants.{Fresh, Between, Dropped, Within}
 use Rattle.definition.specs.declared.Token.{Token}
 use Rattle.definition.specs.declared.Token.TheVariants.{Word, Stop, Open}
 use Rattle.definition.specs.declared.Said.{Said}
-use Rattle.definition.specs.declared.Said.TheVariants.{Before, Value, Literal}
+use Rattle.definition.specs.declared.Said.TheVariants.{Before}
 use Rattle.definition.specs.declared.Statement.{Statement}
 use Rattle.definition.specs.declared.ItemUsage.{ItemUsage}
+use Rattle.definition.specs.declared.Refusal.{Refusal}
 use Rattle.definition.specs.Limits.{most_statements}
-use Rattle.std.specs.Prelude.{if◌then◌else◌}
-use Rattle.definition.specs.Basic.{Answer, give, ◌>>=◌, refuse_if}
+use Rattle.definition.specs.Basic.{Answer, Ok, ◌>>=◌, and_then, refuse_if}
 use Rattle.definition.specs.Words.{byte_kind, next, completed, completed_end, seen, said_next, unless_open, tokens}
 use Rattle.definition.specs.Words.{on_first, sentences, statement_words}
 use Rattle.definition.specs.Statement.{named, statement, statements, outermost}
@@ -68,80 +67,25 @@ module _ (p : ℕ) (ts : List Token) where
       Behind m p →
       Rises (low (next m p k) (p + 1)) (word_starts ts) →
       Rises (low m p) (word_starts (completed m p k ++ ts))
-  by_kind Dropped Newline h r = rises-from (p + 1) p (word_starts ts) (omega arith) r
-  by_kind Dropped Blank h r = rises-from (p + 1) p (word_starts ts) (omega arith) r
-  by_kind Dropped Cut h r = rises-from (p + 1) p (word_starts ts) (omega arith) r
-  by_kind Dropped Star h r = rises-from (p + 1) p (word_starts ts) (omega arith) r
-  by_kind Dropped Period h r = rises-from (p + 1) p (word_starts ts) (omega arith) r
-  by_kind Dropped Other h r = rises-from (p + 1) p (word_starts ts) (omega arith) r
-  by_kind Fresh Newline h r = rises-from (p + 1) p (word_starts ts) (omega arith) r
-  by_kind Fresh Blank h r = rises-from (p + 1) p (word_starts ts) (omega arith) r
-  by_kind Fresh Cut h r = rises-from (p + 1) p (word_starts ts) (omega arith) r
-  by_kind Fresh Star h r = rises-from (p + 1) p (word_starts ts) (omega arith) r
-  by_kind Fresh Period h r = rises-from (p + 1) p (word_starts ts) (omega arith) r
-  by_kind Fresh Other h r = r
-  by_kind Between Newline h r = rises-from (p + 1) p (word_starts ts) (omega arith) r
-  by_kind Between Blank h r = rises-from (p + 1) p (word_starts ts) (omega arith) r
-  by_kind Between Cut h r = rises-from (p + 1) p (word_starts ts) (omega arith) r
-  by_kind Between Star h r = r
-  by_kind Between Period h r = rises-from (p + 1) p (word_starts ts) (omega arith) r
-  by_kind Between Other h r = r
-  by_kind (Within s) Newline h r = (omega arith, rises-from (p + 1) (suc s) (word_starts ts) (omega arith) r)
-  by_kind (Within s) Blank h r = (omega arith, rises-from (p + 1) (suc s) (word_starts ts) (omega arith) r)
-  by_kind (Within s) Cut h r = (omega arith, rises-from (p + 1) (suc s) (word_starts ts) (omega arith) r)
-  by_kind (Within s) Star h r = r
-  by_kind (Within s) Period h r = (omega arith, rises-from (p + 1) (suc s) (word_starts ts) (omega arith) r)
-  by_kind (Within s) Other h r = r
+  by_kind m k h r =
+      grind (arith, rises-from (p + 1) p (word_starts ts), rises-from (p + 1) (suc (low m p)) (word_starts ts))
 
 behind-next : (m : Mode) (p : ℕ) (k : ByteKind) → Behind m p → Behind (next m p k) (p + 1)
-behind-next Dropped p Newline h = tt
-behind-next Dropped p Blank h = tt
-behind-next Dropped p Cut h = tt
-behind-next Dropped p Star h = tt
-behind-next Dropped p Period h = tt
-behind-next Dropped p Other h = tt
-behind-next Fresh p Newline h = tt
-behind-next Fresh p Blank h = tt
-behind-next Fresh p Cut h = tt
-behind-next Fresh p Star h = tt
-behind-next Fresh p Period h = tt
-behind-next Fresh p Other h = omega arith
-behind-next Between p Newline h = tt
-behind-next Between p Blank h = tt
-behind-next Between p Cut h = tt
-behind-next Between p Star h = omega arith
-behind-next Between p Period h = tt
-behind-next Between p Other h = omega arith
-behind-next (Within s) p Newline h = tt
-behind-next (Within s) p Blank h = tt
-behind-next (Within s) p Cut h = tt
-behind-next (Within s) p Star h = omega arith
-behind-next (Within s) p Period h = tt
-behind-next (Within s) p Other h = omega arith
+behind-next m p k h = grind arith
 
 -- a literal that is left open ends the words
 unless-open :
     (q : Said) (k : ByteKind) (ts : List Token) (n : ℕ) →
     Rises n (word_starts ts) →
     Rises n (word_starts (unless_open q k ts))
-unless-open (Before j) k ts n r = r
-unless-open Value k ts n r = r
-unless-open (Literal mark at) Newline ts n r = tt
-unless-open (Literal mark at) Blank ts n r = r
-unless-open (Literal mark at) Cut ts n r = r
-unless-open (Literal mark at) Star ts n r = r
-unless-open (Literal mark at) Period ts n r = r
-unless-open (Literal mark at) Other ts n r = r
+unless-open q k ts n r = grind arith
 
 at-end :
     (m : Mode) (p : ℕ) (ts : List Token) →
     Behind m p →
     Rises p (word_starts ts) →
     Rises (low m p) (word_starts (completed_end m p ++ ts))
-at-end Dropped p ts h r = r
-at-end Fresh p ts h r = r
-at-end Between p ts h r = r
-at-end (Within s) p ts h r = (omega arith, rises-from p (suc s) (word_starts ts) (omega arith) r)
+at-end m p ts h r = grind (arith, rises-from p (suc (low m p)) (word_starts ts))
 
 tokens-rise :
     (text bs : List ℕ) (q : Said) (m : Mode) (p : ℕ) →
@@ -171,8 +115,7 @@ rises-on_first :
     Rises n (begins (on_first w wss))
 rises-on_first n w [] h r = (h, tt)
 rises-on_first n w ([] ∷ wss) h r = (h, r)
-rises-on_first n w ((v ∷ vs) ∷ wss) h r =
-    (h, rises-from (suc v.start) (suc w.start) (begins wss) (omega (arith, r.0)) r.1)
+rises-on_first n w ((v ∷ vs) ∷ wss) h r = (h, rises-from (suc v.start) (suc w.start) (begins wss) (omega (arith, r.0)) r.1)
 
 sentences-rise : (ts : List Token) (n : ℕ) → Rises n (word_starts ts) → Rises n (begins (sentences ts))
 unfolding sentences
@@ -190,36 +133,18 @@ ats [] = []
 ats (s ∷ ss) = s.at ∷ ats ss
 
 module _ (text : List ℕ) where
-  named-at : (at level : ℕ) (ws : List Span) (s : Statement) → named text at level ws ≡ give s → s.at ≡ at
-  unfolding named
-  named-at at level [] s h = sym (ap (λ (x : Statement). x.at) (given-same h))
-  named-at at level (w ∷ ws) s h = through _ _ h λ c _ q. sym (ap (λ (x : Statement). x.at) (given-same q))
+  named-at : (at level : ℕ) (ws : List Span) (s : Statement) → named text at level ws ≡ Ok s → s.at ≡ at
+  unfolding named and_then
+  named-at at level ws s h = grind arith
 
   -- a kept statement begins at its first word
   statement-at :
       (ws : List Span) (s : Statement) (wss : List (List Span)) (n : ℕ) →
-      statement text ws ≡ give (some s) →
+      statement text ws ≡ Ok (Some s) →
       Rises n (begins (ws ∷ wss)) →
       (n ≤ s.at) × Rises (suc s.at) (begins wss)
-  unfolding statement
-  statement-at [] s wss n h r = none_kept (given-same h)
-    where
-      none_kept : {A : Type 0} → ◌≡◌ {A = Option Statement} none (some s) → A
-      none_kept e = absurd (let z : ◌≡◌ {A = ℕ} 0 1 = cc in omega arith)
-  statement-at (w ∷ ws) s wss n h r =
-      through _ _ h λ level _ q.
-      let e = by_level (eqb level 88) level q in
-      subst (λ (a : ℕ). (n ≤ a) × Rises (suc a) (begins wss)) (sym e) r
-    where
-      by_level :
-          (b : Bool) (level : ℕ) →
-          (if b then give none else (named text w.start level ws >>= λ t. give (some t))) ≡ give (some s) →
-          s.at ≡ w.start
-      by_level true level q = absurd (let z : ◌≡◌ {A = ℕ} 0 1 = cc in omega arith)
-      by_level false level q =
-          through _ _ q λ t g u.
-          let same : t ≡ s = let v = given-same u in cc in
-          ap (λ (x : Statement). x.at) (sym same) ∙ named-at w.start level ws t g
+  unfolding statement and_then
+  statement-at ws s wss n h r = grind (arith, named-at)
 
   after-empty : (n : ℕ) (ws : List Span) (wss : List (List Span)) → Rises n (begins (ws ∷ wss)) → Rises n (begins wss)
   after-empty n [] wss r = r
@@ -228,32 +153,28 @@ module _ (text : List ℕ) where
   abbrev others : ℕ → List (List Span) → Option Statement → Answer (List Statement)
   others k wss o =
       elim o [
-        | none ↦ statements text k wss
-        | some s ↦ do
-          _ ← refuse_if (leb most_statements k) 14 s.at
+        | None ↦ statements text k wss
+        | Some s ↦ do
+          _ ← refuse_if (leb most_statements k) (Refusal.TooManyStatements s.at)
           ss ← statements text (suc k) wss
-          give (s ∷ ss)
+          Ok (s ∷ ss)
       ]
 
   -- a statement that is skipped, and one that is kept
   kept-rise :
       (n k : ℕ) (ws : List Span) (wss : List (List Span)) →
-      ((n k : ℕ) (ss : List Statement) → statements text k wss ≡ give ss → Rises n (begins wss) → Rises n (ats ss)) →
+      ((n k : ℕ) (ss : List Statement) → statements text k wss ≡ Ok ss → Rises n (begins wss) → Rises n (ats ss)) →
       (o : Option Statement) (ss : List Statement) →
-      statement text ws ≡ give o →
-      others k wss o ≡ give ss →
+      statement text ws ≡ Ok o →
+      others k wss o ≡ Ok ss →
       Rises n (begins (ws ∷ wss)) →
       Rises n (ats ss)
-  kept-rise n k ws wss ih none ss e q r = ih n k ss q (after-empty n ws wss r)
-  kept-rise n k ws wss ih (some s) ss e q r =
-      through _ _ q λ _ _ q₁.
-      through _ _ q₁ λ rest g q₂.
-      let a = statement-at ws s wss n e r in
-      subst (λ (l : List Statement). Rises n (ats l)) (given-same q₂) (a.0, ih (suc s.at) (suc k) rest g a.1)
+  unfolding and_then
+  kept-rise n k ws wss ih o ss e q r = grind (arith, ih, after-empty n ws wss r, statement-at ws)
 
   statements-rise :
       (wss : List (List Span)) (n k : ℕ) (ss : List Statement) →
-      statements text k wss ≡ give ss →
+      statements text k wss ≡ Ok ss →
       Rises n (begins wss) →
       Rises n (ats ss)
   unfolding statements
@@ -271,30 +192,17 @@ beginnings (item s kids later) = s.at ∷ (beginnings kids ++ beginnings later)
 above-begin : (n : ℕ) (f : Forest) → beginnings (above n f) ++ beginnings (not_above n f) ≡ beginnings f
 unfolding above not_above
 above-begin n leaf = refl
-above-begin n (item s kids later) = by-test (ltb n s.level) (above-begin n later)
-  where
-    by-test :
-        (b : Bool) →
-        beginnings (above n later) ++ beginnings (not_above n later) ≡ beginnings later →
-        beginnings (if b then item s kids (above n later) else leaf) ++ beginnings
-        (if b then not_above n later else item s kids later) ≡ beginnings (item s kids later)
-    by-test true ih =
-        ap (λ (l : List ℕ). s.at ∷ l)
-        (append_assoc (beginnings kids) (beginnings (above n later)) (beginnings (not_above n later)) ∙ ap
-        (λ (l : List ℕ). beginnings kids ++ l) ih)
-    by-test false ih = refl
+above-begin n (item s kids later) = grind (arith, append_assoc, above-begin n later)
 
 forest-begin : (ss : List Statement) → beginnings (forest ss) ≡ ats ss
 unfolding forest
 forest-begin [] = refl
-forest-begin (s ∷ ss) = ap (λ (l : List ℕ). s.at ∷ l) (above-begin s.level (forest ss) ∙ forest-begin ss)
+forest-begin (s ∷ ss) = cc (above-begin s.level (forest ss), forest-begin ss)
 
 inherit-begin : (outer : ItemUsage) (f : Forest) → beginnings (inherit outer f) ≡ beginnings f
 unfolding inherit
 inherit-begin outer leaf = refl
-inherit-begin outer (item s kids later) =
-    ap₂ (λ (a b : List ℕ). s.at ∷ (a ++ b)) (inherit-begin (inheriting outer s).usage kids)
-    (inherit-begin outer later)
+inherit-begin outer (item s kids later) = cc (inherit-begin (inheriting outer s).usage kids, inherit-begin outer later)
 
 fields-rise : (f : Forest) → Rises 0 (beginnings f) → Rises 0 (beginnings (fields f))
 unfolding fields
@@ -307,7 +215,7 @@ fields-rise (item s leaf (item t kids later)) r = r
 fields-rise (item s (item u us vs) (item t kids later)) r = r
 
 -- the fields of a copybook's record begin at rising positions
-pub fields-begin : (text : List ℕ) (work : ℕ) (f : Forest) → record_fields text work ≡ give f → Rises 0 (beginnings f)
+pub fields-begin : (text : List ℕ) (work : ℕ) (f : Forest) → record_fields text work ≡ Ok f → Rises 0 (beginnings f)
 unfolding record_fields kept_statements
 fields-begin text work f h =
     through _ _ h λ _ _ h₁.

@@ -3,37 +3,35 @@
 -- view that passes them.
 -- Assumes nothing.
 use Prim.Native.Nat.{ℕ, zero, suc, ◌+◌, ◌-◌, ◌≤◌, ◌<◌}
-use mathlib.Core.Path.{◌≡◌, refl, sym, ◌∙◌, ap}
-use mathlib.Core.Bool.{Bool, true, false, ◌&&◌, ◌||◌}
+use mathlib.Core.Path.{◌≡◌, refl, ap}
+use mathlib.Core.Bool.{Bool, true, false, ◌||◌}
 use mathlib.Core.List.{List, [], ◌∷◌, ◌++◌}
-use mathlib.Core.Option.{Option, none, some}
+use Rattle.std.specs.Prelude.{None}
 use mathlib.Core.Logic.{⊎_elim}
 use native.Mathlib.Omega.{arith}
 use native.Mathlib.Nat.{sub_self}
-use lib.Dec.{eqb, ltb}
+use lib.Dec.{eqb}
 use lib.ListN.{length, get_or, drop, length-drop}
 use lib.Seq.{get_or-drop}
 use Rattle.definition.specs.declared.Span.{Span}
 use Rattle.definition.specs.declared.ByteKind.{ByteKind}
-use Rattle.definition.specs.declared.ByteKind.TheVariants.{Newline, Blank, Cut, Star, Period, Other}
+use Rattle.definition.specs.declared.ByteKind.TheVariants.{Newline}
 use Rattle.definition.specs.declared.Mode.{Mode}
 use Rattle.definition.specs.declared.Mode.TheVariants.{Fresh, Between, Dropped, Within}
 use Rattle.definition.specs.declared.Said.{Said}
-use Rattle.definition.specs.declared.Said.TheVariants.{Before, Value, Literal}
+use Rattle.definition.specs.declared.Said.TheVariants.{Before}
 use Rattle.definition.specs.declared.Token.{Token}
 use Rattle.definition.specs.declared.Token.TheVariants.{Word, Stop, Open}
-use Rattle.definition.specs.Limits.{most_bytes, least_work}
-use Rattle.std.specs.Prelude.{if◌then◌else◌}
-use Rattle.definition.specs.Basic.{is, white, span, part, give, ◌>>=◌, refused}
-use Rattle.definition.specs.Words.{cut_here, ends, byte_kind, next, completed, completed_end, seen, said_next}
+use Rattle.definition.specs.Basic.{white, span, part, Ok, and_then}
+use Rattle.definition.specs.Words.{byte_kind, next, completed, completed_end, seen, said_next}
 use Rattle.definition.specs.Words.{unless_open, tokens, tokens_of, on_first, sentences, statement_words}
-use Rattle.definition.specs.Cards.{column_next, code_next, is_read, view_from, view, Form, free_text}
+use Rattle.definition.specs.Cards.{column_next, code_next, view_from, view, Form, free_text}
 use Rattle.definition.specs.Cards.{card_text, view_in}
 use Rattle.definition.specs.Calls.{first_wide, text_checks, entry_checks}
 use Rattle.definition.proofs.Lists.{order, take_next}
-use Rattle.definition.proofs.Answers.{through, not-refused, or-false}
+use Rattle.definition.proofs.Answers.{or-false}
 use Rattle.definition.proofs.SpanLaws.{Sentences}
-use Rattle.definition.proofs.WordLaws.{kind_at, never, stays_within, tokens-next, tokens-end}
+use Rattle.definition.proofs.WordLaws.{kind_at, stays_within, tokens-next, tokens-end}
 
 -- ---------------------------------------------------------------- the view, byte by byte
 
@@ -46,17 +44,13 @@ view-from-length (b ∷ bs) n code = ap suc (view-from-length bs (column_next n 
 pub view-length : (cards : List ℕ) → length (view cards) ≡ length cards
 view-length cards = view-from-length cards 1 false
 
-own : (t : Bool) (b : ℕ) → white (if t then b else 32) ≡ false → (if t then b else 32) ≡ b
-own true b h = refl
-own false b h = never (sym h)
-
 view-from-byte :
     (bs : List ℕ) (n : ℕ) (code : Bool) (i : ℕ) →
     white (get_or (view_from n code bs) i 0) ≡ false →
     get_or (view_from n code bs) i 0 ≡ get_or bs i 0
 unfolding view_from
 view-from-byte [] n code i h = refl
-view-from-byte (b ∷ bs) n code zero h = own (is_read n code b) b h
+view-from-byte (b ∷ bs) n code zero h = grind arith
 view-from-byte (b ∷ bs) n code (suc i) h = view-from-byte bs (column_next n b) (code_next n code b) i h
 
 -- what is not white in it stands so in the card text
@@ -68,29 +62,12 @@ view-byte cards i h = view-from-byte cards 1 false i h
 
 -- ---------------------------------------------------------------- words
 
--- only a byte that is not white goes into a word
-stays_out : (q : Said) → (stays_within (seen q Newline) ≡ false) × (stays_within (seen q Blank) ≡ false)
-stays_out (Before n) = (refl, refl)
-stays_out Value = (refl, refl)
-stays_out (Literal mark at) = (refl, refl)
-
-goes_in :
-    (n w : Bool) (k : ByteKind) (q : Said) →
-    stays_within (seen q (if n then Newline else if w then Blank else k)) ≡ true →
-    n || w ≡ false
-goes_in true w k q h = never (sym (stays_out q).0 ∙ h)
-goes_in false true k q h = never (sym (stays_out q).1 ∙ h)
-goes_in false false k q h = refl
-
-not_white : (b : ℕ) (bs : List ℕ) (q : Said) → stays_within (seen q (byte_kind b bs)) ≡ true → eqb b 10 || white b ≡ false
+not_white :
+    (b : ℕ) (bs : List ℕ) (q : Said) →
+    stays_within (seen q (byte_kind b bs)) ≡ true →
+    eqb b 10 || white b ≡ false
 unfolding byte_kind
-not_white b bs q h =
-    goes_in
-    (eqb b 10)
-    (white b)
-    (if cut_here (b ∷ bs) then Cut else if is "*" b then Star else if is "." b && ends bs then Period else Other)
-    q
-    h
+not_white b bs q h = grind arith
 
 -- two texts of one length, the second with the bytes of the first that are not white
 module _
@@ -139,54 +116,17 @@ module _
         (m : Mode) (k : ByteKind) (p : ℕ) → p < length v → (stays_within k ≡ true → white (get_or v p 0) ≡ false) →
         SoFar p m →
         SoFar (p + 1) (next m p k)
-    so_far Dropped k p h w x = elim k as (λ j. SoFar (p + 1) (next Dropped p j)) [ Newline ↦ tt | Blank ↦ tt | Cut ↦ tt | Star ↦ tt | Period ↦ tt | Other ↦ tt ]
-    so_far Fresh Newline p h w x = tt
-    so_far Fresh Blank p h w x = tt
-    so_far Fresh Cut p h w x = tt
-    so_far Fresh Star p h w x = tt
-    so_far Fresh Period p h w x = tt
-    so_far Fresh Other p h w x = begun p h (w refl)
-    so_far Between Newline p h w x = tt
-    so_far Between Blank p h w x = tt
-    so_far Between Cut p h w x = tt
-    so_far Between Star p h w x = begun p h (w refl)
-    so_far Between Period p h w x = tt
-    so_far Between Other p h w x = begun p h (w refl)
-    so_far (Within s) Newline p h w x = tt
-    so_far (Within s) Blank p h w x = tt
-    so_far (Within s) Cut p h w x = tt
-    so_far (Within s) Star p h w x = (omega arith, one_more s p x.0 h (w refl) x.1)
-    so_far (Within s) Period p h w x = tt
-    so_far (Within s) Other p h w x = (omega arith, one_more s p x.0 h (w refl) x.1)
+    so_far m k p h w x = grind (arith, begun, one_more)
 
     all-completed :
         (m : Mode) (k : ByteKind) (p : ℕ) (ts : List Token) → SoFar p m → AllSame ts → AllSame (completed m p k ++ ts)
-    all-completed Dropped k p ts x a = a
-    all-completed Fresh k p ts x a =
-        elim k as (λ j. AllSame (completed Fresh p j ++ ts)) [ Newline ↦ a | Blank ↦ a | Cut ↦ a | Star ↦ a | Period ↦ a | Other ↦ a ]
-    all-completed Between k p ts x a =
-        elim k as (λ j. AllSame (completed Between p j ++ ts)) [ Newline ↦ a | Blank ↦ a | Cut ↦ a | Star ↦ a | Period ↦ a | Other ↦ a ]
-    all-completed (Within s) k p ts x a =
-        elim k as (λ j. AllSame (completed (Within s) p j ++ ts)) [
-          | Newline ↦ (x.1, a)
-          | Blank ↦ (x.1, a)
-          | Cut ↦ (x.1, a)
-          | Star ↦ a
-          | Period ↦ (x.1, a)
-          | Other ↦ a
-        ]
+    all-completed m k p ts x a = grind arith
 
     all-open : (q : Said) (k : ByteKind) (ts : List Token) → AllSame ts → AllSame (unless_open q k ts)
-    all-open (Before n) k ts a = a
-    all-open Value k ts a = a
-    all-open (Literal mark at) k ts a =
-        elim k as (λ j. AllSame (unless_open (Literal mark at) j ts)) [ Newline ↦ tt | Blank ↦ a | Cut ↦ a | Star ↦ a | Period ↦ a | Other ↦ a ]
+    all-open q k ts a = grind arith
 
     all_end : (m : Mode) (q : Said) (p : ℕ) → SoFar p m → AllSame (completed_end m p ++ unless_open q Newline [])
-    all_end Dropped q p x = all-open q Newline [] tt
-    all_end Fresh q p x = all-open q Newline [] tt
-    all_end Between q p x = all-open q Newline [] tt
-    all_end (Within s) q p x = (x.1, all-open q Newline [] tt)
+    all_end m q p x = grind (arith, all-open q Newline [] tt)
 
     -- every word of the first text has the same bytes in the second
     all_same :
@@ -209,8 +149,7 @@ module _
     StatementsSame = Sentences SameIn
 
     first-same : (w : Span) (wss : List (List Span)) → SameIn w → StatementsSame wss → StatementsSame (on_first w wss)
-    first-same w [] e a = ((e, tt), tt)
-    first-same w (ws ∷ wss) e a = ((e, a.0), a.1)
+    first-same w wss e a = grind arith
 
     sentences-same : (ts : List Token) → AllSame ts → StatementsSame (sentences ts)
     unfolding sentences
@@ -232,51 +171,17 @@ view-words card_text text = words_same (view text) text (view-length text) (view
 
 -- ---------------------------------------------------------------- the checks of the view
 
-narrow : (t : Bool) (b : ℕ) → ltb 127 b ≡ false → ltb 127 (if t then b else 32) ≡ false
-narrow true b h = h
-narrow false b h = refl
-
-some-none {ℓ} : {A : Type ℓ} (p : ℕ) → some p ≡ none → A
-some-none p h = absurd (let z : ◌≡◌ {A = ℕ} 0 1 = cc in omega arith)
-
-narrow-first : (w : Bool) (p : ℕ) (o : Option ℕ) → (if w then some p else o) ≡ none → (w ≡ false) × (o ≡ none)
-narrow-first true p o h = some-none p h
-narrow-first false p o h = (refl, h)
-
 view-narrow :
     (bs : List ℕ) (n : ℕ) (code : Bool) (p : ℕ) →
-    first_wide p bs ≡ none →
-    first_wide p (view_from n code bs) ≡ none
+    first_wide p bs ≡ None →
+    first_wide p (view_from n code bs) ≡ None
 unfolding first_wide view_from
 view-narrow [] n code p h = refl
-view-narrow (b ∷ bs) n code p h =
-    let s = narrow-first (ltb 127 b) p (first_wide (p + 1) bs) h in
-    rw (narrow (is_read n code b) b s.0) (view-narrow bs (column_next n b) (code_next n code b) (p + 1) s.1)
-
-pass :
-    (text : List ℕ) (work : ℕ) →
-    ltb most_bytes (length text) ≡ false →
-    first_wide 0 text ≡ none →
-    ltb work least_work ≡ false →
-    entry_checks text work ≡ give tt
-unfolding entry_checks text_checks ◌>>=◌
-pass text work l f w = rw (l, f, w)
-
-found_none : (o : Option ℕ) {x : Unit {0}} → (elim o [ none ↦ give tt | some p ↦ refused 2 p ]) ≡ give x → o ≡ none
-found_none none h = refl
-found_none (some p) h = absurd (let z : ◌≡◌ {A = ℕ} 0 1 = cc in omega arith)
+view-narrow (b ∷ bs) n code p h = grind (arith, view-narrow bs (column_next n b) (code_next n code b) (p + 1))
 
 -- the free call on the view looks again for 1, 2 and 3, and finds none
 pub view-checks :
     (cards :
-    List ℕ) (work : ℕ) {x : Unit {0}} → entry_checks cards work ≡ give x → entry_checks (view cards) work ≡ give tt
-unfolding entry_checks text_checks
-view-checks cards work h =
-    through _ _ h λ _ e g.
-    through _ _ e λ _ l f.
-    pass
-    (view cards)
-    work
-    (ap (ltb most_bytes) (view-length cards) ∙ not-refused (ltb most_bytes (length cards)) 1 0 l)
-    (view-narrow cards 1 false 0 (found_none (first_wide 0 cards) f))
-    (not-refused (ltb work least_work) 3 0 g)
+    List ℕ) (work : ℕ) {x : Unit {0}} → entry_checks cards work ≡ Ok x → entry_checks (view cards) work ≡ Ok tt
+unfolding entry_checks text_checks and_then
+view-checks cards work h = grind (arith, view-length cards, view-narrow cards 1 false 0)

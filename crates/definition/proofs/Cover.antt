@@ -1,26 +1,24 @@
 -- The layout of a forest without REDEFINES and DEPENDING ON lays what the owner rule lays.
 -- Assumes nothing.
-use Prim.Native.Nat.{ℕ, suc, ◌+◌, ◌*◌, ◌-◌, max}
+use Prim.Native.Nat.{ℕ, suc, ◌+◌, ◌-◌, max}
 use mathlib.Core.Path.{◌≡◌, refl, sym, ◌∙◌, ap, ap₂}
-use mathlib.Core.Bool.{Bool, true, false, ◌&&◌}
+use mathlib.Core.Bool.{Bool, false}
 use mathlib.Core.List.{List, [], ◌∷◌}
 use native.Mathlib.Omega.{arith}
 use native.Mathlib.Nat.{add-zero, zero-add}
 use Rattle.definition.specs.declared.Pictured.{Pictured}
 use Rattle.definition.specs.declared.Statement.{Statement}
 use Rattle.std.specs.Prelude.{if◌then◌else◌}
-use Rattle.definition.specs.Basic.{given, fewest, give}
+use Rattle.definition.specs.Basic.{given, Ok}
 use Rattle.definition.specs.Tree.{Forest, leaf, item}
-use Rattle.definition.specs.Fold.{Entries, end, entry, Place, place_of, times, entry_end, same_name}
+use Rattle.definition.specs.Fold.{Entries, end, entry, Place, place_of, times, entry_end}
 use Rattle.definition.specs.Fold.{redefiners, fold_check, folded_list, folded_below, folded_all}
 use Rattle.definition.specs.Layout.{Laid, content, start, slack_from, entry_of, too_large, advance, shallow, lay}
 use Rattle.definition.specs.Record.{record_length, unfolded, layout}
-use Rattle.definition.specs.Owner.{slack, Piece, piece, extent, repeated, size, or_none, storage, is_aligned}
+use Rattle.definition.specs.Owner.{Piece, extent, repeated, size}
 use Rattle.definition.specs.Owner.{slack_before, once, laid_item, laid, overlaid}
 use Rattle.definition.specs.Placed.{content_of, entry_at, placed}
-use Rattle.definition.proofs.Answers.{through, given-same, not-refused, or-false}
-use Rattle.definition.proofs.LayoutLaws.{redefiners-none, redefiners-ends, redefiners-next, folded-none}
-use Rattle.definition.proofs.LayoutLaws.{folded-base, below_none, below-entry}
+use Rattle.definition.proofs.Answers.{through, given-same, not-refused}
 use Rattle.definition.proofs.Pieces.{extent-append, extent-repeated}
 
 -- ---------------------------------------------------------------- plain forests
@@ -37,11 +35,7 @@ Plain (item s kids later) = PlainStatement s × Plain kids × Plain later
 pub plain : (f : Forest) → overlaid f ≡ false → Plain f
 unfolding overlaid
 plain leaf h = tt
-plain (item s kids later) h =
-    let a = or-false _ _ h in
-    let b = or-false _ _ a.0 in
-    let c = or-false _ _ b.0 in
-    (record { redefines = c.0; depending = c.1 }, plain kids b.1, plain later a.1)
+plain (item s kids later) h = grind (arith, plain kids, plain later)
 
 -- ---------------------------------------------------------------- without REDEFINES a fold changes nothing
 
@@ -52,47 +46,36 @@ Unfolded (entry e members later) = (given e.redefines ≡ false) × Unfolded lat
 
 module _ (text : List ℕ) where
   no-redefiners : (base : Place) (es : Entries) → Unfolded es → redefiners text base es ≡ end
-  no-redefiners base end u = redefiners-none text base
-  no-redefiners base (entry e members later) u = by_name (same_name text base.name e.name) refl (no-redefiners base later u.1)
-    where
-      by_name : (b : Bool) → same_name text base.name e.name ≡ b → redefiners text base later ≡ end → redefiners text base (entry e members later) ≡ end
-      by_name true h ih = redefiners-ends text base e members later u.0 h
-      by_name false h ih = redefiners-next text base e members later u.0 h ∙ ih
+  unfolding redefiners
+  no-redefiners base end u = refl
+  no-redefiners base (entry e members later) u = grind (arith, no-redefiners base later u.1)
 
   pub fold-plain : (bases : List Place) (es : Entries) → Unfolded es → folded_list text bases es ≡ es
-  fold-plain bases end u = folded-none text bases
+  unfolding folded_list
+  fold-plain bases end u = refl
   fold-plain bases (entry e members later) u =
-      folded-base text bases e members later u.0 ∙ rw (fold-plain (place_of e ∷ bases) later u.1, no-redefiners (place_of e) later u.1)
+      grind (arith, fold-plain (place_of e ∷ bases) later u.1, no-redefiners (place_of e) later u.1)
 
   -- ---------------------------------------------------------------- one item
 
   -- an occurrence is as wide as the entry
-  pub once-width : (k : ℕ) (s : Statement) (kids : Forest) (inner : List Piece) → extent (once text k s kids inner) ≡ (content_of text s kids (extent inner)).width
-  once-width k s leaf inner = add-zero (storage text s).width
-  once-width k s (item t kids later) inner = refl
+  pub once-width :
+      (k : ℕ) (s : Statement) (kids : Forest) (inner : List Piece) →
+      extent (once text k s kids inner) ≡ (content_of text s kids (extent inner)).width
+  once-width k s kids inner = grind (arith, add-zero)
 
-  pub content-given : (s : Statement) (kids : Forest) (w : ℕ) (c : Pictured) → content text s kids w ≡ give c → c ≡ content_of text s kids w
-  content-given s leaf w c h = sym (ap or_none h)
-  content-given s (item t kids later) w c h = sym (given-same h)
-
-  slack-start :
-      (b : Bool) (k w place : ℕ) →
-      (if b then give (place + fewest w place) else give place) ≡ give (place + extent (if b then piece (slack k) (fewest w place) ∷ [] else []))
-  slack-start true k w place = ap give (omega arith)
-  slack-start false k w place = ap give (omega arith)
-
-  and-false : (b : Bool) → (b && false) ≡ false
-  and-false true = refl
-  and-false false = refl
+  pub content-given :
+      (s : Statement) (kids : Forest) (w : ℕ) (c : Pictured) →
+      content text s kids w ≡ Ok c →
+      c ≡ content_of text s kids w
+  content-given s kids w c h = grind arith
 
   -- without REDEFINES an item starts after its slack
   pub start-given :
       (k place : ℕ) (seen : List Place) (s : Statement) (kids : Forest) (w : ℕ) →
       given s.clauses.redefines ≡ false →
-      start text s (content_of text s kids w) seen place ≡ give (place + extent (slack_before text k place s kids))
-  start-given k place seen s leaf w r =
-      rw (r, start) (slack-start (is_aligned text s) k (storage text s).width place)
-  start-given k place seen s (item t kids later) w r = rw (r, start, and-false s.clauses.sync) (ap give (omega arith))
+      start text s (content_of text s kids w) seen place ≡ Ok (place + extent (slack_before text k place s kids))
+  start-given k place seen s kids w r = grind arith
 
   -- it ends where the item is laid
   pub item-end :
@@ -101,11 +84,9 @@ module _ (text : List ℕ) where
       entry_end (entry_at text k place s kids inner) ≡ place + extent (laid_item text k place s kids inner)
   item-end k place s kids inner p =
       let n = times s.clauses.occurs in
-      let w = (content_of text s kids (extent inner)).width in
       let before = slack_before text k place s kids in
       let one = once text k s kids inner in
-      ap (λ (b : Bool). place + extent before + (if b then 0 else w * n)) p.depending
-      ∙ omega (arith, extent-append before (repeated n one), extent-repeated n one, ap (λ (x : ℕ). x * n) (once-width k s kids inner))
+      grind (arith, extent-append before (repeated n one), extent-repeated n one, once-width k s kids inner)
 
   -- what the layout lays, and what the owner rule lays
   pub record Agrees (k place : ℕ) (f : Forest) (l : Laid) : Type 0 where
@@ -124,20 +105,24 @@ module _ (text : List ℕ) where
     pub has : Pictured
     pub offset : ℕ
     pub rest : Laid
-    pub nested : shallow (suc depth) kids ≡ give tt
-    pub inner-laid : lay text (suc depth) [] 0 0 kids ≡ give inner
-    pub checked : fold_check text [] inner.entries ≡ give tt
-    pub contains : content text s kids inner.width ≡ give has
-    pub begins : start text s has seen cursor ≡ give offset
+    pub nested : shallow (suc depth) kids ≡ Ok tt
+    pub inner-laid : lay text (suc depth) [] 0 0 kids ≡ Ok inner
+    pub checked : fold_check text [] inner.entries ≡ Ok tt
+    pub contains : content text s kids inner.width ≡ Ok has
+    pub begins : start text s has seen cursor ≡ Ok offset
     pub small : too_large (entry_of s has offset (slack_from cursor s offset)) ≡ false
     pub later-laid :
         let e = entry_of s has offset (slack_from cursor s offset) in
-        lay text depth (place_of e ∷ seen) (advance cursor e) (max reach (entry_end e)) later ≡ give rest
-    pub result : l ≡ record { entries = entry (entry_of s has offset (slack_from cursor s offset)) inner.entries rest.entries; width = rest.width }
+        lay text depth (place_of e ∷ seen) (advance cursor e) (max reach (entry_end e)) later ≡ Ok rest
+    pub result : l ≡ record {
+      entries =
+          entry (entry_of s has offset (slack_from cursor s offset)) inner.entries rest.entries;
+      width = rest.width;
+    }
 
   pub item-laid :
       (depth : ℕ) (seen : List Place) (cursor reach : ℕ) (s : Statement) (kids later : Forest) (l : Laid) →
-      lay text depth seen cursor reach (item s kids later) ≡ give l →
+      lay text depth seen cursor reach (item s kids later) ≡ Ok l →
       ItemLaid depth seen cursor reach s kids later l
   unfolding lay
   item-laid depth seen cursor reach s kids later l h =
@@ -158,10 +143,25 @@ module _ (text : List ℕ) where
         checked = e₃;
         contains = e₄;
         begins = e₅;
-        small = not-refused (too_large (entry_of s has offset (slack_from cursor s offset))) 29 s.at e₆;
+        small = not-refused (too_large (entry_of s has offset (slack_from cursor s offset))) _ e₆;
         later-laid = e₇;
         result = sym (given-same h₇);
       }
+
+  -- and what the fields of a record that was laid out went through, line by line of `unfolded`
+  pub record LaidOut (f : Forest) (tree : Entries) : Type 0 where
+    pub list : Laid
+    pub list-laid : lay text 0 [] 0 0 f ≡ Ok list
+    pub list-checked : fold_check text [] list.entries ≡ Ok tt
+    pub is : list.entries ≡ tree
+
+  pub laid-out : (f : Forest) (tree : Entries) → unfolded text f ≡ Ok tree → LaidOut f tree
+  unfolding unfolded
+  laid-out f tree h =
+      through _ _ h λ l e₁ h₁.
+      through _ _ h₁ λ _ e₂ h₂.
+      through _ _ h₂ λ _ _ h₃.
+      record { list = l; list-laid = e₁; list-checked = e₂; is = given-same h₃ }
 
   -- its entry is the one that the owner rule places
   item-agrees :
@@ -171,7 +171,9 @@ module _ (text : List ℕ) where
       entry_of s r.has r.offset (slack_from place s r.offset) ≡ entry_at text k place s kids (laid text (suc k) 0 kids)
   item-agrees depth seen k place s kids later l r ps ih =
       let laid_kids = laid text (suc k) 0 kids in
-      let same-has = content-given s kids r.inner.width r.has r.contains ∙ ap (content_of text s kids) (ih.width ∙ zero-add (extent laid_kids)) in
+      let same-has =
+      content-given s kids r.inner.width r.has r.contains
+      ∙ ap (content_of text s kids) (ih.width ∙ zero-add (extent laid_kids)) in
       let same-offset =
       given-same
       (sym r.begins ∙ ap (λ (c : Pictured). start text s c seen place) same-has ∙ start-given k place seen s kids (extent laid_kids) ps.redefines) in
@@ -184,33 +186,33 @@ module _ (text : List ℕ) where
   pub lay-placed :
       (f : Forest) (depth : ℕ) (seen : List Place) (k place : ℕ) (l : Laid) →
       Plain f →
-      lay text depth seen place place f ≡ give l →
+      lay text depth seen place place f ≡ Ok l →
       Agrees k place f l
   unfolding lay laid placed
-  lay-placed leaf depth seen k place l p h =
-      let e = given-same h in
-      record { entries = sym (ap (λ (x : Laid). x.entries) e); width = sym (ap (λ (x : Laid). x.width) e) ∙ sym (add-zero place) }
+  lay-placed leaf depth seen k place l p h = let e = given-same h in record { entries = cc; width = grind arith }
   lay-placed (item s kids later) depth seen k place l p h =
       let r = item-laid depth seen place place s kids later l h in
       let ih = lay-placed kids (suc depth) [] (suc k) 0 r.inner p.1 r.inner-laid in
       let a = item-agrees depth seen k place s kids later l r p.0 ih in
       let e = entry_of s r.has r.offset (slack_from place s r.offset) in
       let own = laid_item text k place s kids (laid text (suc k) 0 kids) in
-      let ends : entry_end e ≡ place + extent own = ap entry_end a ∙ item-end k place s kids (laid text (suc k) 0 kids) p.0 in
-      let moved : advance place e ≡ place + extent own = ap (λ (b : Bool). if b then place else entry_end e) p.0.redefines ∙ ends in
-      let reached : max place (entry_end e) ≡ place + extent own = ap (max place) ends ∙ omega arith in
-      let next = ap₂ (λ (x y : ℕ). lay text depth (place_of e ∷ seen) x y later) (sym moved) (sym reached) ∙ r.later-laid in
+      let ends : entry_end e ≡ place + extent own =
+      ap entry_end a ∙ item-end k place s kids (laid text (suc k) 0 kids) p.0 in
+      let moved : advance place e ≡ place + extent own = grind arith in
+      let reached : max place (entry_end e) ≡ place + extent own = omega arith in
+      let next =
+      ap₂ (λ (x y : ℕ). lay text depth (place_of e ∷ seen) x y later) (sym moved) (sym reached) ∙ r.later-laid in
       let ihs = lay-placed later depth (place_of e ∷ seen) (suc k + size kids) (place + extent own) r.rest p.2 next in
       record {
         entries = ap (λ (x : Laid). x.entries) r.result ∙ (λ i. entry (a i) (ih.entries i) (ihs.entries i));
-        width =
-            ap (λ (x : Laid). x.width) r.result
-            ∙ ihs.width
-            ∙ omega (arith, extent-append own (laid text (suc k + size kids) (place + extent own) later));
+        width = grind (arith, extent-append own (laid text (suc k + size kids) (place + extent own) later));
       }
 
   -- the record length of the placed entries is what the owner rule lays
-  pub placed-length : (k place : ℕ) (f : Forest) → Plain f → max place (record_length (placed text k place f)) ≡ place + extent (laid text k place f)
+  pub placed-length :
+      (k place : ℕ) (f : Forest) →
+      Plain f →
+      max place (record_length (placed text k place f)) ≡ place + extent (laid text k place f)
   unfolding placed laid record_length
   placed-length k place leaf p = omega arith
   placed-length k place (item s kids later) p =
@@ -226,23 +228,22 @@ module _ (text : List ℕ) where
 
   -- folding changes no list of it
   below_plain : (k place : ℕ) (f : Forest) → Plain f → folded_below text (placed text k place f) ≡ placed text k place f
-  unfolding placed
-  below_plain k place leaf p = below_none text
+  unfolding placed folded_below
+  below_plain k place leaf p = refl
   below_plain k place (item s kids later) p =
       let inner = laid text (suc k) 0 kids in
       let next = place + extent (laid_item text k place s kids inner) in
-      below-entry text (entry_at text k place s kids inner) (placed text (suc k) 0 kids) (placed text (suc k + size kids) next later)
-      ∙ ap₂ (entry (entry_at text k place s kids inner))
+      ap₂ (entry (entry_at text k place s kids inner))
       (ap (folded_list text []) (below_plain (suc k) 0 kids p.1) ∙ fold-plain [] (placed text (suc k) 0 kids) (placed-unfolded (suc k) 0 kids p.1))
       (below_plain (suc k + size kids) next later p.2)
 
-  pub layout-placed : (f : Forest) (es : Entries) → Plain f → layout text f ≡ give es → es ≡ placed text 0 0 f
-  unfolding layout unfolded
+  pub layout-placed : (f : Forest) (es : Entries) → Plain f → layout text f ≡ Ok es → es ≡ placed text 0 0 f
+  unfolding layout
   layout-placed f es p h =
       through _ _ h λ tree h₀ q.
-      through _ _ h₀ λ l e₁ h₁.
-      through _ _ h₁ λ _ _ h₂.
-      through _ _ h₂ λ _ _ h₃.
-      let a = lay-placed f 0 [] 0 0 l p e₁ in
-      let same : tree ≡ placed text 0 0 f = sym (given-same h₃) ∙ a.entries in
-      sym (given-same q) ∙ ap (folded_all text) same ∙ ap (folded_list text []) (below_plain 0 0 f p) ∙ fold-plain [] (placed text 0 0 f) (placed-unfolded 0 0 f p)
+      let r = laid-out f tree h₀ in
+      let a = lay-placed f 0 [] 0 0 r.list p r.list-laid in
+      sym (given-same q)
+      ∙ ap (folded_all text) (sym r.is ∙ a.entries)
+      ∙ ap (folded_list text []) (below_plain 0 0 f p)
+      ∙ fold-plain [] (placed text 0 0 f) (placed-unfolded 0 0 f p)

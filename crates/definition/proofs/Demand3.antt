@@ -12,7 +12,7 @@ use borrow.Author.Tests.{lt-ltb, le-ltb}
 use Rattle.definition.specs.declared.Refusal.{Refusal}
 use Rattle.definition.specs.declared.Span.{Span}
 use Rattle.definition.specs.declared.Owner.{Owner}
-use Rattle.definition.specs.Basic.{part, Answer, refuse, give, ◌>>=◌, refused}
+use Rattle.definition.specs.Basic.{part, Answer, Err, Ok, and_then}
 use Rattle.definition.specs.Words.{statement_words}
 use Rattle.definition.specs.Tree.{Forest}
 use Rattle.definition.specs.Fold.{Entries}
@@ -35,13 +35,13 @@ use Rattle.definition.proofs.Told.{tells-placed, told-laid}
 
 -- ---------------------------------------------------------------- the fields of a record, however they were read
 
-module _ (text : List ℕ) (f : Forest) (es : Entries) (laid_out : layout text f ≡ give es) where
+module _ (text : List ℕ) (f : Forest) (es : Entries) (laid_out : layout text f ≡ Ok es) where
   -- a kept REDEFINES or DEPENDING ON is refused, wherever the position
-  pub refuses-40 : overlaid f ≡ true → (q : ℕ) → owner_in text f q ≡ refused 40 0
-  unfolding owner_in ◌>>=◌
+  pub refuses-40 : overlaid f ≡ true → (q : ℕ) → owner_in text f q ≡ Err Refusal.Overlaid
+  unfolding owner_in and_then
   refuses-40 o q = rw (laid_out, o)
 
-module _ (text : List ℕ) (f : Forest) (es : Entries) (laid_out : layout text f ≡ give es) (free : overlaid f ≡ false) where
+module _ (text : List ℕ) (f : Forest) (es : Entries) (laid_out : layout text f ≡ Ok es) (free : overlaid f ≡ false) where
   -- The entries of the listing are those that the owner rule places: each offset is the place that its sibling list has
   -- reached after the earlier items and the entry's own slack, and a group's width is the length of its list laid once.
   pub offsets : es ≡ placed text 0 0 f
@@ -67,13 +67,13 @@ module _ (text : List ℕ) (f : Forest) (es : Entries) (laid_out : layout text f
       (subst (λ (n : ℕ). Found (spots 0 (pieces text f)) q (owner_from 0 (pieces text f) n)) here (found (pieces text f) 0 q (omega arith) (omega (arith, cover))))
 
   -- and the byte owner call answers with it
-  pub answers : (q : ℕ) → q < record_length es → owner_in text f q ≡ give (owner_of (pieces text f) q)
-  unfolding owner_in ◌>>=◌
+  pub answers : (q : ℕ) → q < record_length es → owner_in text f q ≡ Ok (owner_of (pieces text f) q)
+  unfolding owner_in and_then
   answers q h = rw (laid_out, free, lt-ltb q (record_length es) h)
 
   -- a position that is not below it is refused
-  pub refuses-41 : (q : ℕ) → record_length es ≤ q → owner_in text f q ≡ refused 41 0
-  unfolding owner_in ◌>>=◌
+  pub refuses-41 : (q : ℕ) → record_length es ≤ q → owner_in text f q ≡ Err Refusal.OutsideRecord
+  unfolding owner_in and_then
   refuses-41 q h = rw (laid_out, free, le-ltb q (record_length es) h)
 
   -- A record of that length, cut into the pieces and joined again, is itself.
@@ -95,24 +95,24 @@ module _ (text : List ℕ) (f : Forest) (es : Entries) (laid_out : layout text f
       ∙ sought q
 
   -- this is what the code of the byte owner computes, after the reader's refusals, 40 and 41.
-  pub computed : (q : ℕ) → q < record_length es → owner_in text f q ≡ give (walk 0 0 0 (rows es) q)
-  computed q h = answers q h ∙ ap give (sym (walked q h))
+  pub computed : (q : ℕ) → q < record_length es → owner_in text f q ≡ Ok (walk 0 0 0 (rows es) q)
+  computed q h = answers q h ∙ ap Ok (sym (walked q h))
 
 -- ---------------------------------------------------------------- a copybook
 
 -- what the calls of a copybook answer is what its fields have: `Demand3` speaks of every accepted copybook
 pub read-fields :
     (text : List ℕ) (work : ℕ) (f : Forest) →
-    record_fields text work ≡ give f →
+    record_fields text work ≡ Ok f →
     (entries text work ≡ layout text f) × ((q : ℕ) → byte_owner text work q ≡ owner_in text f q)
-unfolding entries byte_owner ◌>>=◌
+unfolding entries byte_owner and_then
 read-fields text work f h = (rw h, λ q. rw h)
 
 -- the refusals of the reader are those of the byte owner
 pub reader-refuses :
     (text : List ℕ) (work q : ℕ) (r : Refusal) →
-    entries text work ≡ refuse r →
-    byte_owner text work q ≡ refuse r
+    entries text work ≡ Err r →
+    byte_owner text work q ≡ Err r
 unfolding entries byte_owner owner_in
 reader-refuses text work q r h = refused-through (record_fields text work) (layout text) _ r h
 
@@ -121,7 +121,7 @@ module _ (form : Form) (text : List ℕ) (work : ℕ) (f : Forest) where
   abbrev SameIn : Span → Type 0
   SameIn w = part (view_in form text) w ≡ part text w
 
-  fields-spelt : record_fields (view_in form text) work ≡ give f → ForestSpans SameIn f
+  fields-spelt : record_fields (view_in form text) work ≡ Ok f → ForestSpans SameIn f
   unfolding record_fields kept_statements
   fields-spelt h =
       through _ _ h λ _ _ h₁.
@@ -133,8 +133,8 @@ module _ (form : Form) (text : List ℕ) (work : ℕ) (f : Forest) where
 
   view-spans :
       (es : Entries) →
-      record_fields (view_in form text) work ≡ give f →
-      layout (view_in form text) f ≡ give es →
+      record_fields (view_in form text) work ≡ Ok f →
+      layout (view_in form text) f ≡ Ok es →
       EachSpan SameIn es
   view-spans es read laid_out = layout-spans SameIn refl (view_in form text) f es (fields-spelt read) laid_out
 
@@ -142,7 +142,7 @@ module _ (form : Form) (text : List ℕ) (work : ℕ) (f : Forest) where
 demanded :
     (text : List ℕ) (owner : ℕ → Answer Owner) (f : Forest) (es : Entries) →
     ((q : ℕ) → owner q ≡ owner_in text f q) →
-    layout text f ≡ give es →
+    layout text f ≡ Ok es →
     overlaid f ≡ false →
     Demand text owner f es
 demanded text owner f es asked laid_out free =
@@ -152,20 +152,20 @@ demanded text owner f es asked laid_out free =
       in_order = in_order text f es laid_out free;
       covered = sym (cover text f es laid_out free);
       one-owner = λ q l. (one q l).one;
-      named = λ q l. asked q ∙ answers text f es laid_out free q l ∙ ap give (one q l).names;
+      named = λ q l. asked q ∙ answers text f es laid_out free q l ∙ ap Ok (one q l).names;
       whole = whole text f es laid_out free;
     }
 
 -- Demand 3, whole: every accepted copybook keeps it
 pub demand3 :
     (form : Form) (text : List ℕ) (work : ℕ) (es : Entries) →
-    called form (λ t. entries t work) text work ≡ give es →
+    called form (λ t. entries t work) text work ≡ Ok es →
     Kept form text work es
 unfolding entries
 demand3 form text work es h =
     let seen = view_in form text in
     let laying : List ℕ → Answer Entries = λ t. entries t work in
-    let accepted : entries seen work ≡ give es = sym (called-as laying laying form text work h) ∙ h in
+    let accepted : entries seen work ≡ Ok es = sym (called-as laying laying form text work h) ∙ h in
     through _ _ accepted λ f read laid_out.
     let asked : (q : ℕ) → owner_on form text work q ≡ owner_in seen f q =
     λ q. called-as laying (λ t. byte_owner t work q) form text work h ∙ (read-fields seen work f read).1 q in

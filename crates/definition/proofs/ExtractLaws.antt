@@ -3,24 +3,19 @@
 -- Assumes nothing.
 use Prim.Native.Nat.{ℕ, zero, suc, ◌+◌, ◌*◌, ◌/◌, ◌%◌, ◌≤◌, ◌<◌, min}
 use mathlib.Core.Path.{◌≡◌, refl, sym, ◌∙◌, ap, subst}
-use mathlib.Core.Bool.{Bool, true, false, ◌&&◌, not}
-use mathlib.Core.List.{List, [], ◌∷◌, ◌++◌}
+use mathlib.Core.List.{List, [], ◌∷◌}
 use mathlib.Core.Logic.{◌⊎◌, inl, inr, ⊎_elim}
 use native.Mathlib.Nat.{pow-suc}
 use native.Mathlib.Omega.{arith}
-use lib.Dec.{eqb, leb, ltb}
 use lib.ListN.{length}
-use borrow.Author.Tests.{ltb-true, ltb-false, leb-true, leb-false, eqb-true, eqb-false, lt-ltb, le-ltb, le-leb}
 use Rattle.definition.specs.declared.Extract.{Extract}
-use Rattle.definition.specs.Limits.{most_items}
-use Rattle.std.specs.Prelude.{if◌then◌else◌}
-use Rattle.definition.specs.Basic.{give}
+use Rattle.definition.specs.Basic.{Ok}
 use Rattle.definition.specs.Demand.{Among}
 use Rattle.definition.specs.Extract.{Item, widths, items, bytes_of, weight_of, chosen, subsets#, up_from}
 use Rattle.definition.specs.Extract.{heavier, heaviest, alone, off_by, extract}
 use Rattle.definition.specs.Extracted.{Choice, none, with, without, LookedAt, Best, Extracted}
 use Rattle.definition.specs.Calls.{extract_of, extract_in, extract_answer}
-use Rattle.definition.proofs.Answers.{through, given-same, not-refused, or-false}
+use Rattle.definition.proofs.Answers.{through, given-same}
 use Rattle.definition.proofs.Lists.{order}
 
 -- ---------------------------------------------------------------- the numbers looked at
@@ -35,35 +30,16 @@ pub record Within (k n x : ℕ) : Type 0 where
   pub low : k ≤ x
   pub high : x < k + n
 
-module _ {k n x : ℕ} where
-  first-within : x ≡ k → Within k (suc n) x
-  first-within e = record { low = omega arith; high = omega arith }
-
-  later-within : Within (suc k) n x → Within k (suc n) x
-  later-within w = record { low = omega arith; high = omega arith }
-
--- one of them is the first, or one of the later ones
-by_first :
-    {k n : ℕ} {P : Type 0} (x : ℕ) → Within k (suc n) x → (x ≡ k → P) → (Within (suc k) n x → P) → P
-by_first {k} {n} x w first later =
-    ⊎_elim
-    (λ (l : k < x). later (record { low = l; high = omega arith }))
-    (λ (l : x ≤ k). first (omega arith))
-    (order k x)
-
 among-within : (x k n : ℕ) → Among x (up_from k n) → Within k n x
 unfolding up_from
 among-within x k zero h = absurd h
-among-within x k (suc n) h =
-    ⊎_elim
-    (λ (e : x ≡ k). first-within e)
-    (λ (l : Among x (up_from (suc k) n)). later-within (among-within x (suc k) n l))
-    h
+among-within x k (suc n) h = grind (arith, among-within x (suc k) n)
 
 within-among : (x k n : ℕ) → Within k n x → Among x (up_from k n)
 unfolding up_from
 within-among x k zero h = absurd (omega arith)
-within-among x k (suc n) h = by_first x h inl (λ w. inr (within-among x (suc k) n w))
+within-among x k (suc n) h =
+    ⊎_elim (λ (l : k < x). inr (within-among x (suc k) n (grind arith))) (λ (l : x ≤ k). inl (omega arith)) (order k x)
 
 -- ---------------------------------------------------------------- the heaviest of them
 
@@ -84,23 +60,6 @@ module _ (limit : ℕ) (is : List Item) where
     earliest-of : (x : ℕ) → Within k n x → bytes x ≤ limit → weight x ≡ weight top → top ≤ x
     keeps : weight top ≡ weight best → top ≡ best
 
-  -- the second of two subsets is taken where it fits and is heavier, and else the first stays
-  data Step (best number : ℕ) : ℕ → Type 0 where
-    taken : bytes number ≤ limit → weight best < weight number → Step best number number
-    kept : (bytes number ≤ limit → weight number ≤ weight best) → Step best number best
-
-  step : (best number : ℕ) → Step best number (heavier limit is best number)
-  step best number = go (leb (bytes number) limit) (ltb (weight best) (weight number)) refl refl
-    where
-      go :
-          (f h : Bool) →
-          leb (bytes number) limit ≡ f →
-          ltb (weight best) (weight number) ≡ h →
-          Step best number (if f && h then number else best)
-      go true true p q = taken (leb-true _ _ p) (ltb-true _ _ q)
-      go true false p q = kept (λ _. ltb-false _ _ q)
-      go false h p q = kept (λ f. absurd (omega (arith, leb-false (bytes number) limit p)))
-
   top_of : (best k n : ℕ) → best ≤ k → bytes best ≤ limit → Top best k n (heaviest limit is best (up_from k n))
   unfolding heaviest up_from
   top_of best k zero before h =
@@ -113,53 +72,15 @@ module _ (limit : ℕ) (is : List Item) where
         keeps = λ _. refl;
       }
   top_of best k (suc n) before h =
-      go (heavier limit is best k) (step best k) (top_of (heavier limit is best k) (suc k) n)
-    where
-      go :
-          (b : ℕ) → Step best k b →
-          (b ≤ suc k → bytes b ≤ limit → Top b (suc k) n (heaviest limit is b (up_from (suc k) n))) →
-          Top best k (suc n) (heaviest limit is b (up_from (suc k) n))
-      go b (taken f l) rest =
-          let t = rest (omega arith) f in
-          record {
-            place = inr (⊎_elim (λ (e : _ ≡ b). first-within e) (λ w. later-within w) t.place);
-            fitting = t.fitting;
-            above = omega (arith, t.above);
-            heaviest-of =
-                λ x w q.
-                by_first x w
-                (λ (e : x ≡ k). omega (arith, t.above, ap weight e))
-                (λ v. t.heaviest-of x v q);
-            earliest-of =
-                λ x w q z.
-                by_first x w
-                (λ (e : x ≡ k). omega (arith, t.keeps (sym z ∙ ap weight e)))
-                (λ v. t.earliest-of x v q z);
-            keeps = λ z. absurd (omega (arith, t.above));
-          }
-      go b (kept f) rest =
-          let t = rest (omega arith) h in
-          let no-heavier : (x : ℕ) → x ≡ k → bytes x ≤ limit → weight k ≤ weight b =
-          λ x e q. f (subst (λ (y : ℕ). bytes y ≤ limit) e q) in
-          record {
-            place = ⊎_elim (λ (e : _ ≡ b). inl e) (λ w. inr (later-within w)) t.place;
-            fitting = t.fitting;
-            above = t.above;
-            heaviest-of =
-                λ x w q.
-                by_first x w
-                (λ (e : x ≡ k). omega (arith, t.above, ap weight e, no-heavier x e q))
-                (λ v. t.heaviest-of x v q);
-            earliest-of =
-                λ x w q z.
-                by_first x w
-                (λ (e : x ≡ k).
-                let s : weight (heaviest limit is b (up_from (suc k) n)) ≡ weight b =
-                omega (arith, t.above, ap weight e, no-heavier x e q) in
-                omega (arith, t.keeps s))
-                (λ v. t.earliest-of x v q z);
-            keeps = t.keeps;
-          }
+      let t = top_of (heavier limit is best k) (suc k) n (grind arith) (grind arith) in
+      record {
+        place = grind (arith, t.place);
+        fitting = t.fitting;
+        above = grind (arith, t.above);
+        heaviest-of = λ x w q. grind (arith, t.above, t.heaviest-of x);
+        earliest-of = λ x w q z. grind (arith, t.above, t.keeps, t.earliest-of x);
+        keeps = λ z. grind (arith, t.above, t.keeps);
+      }
 
 -- ---------------------------------------------------------------- choices
 
@@ -173,11 +94,7 @@ chosen-zero (i ∷ is) = chosen-zero is
 chosen-choice : (n : ℕ) (is : List Item) → Choice (chosen n is) is
 unfolding chosen
 chosen-choice n [] = none
-chosen-choice n (i ∷ is) = go (eqb (n % 2) 1) (chosen-choice (n / 2) is)
-  where
-    go : (b : Bool) → Choice (chosen (n / 2) is) is → Choice ((if b then i ∷ [] else []) ++ chosen (n / 2) is) (i ∷ is)
-    go true c = with c
-    go false c = without c
+chosen-choice n (i ∷ is) = grind (arith, with, without, chosen-choice (n / 2) is)
 
 -- and every choice has a number
 record Numbered (cs is : List Item) : Type 0 where
@@ -212,18 +129,8 @@ alone-above :
     (limit : ℕ) {cs is : List Item} → Choice cs is → bytes_of cs ≤ limit → weight_of cs ≤ weight_of (alone limit is)
 unfolding alone
 alone-above limit none h = omega arith
-alone-above limit (with {i} {cs} {is} c) h =
-    let ih = alone-above limit c (omega arith) in
-    rw (le-leb i.width limit (omega arith)) (omega arith)
-alone-above limit (without {i} {cs} {is} c) h =
-    go (leb i.width limit) (alone-above limit c h)
-  where
-    go :
-        (b : Bool) →
-        weight_of cs ≤ weight_of (alone limit is) →
-        weight_of cs ≤ weight_of ((if b then i ∷ [] else []) ++ alone limit is)
-    go true l = omega arith
-    go false l = l
+alone-above limit (with {i} {cs} {is} c) h = grind (arith, alone-above limit c)
+alone-above limit (without {i} {cs} {is} c) h = grind (arith, alone-above limit c h)
 
 -- ---------------------------------------------------------------- the answer
 
@@ -235,13 +142,13 @@ subsets-pos (i ∷ is) = omega (arith, subsets-pos is, pow-suc 2 (length is))
 module _ (limit : ℕ) (is : List Item) where
   -- how far off: nothing, with all looked at;
   pub off-all : (looked found : ℕ) → subsets# is ≤ looked → off_by limit is looked found ≡ 0
-  off-all looked found h = rw (le-ltb looked (subsets# is) h)
+  off-all looked found h = grind arith
 
   -- and else what is missing to the items that fit alone
   pub off_less :
       (looked found : ℕ) → looked < subsets# is → found ≤ weight_of (alone limit is) →
       found + off_by limit is looked found ≡ weight_of (alone limit is)
-  off_less looked found h l = rw (lt-ltb looked (subsets# is) h) (omega arith)
+  off_less looked found h l = grind arith
 
   -- the best of the first subsets
   module _ (top looked : ℕ) (t : Top limit is 0 0 looked top) where
@@ -257,14 +164,18 @@ module _ (limit : ℕ) (is : List Item) where
         looked ≤ subsets# is → (cs : List Item) → Choice cs is → bytes_of cs ≤ limit →
         weight_of cs ≤ found + off_by limit is looked found
     no_more small cs c h =
-        ⊎_elim
-        (λ (l : looked < subsets# is). omega (arith, off_less looked found l found-small, alone-above limit c h))
-        (λ (l : subsets# is ≤ looked).
         let n = numbered c in
-        let within : Within 0 looked n.number = record { low = omega arith; high = omega (arith, n.below) } in
         let fits-too = subst (λ (l : List Item). bytes_of l ≤ limit) (sym n.same) h in
-        omega (arith, t.heaviest-of n.number within fits-too, ap weight_of n.same))
-        (order looked (subsets# is))
+        grind (
+          arith,
+          off_less looked found,
+          found-small,
+          alone-above limit c h,
+          n.below,
+          fits-too,
+          ap weight_of n.same,
+          t.heaviest-of n.number,
+        )
 
   -- the best of the first subsets weighs no more than the items that fit alone
   pub alone-heavier :
@@ -300,7 +211,7 @@ module _ (limit : ℕ) (is : List Item) where
 -- every extract that is not refused is the best one of its items
 pub extracted :
     (text : List ℕ) (work : ℕ) (weights : List ℕ) (limit budget : ℕ) {a : Extract} →
-    extract_answer text work weights limit budget ≡ give a →
+    extract_answer text work weights limit budget ≡ Ok a →
     Extracted text work weights limit budget a
 unfolding extract_answer extract_in extract_of
 extracted text work weights limit budget {a} h =
@@ -310,28 +221,18 @@ extracted text work weights limit budget {a} h =
     through _ _ h₃ λ _ e₄ h₄.
     through _ _ h₄ λ _ e₅ h₅.
     through _ _ h₅ λ _ e₆ h₆.
-    let sizes = or-false _ _ (not-refused _ 58 0 e₄) in
-    let some : 0 < budget = positive budget (not-refused (eqb budget 0) 60 0 e₆) in
+    let some : 0 < budget = grind arith in
     record {
       of = f;
       shown = es;
       read = e₁;
       laid_out = e₂;
-      plain = not-refused _ 40 0 e₃;
-      few = ltb-false most_items (length (widths es)) sizes.0;
-      paired = eqb-true (length weights) (length (widths es)) (not-false _ sizes.1);
-      weighed = not-refused _ 59 0 e₅;
+      plain = grind arith;
+      few = grind arith;
+      paired = grind arith;
+      weighed = grind arith;
       some = some;
       best =
-          subst
-          (λ (x : Extract). Best limit budget (items (widths es) weights) x)
-          (given-same h₆)
+          subst (Best limit budget (items (widths es) weights)) (given-same h₆)
           (best limit (items (widths es) weights) budget some);
     }
-  where
-    not-false : (b : Bool) → not b ≡ false → b ≡ true
-    not-false true e = refl
-    not-false false e = sym e
-
-    positive : (n : ℕ) → eqb n 0 ≡ false → 0 < n
-    positive n e = ⊎_elim (λ (l : 0 < n). l) (λ (l : n ≤ 0). absurd (eqb-false n 0 e (omega arith))) (order 0 n)

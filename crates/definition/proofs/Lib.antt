@@ -24,7 +24,6 @@ pub mod Seek
 pub mod Walk
 pub mod Told
 pub mod Demand3
-pub mod Occurrences
 pub mod Begins
 pub mod Why
 pub mod ExtractLaws

@@ -1,12 +1,12 @@
 -- One step of the listing's bytes, and how many they are.
 -- Assumes nothing.
+use Rattle.std.specs.Prelude.{Option, None, Some}
 use Prim.Native.Nat.{ℕ, ◌+◌}
 use mathlib.Core.Path.{◌≡◌, refl}
 use mathlib.Core.List.{[], ◌++◌}
 use native.Mathlib.Omega.{arith}
 use lib.ListN.{length, length-append}
 use Rattle.definition.specs.declared.Span.{Span}
-use Rattle.definition.specs.declared.Occurs.{Occurs}
 use Rattle.definition.specs.declared.FieldKind.{FieldKind}
 use Rattle.definition.specs.declared.Entry.{Entry}
 use Rattle.definition.specs.Fold.{Entries, end, entry}
@@ -43,9 +43,9 @@ details-length (FieldKind.Edited precision scale signed) pic n = refl
 details-length FieldKind.Group pic n = refl
 details-length (FieldKind.Float bits) pic n = refl
 
-occurs-length : (o : Occurs) → length (occurs_bytes o) ≡ 5
-occurs-length Occurs.Once = refl
-occurs-length (Occurs.Times n) = refl
+occurs-length : (o : Option ℕ) → length (occurs_bytes o) ≡ 5
+occurs-length None = refl
+occurs-length (Some n) = refl
 
 pub entry_length : (e : Entry) (n : ℕ) → length (entry_bytes e n) ≡ 38 + details# e.kind
 unfolding entry_bytes

@@ -4,7 +4,6 @@ use Prim.Native.Nat.{ℕ, zero, suc, ◌+◌, ◌-◌, ◌≤◌, ◌<◌}
 use mathlib.Core.Path.{◌≡◌, refl, ◌∙◌, ap}
 use mathlib.Core.Bool.{Bool, true, false}
 use mathlib.Core.List.{List, [], ◌∷◌, ◌++◌}
-use mathlib.Core.Logic.{◌⊎◌, inl, inr}
 use native.Mathlib.Numerals.{add-one}
 use native.Mathlib.Nat.{zero-add, add-zero}
 use native.Mathlib.Omega.{arith}
@@ -12,22 +11,17 @@ use lib.Dec.{ltb}
 use lib.ListN.{length, get_or, take, drop, set, length-drop}
 use lib.Seq.{drop-cons, take-suc, take-nil, take_all, sets}
 use borrow.Author.Tests.{ltb-true, ltb-false}
-
-decide : (b : Bool) (n m : ℕ) → ltb n m ≡ b → (n < m) ⊎ (m ≤ n)
-decide true n m e = inl (ltb-true n m e)
-decide false n m e = inr (ltb-false n m e)
-
 -- one of two numbers is the smaller
-pub order : (n m : ℕ) → (n < m) ⊎ (m ≤ n)
-order n m = decide (ltb n m) n m refl
+pub use Rattle.std.proofs.lemmas.Bool.{cases_lt as order}
+
+-- by the two values of a `Bool`
+pub by_cases {ℓ} : {P : Type ℓ} (b : Bool) → (b ≡ true → P) → (b ≡ false → P) → P
+by_cases true so not_so = so refl
+by_cases false so not_so = not_so refl
 
 -- by the two results of a test
 pub tested {ℓ} : {P : Type ℓ} (n m : ℕ) → (ltb n m ≡ true → n < m → P) → (ltb n m ≡ false → m ≤ n → P) → P
-tested {P = P} n m less not_less = go (ltb n m) refl
-  where
-    go : (t : Bool) → ltb n m ≡ t → P
-    go true e = less e (ltb-true n m e)
-    go false e = not_less e (ltb-false n m e)
+tested n m less not_less = by_cases (ltb n m) (λ e. less e (ltb-true n m e)) (λ e. not_less e (ltb-false n m e))
 
 -- one more element, at the code's i + 1
 pub drop-next : (t : List ℕ) (i : ℕ) → i < length t → drop i t ≡ get_or t i 0 ∷ drop (i + 1) t

@@ -2,7 +2,7 @@
 -- and earlier; and the parent that a statement gets from the open ones is the one that it stands under in the forest.
 -- Assumes nothing.
 use Prim.Native.Nat.{ℕ, suc, ◌+◌, ◌≤◌, ◌<◌}
-use mathlib.Core.Path.{◌≡◌, refl, sym, ap, ◌∙◌}
+use mathlib.Core.Path.{◌≡◌, refl, ap}
 use mathlib.Core.List.{List, [], ◌∷◌, ◌++◌, append_assoc}
 use native.Mathlib.Omega.{arith}
 use lib.ListN.{length, length-append}
@@ -10,7 +10,6 @@ use borrow.Author.Tests.{lt-ltb, le-ltb}
 use Rattle.definition.specs.declared.Statement.{Statement}
 use Rattle.definition.specs.Tree.{Forest, item, above, not_above, forest, Open, opened, still_open, innermost}
 use Rattle.definition.specs.Tree.{parents, parents_in}
-use Rattle.definition.proofs.Lists.{tested}
 
 -- ---------------------------------------------------------------- one step
 
@@ -46,12 +45,12 @@ Fit k (o ∷ os) = (length os ≤ o.level) × (0 < o.number) × (o.number ≤ k)
 pub open-few : (n k : ℕ) (os : List Open) → Fit k os → length (still_open n os) ≤ n
 unfolding still_open
 open-few n k [] h = omega arith
-open-few n k (o ∷ os) h = tested o.level n (λ p lt. simp p (omega (arith, h.0))) (λ p _. simp p (open-few n k os h.3))
+open-few n k (o ∷ os) h = grind (arith, open-few n k os)
 
 pub open-fit : (n k : ℕ) (os : List Open) → Fit k os → Fit k (still_open n os)
 unfolding still_open
 open-fit n k [] h = tt
-open-fit n k (o ∷ os) h = tested o.level n (λ p _. simp p h) (λ p _. simp p (open-fit n k os h.3))
+open-fit n k (o ∷ os) h = grind (arith, open-fit n k os)
 
 -- ---------------------------------------------------------------- the parents of a forest
 
@@ -59,7 +58,8 @@ open-fit n k (o ∷ os) h = tested o.level n (λ p _. simp p h) (λ p _. simp p 
 -- outer ones
 abbrev under : List Open → ℕ → Forest → List ℕ
 under [] k f = parents_in 0 k f
-under (o ∷ os) k f = let inner = parents_in o.number k (above o.level f) in inner ++ under os (k + length inner) (not_above o.level f)
+under (o ∷ os) k f =
+    let inner = parents_in o.number k (above o.level f) in inner ++ under os (k + length inner) (not_above o.level f)
 
 under-item : (os : List Open) (k : ℕ) (s : Statement) (kids later : Forest) →
     let outer = still_open s.level os in
@@ -67,25 +67,18 @@ under-item : (os : List Open) (k : ℕ) (s : Statement) (kids later : Forest) �
     under os k (item s kids later) ≡ innermost outer ∷ (inner ++ under outer (suc k + length inner) later)
 unfolding still_open above not_above parents_in
 under-item [] k s kids later = refl
-under-item (o ∷ os) k s kids later =
-    let inner = parents_in (suc k) (suc k) kids in
-    let beside = parents_in o.number (suc k + length inner) (above o.level later) in
-    let all : k + suc (length (inner ++ beside)) ≡ suc k + length inner + length beside = omega (arith, length-append inner beside) in
-    let at : k + 0 ≡ k = omega arith in
-    tested o.level s.level
-    (λ p _. simp p
-    (ap (λ (n : ℕ). o.number ∷ ((inner ++ beside) ++ under os n (not_above o.level later))) all
-    ∙ ap (λ (l : List ℕ). o.number ∷ l) (append_assoc inner beside (under os (suc k + length inner + length beside) (not_above o.level later)))))
-    (λ p _. simp p (ap (λ (n : ℕ). under os n (item s kids later)) at ∙ under-item os k s kids later))
+under-item (o ∷ os) k s kids later = grind (arith, under-item os k s kids later, append_assoc, length-append)
 
 parents-under : (os : List Open) (k : ℕ) (ss : List Statement) → parents os k ss ≡ under os k (forest ss)
 unfolding parents forest above not_above parents_in
 parents-under [] k [] = refl
-parents-under (o ∷ os) k [] = parents-under os k [] ∙ ap (λ (n : ℕ). under os n (forest [])) (let e : k ≡ k + 0 = omega arith in e)
+parents-under (o ∷ os) k [] = grind (arith, parents-under os k [])
 parents-under os k (s ∷ ss) =
     let outer = still_open s.level os in
-    ap (λ (ps : List ℕ). innermost outer ∷ ps) (parents-under (opened s.level (suc k) s.usage ∷ outer) (suc k) ss)
-    ∙ sym (under-item os k s (above s.level (forest ss)) (not_above s.level (forest ss)))
+    cc (
+      parents-under (opened s.level (suc k) s.usage ∷ outer) (suc k) ss,
+      under-item os k s (above s.level (forest ss)) (not_above s.level (forest ss)),
+    )
 
 -- the open statements give the parents of the forest
 pub parents-forest : (ss : List Statement) → parents [] 0 ss ≡ parents_in 0 0 (forest ss)

@@ -5,20 +5,20 @@
 use Prim.Native.Nat.{ℕ, zero, suc, ◌+◌, ◌≤◌, ◌<◌}
 use Prim.Native.String.{String}
 use mathlib.Core.Path.{◌≡◌, refl, sym, ap, ◌∙◌}
-use mathlib.Core.Bool.{Bool, true, false, ◌||◌}
+use mathlib.Core.Bool.{true, false}
 use mathlib.Core.List.{List, [], ◌∷◌, ◌++◌, reverse, append_assoc, append-nil, reverse-append, reverse-reverse}
-use mathlib.Core.Option.{Option, none, some}
+use Rattle.std.specs.Prelude.{Option, None, Some}
 use native.Mathlib.Omega.{arith}
-use lib.Dec.{eqb, ltb}
+use lib.Dec.{ltb}
 use lib.ListN.{length, get_or, take, drop, replicate, drop_of_length-le}
 use lib.Seq.{drop-drop}
-use borrow.Author.Tests.{eq-eqb, ne_eqb, eqb-true, lt-ltb, le-ltb}
+use borrow.Author.Tests.{lt-ltb, le-ltb}
 use Rattle.definition.specs.declared.Refusal.{Refusal}
 use Rattle.definition.specs.Limits.{most_symbols}
 use Rattle.std.specs.Prelude.{if◌then◌else◌}
-use Rattle.definition.specs.Basic.{among, white, upper, count, Answer, refuse, give, ◌>>=◌}
-use Rattle.definition.specs.Basic.{refused, or_refuse}
-use Rattle.definition.specs.Picture.{trim_start, trim, in_front, before_close, repeat, expand, tally, before_point}
+use Rattle.definition.specs.Basic.{among, white, upper, count, Answer, Err, Ok, ◌>>=◌, and_then}
+use Rattle.definition.specs.Basic.{or_refuse}
+use Rattle.definition.specs.Picture.{trim_start, trim, before_close, repeat, expand, tally, before_point}
 use Rattle.definition.specs.Picture.{after_point, without, mask}
 use Rattle.definition.proofs.Lists.{drop-next, take_next}
 
@@ -28,52 +28,21 @@ use Rattle.definition.proofs.Lists.{drop-next, take_next}
 pub tally-append : (s : String) (l m : List ℕ) → tally s (l ++ m) ≡ tally s l + tally s m
 unfolding tally
 tally-append s [] m = omega arith
-tally-append s (b ∷ l) m = go (among s b) (tally-append s l m)
-  where
-    go :
-        (t : Bool) →
-        tally s (l ++ m) ≡ tally s l + tally s m →
-        (if t then suc (tally s (l ++ m)) else tally s (l ++ m)) ≡ (if t then suc (tally s l) else tally s l) + tally s m
-    go true e = omega arith
-    go false e = e
+tally-append s (b ∷ l) m = grind (arith, tally-append s l m)
 
 -- of a run: all of it, or nothing
 pub tally-run : (s : String) (b n : ℕ) → tally s (replicate n b) ≡ (if among s b then n else 0)
 unfolding tally
-tally-run s b zero = go (among s b)
-  where
-    go : (t : Bool) → ◌≡◌ {A = ℕ} 0 (if t then 0 else 0)
-    go true = refl
-    go false = refl
-tally-run s b (suc n) = go (among s b) (tally-run s b n)
-  where
-    go :
-        (t : Bool) →
-        tally s (replicate n b) ≡ (if t then n else 0) →
-        (if t then suc (tally s (replicate n b)) else tally s (replicate n b)) ≡ (if t then suc n else 0)
-    go true e = omega arith
-    go false e = e
+tally-run s b zero = grind arith
+tally-run s b (suc n) = grind (arith, tally-run s b n)
 
 -- no more than there are symbols
 pub tally-le : (s : String) (l : List ℕ) → tally s l ≤ length l
 unfolding tally
 tally-le s [] = omega arith
-tally-le s (b ∷ l) = go (among s b) (tally-le s l)
-  where
-    go : (t : Bool) → tally s l ≤ length l → (if t then suc (tally s l) else tally s l) ≤ suc (length l)
-    go true e = omega arith
-    go false e = omega arith
+tally-le s (b ∷ l) = grind (arith, tally-le s l)
 
 -- ---------------------------------------------------------------- the point
-
--- one more symbol in front of both
-tally-more : (s : String) (b : ℕ) (l m : List ℕ) (n : ℕ) → tally s l ≡ tally s m + n → tally s (b ∷ l) ≡ tally s (b ∷ m) + n
-unfolding tally
-tally-more s b l m n = go (among s b)
-  where
-    go : (t : Bool) → tally s l ≡ tally s m + n → (if t then suc (tally s l) else tally s l) ≡ (if t then suc (tally s m) else tally s m) + n
-    go true e = omega arith
-    go false e = e
 
 -- the symbols before the point of two lists: those of the second count if the first has no point
 pub before-append :
@@ -81,51 +50,36 @@ pub before-append :
     tally s (before_point (l ++ m)) ≡ tally s (before_point l) + (if ltb 0 (tally "V." l) then 0 else tally s (before_point m))
 unfolding tally before_point
 before-append s [] m = omega arith
-before-append s (b ∷ l) m = go (among "V." b) (before-append s l m)
-  where
-    go :
-        (t : Bool) →
-        tally s (before_point (l ++ m)) ≡ tally s (before_point l) + (if ltb 0 (tally "V." l) then 0 else tally s (before_point m)) →
-        tally s (if t then [] else b ∷ before_point (l ++ m)) ≡
-        tally s (if t then [] else b ∷ before_point l) +
-        (if ltb 0 (if t then suc (tally "V." l) else tally "V." l) then 0 else tally s (before_point m))
-    go true e = rw (lt-ltb 0 (suc (tally "V." l)) (omega arith))
-    go false e = tally-more s b (before_point (l ++ m)) (before_point l) _ e
+before-append s (b ∷ l) m = grind (arith, before-append s l m)
 
 -- of a point that is repeated nothing stands before the point
 point-run : (b n : ℕ) → among "V." b ≡ true → before_point (replicate n b) ≡ []
 unfolding before_point
 point-run b zero e = refl
-point-run b (suc n) e = rw (e, before_point)
+point-run b (suc n) e = grind arith
 
 -- and all of another symbol
 other-run : (b n : ℕ) → among "V." b ≡ false → before_point (replicate n b) ≡ replicate n b
 unfolding before_point
 other-run b zero e = refl
-other-run b (suc n) e = rw (e, before_point, other-run b n e)
+other-run b (suc n) e = grind (arith, other-run b n e)
 
 -- so a run before the point counts in whole, if its symbol is no point or is not counted
-pub before-run : (s : String) (b n : ℕ) → (among "V." b ≡ true → among s b ≡ false) → tally s (before_point (replicate n b)) ≡ (if among s b then n else 0)
+pub before-run :
+    (s : String) (b n : ℕ) →
+    (among "V." b ≡ true → among s b ≡ false) →
+    tally s (before_point (replicate n b)) ≡ (if among s b then n else 0)
 unfolding tally
-before-run s b n h = go (among "V." b) refl
-  where
-    go : (t : Bool) → among "V." b ≡ t → tally s (before_point (replicate n b)) ≡ (if among s b then n else 0)
-    go true e = rw (h e) (ap (tally s) (point-run b n e))
-    go false e = ap (tally s) (other-run b n e) ∙ tally-run s b n
+before-run s b n h = grind (arith, point-run, other-run, tally-run)
 
 -- the symbols on both sides of the point are all but the point
-pub tally-sides : (s : String) (l : List ℕ) → ((b : ℕ) → among "V." b ≡ true → among s b ≡ false) → tally s l ≡ tally s (before_point l) + tally s (after_point l)
+pub tally-sides :
+    (s : String) (l : List ℕ) →
+    ((b : ℕ) → among "V." b ≡ true → among s b ≡ false) →
+    tally s l ≡ tally s (before_point l) + tally s (after_point l)
 unfolding tally before_point after_point
 tally-sides s [] h = refl
-tally-sides s (b ∷ l) h = go (among "V." b) refl (tally-sides s l h)
-  where
-    go :
-        (t : Bool) →
-        among "V." b ≡ t →
-        tally s l ≡ tally s (before_point l) + tally s (after_point l) →
-        tally s (b ∷ l) ≡ tally s (if t then [] else b ∷ before_point l) + tally s (if t then l else after_point l)
-    go true e q = rw (h b e, tally) (omega arith)
-    go false e q = tally-more s b l (before_point l) (tally s (after_point l)) q
+tally-sides s (b ∷ l) h = grind (arith, h b, tally-sides s l h)
 
 -- ---------------------------------------------------------------- without some symbols
 
@@ -133,85 +87,53 @@ tally-sides s (b ∷ l) h = go (among "V." b) refl (tally-sides s l h)
 pub without-append : (s : String) (l m : List ℕ) → without s (l ++ m) ≡ without s l ++ without s m
 unfolding without
 without-append s [] m = refl
-without-append s (b ∷ l) m = go (among s b) (without-append s l m)
-  where
-    go :
-        (t : Bool) →
-        without s (l ++ m) ≡ without s l ++ without s m →
-        (if t then without s (l ++ m) else b ∷ without s (l ++ m)) ≡ (if t then without s l else b ∷ without s l) ++ without s m
-    go true e = e
-    go false e = ap (λ (r : List ℕ). b ∷ r) e
+without-append s (b ∷ l) m = grind (arith, without-append s l m)
 
 -- of a run: all of it, or nothing
 pub without-run : (s : String) (b n : ℕ) → without s (replicate n b) ≡ (if among s b then [] else replicate n b)
 unfolding without
-without-run s b zero = go (among s b)
-  where
-    go : (t : Bool) → ◌≡◌ {A = List ℕ} [] (if t then [] else [])
-    go true = refl
-    go false = refl
-without-run s b (suc n) = go (among s b) (without-run s b n)
-  where
-    go :
-        (t : Bool) →
-        without s (replicate n b) ≡ (if t then [] else replicate n b) →
-        (if t then without s (replicate n b) else b ∷ without s (replicate n b)) ≡ (if t then [] else b ∷ replicate n b)
-    go true e = e
-    go false e = ap (λ (r : List ℕ). b ∷ r) e
+without-run s b zero = grind arith
+without-run s b (suc n) = grind (arith, without-run s b n)
 
 -- what is left out is counted
 pub without-length : (s : String) (l : List ℕ) → length l ≡ length (without s l) + tally s l
 unfolding without tally
 without-length s [] = refl
-without-length s (b ∷ l) = go (among s b) (without-length s l)
-  where
-    go :
-        (t : Bool) →
-        length l ≡ length (without s l) + tally s l →
-        suc (length l) ≡ length (if t then without s l else b ∷ without s l) + (if t then suc (tally s l) else tally s l)
-    go true e = omega arith
-    go false e = omega arith
+without-length s (b ∷ l) = grind (arith, without-length s l)
 
 -- the tally of other symbols stays
-tally-without : (s t : String) (l : List ℕ) → ((b : ℕ) → among t b ≡ true → among s b ≡ false) → tally s (without t l) ≡ tally s l
+tally-without :
+    (s t : String) (l : List ℕ) →
+    ((b : ℕ) → among t b ≡ true → among s b ≡ false) →
+    tally s (without t l) ≡ tally s l
 unfolding without tally
 tally-without s t [] h = refl
-tally-without s t (b ∷ l) h = go (among t b) refl (tally-without s t l h)
-  where
-    go : (y : Bool) → among t b ≡ y → tally s (without t l) ≡ tally s l → tally s (if y then without t l else b ∷ without t l) ≡ tally s (b ∷ l)
-    go true e q = rw (h b e, tally) q
-    go false e q = tally-more s b (without t l) l 0 (q ∙ omega arith) ∙ omega arith
+tally-without s t (b ∷ l) h = grind (arith, h b, tally-without s t l h)
 
 -- P is in the mask
 no-scale : (b : ℕ) → among "SV" b ≡ true → among "P" b ≡ false
-no-scale b h = go (eqb b 83) (eqb b 86) refl refl h
-  where
-    go : (x y : Bool) → eqb b 83 ≡ x → eqb b 86 ≡ y → (x || (y || false)) ≡ true → among "P" b ≡ false
-    go true y ex ey h = rw (eqb-true b 83 ex)
-    go false true ex ey h = rw (eqb-true b 86 ey)
-    go false false ex ey h = absurd (let z : ◌≡◌ {A = ℕ} 0 1 = cc in omega arith)
+no-scale b h = grind arith
 
 -- and makes it longer than the item is wide
 pub mask-width : (l : List ℕ) → length (mask l) ≡ length (without "P" (mask l)) + tally "P" l
-mask-width l = without-length "P" (mask l) ∙ ap (λ (n : ℕ). length (without "P" (mask l)) + n) (tally-without "P" "SV" l no-scale)
+mask-width l =
+    without-length "P" (mask l) ∙ ap (λ (n : ℕ). length (without "P" (mask l)) + n) (tally-without "P" "SV" l no-scale)
 
 -- ---------------------------------------------------------------- repeats
 
 -- a list after another, or the refusal
 abbrev pub onto : List ℕ → Answer (List ℕ) → Answer (List ℕ)
-onto p x = x >>= λ l. give (p ++ l)
+onto p x = x >>= λ l. Ok (p ++ l)
 
 -- nothing before it
 pub onto-nil : (x : Answer (List ℕ)) → onto [] x ≡ x
-unfolding ◌>>=◌
-onto-nil (refuse e) = refl
-onto-nil (give l) = refl
+unfolding and_then
+onto-nil x = grind arith
 
 -- one list before the other
 pub onto-onto : (p r : List ℕ) (x : Answer (List ℕ)) → onto p (onto r x) ≡ onto (p ++ r) x
-unfolding ◌>>=◌
-onto-onto p r (refuse e) = refl
-onto-onto p r (give l) = ap give (sym (append_assoc p r l))
+unfolding and_then
+onto-onto p r x = grind (arith, append_assoc)
 
 -- bytes that are passed over
 expand-skip : (at n k : ℕ) (bs : List ℕ) → expand at n k bs ≡ expand at n 0 (drop k bs)
@@ -222,26 +144,37 @@ expand-skip at n (suc k) (b ∷ bs) = expand-skip at n k bs
 
 -- the symbols from i on, where n stand already
 module _ (at n : ℕ) (t : List ℕ) (i : ℕ) where
-  pub expand-end : length t ≤ i → expand at n 0 (drop i t) ≡ give []
+  pub expand-end : length t ≤ i → expand at n 0 (drop i t) ≡ Ok []
   unfolding expand
   expand-end h = rw (drop_of_length-le t h)
 
   module _ (h : i < length t) where
-    pub expand-refused : {r : Refusal} → repeat at (drop (i + 1) t) ≡ refuse r → expand at n 0 (drop i t) ≡ refuse r
-    unfolding expand ◌>>=◌
+    pub expand-refused : {r : Refusal} → repeat at (drop (i + 1) t) ≡ Err r → expand at n 0 (drop i t) ≡ Err r
+    unfolding expand and_then
     expand-refused e = rw (drop-next t i h, e)
 
-    pub expand-many : {k j : ℕ} → repeat at (drop (i + 1) t) ≡ give (k, j) → most_symbols < n + k → expand at n 0 (drop i t) ≡ refused 24 at
-    unfolding expand ◌>>=◌
+    pub expand-many :
+        {k j : ℕ} →
+        repeat at (drop (i + 1) t) ≡ Ok (k, j) →
+        most_symbols < n + k →
+        expand at n 0 (drop i t) ≡ Err (Refusal.TooManySymbols at)
+    unfolding expand and_then
     expand-many {k} e m = rw (drop-next t i h, e, lt-ltb most_symbols (n + k) m)
 
     pub expand-more :
         {k j : ℕ} →
-        repeat at (drop (i + 1) t) ≡ give (k, j) →
+        repeat at (drop (i + 1) t) ≡ Ok (k, j) →
         n + k ≤ most_symbols →
         expand at n 0 (drop i t) ≡ onto (replicate k (upper (get_or t i 0))) (expand at (n + k) 0 (drop (i + 1 + j) t))
-    unfolding expand ◌>>=◌
-    expand-more {k} {j} e m = rw (drop-next t i h, e, le-ltb most_symbols (n + k) m, expand-skip at (n + k) j (drop (i + 1) t), drop-drop j (i + 1) t)
+    unfolding expand and_then
+    expand-more {k} {j} e m =
+        rw (
+          drop-next t i h,
+          e,
+          le-ltb most_symbols (n + k) m,
+          expand-skip at (n + k) j (drop (i + 1) t),
+          drop-drop j (i + 1) t,
+        )
 
 -- ---------------------------------------------------------------- the ends
 
@@ -275,7 +208,8 @@ module _ (l : List ℕ) (b : ℕ) where
 
   last-white : white b ≡ true → trim_end (l ++ b ∷ []) ≡ trim_end l
   unfolding trim_start
-  last-white w = let e : trim_start (b ∷ reverse l) ≡ trim_start (reverse l) = rw (w, trim_start) in last-first ∙ ap reverse e
+  last-white w =
+      let e : trim_start (b ∷ reverse l) ≡ trim_start (reverse l) = rw (w, trim_start) in last-first ∙ ap reverse e
 
   last-stop : white b ≡ false → trim_end (l ++ b ∷ []) ≡ l ++ b ∷ []
   unfolding trim_start
@@ -285,55 +219,49 @@ module _ (l : List ℕ) (b : ℕ) where
 
 module _ (t : List ℕ) (e : ℕ) (h : e < length t) where
   pub back-white : white (get_or t e 0) ≡ true → trim_end (take (e + 1) t) ≡ trim_end (take e t)
-  back-white w = ap trim_end (take_next t e h) ∙ last-white (take e t) (get_or t e 0) w
+  back-white w = rw (take_next t e h) (last-white (take e t) (get_or t e 0) w)
 
   pub back-stop : white (get_or t e 0) ≡ false → trim_end (take (e + 1) t) ≡ take (e + 1) t
-  back-stop w = ap trim_end (take_next t e h) ∙ last-stop (take e t) (get_or t e 0) w ∙ sym (take_next t e h)
+  back-stop w = rw (take_next t e h) (last-stop (take e t) (get_or t e 0) w)
 
 -- ---------------------------------------------------------------- the first `)`
 
 -- the list with these bytes in front, if there is one
 abbrev pub after : List ℕ → Option (List ℕ) → Option (List ℕ)
-after p none = none
-after p (some l) = some (p ++ l)
+after p None = None
+after p (Some l) = Some (p ++ l)
 
 -- nothing in front
 pub after_none : (o : Option (List ℕ)) → after [] o ≡ o
-after_none none = refl
-after_none (some l) = refl
-
--- one more byte in front
-after_more : (p : List ℕ) (b : ℕ) (o : Option (List ℕ)) → after p (in_front b o) ≡ after (p ++ b ∷ []) o
-after_more p b none = refl
-after_more p b (some l) = ap some (sym (append_assoc p (b ∷ []) l))
+after_none o = grind arith
 
 module _ (t : List ℕ) (i : ℕ) where
-  pub close-none : length t ≤ i → after (take i t) (before_close (drop i t)) ≡ none
+  pub close-none : length t ≤ i → after (take i t) (before_close (drop i t)) ≡ None
   unfolding before_close
   close-none h = rw (drop_of_length-le t h)
 
   module _ (h : i < length t) where
-    pub close-here : get_or t i 0 ≡ 41 → after (take i t) (before_close (drop i t)) ≡ some (take i t)
+    pub close-here : get_or t i 0 ≡ 41 → after (take i t) (before_close (drop i t)) ≡ Some (take i t)
     unfolding before_close
-    close-here e = rw (drop-next t i h, eq-eqb (get_or t i 0) 41 e) (ap some (append-nil (take i t)))
+    close-here e = rw (drop-next t i h) (grind (arith, append-nil))
 
-    pub close-later : (get_or t i 0 ≡ 41 → ⊥) → after (take i t) (before_close (drop i t)) ≡ after (take (i + 1) t) (before_close (drop (i + 1) t))
+    pub close-later :
+        (get_or t i 0 ≡ 41 → ⊥) →
+        after (take i t) (before_close (drop i t)) ≡ after (take (i + 1) t) (before_close (drop (i + 1) t))
     unfolding before_close
-    close-later e = rw (drop-next t i h, ne_eqb (get_or t i 0) 41 e, before_close, take_next t i h) (after_more (take i t) (get_or t i 0) (before_close (drop (i + 1) t)))
+    close-later e = rw (drop-next t i h, take_next t i h) (grind (arith, append_assoc))
 
 -- ---------------------------------------------------------------- the repeat of a symbol
 
 -- nothing after the symbol
-pub repeat-none : (at : ℕ) (rest : List ℕ) → length rest ≡ 0 → repeat at rest ≡ give (1, 0)
+pub repeat-none : (at : ℕ) (rest : List ℕ) → length rest ≡ 0 → repeat at rest ≡ Ok (1, 0)
 unfolding repeat
-repeat-none at [] h = refl
-repeat-none at (b ∷ bs) h = absurd (omega arith)
+repeat-none at rest h = grind arith
 
 -- another byte after the symbol
-pub repeat-plain : (at : ℕ) (rest : List ℕ) → 0 < length rest → (get_or rest 0 0 ≡ 40 → ⊥) → repeat at rest ≡ give (1, 0)
+pub repeat-plain : (at : ℕ) (rest : List ℕ) → 0 < length rest → (get_or rest 0 0 ≡ 40 → ⊥) → repeat at rest ≡ Ok (1, 0)
 unfolding repeat
-repeat-plain at [] h e = absurd (omega arith)
-repeat-plain at (b ∷ bs) h e = rw (ne_eqb b 40 e, repeat)
+repeat-plain at rest h e = grind arith
 
 -- a `(` directly after the symbol
 pub repeat-open :
@@ -341,9 +269,8 @@ pub repeat-open :
     0 < length rest →
     get_or rest 0 0 ≡ 40 →
     repeat at rest ≡
-    (or_refuse 22 at (before_close (drop 1 rest)) >>= λ l.
-    or_refuse 23 at (count (trim l)) >>= λ n.
-    give (n, length l + 2))
+    (or_refuse (Refusal.UnclosedRepeat at) (before_close (drop 1 rest)) >>= λ l.
+    or_refuse (Refusal.BadRepeat at) (count (trim l)) >>= λ n.
+    Ok (n, length l + 2))
 unfolding repeat
-repeat-open at [] h e = absurd (omega arith)
-repeat-open at (b ∷ bs) h e = rw (eq-eqb b 40 e, repeat)
+repeat-open at rest h e = grind arith

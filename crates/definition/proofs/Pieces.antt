@@ -4,14 +4,13 @@
 use Prim.Native.Nat.{ℕ, zero, suc, ◌+◌, ◌*◌, ◌-◌, ◌/◌, ◌%◌, ◌≤◌, ◌<◌}
 use mathlib.Core.Path.{◌≡◌, refl, sym, ◌∙◌, ap, ap₂}
 use mathlib.Core.List.{List, [], ◌∷◌, ◌++◌, append_assoc}
-use mathlib.Core.Logic.{◌⊎◌, inl, inr, ⊎_elim}
+use mathlib.Core.Logic.{◌⊎◌, inr, ⊎_elim}
 use native.Mathlib.Omega.{arith}
 use native.Mathlib.Nat.{mod-eq_of_lt, div-eq_of_lt, div-eq-sub-div, mod-eq-sub-mod, mul-suc, mul-zero, zero-mul}
 use native.Mathlib.Nat.{add-mul}
 use lib.ListN.{length, take, drop, length-drop, take-append-drop}
-use borrow.Author.Tests.{lt-ltb, le-ltb}
 use Rattle.definition.specs.declared.Owner.{Owner}
-use Rattle.definition.specs.Owner.{Holder, occurrence, slack, Piece, extent, repeated, answer, owner_from, cut}
+use Rattle.definition.specs.Owner.{Holder, Piece, extent, repeated, answer, owner_from, cut}
 use Rattle.definition.specs.Owner.{join}
 use Rattle.definition.specs.Demand.{Spot, spot, each, spot_of, spots, Among, One, naming}
 use Rattle.definition.proofs.Lists.{order}
@@ -28,59 +27,53 @@ extent-repeated (suc n) ps = rw extent-append (omega (arith, extent-repeated n p
 module _ (first : ℕ) (p : Piece) (ps : List Piece) (q : ℕ) where
   pub owner_here : q < p.width → owner_from first (p ∷ ps) q ≡ answer p.holder first q
   unfolding owner_from
-  owner_here h = rw (lt-ltb q p.width h, owner_from)
+  owner_here h = grind arith
 
   pub owner-later : p.width ≤ q → owner_from first (p ∷ ps) q ≡ owner_from (first + p.width) ps (q - p.width)
   unfolding owner_from
-  owner-later h = rw (le-ltb q p.width h, owner_from)
+  owner-later h = grind arith
 
 -- ---------------------------------------------------------------- one owner
 
 -- what is laid from a byte on starts there or later
 spot_of-at : (h : Holder) (b w : ℕ) (y : Spot) → Among y (spot_of h b w) → y ≡ spot h b w
-spot_of-at (occurrence k) b w y (inl e) = e
-spot_of-at (slack k) b (suc w) y (inl e) = e
-spot_of-at (occurrence k) b w y (inr x'') = elim x'' [ ]
-spot_of-at (slack k) b zero y x3 = elim x3 [ ]
-spot_of-at (slack k) b (suc w) y (inr x5) = elim x5 [ ]
+spot_of-at h b w y a = grind arith
 
 pub among-append : {A : Type 0} (y : A) (xs ys : List A) → Among y (xs ++ ys) → Among y xs ⊎ Among y ys
 among-append y [] ys a = inr a
-among-append y (x ∷ xs) ys (inl e) = inl (inl e)
-among-append y (x ∷ xs) ys (inr a) = ⊎_elim (λ (m : Among y xs). inl (inr m)) (λ (m : Among y ys). inr m) (among-append y xs ys a)
+among-append y (x ∷ xs) ys a = grind (arith, among-append y xs ys)
 
 pub among-left : {A : Type 0} (y : A) (xs ys : List A) → Among y xs → Among y (xs ++ ys)
-among-left y (x ∷ xs) ys (inl e) = inl e
-among-left y (x ∷ xs) ys (inr a) = inr (among-left y xs ys a)
-among-left {A = A} y [] ys x' = elim x' [ ]
+among-left y [] ys a = absurd a
+among-left y (x ∷ xs) ys a = grind (arith, among-left y xs ys)
 
 pub among-right : {A : Type 0} (y : A) (xs ys : List A) → Among y ys → Among y (xs ++ ys)
 among-right y [] ys a = a
 among-right y (x ∷ xs) ys a = inr (among-right y xs ys a)
 
 laid-after : (ps : List Piece) (b : ℕ) (y : Spot) → Among y (spots b ps) → b ≤ y.first
+laid-after [] b y a = absurd a
 laid-after (p ∷ ps) b y a =
-    let ih = laid-after ps (b + p.width) y in
-    ⊎_elim
-    (λ (m : Among y (spot_of p.holder b p.width)). omega (arith, ap (λ (x : Spot). x.first) (spot_of-at p.holder b p.width y m)))
-    (λ (m : Among y (spots (b + p.width) ps)). omega (arith, ih m))
-    (among-append y (spot_of p.holder b p.width) (spots (b + p.width) ps) a)
-laid-after [] b y a = elim a [ ]
+    grind (
+      arith,
+      among-append y (spot_of p.holder b p.width) (spots (b + p.width) ps) a,
+      spot_of-at p.holder b p.width y,
+      laid-after ps (b + p.width) y,
+    )
 
 pub laid-before : (ps : List Piece) (b : ℕ) (y : Spot) → Among y (spots b ps) → y.first + y.width ≤ b + extent ps
+laid-before [] b y a = absurd a
 laid-before (p ∷ ps) b y a =
-    let ih = laid-before ps (b + p.width) y in
-    ⊎_elim
-    (λ (m : Among y (spot_of p.holder b p.width)). let e = spot_of-at p.holder b p.width y m in omega (arith, ap (λ (x : Spot). x.first) e, ap (λ (x : Spot). x.width) e))
-    (λ (m : Among y (spots (b + p.width) ps)). omega (arith, ih m))
-    (among-append y (spot_of p.holder b p.width) (spots (b + p.width) ps) a)
-laid-before [] b y a = elim a [ ]
+    grind (
+      arith,
+      among-append y (spot_of p.holder b p.width) (spots (b + p.width) ps) a,
+      spot_of-at p.holder b p.width y,
+      laid-before ps (b + p.width) y,
+    )
 
 -- where there are bytes, they are listed
 spot_of-listed : (h : Holder) (b w : ℕ) → 0 < w → Among (spot h b w) (spot_of h b w)
-spot_of-listed (occurrence k) b w l = inl refl
-spot_of-listed (slack k) b zero l = absurd (omega arith)
-spot_of-listed (slack k) b (suc w) l = inl refl
+spot_of-listed h b w l = grind arith
 
 -- exactly one spot has the byte, and the search names it
 pub record Found (xs : List Spot) (q : ℕ) (o : Owner) : Type 0 where
@@ -88,8 +81,7 @@ pub record Found (xs : List Spot) (q : ℕ) (o : Owner) : Type 0 where
   pub names : o ≡ naming one.owner.holder one.owner.first q
 
 answer-naming : (h : Holder) (b q : ℕ) → answer h b (q - b) ≡ naming h b q
-answer-naming (occurrence k) b q = refl
-answer-naming (slack k) b q = refl
+answer-naming h b q = grind arith
 
 pub found : (ps : List Piece) (b q : ℕ) → b ≤ q → q < b + extent ps → Found (spots b ps) q (owner_from b ps (q - b))
 found [] b q g h = absurd (omega arith)
@@ -98,6 +90,8 @@ found (p ∷ ps) b q g h =
     let here = spot_of p.holder b w in
     let there = spots (b + w) ps in
     let ih = found ps (b + w) q in
+    let split = λ (y : Spot). among-append y here there in
+    let own = spot_of-at p.holder b w in
     ⊎_elim
     (λ (l : q < b + w).
     record {
@@ -105,11 +99,7 @@ found (p ∷ ps) b q g h =
         owner = spot p.holder b w;
         listed = among-left (spot p.holder b w) here there (spot_of-listed p.holder b w (omega arith));
         has = record { starts = omega arith; ends = omega arith };
-        only = λ y a y-has.
-            ⊎_elim
-            (λ (m : Among y here). spot_of-at p.holder b w y m)
-            (λ (m : Among y there). absurd (omega (arith, laid-after ps (b + w) y m, y-has.starts)))
-            (among-append y here there a);
+        only = λ y a y-has. grind (arith, split y a, own y, laid-after ps (b + w) y);
       };
       names = owner_here b p ps (q - b) (omega arith) ∙ answer-naming p.holder b q;
     })
@@ -121,11 +111,7 @@ found (p ∷ ps) b q g h =
         owner = o.owner;
         listed = among-right o.owner here there o.listed;
         has = o.has;
-        only = λ y a y-has.
-            ⊎_elim
-            (λ (m : Among y here). let e = spot_of-at p.holder b w y m in absurd (omega (arith, ap (λ (x : Spot). x.first) e, ap (λ (x : Spot). x.width) e, y-has.ends)))
-            (λ (m : Among y there). o.only y m y-has)
-            (among-append y here there a);
+        only = λ y a y-has. grind (arith, split y a, own y, o.only y);
       };
       names = owner-later b p ps (q - b) (omega arith) ∙ ap (owner_from (b + w) ps) (omega arith) ∙ f.names;
     })
@@ -133,8 +119,7 @@ found (p ∷ ps) b q g h =
 
 -- so a byte that is laid has an owner
 named-owned : (h : Holder) (first q : ℕ) → naming h first q ≡ Owner.Unowned → ⊥
-named-owned (occurrence k) first q e = let z : ◌≡◌ {A = ℕ} 0 1 = cc in omega arith
-named-owned (slack k) first q e = let z : ◌≡◌ {A = ℕ} 0 1 = cc in omega arith
+named-owned h first q e = grind arith
 
 pub owned-someone : (xs : List Spot) (q : ℕ) {o : Owner} → Found xs q o → o ≡ Owner.Unowned → ⊥
 owned-someone xs q f e = named-owned f.one.owner.holder f.one.owner.first q (sym f.names ∙ e)
@@ -146,30 +131,28 @@ pub join-cut : (ps : List Piece) (bs : List ℕ) → length bs ≡ extent ps →
 join-cut [] [] h = refl
 join-cut [] (b ∷ bs) h = absurd (omega arith)
 join-cut (p ∷ ps) bs h =
-    ap (λ (l : List ℕ). take p.width bs ++ l) (join-cut ps (drop p.width bs) (rw length-drop (omega arith))) ∙ take-append-drop p.width bs
+    ap (λ (l : List ℕ). take p.width bs ++ l) (join-cut ps (drop p.width bs) (rw length-drop (omega arith)))
+    ∙ take-append-drop p.width bs
 
 -- ---------------------------------------------------------------- pieces after pieces, and pieces laid many times
 
 module _ (qs : List Piece) where
-  pub owner-left : (first : ℕ) (ps : List Piece) (q : ℕ) → q < extent ps → owner_from first (ps ++ qs) q ≡ owner_from first ps q
+  pub owner-left :
+      (first : ℕ) (ps : List Piece) (q : ℕ) →
+      q < extent ps →
+      owner_from first (ps ++ qs) q ≡ owner_from first ps q
   owner-left first [] q h = absurd (omega arith)
-  owner-left first (p ∷ ps) q h =
-      let ih = owner-left (first + p.width) ps (q - p.width) in
-      ⊎_elim
-      (λ (l : q < p.width). owner_here first p (ps ++ qs) q l ∙ sym (owner_here first p ps q l))
-      (λ (l : p.width ≤ q). owner-later first p (ps ++ qs) q l ∙ ih (omega arith) ∙ sym (owner-later first p ps q l))
-      (order q p.width)
+  owner-left first (p ∷ ps) q h = grind (arith, owner_here, owner-later, owner-left (first + p.width) ps (q - p.width))
 
-  pub owner-right : (first : ℕ) (ps : List Piece) (q : ℕ) → extent ps ≤ q → owner_from first (ps ++ qs) q ≡ owner_from (first + extent ps) qs (q - extent ps)
-  owner-right first [] q h = ap₂ (λ (a b : ℕ). owner_from a qs b) (omega arith) (omega arith)
-  owner-right first (p ∷ ps) q h =
-      owner-later first p (ps ++ qs) q (omega arith)
-      ∙ owner-right (first + p.width) ps (q - p.width) (omega arith)
-      ∙ ap₂ (λ (a b : ℕ). owner_from a qs b) (omega arith) (omega arith)
+  pub owner-right :
+      (first : ℕ) (ps : List Piece) (q : ℕ) →
+      extent ps ≤ q →
+      owner_from first (ps ++ qs) q ≡ owner_from (first + extent ps) qs (q - extent ps)
+  owner-right first [] q h = grind arith
+  owner-right first (p ∷ ps) q h = grind (arith, owner-later, owner-right (first + p.width) ps (q - p.width))
 
 pub positive : (w n q : ℕ) → q < w * n → 0 < w
-positive zero n q h = absurd (omega (arith, zero-mul n))
-positive (suc w) n q h = omega arith
+positive w n q h = grind (arith, zero-mul)
 
 -- pieces of w bytes, laid n times: the byte q falls into occurrence q / w, which starts at q / w * w, at the place q %
 -- w
@@ -195,12 +178,11 @@ owner-repeated first (suc n) ps q h =
 -- ---------------------------------------------------------------- where pieces stand
 
 pub spots-append : (ps qs : List Piece) (b : ℕ) → spots b (ps ++ qs) ≡ spots b ps ++ spots (b + extent ps) qs
-spots-append [] qs b = ap (λ (n : ℕ). spots n qs) (omega arith)
-spots-append (p ∷ ps) qs b =
-    let e : b + p.width + extent ps ≡ b + (p.width + extent ps) = omega arith in
-    ap (λ (l : List Spot). spot_of p.holder b p.width ++ l) (spots-append ps qs (b + p.width) ∙ ap (λ (n : ℕ). spots (b + p.width) ps ++ spots n qs) e)
-    ∙ sym (append_assoc (spot_of p.holder b p.width) (spots (b + p.width) ps) (spots (b + (p.width + extent ps)) qs))
+spots-append [] qs b = grind arith
+spots-append (p ∷ ps) qs b = grind (arith, spots-append ps qs (b + p.width), append_assoc)
 
-pub spots-repeated : (n : ℕ) (ps : List Piece) (b : ℕ) → spots b (repeated n ps) ≡ each n b (extent ps) (λ c. spots c ps)
+pub spots-repeated :
+    (n : ℕ) (ps : List Piece) (b : ℕ) →
+    spots b (repeated n ps) ≡ each n b (extent ps) (λ c. spots c ps)
 spots-repeated zero ps b = refl
-spots-repeated (suc n) ps b = spots-append ps (repeated n ps) b ∙ ap (λ (l : List Spot). spots b ps ++ l) (spots-repeated n ps (b + extent ps))
+spots-repeated (suc n) ps b = cc (spots-append ps (repeated n ps) b, spots-repeated n ps (b + extent ps))

@@ -2,48 +2,38 @@
 -- open, has the words that it had without literals, and no refusal 50.
 -- Assumes nothing.
 use Prim.Native.Nat.{ℕ, ◌+◌}
-use mathlib.Core.Path.{◌≡◌, refl, ◌∙◌, ap}
+use mathlib.Core.Path.{◌≡◌, ◌∙◌, ap}
 use mathlib.Core.Bool.{true}
 use mathlib.Core.List.{List, [], ◌∷◌, ◌++◌, append-nil}
-use mathlib.Core.Option.{none}
+use native.Mathlib.Omega.{arith}
+use Rattle.std.specs.Prelude.{None}
 use Rattle.definition.specs.declared.ByteKind.{ByteKind}
-use Rattle.definition.specs.declared.ByteKind.TheVariants.{Newline, Blank, Cut, Star, Period, Other}
+use Rattle.definition.specs.declared.ByteKind.TheVariants.{Newline}
 use Rattle.definition.specs.declared.Mode.{Mode}
-use Rattle.definition.specs.declared.Mode.TheVariants.{Fresh, Between, Dropped, Within}
+use Rattle.definition.specs.declared.Mode.TheVariants.{Fresh}
 use Rattle.definition.specs.declared.Said.{Said}
-use Rattle.definition.specs.declared.Said.TheVariants.{Before, Value, Literal}
+use Rattle.definition.specs.declared.Said.TheVariants.{Before}
 use Rattle.definition.specs.declared.Token.{Token}
-use Rattle.definition.specs.Basic.{give}
+use Rattle.definition.specs.Basic.{Ok}
 use Rattle.definition.specs.Words.{byte_kind, next, completed, completed_end, seen, said_next, unless_open, tokens}
 use Rattle.definition.specs.Words.{tokens_of, first_open, sentences, statement_words}
 use Rattle.definition.specs.Unquoted.{bare_tokens, bare_words, harmless, harmless_from, plain_text}
 use Rattle.definition.specs.Calls.{literal_check}
-use Rattle.definition.proofs.WordLaws.{and_both, never, closed_on}
+use Rattle.definition.proofs.WordLaws.{and_both, closed_on}
 
 -- ---------------------------------------------------------------- the same words
 
 -- a harmless byte is what it was, and leaves nothing open
 seen_same : (q : Said) (k : ByteKind) → harmless q k ≡ true → seen q k ≡ k
-seen_same (Before n) k h = refl
-seen_same Value k h = refl
-seen_same (Literal mark at) Newline h = refl
-seen_same (Literal mark at) Blank h = refl
-seen_same (Literal mark at) Cut h = never h
-seen_same (Literal mark at) Star h = refl
-seen_same (Literal mark at) Period h = never h
-seen_same (Literal mark at) Other h = refl
+seen_same q k h = grind arith
 
 none_open : (q : Said) (k : ByteKind) (ts : List Token) → harmless q k ≡ true → unless_open q k ts ≡ ts
-none_open (Before n) k ts h = refl
-none_open Value k ts h = refl
-none_open (Literal mark at) Newline ts h = never h
-none_open (Literal mark at) Blank ts h = refl
-none_open (Literal mark at) Cut ts h = refl
-none_open (Literal mark at) Star ts h = refl
-none_open (Literal mark at) Period ts h = refl
-none_open (Literal mark at) Other ts h = refl
+none_open q k ts h = grind arith
 
-pub same-tokens : (bs text : List ℕ) (q : Said) (m : Mode) (p : ℕ) → harmless_from text q m p bs ≡ true → tokens text q m p bs ≡ bare_tokens m p bs
+pub same-tokens :
+    (bs text : List ℕ) (q : Said) (m : Mode) (p : ℕ) →
+    harmless_from text q m p bs ≡ true →
+    tokens text q m p bs ≡ bare_tokens m p bs
 unfolding tokens bare_tokens harmless_from
 same-tokens [] text q m p h = rw (closed_on q Newline [] h) (append-nil (completed_end m p))
 same-tokens (b ∷ bs) text q m p h =
@@ -60,32 +50,26 @@ same-words text h = ap sentences (same-tokens text text (Before 0) Fresh 0 h)
 -- ---------------------------------------------------------------- no refusal 50
 
 -- words and periods leave nothing open
-first-completed : (ts : List Token) (m : Mode) (p : ℕ) (k : ByteKind) → first_open (completed m p k ++ ts) ≡ first_open ts
+first-completed :
+    (ts : List Token) (m : Mode) (p : ℕ) (k : ByteKind) →
+    first_open (completed m p k ++ ts) ≡ first_open ts
 unfolding first_open
-first-completed ts Dropped p k = refl
-first-completed ts Fresh p k =
-    elim k as (λ j. first_open (completed Fresh p j ++ ts) ≡ first_open ts) [ Newline ↦ refl | Blank ↦ refl | Cut ↦ refl | Star ↦ refl | Period ↦ refl | Other ↦ refl ]
-first-completed ts Between p k =
-    elim k as (λ j. first_open (completed Between p j ++ ts) ≡ first_open ts) [ Newline ↦ refl | Blank ↦ refl | Cut ↦ refl | Star ↦ refl | Period ↦ refl | Other ↦ refl ]
-first-completed ts (Within s) p k =
-    elim k as (λ j. first_open (completed (Within s) p j ++ ts) ≡ first_open ts) [ Newline ↦ refl | Blank ↦ refl | Cut ↦ refl | Star ↦ refl | Period ↦ refl | Other ↦ refl ]
+first-completed ts m p k = grind arith
 
-first-end : (m : Mode) (p : ℕ) → first_open (completed_end m p) ≡ none
+first-end : (m : Mode) (p : ℕ) → first_open (completed_end m p) ≡ None
 unfolding first_open
-first-end Dropped p = refl
-first-end Fresh p = refl
-first-end Between p = refl
-first-end (Within s) p = refl
+first-end m p = grind arith
 
-bare-closed : (bs : List ℕ) (m : Mode) (p : ℕ) → first_open (bare_tokens m p bs) ≡ none
+bare-closed : (bs : List ℕ) (m : Mode) (p : ℕ) → first_open (bare_tokens m p bs) ≡ None
 unfolding bare_tokens
 bare-closed [] m p = first-end m p
 bare-closed (b ∷ bs) m p =
     let k = byte_kind b bs in
     first-completed (bare_tokens (next m p k) (p + 1) bs) m p k ∙ bare-closed bs (next m p k) (p + 1)
 
-pub plain_closed : (text : List ℕ) → plain_text text ≡ true → literal_check text ≡ give tt
+pub plain_closed : (text : List ℕ) → plain_text text ≡ true → literal_check text ≡ Ok tt
 unfolding literal_check
 plain_closed text h =
-    let e : first_open (tokens_of text) ≡ none = ap first_open (same-tokens text text (Before 0) Fresh 0 h) ∙ bare-closed text Fresh 0 in
+    let e : first_open (tokens_of text) ≡ None =
+    ap first_open (same-tokens text text (Before 0) Fresh 0 h) ∙ bare-closed text Fresh 0 in
     rw (e, literal_check)

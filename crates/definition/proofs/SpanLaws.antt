@@ -2,45 +2,38 @@
 -- every span of the entries that are laid from them.
 -- Assumes nothing.
 use Prim.Native.Nat.{ℕ, suc, max}
-use mathlib.Core.Path.{◌≡◌, refl, subst, sym}
-use mathlib.Core.Bool.{Bool, true, false, ◌||◌}
+use mathlib.Core.Path.{◌≡◌, subst, sym}
+use mathlib.Core.Bool.{Bool}
 use mathlib.Core.List.{List, [], ◌∷◌}
-use mathlib.Core.Option.{Option, none, some}
+use Rattle.std.specs.Prelude.{Option, None, Some}
 use native.Mathlib.Omega.{arith}
-use lib.Dec.{eqb, leb, ltb}
+use lib.Dec.{leb}
 use Rattle.definition.specs.declared.Clauses.{Clauses}
 use Rattle.definition.specs.declared.Expect.{Expect}
-use Rattle.definition.specs.declared.Expect.TheVariants.{Clause, IsPicture, APicture, Target, ACount, To}
-use Rattle.definition.specs.declared.Expect.TheVariants.{Bound, Times, DependingOn, OnName, AName, UsageIs}
-use Rattle.definition.specs.declared.Expect.TheVariants.{SignIs, SignWord, Side, Nothing}
-use Rattle.definition.specs.declared.Keyword.{Keyword}
-use Rattle.definition.specs.declared.SignWords.{SignWords}
+use Rattle.definition.specs.declared.Expect.TheVariants.{Clause}
 use Rattle.definition.specs.declared.ItemUsage.{ItemUsage}
 use Rattle.definition.specs.declared.Span.{Span}
-use Rattle.definition.specs.declared.Step.{Step}
-use Rattle.definition.specs.declared.Step.TheVariants.{Go, Fail}
+use Rattle.definition.specs.declared.Refusal.{Refusal}
 use Rattle.definition.specs.declared.Statement.{Statement}
 use Rattle.definition.specs.declared.Entry.{Entry}
+use Rattle.definition.specs.declared.Refusal.{Refusal}
 use Rattle.definition.specs.Limits.{most_statements}
 use Rattle.std.specs.Prelude.{if◌then◌else◌}
-use Rattle.definition.specs.Basic.{absent, given, uppers, part, count, Answer, refuse, give, ◌>>=◌}
-use Rattle.definition.specs.Basic.{refused, refuse_if}
+use Rattle.definition.specs.Basic.{absent, uppers, part, Answer, Err, Ok, ◌>>=◌, and_then}
+use Rattle.definition.specs.Basic.{refuse_if}
 use Rattle.definition.specs.Tree.{Forest, leaf, item, above, not_above, forest, fields}
 use Rattle.definition.specs.Usages.{inheriting, inherit, inherited, record_of}
-use Rattle.definition.specs.Fold.{Entries, end, entry, append, entry_end, same_name, Place, place_of, find}
-use Rattle.definition.specs.Fold.{has_member, rebased, redefiners, with_redefiners, folded_list, folded_below}
+use Rattle.definition.specs.Fold.{Entries, end, entry, append, entry_end, Place, place_of}
+use Rattle.definition.specs.Fold.{rebased, redefiners, with_redefiners, folded_list, folded_below}
 use Rattle.definition.specs.Layout.{slack_from, entry_of, advance, Laid, lay}
-use Rattle.definition.specs.Record.{unfolded, layout}
+use Rattle.definition.specs.Record.{layout}
 use Rattle.definition.specs.Demand.{EntrySpans, EachSpan}
-use Rattle.definition.specs.Statement.{key, keyword_of, no_clauses, with_picture, with_depending, with_redefines}
-use Rattle.definition.specs.Statement.{with_sign, counted, begin, on_clause, on_depending, on_times, on_sign}
+use Rattle.definition.specs.Statement.{no_clauses}
+use Rattle.definition.specs.Statement.{Step, missing}
 use Rattle.definition.specs.Statement.{clause_step, separated, step, finish, clauses, named, statement}
 use Rattle.definition.specs.Statement.{statements, outermost}
 use Rattle.definition.proofs.Answers.{through, given-same}
-use Rattle.definition.proofs.LayoutLaws.{redefiners-none, redefiners-hit, redefiners-miss, redefiners-ends}
-use Rattle.definition.proofs.LayoutLaws.{redefiners-next, folded-none, folded-base, folded-alone, folded-under}
-use Rattle.definition.proofs.LayoutLaws.{below_none, below-entry, append-none, append-entry}
-use Rattle.definition.proofs.Cover.{item-laid}
+use Rattle.definition.proofs.Cover.{item-laid, laid-out}
 
 -- what holds of the spans of clauses, and of a statement
 pub record Spans (P : Span → Type 0) (c : Clauses) : Type 0 where
@@ -52,44 +45,21 @@ pub record StatementSpans (P : Span → Type 0) (s : Statement) : Type 0 where
   pub name : P s.name
   pub clauses : Spans P s.clauses
 
-refuses : {A B : Type 0} {n p : ℕ} {a : A} → ◌≡◌ {A = Answer A} (refused n p) (give a) → B
-refuses h = absurd (let z : ◌≡◌ {A = ℕ} 0 1 = cc in omega arith)
-
 module _ (P : Span → Type 0) where
   -- ---------------------------------------------------------------- clauses and statements
 
   -- of the clauses that a step leads to
   abbrev pub StepSpans : Step → Type 0
-  StepSpans (Go e c) = Spans P c
-  StepSpans (Fail n) = Unit
-
-  -- by a test
-  either : (b : Bool) (x y : Step) → StepSpans x → StepSpans y → StepSpans (if b then x else y)
-  either true x y f g = f
-  either false x y f g = g
+  StepSpans (Ok (e, c)) = Spans P c
+  StepSpans (Err m) = Unit
 
   -- of those that a statement ends with, whatever was expected
   abbrev pub AnswerSpans : Answer Clauses → Type 0
-  AnswerSpans (give c) = Spans P c
-  AnswerSpans (refuse r) = Unit
+  AnswerSpans (Ok c) = Spans P c
+  AnswerSpans (Err r) = Unit
 
   pub finish-spans : (at : ℕ) (e : Expect) {c : Clauses} → Spans P c → AnswerSpans (finish at e c)
-  finish-spans at ACount f = tt
-  finish-spans at Bound f = tt
-  finish-spans at OnName f = tt
-  finish-spans at AName f = tt
-  finish-spans at Clause f = f
-  finish-spans at IsPicture f = f
-  finish-spans at APicture f = f
-  finish-spans at Target f = f
-  finish-spans at To f = f
-  finish-spans at Times f = f
-  finish-spans at DependingOn f = f
-  finish-spans at UsageIs f = f
-  finish-spans at SignIs f = f
-  finish-spans at SignWord f = f
-  finish-spans at Side f = f
-  finish-spans at Nothing f = f
+  finish-spans at e f = grind arith
 
   -- of every word of a statement, and of all statements
   abbrev pub Words : List Span → Type 0
@@ -102,8 +72,8 @@ module _ (P : Span → Type 0) where
 
   -- of a statement that is kept
   abbrev Kept : Option Statement → Type 0
-  Kept none = Unit {0}
-  Kept (some s) = StatementSpans P s
+  Kept None = Unit {0}
+  Kept (Some s) = StatementSpans P s
 
   abbrev pub AllSpans : List Statement → Type 0
   AllSpans [] = Unit {0}
@@ -115,21 +85,15 @@ module _ (P : Span → Type 0) where
   ForestSpans leaf = Unit {0}
   ForestSpans (item s kids later) = StatementSpans P s × ForestSpans kids × ForestSpans later
 
-  if-spans : (b : Bool) (f g : Forest) → ForestSpans f → ForestSpans g → ForestSpans (if b then f else g)
-  if-spans true f g x y = x
-  if-spans false f g x y = y
-
   above-spans : (n : ℕ) (f : Forest) → ForestSpans f → ForestSpans (above n f)
   unfolding above
   above-spans n leaf x = tt
-  above-spans n (item s kids later) x =
-      if-spans (ltb n s.level) (item s kids (above n later)) leaf (x.0, x.1, above-spans n later x.2) tt
+  above-spans n (item s kids later) x = grind (arith, above-spans n later)
 
   not_above-spans : (n : ℕ) (f : Forest) → ForestSpans f → ForestSpans (not_above n f)
   unfolding not_above
   not_above-spans n leaf x = tt
-  not_above-spans n (item s kids later) x =
-      if-spans (ltb n s.level) (not_above n later) (item s kids later) (not_above-spans n later x.2) x
+  not_above-spans n (item s kids later) x = grind (arith, not_above-spans n later)
 
   forest-spans : (ss : List Statement) → AllSpans ss → ForestSpans (forest ss)
   unfolding forest
@@ -149,11 +113,7 @@ module _ (P : Span → Type 0) where
 
   fields-spans : (f : Forest) → ForestSpans f → ForestSpans (fields f)
   unfolding fields
-  fields-spans leaf x = tt
-  fields-spans (item s leaf leaf) x = x
-  fields-spans (item s (item t kids later) leaf) x = x.1
-  fields-spans (item s leaf (item t kids later)) x = x
-  fields-spans (item s (item u us vs) (item t kids later)) x = x
+  fields-spans f x = grind arith
 
   -- of every span of the fields of the record
   pub record-spans : (ss : List Statement) → AllSpans ss → ForestSpans (record_of ss)
@@ -165,7 +125,7 @@ module _ (P : Span → Type 0) where
   laid-spans :
       (text : List ℕ) (f : Forest) (depth : ℕ) (seen : List Place) (cursor reach : ℕ) (l : Laid) →
       ForestSpans f →
-      lay text depth seen cursor reach f ≡ give l →
+      lay text depth seen cursor reach f ≡ Ok l →
       EachSpan P l.entries
   unfolding lay
   laid-spans text leaf depth seen cursor reach l x h =
@@ -188,9 +148,9 @@ module _ (P : Span → Type 0) where
       )
 
   append-spans : (a b : Entries) → EachSpan P a → EachSpan P b → EachSpan P (append a b)
-  append-spans end b x y = subst (EachSpan P) (sym (append-none b)) y
-  append-spans (entry e m later) b x y =
-      subst (EachSpan P) (sym (append-entry e m later b)) (x.0, x.1, append-spans later b x.2 y)
+  unfolding append
+  append-spans end b x y = y
+  append-spans (entry e m later) b x y = (x.0, x.1, append-spans later b x.2 y)
 
   -- ---------------------------------------------------------------- what holds of an absent span too
 
@@ -199,117 +159,46 @@ module _ (P : Span → Type 0) where
     pub none-spans : Spans P no_clauses
     none-spans = record { picture = nothing; depending = nothing; redefines = nothing }
 
-    module _ {c : Clauses} (f : Spans P c) where
-      picture-spans : (w : Span) → P w → Spans P (with_picture w c)
-      picture-spans w h = record { picture = h; depending = f.depending; redefines = f.redefines }
-
-      depending-spans : (w : Span) → P w → Spans P (with_depending w c)
-      depending-spans w h = record { picture = f.picture; depending = h; redefines = f.redefines }
-
-      redefines-spans : (w : Span) → P w → Spans P (with_redefines w c)
-      redefines-spans w h = record { picture = f.picture; depending = f.depending; redefines = h }
-
-      sign-spans : (s : SignWords) → Spans P (with_sign s c)
-      sign-spans s = record { picture = f.picture; depending = f.depending; redefines = f.redefines }
-
-    module _ (c : Clauses) (f : Spans P c) where
-      -- a clause begins
-      begin-spans : (k : Keyword) → StepSpans (begin k c)
-      begin-spans Keyword.Picture = record { picture = nothing; depending = f.depending; redefines = f.redefines }
-      begin-spans Keyword.Redefines = record { picture = f.picture; depending = f.depending; redefines = nothing }
-      begin-spans Keyword.Occurs = f
-      begin-spans Keyword.Usage = f
-      begin-spans Keyword.Display = record { picture = f.picture; depending = f.depending; redefines = f.redefines }
-      begin-spans Keyword.Comp3 = record { picture = f.picture; depending = f.depending; redefines = f.redefines }
-      begin-spans Keyword.Comp = record { picture = f.picture; depending = f.depending; redefines = f.redefines }
-      begin-spans Keyword.Comp1 = record { picture = f.picture; depending = f.depending; redefines = f.redefines }
-      begin-spans Keyword.Comp2 = record { picture = f.picture; depending = f.depending; redefines = f.redefines }
-      begin-spans Keyword.Sign = sign-spans f (SignWords.Said false false)
-      begin-spans Keyword.Sync = record { picture = f.picture; depending = f.depending; redefines = f.redefines }
-      begin-spans Keyword.Value = f
-      begin-spans Keyword.Other = f
-
-      -- a count is read
-      counted-spans : (n : ℕ) (e : Expect) (o : Option ℕ) → StepSpans (counted n e c o)
-      counted-spans n e none = tt
-      counted-spans n e (some k) = record { picture = f.picture; depending = f.depending; redefines = f.redefines }
-
-      module _ (u : List ℕ) where
-        -- a word, by what is expected
-        clause-spans : StepSpans (on_clause u c)
-        clause-spans = begin-spans (keyword_of u)
-
-        on-depending-spans : StepSpans (on_depending u c)
-        on-depending-spans = either (key "DEPENDING" u) (Go OnName c) (on_clause u c) f clause-spans
-
-        on-times-spans : StepSpans (on_times u c)
-        on-times-spans = either (key "TIMES" u) (Go DependingOn c) (on_depending u c) f on-depending-spans
-
-        on-sign-spans : StepSpans (on_sign u c)
-        on-sign-spans = sign-spans f (SignWords.Said (key "LEADING" u) false)
-
-        clause-step-spans : (e : Expect) (w : Span) → P w → StepSpans (clause_step e w u c)
-        unfolding clause_step
-        clause-step-spans Clause w h = clause-spans
-        clause-step-spans IsPicture w h =
-            either (key "IS" u) (Go APicture c) (Go Clause (with_picture w c)) f (picture-spans f w h)
-        clause-step-spans APicture w h = picture-spans f w h
-        clause-step-spans Target w h = redefines-spans f w h
-        clause-step-spans ACount w h = counted-spans 11 To (count u)
-        clause-step-spans To w h = either (key "TO" u) (Go Bound c) (on_times u c) f on-times-spans
-        clause-step-spans Bound w h = counted-spans 12 Times (count u)
-        clause-step-spans Times w h = on-times-spans
-        clause-step-spans DependingOn w h = on-depending-spans
-        clause-step-spans OnName w h =
-            either (key "ON" u) (Go AName c) (Go Clause (with_depending w c)) f (depending-spans f w h)
-        clause-step-spans AName w h = depending-spans f w h
-        clause-step-spans UsageIs w h = either (key "IS" u) (Go Clause c) (on_clause u c) f clause-spans
-        clause-step-spans SignIs w h = either (key "IS" u) (Go SignWord c) (on_sign u c) f on-sign-spans
-        clause-step-spans SignWord w h = on-sign-spans
-        clause-step-spans Side w h = either (key "LEFT" u || key "RIGHT" u) (Go Clause c) (on_clause u c) f clause-spans
-        clause-step-spans Nothing w h = f
+    -- a word, by what is expected
+    clause-step-spans :
+        (e : Expect) (w : Span) (u : List ℕ) (c : Clauses) → P w → Spans P c → StepSpans (clause_step e w u c)
+    unfolding clause_step
+    clause-step-spans e w u c h f = grind (arith, nothing)
 
     -- SEPARATE
     separated-spans : (u : List ℕ) (s : Step) → StepSpans s → StepSpans (separated u s)
-    separated-spans u (Fail n) f = tt
-    separated-spans u (Go e c) f = either (key "SEPARATE" u) _ (Go e c) (sign-spans f _) f
+    separated-spans u s f = grind arith
 
     -- a step, at a word of which it holds
     pub step-spans : (e : Expect) (w : Span) (u : List ℕ) (c : Clauses) → P w → Spans P c → StepSpans (step e w u c)
     unfolding step
-    step-spans e w u c h f = separated-spans u (clause_step e w u c) (clause-step-spans c f u e w h)
+    step-spans e w u c h f = separated-spans u (clause_step e w u c) (clause-step-spans e w u c h f)
 
     after-step :
         (text : List ℕ) (at : ℕ) (ws : List Span) {d : Clauses} (s : Step) →
         StepSpans s →
-        ((e : Expect) (c : Clauses) → Spans P c → clauses text at e c ws ≡ give d → Spans P d) →
-        elim s [ Go e c ↦ clauses text at e c ws | Fail n ↦ refused n at ] ≡ give d →
+        ((e : Expect) (c : Clauses) → Spans P c → clauses text at e c ws ≡ Ok d → Spans P d) →
+        ◌≡◌ {A = Answer Clauses} (elim s [ Ok (e, c) ↦ clauses text at e c ws | Err m ↦ Err (missing at m) ]) (Ok d) →
         Spans P d
-    after-step text at ws (Go e c) g ih k = ih e c g k
-    after-step text at ws (Fail n) g ih k = refuses k
+    after-step text at ws s g ih k = grind arith
 
     clauses-spans :
         (ws : List Span) (text : List ℕ) (at : ℕ) (e : Expect) (c : Clauses) {d : Clauses} →
         Words ws →
         Spans P c →
-        clauses text at e c ws ≡ give d →
+        clauses text at e c ws ≡ Ok d →
         Spans P d
     unfolding clauses
     clauses-spans [] text at e c a f h = subst AnswerSpans h (finish-spans at e f)
     clauses-spans (w ∷ ws) text at e c a f h =
-        after-step
-        text
-        at
-        ws
-        (step e w (uppers (part text w)) c)
-        (step-spans e w (uppers (part text w)) c a.0 f)
-        (λ e' c' g k. clauses-spans ws text at e' c' a.1 g k)
-        h
+        let u = uppers (part text w) in
+        after-step text at ws (step e w u c) (step-spans e w u c a.0 f)
+        (λ e' c' g k. clauses-spans ws text at e' c' a.1 g k) h
 
     named-spans :
         (text : List ℕ) (at level : ℕ) (ws : List Span) {s : Statement} →
         Words ws →
-        named text at level ws ≡ give s →
+        named text at level ws ≡ Ok s →
         StatementSpans P s
     unfolding named
     named-spans text at level [] a h =
@@ -319,52 +208,38 @@ module _ (P : Span → Type 0) where
         let said = clauses-spans ws text at Clause no_clauses a.1 none-spans e in
         subst (StatementSpans P) (given-same k) (record { name = a.0; clauses = said })
 
-    by_level :
-        (b : Bool) (text : List ℕ) (at level : ℕ) (ws : List Span) {r : Option Statement} →
-        Words ws →
-        (if b then give none else (named text at level ws >>= λ s. give (some s))) ≡ give r →
-        Kept r
-    by_level true text at level ws a h = subst Kept (given-same h) tt
-    by_level false text at level ws a h =
-        through _ _ h λ s e k. subst Kept (given-same k) (named-spans text at level ws a e)
-
     statement-spans :
         (text : List ℕ) (ws : List Span) {r : Option Statement} →
         Words ws →
-        statement text ws ≡ give r →
+        statement text ws ≡ Ok r →
         Kept r
-    unfolding statement
-    statement-spans text [] a h = subst Kept (given-same h) tt
-    statement-spans text (w ∷ ws) a h =
-        through _ _ h λ level e k. by_level (eqb level 88) text w.start level ws a.1 k
+    unfolding statement and_then
+    statement-spans text ws a h = grind (arith, named-spans)
 
     after-statement :
         (text : List ℕ) (n : ℕ) (wss : List (List Span)) {ss : List Statement} (r : Option Statement) →
         Kept r →
-        ((m : ℕ) (ts : List Statement) → statements text m wss ≡ give ts → AllSpans ts) →
-        elim r [
-          | none ↦ statements text n wss
-          | some s ↦
-              refuse_if (leb most_statements n) 14 s.at >>= λ _. statements text (suc n) wss >>= λ ts. give (s ∷ ts)
-        ] ≡ give ss →
+        ((m : ℕ) (ts : List Statement) → statements text m wss ≡ Ok ts → AllSpans ts) →
+        ◌≡◌ {A = Answer (List Statement)} (elim r [
+          | None ↦ statements text n wss
+          | Some s ↦
+              refuse_if (leb most_statements n) (Refusal.TooManyStatements s.at) >>= λ _. statements text (suc n) wss >>= λ ts. Ok (s ∷ ts)
+        ]) (Ok ss) →
         AllSpans ss
-    after-statement text n wss none g ih h = ih n _ h
-    after-statement text n wss (some s) g ih h =
-        through _ _ h λ _ _ h₁.
-        through _ _ h₁ λ ts e k.
-        subst AllSpans (given-same k) (g, ih (suc n) ts e)
+    unfolding and_then
+    after-statement text n wss r g ih h = grind arith
 
     -- of every span of the kept statements
     pub statements-spans :
         (wss : List (List Span)) (text : List ℕ) (n : ℕ) {ss : List Statement} →
         Sentences wss →
-        statements text n wss ≡ give ss →
+        statements text n wss ≡ Ok ss →
         AllSpans ss
     unfolding statements
     statements-spans [] text n a h = subst AllSpans (given-same h) tt
     statements-spans (ws ∷ wss) text n a h =
         through _ _ h λ r e k.
-        let ih : (m : ℕ) (ts : List Statement) → statements text m wss ≡ give ts → AllSpans ts =
+        let ih : (m : ℕ) (ts : List Statement) → statements text m wss ≡ Ok ts → AllSpans ts =
         λ m ts q. statements-spans wss text m a.1 q in
         after-statement text n wss r (statement-spans text ws a.0 e) ih k
 
@@ -374,32 +249,10 @@ module _ (P : Span → Type 0) where
 
     module _ (text : List ℕ) where
       redefiners-spans : (base : Place) (es : Entries) → EachSpan P es → EachSpan P (redefiners text base es)
-      redefiners-spans base end x = subst (EachSpan P) (sym (redefiners-none text base)) tt
+      unfolding redefiners
+      redefiners-spans base end x = tt
       redefiners-spans base (entry e m later) x =
-          by_tests
-          (given e.redefines)
-          refl
-          (same_name text base.name e.redefines)
-          refl
-          (same_name text base.name e.name)
-          refl
-          (redefiners-spans base later x.2)
-        where
-          by_tests :
-              (g : Bool) →
-              given e.redefines ≡ g →
-              (a : Bool) →
-              same_name text base.name e.redefines ≡ a →
-              (b : Bool) →
-              same_name text base.name e.name ≡ b →
-              EachSpan P (redefiners text base later) →
-              EachSpan P (redefiners text base (entry e m later))
-          by_tests true g true a b q ih =
-              subst (EachSpan P) (sym (redefiners-hit text base e m later g a))
-              (rebased-spans base.offset e x.0, x.1, ih)
-          by_tests true g false a b q ih = subst (EachSpan P) (sym (redefiners-miss text base e m later g a)) ih
-          by_tests false g a p true b ih = subst (EachSpan P) (sym (redefiners-ends text base e m later g b)) tt
-          by_tests false g a p false b ih = subst (EachSpan P) (sym (redefiners-next text base e m later g b)) ih
+          grind (arith, rebased-spans base.offset e x.0, redefiners-spans base later x.2)
 
       members-spans :
           (b : Bool) (e : Entry) (m rs : Entries) →
@@ -407,8 +260,7 @@ module _ (P : Span → Type 0) where
           EachSpan P m →
           EachSpan P rs →
           EachSpan P (if b then append m rs else entry (rebased e.offset e) m rs)
-      members-spans true e m rs x y z = append-spans m rs y z
-      members-spans false e m rs x y z = (rebased-spans e.offset e x, y, z)
+      members-spans b e m rs x y z = grind (arith, append-spans m rs y z, rebased-spans e.offset e x)
 
       union-spans :
           (e : Entry) (m rs later : Entries) →
@@ -417,60 +269,31 @@ module _ (P : Span → Type 0) where
           EachSpan P rs →
           EachSpan P later →
           EachSpan P (with_redefiners text e m rs later)
-      union-spans e m end later x y z w = (x, y, w)
-      union-spans e m (entry r ms rs) later x y z w = (
-        record { name = x.name; picture = nothing; depending = nothing; redefines = nothing; over = nothing },
-        members-spans (has_member text e.name m) e m (entry r ms rs) x y z,
-        w,
-      )
+      union-spans e m rs later x y z w = grind (arith, members-spans, nothing)
 
       folded-spans : (es : Entries) (bases : List Place) → EachSpan P es → EachSpan P (folded_list text bases es)
-      folded-spans end bases x = subst (EachSpan P) (sym (folded-none text bases)) tt
+      unfolding folded_list
+      folded-spans end bases x = tt
       folded-spans (entry e m later) bases x =
-          by-given
-          (given e.redefines)
-          refl
-          (find text e.redefines bases)
-          refl
-          (folded-spans later bases x.2)
-          (folded-spans later (place_of e ∷ bases) x.2)
-        where
-          by-given :
-              (g : Bool) →
-              given e.redefines ≡ g →
-              (o : Option ℕ) →
-              find text e.redefines bases ≡ o →
-              EachSpan P (folded_list text bases later) →
-              EachSpan P (folded_list text (place_of e ∷ bases) later) →
-              EachSpan P (folded_list text bases (entry e m later))
-          by-given true g none h ih ihs =
-              subst (EachSpan P) (sym (folded-alone text bases e m later g h)) (x.0, x.1, ih)
-          by-given true g (some b) h ih ihs = subst (EachSpan P) (sym (folded-under text bases e m later g h)) ih
-          by-given false g o h ih ihs =
-              subst (EachSpan P) (sym (folded-base text bases e m later g))
-              (union-spans
-              e
-              m
-              (redefiners text (place_of e) later)
-              (folded_list text (place_of e ∷ bases) later)
-              x.0
-              x.1
-              (redefiners-spans (place_of e) later x.2)
-              ihs)
+          grind (
+            arith,
+            folded-spans later bases x.2,
+            folded-spans later (place_of e ∷ bases) x.2,
+            union-spans e m (redefiners text (place_of e) later) (folded_list text (place_of e ∷ bases) later),
+            redefiners-spans (place_of e) later x.2,
+          )
 
       below-spans : (es : Entries) → EachSpan P es → EachSpan P (folded_below text es)
-      below-spans end x = subst (EachSpan P) (sym (below_none text)) tt
+      unfolding folded_below
+      below-spans end x = tt
       below-spans (entry e m later) x =
-          subst (EachSpan P) (sym (below-entry text e m later))
           (x.0, folded-spans (folded_below text m) [] (below-spans m x.1), below-spans later x.2)
 
       -- of every span of the entries of a listing
-      pub layout-spans : (f : Forest) (es : Entries) → ForestSpans f → layout text f ≡ give es → EachSpan P es
-      unfolding layout unfolded
+      pub layout-spans : (f : Forest) (es : Entries) → ForestSpans f → layout text f ≡ Ok es → EachSpan P es
+      unfolding layout
       layout-spans f es x h =
           through _ _ h λ us e h₁.
-          through _ _ e λ l e₁ h₂.
-          through _ _ h₂ λ _ _ h₃.
-          through _ _ h₃ λ _ _ h₄.
-          let laid = subst (EachSpan P) (given-same h₄) (laid-spans text f 0 [] 0 0 l x e₁) in
+          let r = laid-out text f us e in
+          let laid = subst (EachSpan P) r.is (laid-spans text f 0 [] 0 0 r.list x r.list-laid) in
           subst (EachSpan P) (given-same h₁) (folded-spans (folded_below text us) [] (below-spans us laid))

@@ -3,17 +3,17 @@
 use Prim.Native.Nat.{ℕ, suc, ◌≤◌, ◌<◌}
 use mathlib.Core.Path.{◌≡◌, refl}
 use mathlib.Core.List.{List, [], ◌∷◌}
-use mathlib.Core.Option.{none, some}
+use Rattle.std.specs.Prelude.{None, Some}
 use borrow.Author.Tests.{eq-eqb, ne_eqb, le-leb, lt-leb}
 use Rattle.definition.specs.declared.Span.{Span}
 use Rattle.definition.specs.declared.Clauses.{Clauses}
 use Rattle.definition.specs.declared.Expect.{Expect}
-use Rattle.definition.specs.declared.Step.TheVariants.{Go, Fail}
+use Rattle.definition.specs.declared.Missing.{Missing}
 use Rattle.definition.specs.declared.Statement.{Statement}
 use Rattle.definition.specs.declared.Refusal.{Refusal}
 use Rattle.definition.specs.Limits.{most_statements}
-use Rattle.definition.specs.Basic.{uppers, absent, part, number, refuse, give, ◌>>=◌, refused}
-use Rattle.definition.specs.Statement.{no_clauses, step, finish, clauses, statement_of, named, statement}
+use Rattle.definition.specs.Basic.{uppers, absent, part, number, Err, Ok, ◌>>=◌, and_then}
+use Rattle.definition.specs.Statement.{no_clauses, missing, step, finish, clauses, statement_of, named, statement}
 use Rattle.definition.specs.Statement.{statements}
 
 -- ---------------------------------------------------------------- clauses
@@ -24,78 +24,92 @@ module _ (text : List ℕ) (at : ℕ) (e : Expect) (c : Clauses) where
   clauses-none = refl
 
   module _ (w : Span) (ws : List Span) where
-    pub clauses-go : {e' : Expect} {c' : Clauses} → step e w (uppers (part text w)) c ≡ Go e' c' → clauses text at e c (w ∷ ws) ≡ clauses text at e' c' ws
+    pub clauses-go :
+        {e' : Expect} {c' : Clauses} →
+        step e w (uppers (part text w)) c ≡ Ok (e', c') →
+        clauses text at e c (w ∷ ws) ≡ clauses text at e' c' ws
     unfolding clauses
     clauses-go p = rw (p, clauses)
 
-    pub clauses-fail : {n : ℕ} → step e w (uppers (part text w)) c ≡ Fail n → clauses text at e c (w ∷ ws) ≡ refused n at
+    pub clauses-fail :
+        {m : Missing} →
+        step e w (uppers (part text w)) c ≡ Err m →
+        clauses text at e c (w ∷ ws) ≡ Err (missing at m)
     unfolding clauses
     clauses-fail p = rw (p, clauses)
 
 -- ---------------------------------------------------------------- a statement
 
 module _ (text : List ℕ) (at level : ℕ) where
-  pub named_none : named text at level [] ≡ give (statement_of level at absent no_clauses)
+  pub named_none : named text at level [] ≡ Ok (statement_of level at absent no_clauses)
   unfolding named
   named_none = refl
 
   module _ (w : Span) (ws : List Span) where
     pub named-given :
         {c : Clauses} →
-        clauses text at Expect.Clause no_clauses ws ≡ give c →
-        named text at level (w ∷ ws) ≡ give (statement_of level at w c)
-    unfolding named ◌>>=◌
+        clauses text at Expect.Clause no_clauses ws ≡ Ok c →
+        named text at level (w ∷ ws) ≡ Ok (statement_of level at w c)
+    unfolding named and_then
     named-given p = rw p
 
-    pub named-refused : {r : Refusal} → clauses text at Expect.Clause no_clauses ws ≡ refuse r → named text at level (w ∷ ws) ≡ refuse r
-    unfolding named ◌>>=◌
+    pub named-refused :
+        {r : Refusal} →
+        clauses text at Expect.Clause no_clauses ws ≡ Err r →
+        named text at level (w ∷ ws) ≡ Err r
+    unfolding named and_then
     named-refused p = rw p
 
 module _ (text : List ℕ) where
-  pub statement-empty : statement text [] ≡ give none
+  pub statement-empty : statement text [] ≡ Ok None
   unfolding statement
   statement-empty = refl
 
   module _ (w : Span) (ws : List Span) where
-    pub statement-bad : number 256 (part text w) ≡ none → statement text (w ∷ ws) ≡ refused 10 w.start
-    unfolding statement ◌>>=◌
+    pub statement-bad : number 256 (part text w) ≡ None → statement text (w ∷ ws) ≡ Err (Refusal.BadLevel w.start)
+    unfolding statement and_then
     statement-bad p = rw p
 
-    module _ {level : ℕ} (p : number 256 (part text w) ≡ some level) where
-      pub statement-skipped : level ≡ 88 → statement text (w ∷ ws) ≡ give none
-      unfolding statement ◌>>=◌
+    module _ {level : ℕ} (p : number 256 (part text w) ≡ Some level) where
+      pub statement-skipped : level ≡ 88 → statement text (w ∷ ws) ≡ Ok None
+      unfolding statement and_then
       statement-skipped q = rw (p, eq-eqb level 88 q)
 
       module _ (q : level ≡ 88 → ⊥) where
-        pub statement-kept : {s : Statement} → named text w.start level ws ≡ give s → statement text (w ∷ ws) ≡ give (some s)
-        unfolding statement ◌>>=◌
+        pub statement-kept :
+            {s : Statement} →
+            named text w.start level ws ≡ Ok s →
+            statement text (w ∷ ws) ≡ Ok (Some s)
+        unfolding statement and_then
         statement-kept h = rw (p, ne_eqb level 88 q, h)
 
-        pub statement-refused : {r : Refusal} → named text w.start level ws ≡ refuse r → statement text (w ∷ ws) ≡ refuse r
-        unfolding statement ◌>>=◌
+        pub statement-refused : {r : Refusal} → named text w.start level ws ≡ Err r → statement text (w ∷ ws) ≡ Err r
+        unfolding statement and_then
         statement-refused h = rw (p, ne_eqb level 88 q, h)
 
   -- ---------------------------------------------------------------- statements
 
   module _ (n : ℕ) where
-    pub statements-none : statements text n [] ≡ give []
+    pub statements-none : statements text n [] ≡ Ok []
     unfolding statements
     statements-none = refl
 
     module _ (ws : List Span) (wss : List (List Span)) where
-      pub statements-refused : {r : Refusal} → statement text ws ≡ refuse r → statements text n (ws ∷ wss) ≡ refuse r
-      unfolding statements ◌>>=◌
+      pub statements-refused : {r : Refusal} → statement text ws ≡ Err r → statements text n (ws ∷ wss) ≡ Err r
+      unfolding statements and_then
       statements-refused h = rw h
 
-      pub statements-skipped : statement text ws ≡ give none → statements text n (ws ∷ wss) ≡ statements text n wss
-      unfolding statements ◌>>=◌
+      pub statements-skipped : statement text ws ≡ Ok None → statements text n (ws ∷ wss) ≡ statements text n wss
+      unfolding statements and_then
       statements-skipped h = rw h
 
-      module _ {s : Statement} (h : statement text ws ≡ give (some s)) where
-        pub statements-full : most_statements ≤ n → statements text n (ws ∷ wss) ≡ refused 14 s.at
-        unfolding statements ◌>>=◌
+      module _ {s : Statement} (h : statement text ws ≡ Ok (Some s)) where
+        pub statements-full : most_statements ≤ n → statements text n (ws ∷ wss) ≡ Err (Refusal.TooManyStatements s.at)
+        unfolding statements and_then
         statements-full l = rw (h, le-leb most_statements n l)
 
-        pub statements-kept : n < most_statements → statements text n (ws ∷ wss) ≡ (statements text (suc n) wss >>= λ ss. give (s ∷ ss))
-        unfolding statements ◌>>=◌
+        pub statements-kept :
+            n < most_statements →
+            statements text n (ws ∷ wss) ≡ (statements text (suc n) wss >>= λ ss. Ok (s ∷ ss))
+        unfolding statements and_then
         statements-kept l = rw (h, lt-leb most_statements n l)

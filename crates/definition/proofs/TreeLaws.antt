@@ -9,27 +9,10 @@ use lib.ListN.{length, get_or, take, drop}
 use lib.Seq.{slice, slice-cons, take-take, drop-drop, length-slice}
 use borrow.Author.Tests.{lt-ltb, le-ltb}
 use Rattle.definition.specs.declared.Statement.{Statement}
-use Rattle.definition.specs.Tree.{Forest, leaf, item, above, not_above, forest, higher, fields}
-use Rattle.definition.proofs.Lists.{tested, take-drop}
+use Rattle.definition.specs.Tree.{Forest, leaf, item, above, not_above, forest, higher}
+use Rattle.definition.proofs.Lists.{take-drop}
 
 -- ---------------------------------------------------------------- one step
-
-module _ (n : ℕ) (s : Statement) (kids later : Forest) where
-  pub above_hit : n < s.level → above n (item s kids later) ≡ item s kids (above n later)
-  unfolding above
-  above_hit h = rw (lt-ltb n s.level h, above)
-
-  pub above-miss : s.level ≤ n → above n (item s kids later) ≡ leaf
-  unfolding above
-  above-miss h = rw (le-ltb n s.level h, above)
-
-  pub not_above-hit : n < s.level → not_above n (item s kids later) ≡ not_above n later
-  unfolding not_above
-  not_above-hit h = rw (lt-ltb n s.level h, not_above)
-
-  pub not_above-miss : s.level ≤ n → not_above n (item s kids later) ≡ item s kids later
-  unfolding not_above
-  not_above-miss h = rw (le-ltb n s.level h, not_above)
 
 module _ (n : ℕ) where
   pub higher-none : higher n [] ≡ 0
@@ -48,7 +31,7 @@ module _ (n : ℕ) where
   pub higher-length : (ss : List Statement) → higher n ss ≤ length ss
   unfolding higher
   higher-length [] = omega arith
-  higher-length (s ∷ ss) = tested n s.level (λ p _. simp p (omega (arith, higher-length ss))) (λ p _. simp p (omega arith))
+  higher-length (s ∷ ss) = grind (arith, higher-length ss)
 
 -- ---------------------------------------------------------------- two levels
 
@@ -57,27 +40,18 @@ module _ (n m : ℕ) (h : n ≤ m) where
   above-above : (f : Forest) → above m (above n f) ≡ above m f
   unfolding above
   above-above leaf = refl
-  above-above (item s kids later) =
-      tested m s.level
-      (λ p lt. simp (p, lt-ltb n s.level (omega arith), above-above later))
-      (λ p _. tested n s.level (λ q _. simp (q, p)) (λ q _. simp (q, p)))
+  above-above (item s kids later) = grind (arith, above-above later)
 
   -- to leave out what is above m, and then to take what is above n, is the other way round the same
   above-not_above : (f : Forest) → not_above m (above n f) ≡ above n (not_above m f)
   unfolding above not_above
   above-not_above leaf = refl
-  above-not_above (item s kids later) =
-      tested m s.level
-      (λ p lt. simp (p, lt-ltb n s.level (omega arith), above-not_above later))
-      (λ p _. tested n s.level (λ q _. simp (q, p)) (λ q _. simp (q, p)))
+  above-not_above (item s kids later) = grind (arith, above-not_above later)
 
   not_above-not_above : (f : Forest) → not_above n (not_above m f) ≡ not_above n f
   unfolding not_above
   not_above-not_above leaf = refl
-  not_above-not_above (item s kids later) =
-      tested m s.level
-      (λ p lt. simp (p, lt-ltb n s.level (omega arith), not_above-not_above later))
-      (λ p _. simp p)
+  not_above-not_above (item s kids later) = grind (arith, not_above-not_above later)
 
 -- ---------------------------------------------------------------- a statement, its children and the rest
 
@@ -86,24 +60,21 @@ above-forest : (n : ℕ) (ss : List Statement) → above n (forest ss) ≡ fores
 unfolding above forest higher
 above-forest n [] = refl
 above-forest n (s ∷ ss) =
-    tested n s.level
-    (λ p lt. simp (p, ← above-forest n ss, above-above n s.level (omega arith) (forest ss), above-not_above n s.level (omega arith) (forest ss)))
-    (λ p _. simp p)
+    grind (arith, above-forest n ss, above-above n s.level, above-not_above n s.level)
 
 not_above-forest : (n : ℕ) (ss : List Statement) → not_above n (forest ss) ≡ forest (drop (higher n ss) ss)
 unfolding not_above forest higher
 not_above-forest n [] = refl
-not_above-forest n (s ∷ ss) =
-    tested n s.level
-    (λ p lt. simp (p, not_above-not_above n s.level (omega arith) (forest ss), not_above-forest n ss))
-    (λ p _. simp p)
+not_above-forest n (s ∷ ss) = grind (arith, not_above-not_above n s.level, not_above-forest n ss)
 
 pub forest-none : forest [] ≡ leaf
 unfolding forest
 forest-none = refl
 
 -- the forest of a list: its first statement, with the run of higher levels as children, and the rest
-pub forest-cons : (s : Statement) (ss : List Statement) → forest (s ∷ ss) ≡ item s (forest (take (higher s.level ss) ss)) (forest (drop (higher s.level ss) ss))
+pub forest-cons :
+    (s : Statement) (ss : List Statement) →
+    forest (s ∷ ss) ≡ item s (forest (take (higher s.level ss) ss)) (forest (drop (higher s.level ss) ss))
 unfolding forest
 forest-cons s ss = cc (above-forest s.level ss, not_above-forest s.level ss)
 
@@ -114,7 +85,8 @@ module _ (ss : List Statement) (d : Statement) (i j : ℕ) (h : i < j) (fits : j
   children_end = suc i + higher (get_or ss i d).level (slice (suc i) j ss)
 
   pub children_end-within : children_end ≤ j
-  children_end-within = omega (arith, higher-length (get_or ss i d).level (slice (suc i) j ss), length-slice (suc i) j ss fits)
+  children_end-within =
+      omega (arith, higher-length (get_or ss i d).level (slice (suc i) j ss), length-slice (suc i) j ss fits)
 
   pub forest-slice :
       forest (slice i j ss) ≡ item (get_or ss i d) (forest (slice (suc i) children_end ss)) (forest (slice children_end j ss))
@@ -122,21 +94,11 @@ module _ (ss : List Statement) (d : Statement) (i j : ℕ) (h : i < j) (fits : j
       let s = get_or ss i d in
       let rest = slice (suc i) j ss in
       let n = higher s.level rest in
-      let first : take n rest ≡ slice (suc i) children_end ss = take-drop n (suc i) (take j ss) ∙ ap (drop (suc i)) (take-take children_end j ss children_end-within) in
+      let first : take n rest ≡ slice (suc i) children_end ss =
+      take-drop n (suc i) (take j ss) ∙ ap (drop (suc i)) (take-take children_end j ss children_end-within) in
       let others : drop n rest ≡ slice children_end j ss = drop-drop n (suc i) (take j ss) in
-      ap forest (slice-cons i j ss d h fits) ∙ forest-cons s rest ∙ ap₂ (λ (a b : List Statement). item s (forest a) (forest b)) first others
+      ap forest (slice-cons i j ss d h fits)
+      ∙ forest-cons s rest
+      ∙ ap₂ (λ (a b : List Statement). item s (forest a) (forest b)) first others
 
 -- ---------------------------------------------------------------- the fields of the record
-
-pub fields-roots : (s t : Statement) (kids more later : Forest) → fields (item s kids (item t more later)) ≡ item s kids (item t more later)
-unfolding fields
-fields-roots s t leaf more later = refl
-fields-roots s t (item u us vs) more later = refl
-
-pub fields-dropped : (s t : Statement) (kids later : Forest) → fields (item s (item t kids later) leaf) ≡ item t kids later
-unfolding fields
-fields-dropped s t kids later = refl
-
-pub fields-single : (s : Statement) → fields (item s leaf leaf) ≡ item s leaf leaf
-unfolding fields
-fields-single s = refl

@@ -4,35 +4,34 @@
 -- Assumes nothing.
 use Prim.Native.Nat.{ℕ, suc, max}
 use Prim.Native.String.{String}
-use mathlib.Core.Path.{◌≡◌, refl, sym, ap, ap₂, subst, ◌∙◌}
+use mathlib.Core.Path.{◌≡◌, refl, sym, ap, subst, ◌∙◌}
 use mathlib.Core.Bool.{Bool, true, false, ◌&&◌, ◌||◌, not}
 use mathlib.Core.List.{List, [], ◌∷◌, map}
-use mathlib.Core.Option.{Option, none, some}
+use Rattle.std.specs.Prelude.{Option, None, Some}
+use native.Mathlib.Omega.{arith}
 use lib.Dec.{eqb, leb}
 use Rattle.definition.specs.declared.Span.{Span}
 use Rattle.definition.specs.declared.Usage.{Usage}
 use Rattle.definition.specs.declared.ItemUsage.{ItemUsage}
-use Rattle.definition.specs.declared.UsageClause.{UsageClause}
-use Rattle.definition.specs.declared.SignWords.{SignWords}
 use Rattle.definition.specs.declared.Clauses.{Clauses}
 use Rattle.definition.specs.declared.Keyword.{Keyword}
 use Rattle.definition.specs.declared.Expect.{Expect}
 use Rattle.definition.specs.declared.Expect.TheVariants.{Clause, IsPicture, APicture, Target, ACount, To}
 use Rattle.definition.specs.declared.Expect.TheVariants.{Bound, Times, DependingOn, OnName, AName, UsageIs}
 use Rattle.definition.specs.declared.Expect.TheVariants.{SignIs, SignWord, Side, Nothing}
-use Rattle.definition.specs.declared.Step.{Step}
-use Rattle.definition.specs.declared.Step.TheVariants.{Go, Fail}
+use Rattle.definition.specs.declared.Missing.{Missing}
 use Rattle.definition.specs.declared.Pictured.{Pictured}
 use Rattle.definition.specs.declared.Statement.{Statement}
+use Rattle.definition.specs.declared.Refusal.{Refusal}
 use Rattle.definition.specs.Limits.{most_statements}
 use Rattle.std.specs.Prelude.{if◌then◌else◌}
 use Rattle.definition.specs.Basic.{bytes, same, uppers, part, digits, number, count}
-use Rattle.definition.specs.Basic.{Answer, refuse, give, ◌>>=◌, refused, refuse_if, or_refuse}
+use Rattle.definition.specs.Basic.{Answer, Err, Ok, ◌>>=◌, and_then, refuse_if, or_refuse}
 use Rattle.definition.specs.Words.{statement_words}
 use Rattle.definition.specs.Statement.{key, Spelling, spellings, pick, meaning, keyword_of, clauses_of, no_clauses}
 use Rattle.definition.specs.Statement.{with_picture, with_usage, with_sign, with_depending, with_redefines, counted}
-use Rattle.definition.specs.Statement.{begin}
-use Rattle.definition.specs.Statement.{on_clause, on_depending, on_times, on_sign, clause_step, separately, separated}
+use Rattle.definition.specs.Statement.{Step, go, missing, sign_words, begin}
+use Rattle.definition.specs.Statement.{on_clause, on_depending, on_times, on_sign, clause_step, separated}
 use Rattle.definition.specs.Statement.{step}
 use Rattle.definition.specs.Statement.{finish, clauses, usage_of, outermost, statement_of, named, statement}
 use Rattle.definition.specs.Statement.{statements}
@@ -42,41 +41,43 @@ use Rattle.definition.specs.Fold.{entry, Place, place_of, entry_end, fold_check,
 use Rattle.definition.specs.Layout.{shallow, under_usage, content, start, slack_from, entry_of, too_large, advance}
 use Rattle.definition.specs.Layout.{Laid, lay}
 use Rattle.definition.specs.Record.{ends_fit, unfolded, layout}
-use Rattle.definition.specs.Calls.{entry_checks, literal_check, kept_statements, record_fields, entries}
+use Rattle.definition.specs.Calls.{kept_statements, record_fields, entries}
 use Rattle.definition.specs.Ungrouped.{is_one_of, new_words, as_seen, clauses_alone, named_alone, statement_alone}
 use Rattle.definition.specs.Ungrouped.{statements_alone, entries_alone, is_other, lasts, lasting, is_skipped}
 use Rattle.definition.specs.Ungrouped.{lasting_in, lasting_all, names_usage, is_plain, plain_groups, plain_read}
 use Rattle.definition.specs.Ungrouped.{plain_usages}
 use Rattle.definition.proofs.Answers.{or-false}
-use Rattle.definition.proofs.Lists.{tested}
+use Rattle.definition.proofs.Lists.{by_cases}
 use Rattle.definition.proofs.WordLaws.{never, and_both, same-equal}
 
 -- ---------------------------------------------------------------- clauses without DISPLAY
 
-abbrev undisplay : UsageClause → UsageClause
-undisplay UsageClause.Absent = UsageClause.Absent
-undisplay (UsageClause.Given (ItemUsage.Picture Usage.Display)) = UsageClause.Absent
-undisplay (UsageClause.Given (ItemUsage.Picture Usage.Comp3)) = UsageClause.Given (ItemUsage.Picture Usage.Comp3)
-undisplay (UsageClause.Given (ItemUsage.Picture Usage.Comp)) = UsageClause.Given (ItemUsage.Picture Usage.Comp)
-undisplay (UsageClause.Given ItemUsage.Comp1) = UsageClause.Given ItemUsage.Comp1
-undisplay (UsageClause.Given ItemUsage.Comp2) = UsageClause.Given ItemUsage.Comp2
+abbrev undisplay : Option ItemUsage → Option ItemUsage
+undisplay None = None
+undisplay (Some (ItemUsage.Picture Usage.Display)) = None
+undisplay (Some (ItemUsage.Picture Usage.Comp3)) = Some (ItemUsage.Picture Usage.Comp3)
+undisplay (Some (ItemUsage.Picture Usage.Comp)) = Some (ItemUsage.Picture Usage.Comp)
+undisplay (Some ItemUsage.Comp1) = Some ItemUsage.Comp1
+undisplay (Some ItemUsage.Comp2) = Some ItemUsage.Comp2
 
 abbrev forget : Clauses → Clauses
 forget c =
     clauses_of c.picture (undisplay c.usage) c.sign c.sync c.occurs c.depending c.redefines
 
 abbrev forget_step : Step → Step
-forget_step (Go e c) = Go e (forget c)
-forget_step (Fail n) = Fail n
+forget_step (Ok (e, c)) = go e (forget c)
+forget_step (Err m) = Err m
 
 -- what is not another usage is none without DISPLAY
-none_other : (u : UsageClause) → is_other u ≡ false → undisplay u ≡ UsageClause.Absent
-none_other UsageClause.Absent h = refl
-none_other (UsageClause.Given (ItemUsage.Picture Usage.Display)) h = refl
-none_other (UsageClause.Given (ItemUsage.Picture Usage.Comp3)) h = never (sym h)
-none_other (UsageClause.Given (ItemUsage.Picture Usage.Comp)) h = never (sym h)
-none_other (UsageClause.Given ItemUsage.Comp1) h = never (sym h)
-none_other (UsageClause.Given ItemUsage.Comp2) h = never (sym h)
+none_other : (u : Option ItemUsage) → is_other u ≡ false → undisplay u ≡ None
+none_other u h = grind arith
+
+-- one of two is true, and the other is not
+first_part : {a b : Bool} → (a || b) ≡ true → b ≡ false → a ≡ true
+first_part h p = grind arith
+
+second_part : {a b : Bool} → (a || b) ≡ true → a ≡ false → b ≡ true
+second_part h p = grind arith
 
 -- ---------------------------------------------------------------- a word that is none of the new ones
 
@@ -107,20 +108,10 @@ module _ (u : List ℕ) (h : is_one_of new_words u ≡ false) where
       is_old k ≡ true →
       is_old (pick u (bytes s.word) s.means k) ≡ true
   unfolding pick
-  pick-old s k t n = by_tests (is_old s.means) refl (same u (bytes s.word)) refl t
-    where
-      by_tests :
-          (a : Bool) →
-          is_old s.means ≡ a →
-          (b : Bool) →
-          same u (bytes s.word) ≡ b →
-          (a || is_one_of new_words (bytes s.word)) ≡ true →
-          is_old (if b then s.means else k) ≡ true
-      by_tests true p true q t = p
-      by_tests a p false q t = n
-      by_tests false p true q t =
-          let is : u ≡ bytes s.word = same-equal u (bytes s.word) q in
-          never (sym h ∙ ap (is_one_of new_words) is ∙ t)
+  pick-old s k t n =
+      by_cases (same u (bytes s.word))
+      (λ e. rw e (first_part t (ap (is_one_of new_words) (sym (same-equal u (bytes s.word) e)) ∙ h)))
+      (λ e. rw e n)
 
   meaning-old :
       (ss : List Spelling) (k : Keyword) → new_alone ss ≡ true → is_old k ≡ true → is_old (meaning u ss k) ≡ true
@@ -137,23 +128,10 @@ module _ (u : List ℕ) (h : is_one_of new_words u ≡ false) where
 
 module _ (c : Clauses) where
   begin-forget : (k : Keyword) → is_old k ≡ true → begin k (forget c) ≡ forget_step (begin k c)
-  begin-forget Keyword.Display n = never n
-  begin-forget Keyword.Comp1 n = never n
-  begin-forget Keyword.Comp2 n = never n
-  begin-forget Keyword.Picture n = refl
-  begin-forget Keyword.Redefines n = refl
-  begin-forget Keyword.Occurs n = refl
-  begin-forget Keyword.Usage n = refl
-  begin-forget Keyword.Comp3 n = refl
-  begin-forget Keyword.Comp n = refl
-  begin-forget Keyword.Sign n = refl
-  begin-forget Keyword.Sync n = refl
-  begin-forget Keyword.Value n = refl
-  begin-forget Keyword.Other n = refl
+  begin-forget k n = grind arith
 
-  counted-forget : (n : ℕ) (e : Expect) (o : Option ℕ) → counted n e (forget c) o ≡ forget_step (counted n e c o)
-  counted-forget n e none = refl
-  counted-forget n e (some k) = refl
+  counted-forget : (m : Missing) (e : Expect) (o : Option ℕ) → counted m e (forget c) o ≡ forget_step (counted m e c o)
+  counted-forget n e o = grind arith
 
   -- by a test
   either :
@@ -161,42 +139,39 @@ module _ (c : Clauses) where
       x' ≡ forget_step x →
       y' ≡ forget_step y →
       (if b then x' else y') ≡ forget_step (if b then x else y)
-  either true x y p q = p
-  either false x y p q = q
+  either b x y p q = grind arith
 
   module _ (u : List ℕ) (h : is_one_of new_words u ≡ false) where
     on-clause : on_clause u (forget c) ≡ forget_step (on_clause u c)
     on-clause = begin-forget (keyword_of u) (keyword-old u h)
 
     on-depending : on_depending u (forget c) ≡ forget_step (on_depending u c)
-    on-depending = either (key "DEPENDING" u) (Go OnName c) (on_clause u c) refl on-clause
+    on-depending = either (key "DEPENDING" u) (go OnName c) (on_clause u c) refl on-clause
 
     on-times : on_times u (forget c) ≡ forget_step (on_times u c)
-    on-times = either (key "TIMES" u) (Go DependingOn c) (on_depending u c) refl on-depending
+    on-times = either (key "TIMES" u) (go DependingOn c) (on_depending u c) refl on-depending
 
     clause-step-forget : (e : Expect) (w : Span) → clause_step e w u (forget c) ≡ forget_step (clause_step e w u c)
     unfolding clause_step
     clause-step-forget Clause w = on-clause
-    clause-step-forget IsPicture w = either (key "IS" u) (Go APicture c) (Go Clause (with_picture w c)) refl refl
+    clause-step-forget IsPicture w = either (key "IS" u) (go APicture c) (go Clause (with_picture w c)) refl refl
     clause-step-forget APicture w = refl
     clause-step-forget Target w = refl
-    clause-step-forget ACount w = counted-forget 11 To (count u)
-    clause-step-forget To w = either (key "TO" u) (Go Bound c) (on_times u c) refl on-times
-    clause-step-forget Bound w = counted-forget 12 Times (count u)
+    clause-step-forget ACount w = counted-forget Missing.Count To (count u)
+    clause-step-forget To w = either (key "TO" u) (go Bound c) (on_times u c) refl on-times
+    clause-step-forget Bound w = counted-forget Missing.Bound Times (count u)
     clause-step-forget Times w = on-times
     clause-step-forget DependingOn w = on-depending
-    clause-step-forget OnName w = either (key "ON" u) (Go AName c) (Go Clause (with_depending w c)) refl refl
+    clause-step-forget OnName w = either (key "ON" u) (go AName c) (go Clause (with_depending w c)) refl refl
     clause-step-forget AName w = refl
-    clause-step-forget UsageIs w = either (key "IS" u) (Go Clause c) (on_clause u c) refl on-clause
-    clause-step-forget SignIs w = either (key "IS" u) (Go SignWord c) (on_sign u c) refl refl
+    clause-step-forget UsageIs w = either (key "IS" u) (go Clause c) (on_clause u c) refl on-clause
+    clause-step-forget SignIs w = either (key "IS" u) (go SignWord c) (on_sign u c) refl refl
     clause-step-forget SignWord w = refl
-    clause-step-forget Side w = either (key "LEFT" u || key "RIGHT" u) (Go Clause c) (on_clause u c) refl on-clause
+    clause-step-forget Side w = either (key "LEFT" u || key "RIGHT" u) (go Clause c) (on_clause u c) refl on-clause
     clause-step-forget Nothing w = refl
 
 separated-forget : (u : List ℕ) (s : Step) → separated u (forget_step s) ≡ forget_step (separated u s)
-separated-forget u (Fail n) = refl
-separated-forget u (Go e c) =
-    either c (key "SEPARATE" u) (Go e (with_sign (separately c.sign) c)) (Go e c) refl refl
+separated-forget u s = grind arith
 
 -- ---------------------------------------------------------------- a new word
 
@@ -207,11 +182,10 @@ Each P (k ∷ ks) = P (bytes k) × Each P ks
 
 one_of : (P : List ℕ → Type 0) (ks : List String) → Each P ks → (u : List ℕ) → is_one_of ks u ≡ true → P u
 one_of P [] h u e = never e
-one_of P (k ∷ ks) h u e = by-test (key k u) refl (one_of P ks h.1 u) e
-  where
-    by-test : (b : Bool) → key k u ≡ b → (is_one_of ks u ≡ true → P u) → (b || is_one_of ks u) ≡ true → P u
-    by-test true p ih e = subst P (sym (same-equal u (bytes k) p)) h.0
-    by-test false p ih e = ih e
+one_of P (k ∷ ks) h u e =
+    by_cases (key k u)
+    (λ p. subst P (sym (same-equal u (bytes k) p)) h.0)
+    (λ p. one_of P ks h.1 u (rw p at e))
 
 -- a word is none of these
 abbrev NoneOf : List String → List ℕ → Type 0
@@ -229,53 +203,38 @@ onward = "IS" ∷ "TO" ∷ "TIMES" ∷ "DEPENDING" ∷ "ON" ∷ "LEFT" ∷ "RIGH
 -- a word that is none of those, and no count
 record Silent (u : List ℕ) : Type 0 where
   no-onward : is_one_of onward u ≡ false
-  no-count : count u ≡ none
+  no-count : count u ≡ None
 
 -- what such a word does, where `began` is what it does at a clause
 abbrev silently : Expect → Span → Clauses → Step → Step
 silently Clause w c began = began
-silently IsPicture w c began = Go Clause (with_picture w c)
-silently APicture w c began = Go Clause (with_picture w c)
-silently Target w c began = Go Clause (with_redefines w c)
-silently ACount w c began = Fail 11
+silently IsPicture w c began = go Clause (with_picture w c)
+silently APicture w c began = go Clause (with_picture w c)
+silently Target w c began = go Clause (with_redefines w c)
+silently ACount w c began = Err Missing.Count
 silently To w c began = began
-silently Bound w c began = Fail 12
+silently Bound w c began = Err Missing.Bound
 silently Times w c began = began
 silently DependingOn w c began = began
-silently OnName w c began = Go Clause (with_depending w c)
-silently AName w c began = Go Clause (with_depending w c)
+silently OnName w c began = go Clause (with_depending w c)
+silently AName w c began = go Clause (with_depending w c)
 silently UsageIs w c began = began
-silently SignIs w c began = Go Clause (with_sign (SignWords.Said false false) c)
-silently SignWord w c began = Go Clause (with_sign (SignWords.Said false false) c)
+silently SignIs w c began = go Clause (with_sign (Some (sign_words false false)) c)
+silently SignWord w c began = go Clause (with_sign (Some (sign_words false false)) c)
 silently Side w c began = began
-silently Nothing w c began = Go Nothing c
+silently Nothing w c began = go Nothing c
 
 module _ {u : List ℕ} (q : Silent u) where
   abbrev no : NoneOf onward u
   no = none_of onward u q.no-onward
 
   no-separate : (s : Step) → separated u s ≡ s
-  no-separate (Go e c) = rw no.1.1.1.1.1.1.1.1.0
-  no-separate (Fail n) = refl
+  no-separate (Ok (e, c)) = rw no.1.1.1.1.1.1.1.1.0
+  no-separate (Err m) = refl
 
   silent-clause : (e : Expect) (w : Span) (c : Clauses) → clause_step e w u c ≡ silently e w c (begin (keyword_of u) c)
   unfolding clause_step
-  silent-clause Clause w c = refl
-  silent-clause IsPicture w c = rw no.0
-  silent-clause APicture w c = refl
-  silent-clause Target w c = refl
-  silent-clause ACount w c = rw q.no-count
-  silent-clause To w c = rw (no.1.0, no.1.1.0, no.1.1.1.0)
-  silent-clause Bound w c = rw q.no-count
-  silent-clause Times w c = rw (no.1.1.0, no.1.1.1.0)
-  silent-clause DependingOn w c = rw no.1.1.1.0
-  silent-clause OnName w c = rw no.1.1.1.1.0
-  silent-clause AName w c = refl
-  silent-clause UsageIs w c = rw no.0
-  silent-clause SignIs w c = rw (no.0, no.1.1.1.1.1.1.1.0)
-  silent-clause SignWord w c = rw no.1.1.1.1.1.1.1.0
-  silent-clause Side w c = rw (no.1.1.1.1.1.0, no.1.1.1.1.1.1.0)
-  silent-clause Nothing w c = refl
+  silent-clause e w c = grind (arith, q.no-count, no)
 
   silent-step : (e : Expect) (w : Span) (c : Clauses) → step e w u c ≡ silently e w c (begin (keyword_of u) c)
   unfolding step
@@ -283,41 +242,26 @@ module _ {u : List ℕ} (q : Silent u) where
 
 -- a step lasts where it names no float and takes no other usage back
 abbrev Lasts : Clauses → Step → Type 0
-Lasts c (Go e d) = lasts c.usage d.usage ≡ true
-Lasts c (Fail n) = Unit {0}
+Lasts c (Ok (e, d)) = lasts c.usage d.usage ≡ true
+Lasts c (Err m) = Unit {0}
 
 -- the empty word does nothing where a clause may begin
-empty-step : (e : Expect) (w : Span) (c : Clauses) → step e w [] c ≡ silently e w c (Go Clause c)
+empty-step : (e : Expect) (w : Span) (c : Clauses) → step e w [] c ≡ silently e w c (go Clause c)
 unfolding keyword_of pick same number digits
 empty-step e w c = silent-step (record { no-onward = refl; no-count = refl }) e w c
 
 module _ (c : Clauses) where
   -- a usage that is named leaves what it was without DISPLAY
   abbrev Leaves : ItemUsage → Type 0
-  Leaves v = lasts c.usage (UsageClause.Given v) ≡ true → Go Clause (forget c) ≡ Go Clause (forget (with_usage v c))
+  Leaves v = lasts c.usage (Some v) ≡ true → go Clause (forget c) ≡ go Clause (forget (with_usage v c))
 
   silently-forget :
       (v : ItemUsage) →
       Leaves v →
       (e : Expect) (w : Span) →
-      Lasts c (silently e w c (Go Clause (with_usage v c))) →
-      silently e w (forget c) (Go Clause (forget c)) ≡ forget_step (silently e w c (Go Clause (with_usage v c)))
-  silently-forget v left Clause w h = left h
-  silently-forget v left IsPicture w h = refl
-  silently-forget v left APicture w h = refl
-  silently-forget v left Target w h = refl
-  silently-forget v left ACount w h = refl
-  silently-forget v left To w h = left h
-  silently-forget v left Bound w h = refl
-  silently-forget v left Times w h = left h
-  silently-forget v left DependingOn w h = left h
-  silently-forget v left OnName w h = refl
-  silently-forget v left AName w h = refl
-  silently-forget v left UsageIs w h = left h
-  silently-forget v left SignIs w h = refl
-  silently-forget v left SignWord w h = refl
-  silently-forget v left Side w h = left h
-  silently-forget v left Nothing w h = refl
+      Lasts c (silently e w c (go Clause (with_usage v c))) →
+      silently e w (forget c) (go Clause (forget c)) ≡ forget_step (silently e w c (go Clause (with_usage v c)))
+  silently-forget v left e w h = grind arith
 
   -- the word was the empty one
   abbrev Forgets : List ℕ → Type 0
@@ -329,12 +273,12 @@ module _ (c : Clauses) where
   names-forget :
       (u : List ℕ) (v : ItemUsage) →
       is_one_of onward u ≡ false →
-      count u ≡ none →
-      begin (keyword_of u) c ≡ Go Clause (with_usage v c) →
+      count u ≡ None →
+      begin (keyword_of u) c ≡ go Clause (with_usage v c) →
       Leaves v →
       Forgets u
   names-forget u v o n b left e w h =
-      let there : step e w u c ≡ silently e w c (Go Clause (with_usage v c)) =
+      let there : step e w u c ≡ silently e w c (go Clause (with_usage v c)) =
       silent-step (record { no-onward = o; no-count = n }) e w c ∙ ap (silently e w c) b in
       empty-step e w (forget c)
       ∙ silently-forget v left e w (subst (Lasts c) there h)
@@ -344,13 +288,9 @@ module _ (c : Clauses) where
   display-leaves : Leaves (ItemUsage.Picture Usage.Display)
   display-leaves h =
       ap
-      (λ (u : UsageClause).
-      Go Clause (clauses_of c.picture u c.sign c.sync c.occurs c.depending c.redefines))
-      (none_other c.usage (by-test (is_other c.usage) h))
-    where
-      by-test : (b : Bool) → (not b || false) ≡ true → b ≡ false
-      by-test true h = never h
-      by-test false h = refl
+      (λ (u : Option ItemUsage).
+      go Clause (clauses_of c.picture u c.sign c.sync c.occurs c.depending c.redefines))
+      (none_other c.usage (grind arith))
 
   new-forget : Each Forgets new_words
   unfolding keyword_of pick same number digits
@@ -379,52 +319,35 @@ module _ (c : Clauses) where
       (e : Expect) (w : Span) (u : List ℕ) →
       Lasts c (step e w u c) →
       step e w (as_seen u) (forget c) ≡ forget_step (step e w u c)
-  step-forget e w u h = by-test (is_one_of new_words u) refl
-    where
-      by-test :
-          (b : Bool) → is_one_of new_words u ≡ b → step e w (if b then [] else u) (forget c) ≡ forget_step (step e w u c)
-      by-test true p = one_of Forgets new_words new-forget u p e w h
-      by-test false p = step_other e w u p
+  step-forget e w u h =
+      by_cases (is_one_of new_words u)
+      (λ p. rw p (one_of Forgets new_words new-forget u p e w h))
+      (λ p. rw p (step_other e w u p))
 
 -- ---------------------------------------------------------------- a statement
 
 -- an answer, with what it gives changed
 abbrev mapped : {A B : Type 0} → (A → B) → Answer A → Answer B
-mapped f a = a >>= λ x. give (f x)
+mapped f a = a >>= λ x. Ok (f x)
 
 abbrev forget_statement : Statement → Statement
 forget_statement s = statement_of s.level s.at s.name (forget s.clauses)
 
 finish-forget : (at : ℕ) (e : Expect) (c : Clauses) → finish at e (forget c) ≡ mapped forget (finish at e c)
-unfolding ◌>>=◌
-finish-forget at ACount c = refl
-finish-forget at Bound c = refl
-finish-forget at OnName c = refl
-finish-forget at AName c = refl
-finish-forget at Clause c = refl
-finish-forget at IsPicture c = refl
-finish-forget at APicture c = refl
-finish-forget at Target c = refl
-finish-forget at To c = refl
-finish-forget at Times c = refl
-finish-forget at DependingOn c = refl
-finish-forget at UsageIs c = refl
-finish-forget at SignIs c = refl
-finish-forget at SignWord c = refl
-finish-forget at Side c = refl
-finish-forget at Nothing c = refl
+unfolding and_then
+finish-forget at e c = grind arith
 
 module _ (text : List ℕ) where
   -- what comes after a step, before and now
   abbrev on_alone : ℕ → List Span → Step → Answer Clauses
-  on_alone at ws s = elim s [ Go e c ↦ clauses_alone text at e c ws | Fail n ↦ refused n at ]
+  on_alone at ws s = elim s [ Ok (e, c) ↦ clauses_alone text at e c ws | Err m ↦ Err (missing at m) ]
 
   abbrev on_now : ℕ → List Span → Step → Answer Clauses
-  on_now at ws s = elim s [ Go e c ↦ clauses text at e c ws | Fail n ↦ refused n at ]
+  on_now at ws s = elim s [ Ok (e, c) ↦ clauses text at e c ws | Err m ↦ Err (missing at m) ]
 
   abbrev lasting_on : Clauses → List Span → Step → Bool
   lasting_on c ws s =
-      elim s [ Go e d ↦ lasts c.usage d.usage && lasting text e d ws | Fail n ↦ true ]
+      elim s [ Ok (e, d) ↦ lasts c.usage d.usage && lasting text e d ws | Err m ↦ true ]
 
   after-step :
       (at : ℕ) (ws : List Span) (c : Clauses) →
@@ -434,11 +357,8 @@ module _ (text : List ℕ) where
       (s : Step) →
       lasting_on c ws s ≡ true →
       Lasts c s × (on_alone at ws (forget_step s) ≡ mapped forget (on_now at ws s))
-  unfolding ◌>>=◌
-  after-step at ws c ih (Go e d) h =
-      let both = and_both (lasts c.usage d.usage) (lasting text e d ws) h in
-      (both.0, ih e d both.1)
-  after-step at ws c ih (Fail n) h = (tt, refl)
+  unfolding and_then
+  after-step at ws c ih s h = grind arith
 
   clauses-forget :
       (ws : List Span) (at : ℕ) (e : Expect) (c : Clauses) →
@@ -449,87 +369,57 @@ module _ (text : List ℕ) where
   clauses-forget (w ∷ ws) at e c h =
       let u = uppers (part text w) in
       let next = after-step at ws c (λ e' d k. clauses-forget ws at e' d k) (step e w u c) h in
-      ap (on_alone at ws) (step-forget c e w u next.0) ∙ next.1
+      cc (step-forget c e w u next.0, next.1)
 
   named-forget :
       (at level : ℕ) (n : Span) (ws : List Span) →
       lasting text Clause no_clauses ws ≡ true →
       named_alone text at level (n ∷ ws) ≡ mapped forget_statement (named text at level (n ∷ ws))
-  unfolding named named_alone ◌>>=◌
-  named-forget at level n ws h =
-      ap (λ (a : Answer Clauses). a >>= λ c. give (statement_of level at n c)) (clauses-forget ws at Clause no_clauses h)
-      ∙ by_answer (clauses text at Clause no_clauses ws)
-    where
-      by_answer :
-          (a : Answer Clauses) →
-          (mapped forget a >>= λ c. give (statement_of level at n c))
-          ≡ mapped forget_statement (a >>= λ c. give (statement_of level at n c))
-      by_answer (refuse r) = refl
-      by_answer (give c) = refl
+  unfolding named named_alone and_then
+  named-forget at level n ws h = grind (arith, clauses-forget ws at Clause no_clauses h)
 
   -- ---------------------------------------------------------------- statements
 
   abbrev forget_kept : Option Statement → Option Statement
-  forget_kept none = none
-  forget_kept (some s) = some (forget_statement s)
+  forget_kept None = None
+  forget_kept (Some s) = Some (forget_statement s)
 
   -- a statement that begins at a position, by its level
   abbrev levelled : ℕ → (ℕ → Answer Statement) → Option ℕ → Answer (Option Statement)
   levelled at read o = do
-    level ← or_refuse 10 at o
-    if eqb level 88 then give none else do
+    level ← or_refuse (Refusal.BadLevel at) o
+    if eqb level 88 then Ok None else do
       s ← read level
-      give (some s)
+      Ok (Some s)
 
   by_level :
       (at : ℕ) (alone now : ℕ → Answer Statement) (o : Option ℕ) →
       (is_skipped o ≡ false → (level : ℕ) → alone level ≡ mapped forget_statement (now level)) →
       levelled at alone o ≡ mapped forget_kept (levelled at now o)
-  unfolding ◌>>=◌
-  by_level at alone now none h = refl
-  by_level at alone now (some level) h = by-test (eqb level 88) (λ p. h p level)
-    where
-      by_answer :
-          (a : Answer Statement) →
-          (mapped forget_statement a >>= λ s. give (some s)) ≡ mapped forget_kept (a >>= λ s. give (some s))
-      by_answer (refuse r) = refl
-      by_answer (give s) = refl
-
-      by-test :
-          (b : Bool) →
-          (b ≡ false → alone level ≡ mapped forget_statement (now level)) →
-          (if b then give none else (alone level >>= λ s. give (some s)))
-          ≡ mapped forget_kept (if b then give none else (now level >>= λ s. give (some s)))
-      by-test true k = refl
-      by-test false k =
-          ap (λ (a : Answer Statement). a >>= λ s. give (some s)) (k refl) ∙ by_answer (now level)
-
-  or_right : (a b : Bool) → (a || b) ≡ true → a ≡ false → b ≡ true
-  or_right true b h p = never (sym p)
-  or_right false b h p = h
+  unfolding and_then
+  by_level at alone now o h = grind arith
 
   statement-forget :
       (ws : List Span) → lasting_in text ws ≡ true → statement_alone text ws ≡ mapped forget_kept (statement text ws)
-  unfolding statement statement_alone named named_alone ◌>>=◌
+  unfolding statement statement_alone named named_alone and_then
   statement-forget [] h = refl
   statement-forget (w ∷ []) h =
       by_level w.start (λ level. named_alone text w.start level []) (λ level. named text w.start level [])
       (number 256 (part text w)) (λ _ level. refl)
   statement-forget (w ∷ n ∷ ws) h =
-      let o = number 256 (part text w) in
       by_level w.start (λ level. named_alone text w.start level (n ∷ ws))
-      (λ level. named text w.start level (n ∷ ws)) o
-      (λ p level. named-forget w.start level n ws (or_right (is_skipped o) (lasting text Clause no_clauses ws) h p))
+      (λ level. named text w.start level (n ∷ ws)) (number 256 (part text w))
+      (λ p level. named-forget w.start level n ws (second_part h p))
 
   -- what comes after a statement, where `rest` are the later ones, counted from a number on
   abbrev kept_on : (ℕ → Answer (List Statement)) → ℕ → Option Statement → Answer (List Statement)
   kept_on rest n r =
       elim r [
-        | none ↦ rest n
-        | some s ↦ do
-          _ ← refuse_if (leb most_statements n) 14 s.at
+        | None ↦ rest n
+        | Some s ↦ do
+          _ ← refuse_if (leb most_statements n) (Refusal.TooManyStatements s.at)
           ss ← rest (suc n)
-          give (s ∷ ss)
+          Ok (s ∷ ss)
       ]
 
   after-statement :
@@ -537,39 +427,23 @@ module _ (text : List ℕ) where
       ((m : ℕ) → before m ≡ mapped (map forget_statement) (now m)) →
       (a : Answer (Option Statement)) →
       (mapped forget_kept a >>= kept_on before n) ≡ mapped (map forget_statement) (a >>= kept_on now n)
-  unfolding ◌>>=◌
-  after-statement before now n ih (refuse r) = refl
-  after-statement before now n ih (give none) = ih n
-  after-statement before now n ih (give (some s)) = by-test (leb most_statements n)
-    where
-      by_answer :
-          (a : Answer (List Statement)) →
-          (mapped (map forget_statement) a >>= λ ss. give (forget_statement s ∷ ss))
-          ≡ mapped (map forget_statement) (a >>= λ ss. give (s ∷ ss))
-      by_answer (refuse r) = refl
-      by_answer (give ss) = refl
-
-      by-test :
-          (b : Bool) →
-          (refuse_if b 14 s.at >>= λ _. before (suc n) >>= λ ss. give (forget_statement s ∷ ss))
-          ≡ mapped (map forget_statement) (refuse_if b 14 s.at >>= λ _. now (suc n) >>= λ ss. give (s ∷ ss))
-      by-test true = refl
-      by-test false =
-          ap (λ (a : Answer (List Statement)). a >>= λ ss. give (forget_statement s ∷ ss)) (ih (suc n))
-          ∙ by_answer (now (suc n))
+  unfolding and_then
+  after-statement before now n ih a = grind arith
 
   statements-forget :
       (wss : List (List Span)) (n : ℕ) →
       lasting_all text wss ≡ true →
       statements_alone text n wss ≡ mapped (map forget_statement) (statements text n wss)
-  unfolding statements statements_alone lasting_all ◌>>=◌
+  unfolding statements statements_alone lasting_all and_then
   statements-forget [] n h = refl
   statements-forget (ws ∷ wss) n h =
       let both = and_both (lasting_in text ws) (lasting_all text wss) h in
       let before : ℕ → Answer (List Statement) = λ m. statements_alone text m wss in
       let now : ℕ → Answer (List Statement) = λ m. statements text m wss in
-      ap (λ (a : Answer (Option Statement)). a >>= kept_on before n) (statement-forget ws both.0)
-      ∙ after-statement before now n (λ m. statements-forget wss m both.1) (statement text ws)
+      cc (
+        statement-forget ws both.0,
+        after-statement before now n (λ m. statements-forget wss m both.1) (statement text ws),
+      )
 
 -- ---------------------------------------------------------------- the forest
 
@@ -580,70 +454,50 @@ map_forest g (item s kids later) = item (g s) (map_forest g kids) (map_forest g 
 above-forget : (n : ℕ) (f : Forest) → above n (map_forest forget_statement f) ≡ map_forest forget_statement (above n f)
 unfolding above
 above-forget n leaf = refl
-above-forget n (item s kids later) =
-    tested n s.level (λ p _. simp (p, above-forget n later)) (λ p _. simp p)
+above-forget n (item s kids later) = grind (arith, above-forget n later)
 
 not_above-forget :
     (n : ℕ) (f : Forest) → not_above n (map_forest forget_statement f) ≡ map_forest forget_statement (not_above n f)
 unfolding not_above
 not_above-forget n leaf = refl
-not_above-forget n (item s kids later) =
-    tested n s.level (λ p _. simp (p, not_above-forget n later)) (λ p _. simp p)
+not_above-forget n (item s kids later) = grind (arith, not_above-forget n later)
 
 forest-forget : (ss : List Statement) → forest (map forget_statement ss) ≡ map_forest forget_statement (forest ss)
 unfolding forest
 forest-forget [] = refl
 forest-forget (s ∷ ss) =
-    let ih = forest-forget ss in
-    ap₂ (item (forget_statement s)) (ap (above s.level) ih ∙ above-forget s.level (forest ss))
-    (ap (not_above s.level) ih ∙ not_above-forget s.level (forest ss))
+    cc (forest-forget ss, above-forget s.level (forest ss), not_above-forget s.level (forest ss))
 
 fields_map : (g : Statement → Statement) (f : Forest) → fields (map_forest g f) ≡ map_forest g (fields f)
 unfolding fields
-fields_map g leaf = refl
-fields_map g (item s leaf leaf) = refl
-fields_map g (item s (item t kids later) leaf) = refl
-fields_map g (item s leaf (item t kids later)) = refl
-fields_map g (item s (item u us vs) (item t kids later)) = refl
+fields_map g f = grind arith
 
 -- where no group names a usage, each statement has its own
 abbrev alone : Statement → Statement
 alone s = inheriting outermost s
 
-none_named : (u : UsageClause) → not (names_usage u) ≡ true → usage_of outermost u ≡ outermost
-none_named UsageClause.Absent h = refl
-none_named (UsageClause.Given u) h = never h
+none_named : (u : Option ItemUsage) → not (names_usage u) ≡ true → usage_of outermost u ≡ outermost
+none_named u h = grind arith
 
 plain-within : (s : Statement) (kids : Forest) → is_plain s kids ≡ true → inherit (alone s).usage kids ≡ inherited kids
 unfolding inherit
-plain-within s leaf h = refl
-plain-within s (item t kids later) h =
-    ap (λ (u : ItemUsage). inherit u (item t kids later)) (none_named s.clauses.usage h)
+plain-within s kids h = grind (arith, none_named)
 
 inherited-plain : (f : Forest) → plain_groups f ≡ true → inherited f ≡ map_forest alone f
 unfolding inherit plain_groups
 inherited-plain leaf h = refl
-inherited-plain (item s kids later) h =
-    let both = and_both (is_plain s kids && plain_groups kids) (plain_groups later) h in
-    let own = and_both (is_plain s kids) (plain_groups kids) both.0 in
-    ap₂ (item (alone s)) (plain-within s kids own.0 ∙ inherited-plain kids own.1)
-    (inherited-plain later both.1)
+inherited-plain (item s kids later) h = grind (arith, plain-within s kids, inherited-plain kids, inherited-plain later)
 
 -- ---------------------------------------------------------------- the layout
 
-usage-forget : (u : UsageClause) → usage_of outermost (undisplay u) ≡ usage_of outermost u
-usage-forget UsageClause.Absent = refl
-usage-forget (UsageClause.Given (ItemUsage.Picture Usage.Display)) = refl
-usage-forget (UsageClause.Given (ItemUsage.Picture Usage.Comp3)) = refl
-usage-forget (UsageClause.Given (ItemUsage.Picture Usage.Comp)) = refl
-usage-forget (UsageClause.Given ItemUsage.Comp1) = refl
-usage-forget (UsageClause.Given ItemUsage.Comp2) = refl
+usage-forget : (u : Option ItemUsage) → usage_of outermost (undisplay u) ≡ usage_of outermost u
+usage-forget u = grind arith
 
 module _ (text : List ℕ) where
-  under-forget : (s : Statement) (u : ItemUsage) → under_usage text (forget_statement s) u ≡ under_usage text (alone s) u
-  under-forget s (ItemUsage.Picture u) = refl
-  under-forget s ItemUsage.Comp1 = refl
-  under-forget s ItemUsage.Comp2 = refl
+  under-forget :
+      (s : Statement) (u : ItemUsage) →
+      under_usage text (forget_statement s) u ≡ under_usage text (alone s) u
+  under-forget s u = grind arith
 
   content-forget :
       (s : Statement) (kids : Forest) (width : ℕ) →
@@ -677,9 +531,9 @@ module _ (text : List ℕ) where
     c ← own inner.width
     offset ← start text s c seen cursor
     let e = entry_of s c offset (slack_from cursor s offset)
-    _ ← refuse_if (too_large e) 29 s.at
+    _ ← refuse_if (too_large e) (Refusal.TooLarge s.at)
     l ← after (place_of e ∷ seen) (advance cursor e) (max reach (entry_end e))
-    give (record { entries = entry e inner.entries l.entries; width = l.width })
+    Ok (record { entries = entry e inner.entries l.entries; width = l.width })
 
   lay-forget :
       (f : Forest) (depth : ℕ) (seen : List Place) (cursor reach : ℕ) →
@@ -702,7 +556,7 @@ module _ (text : List ℕ) where
         l ← a
         _ ← fold_check text [] l.entries
         _ ← ends_fit (folded_all text l.entries)
-        give l.entries) >>= λ es. give (folded_all text es))
+        Ok l.entries) >>= λ es. Ok (folded_all text es))
       (lay-forget f 0 [] 0 0)
 
 -- ---------------------------------------------------------------- the entries
@@ -723,22 +577,7 @@ record-forget text ss h =
 -- a copybook with no usage on a group, no DISPLAY after another usage word and no word that names a float has the
 -- entries that it had
 pub same_entries : (text : List ℕ) (work : ℕ) → plain_usages text ≡ true → entries_alone text work ≡ entries text work
-unfolding entries_alone entries record_fields kept_statements ◌>>=◌
+unfolding entries_alone entries record_fields kept_statements and_then
 same_entries text work h =
     let both = and_both (lasting_all text (statement_words text)) (plain_read (kept_statements text)) h in
-    let kept = statements text 0 (statement_words text) in
-    ap
-    (λ (k : Answer (List Statement)).
-    entry_checks text work >>= λ _. literal_check text >>= λ _. k >>= λ ss. layout text (fields (forest ss)))
-    (statements-forget text (statement_words text) 0 both.0)
-    ∙ by-answers (entry_checks text work) (literal_check text) kept both.1
-  where
-    by-answers :
-        (a b : Answer (Unit {0})) (k : Answer (List Statement)) →
-        plain_read (b >>= λ _. k) ≡ true →
-        (a >>= λ _. b >>= λ _. mapped (map forget_statement) k >>= λ ss. layout text (fields (forest ss)))
-        ≡ ((a >>= λ _. (b >>= λ _. k) >>= λ ss. give (record_of ss)) >>= λ f. layout text f)
-    by-answers (refuse r) b k p = refl
-    by-answers (give u) (refuse r) k p = refl
-    by-answers (give u) (give v) (refuse r) p = refl
-    by-answers (give u) (give v) (give ss) p = record-forget text ss p
+    grind (arith, statements-forget text (statement_words text) 0 both.0, record-forget text)

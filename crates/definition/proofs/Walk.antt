@@ -6,7 +6,6 @@ use mathlib.Core.List.{List, [], ◌∷◌, ◌++◌, append_assoc}
 use mathlib.Core.Logic.{⊎_elim}
 use native.Mathlib.Omega.{arith}
 use lib.ListN.{length, length-append}
-use borrow.Author.Tests.{lt-ltb, le-ltb, eq-eqb, ne_eqb}
 use Rattle.definition.specs.declared.Entry.{Entry}
 use Rattle.definition.specs.declared.Owner.{Owner}
 use Rattle.definition.specs.Fold.{Entries, end, entry, total}
@@ -18,7 +17,7 @@ use Rattle.definition.proofs.Seek.{seek-slack, seek-in, seek-later}
 module _ (k first : ℕ) (r : Row) (rs : List Row) (q : ℕ) where
   pub walk-slack : q < r.offset → walk 0 k first (r ∷ rs) q ≡ Owner.Slack k
   unfolding walk
-  walk-slack h = rw (lt-ltb q r.offset h, walk)
+  walk-slack h = grind arith
 
   pub walk-piece :
       r.offset ≤ q →
@@ -26,7 +25,7 @@ module _ (k first : ℕ) (r : Row) (rs : List Row) (q : ℕ) where
       r.below ≡ 0 →
       walk 0 k first (r ∷ rs) q ≡ Owner.Piece k (first + r.offset + (q - r.offset) / r.width * r.width) ((q - r.offset) % r.width)
   unfolding walk
-  walk-piece h l z = rw (le-ltb q r.offset h, lt-ltb q (r.offset + r.width * r.count) l, eq-eqb r.below 0 z, walk)
+  walk-piece h l z = grind arith
 
   pub walk-in :
       r.offset ≤ q →
@@ -34,25 +33,28 @@ module _ (k first : ℕ) (r : Row) (rs : List Row) (q : ℕ) where
       0 < r.below →
       walk 0 k first (r ∷ rs) q ≡ walk 0 (suc k) (first + r.offset + (q - r.offset) / r.width * r.width) rs ((q - r.offset) % r.width)
   unfolding walk
-  walk-in h l z = rw (le-ltb q r.offset h, lt-ltb q (r.offset + r.width * r.count) l, ne_eqb r.below 0 (λ e. omega arith), walk)
+  walk-in h l z = grind arith
 
   pub walk-later :
       r.offset ≤ q →
       r.offset + r.width * r.count ≤ q →
       walk 0 k first (r ∷ rs) q ≡ walk r.below (suc k) first rs q
   unfolding walk
-  walk-later h l = rw (le-ltb q r.offset h, le-ltb q (r.offset + r.width * r.count) l, walk)
+  walk-later h l = grind arith
 
 -- rows passed over
-pub walk-skip : (k first : ℕ) (ss rs : List Row) (q : ℕ) → walk (length ss) k first (ss ++ rs) q ≡ walk 0 (k + length ss) first rs q
+pub walk-skip :
+    (k first : ℕ) (ss rs : List Row) (q : ℕ) →
+    walk (length ss) k first (ss ++ rs) q ≡ walk 0 (k + length ss) first rs q
 unfolding walk
-walk-skip k first [] rs q = ap (λ (n : ℕ). walk 0 n first rs q) (omega arith)
-walk-skip k first (s ∷ ss) rs q = walk-skip (suc k) first ss rs q ∙ ap (λ (n : ℕ). walk 0 n first rs q) (omega arith)
+walk-skip k first [] rs q = grind (arith)
+walk-skip k first (s ∷ ss) rs q = grind (arith, walk-skip (suc k) first ss rs q)
 
 pub rows-length : (es : Entries) → length (rows es) ≡ entries# es
 unfolding rows
 rows-length end = refl
-rows-length (entry e members later) = omega (arith, length-append (rows members) (rows later), rows-length members, rows-length later)
+rows-length (entry e members later) =
+    omega (arith, length-append (rows members) (rows later), rows-length members, rows-length later)
 
 -- in an occurrence: of an elementary entry, and of a group, whose members come next
 in_entry :
@@ -65,9 +67,7 @@ in_entry :
     walk 0 k first (row_of e (entries# members) ∷ (rows members ++ (rows later ++ rs))) q
     ≡ inside k (start_in first e q) (place_in e q) members (seek (suc k) (start_in first e q) members (place_in e q))
 unfolding rows seek
-in_entry e end later k first q rs g l ih h = walk-piece k first (row_of e 0) (rows later ++ rs) q g l refl
-in_entry e (entry m ms ls) later k first q rs g l ih h =
-    walk-in k first (row_of e (entries# (entry m ms ls))) (rows (entry m ms ls) ++ (rows later ++ rs)) q g l (omega arith) ∙ ih h
+in_entry e members later k first q rs g l ih h = grind (arith, walk-piece, walk-in, ih)
 
 -- where the search among the entries finds an owner, the walk finds it, whatever rows stand behind
 pub walk-seek :
@@ -90,12 +90,14 @@ walk-seek (entry e members later) k first q rs h =
     let found = seek-in k first e members later q g l in
     in_entry e members later k first q rs g l ih (λ u. h (found ∙ u)) ∙ sym found)
     (λ (l : e.offset + total e ≤ q).
-    let found = seek-later k first e members later q g l in
-    walk-later k first r behind q g l
-    ∙ ap (λ (n : ℕ). walk n (suc k) first behind q) (sym (rows-length members))
-    ∙ walk-skip (suc k) first (rows members) (rows later ++ rs) q
-    ∙ ap (λ (n : ℕ). walk 0 (suc k + n) first (rows later ++ rs) q) (rows-length members)
-    ∙ ihs (λ u. h (found ∙ u))
-    ∙ sym found)
+    grind (
+      arith,
+      h,
+      seek-later k first e members later q g l,
+      walk-later k first r behind q g l,
+      rows-length members,
+      walk-skip (suc k) first (rows members) (rows later ++ rs) q,
+      ihs,
+    ))
     (order q (e.offset + total e)))
     (order q e.offset)

@@ -1,26 +1,25 @@
 -- The reasons of every accepted copybook are those by which the layout rules placed its items.
 -- Assumes nothing.
-use Prim.Native.Nat.{ℕ, zero, suc, ◌+◌, ◌-◌, ◌≤◌, ◌<◌, max}
-use mathlib.Core.Path.{◌≡◌, refl, sym, ◌∙◌, ap, ap₂, subst}
-use mathlib.Core.Bool.{Bool, true, false, not}
+use Prim.Native.Nat.{ℕ, zero, suc, ◌+◌, ◌≤◌, max}
+use mathlib.Core.Path.{◌≡◌, refl, sym, ◌∙◌, ap, subst}
+use mathlib.Core.Bool.{Bool, true, false}
 use mathlib.Core.List.{List, [], ◌∷◌, ◌++◌, map}
-use mathlib.Core.Option.{Option, none, some}
-use mathlib.Core.Logic.{◌⊎◌, inl, inr, ⊎_elim}
+use Rattle.std.specs.Prelude.{Option, None, Some}
+use mathlib.Core.Logic.{◌⊎◌, inl, inr}
 use native.Mathlib.Omega.{arith}
-use lib.Dec.{eqb, ltb}
 use lib.ListN.{length, get_or, length-append}
-use borrow.Author.Tests.{eq-eqb, ne_eqb}
 use Rattle.definition.specs.declared.Span.{Span}
 use Rattle.definition.specs.declared.Pictured.{Pictured}
 use Rattle.definition.specs.declared.Statement.{Statement}
 use Rattle.definition.specs.declared.Entry.{Entry}
 use Rattle.definition.specs.declared.Reason.{Reason}
+use Rattle.definition.specs.declared.Refusal.{Refusal}
 use Rattle.std.specs.Prelude.{if◌then◌else◌}
-use Rattle.definition.specs.Basic.{same, uppers, absent, given, Answer, give, ◌>>=◌, refused}
-use Rattle.definition.specs.Basic.{refuse_if, or_refuse}
+use Rattle.definition.specs.Basic.{Err, same, uppers, given, Answer, Ok, ◌>>=◌, and_then}
+use Rattle.definition.specs.Basic.{or_refuse}
 use Rattle.definition.specs.Tree.{Forest, leaf, item}
 use Rattle.definition.specs.Fold.{Entries, end, entry, append, reserved, entry_end, name_of, same_name, Place}
-use Rattle.definition.specs.Fold.{place_of, find, has_member, rebased, redefiners, with_redefiners, fold_check}
+use Rattle.definition.specs.Fold.{place_of, search_back, find, rebased, redefiners, with_redefiners, fold_check}
 use Rattle.definition.specs.Fold.{folded_list, folded_below, folded_all}
 use Rattle.definition.specs.Layout.{Laid, start, slack_from, entry_of, advance, lay}
 use Rattle.definition.specs.Record.{unfolded, layout}
@@ -29,20 +28,18 @@ use Rattle.definition.specs.Placed.{content_of}
 use Rattle.definition.specs.Cards.{Form, view_in}
 use Rattle.definition.specs.Calls.{record_fields, fitting, entries, entry_reasons, called}
 use Rattle.definition.specs.Demand.{Starts, aligned, Among}
-use Rattle.definition.specs.Reasons.{reason, after, slack_of, over, inside, latest, plain, has_name, or_first}
+use Rattle.definition.specs.Reasons.{adds, after, slack_of, inside, latest, plain, has_name, or_first}
 use Rattle.definition.specs.Reasons.{placing, own, Chain, chain, chains, chain_at, flat, numbered, reasons_in}
 use Rattle.definition.specs.Reasons.{reasons_bytes}
-use Rattle.definition.specs.Explained.{Latest, Turn, Because, Explains, added, is_placing, placings#}
+use Rattle.definition.specs.Explained.{inside_names, Latest, Turn, Because, Explains, added, is_placing, placings#}
 use Rattle.definition.specs.Explained.{insides, every, from_start, placed_for, groups_around, Reasoned, Explained}
-use Rattle.definition.proofs.Lists.{order}
+use Rattle.definition.proofs.Lists.{by_cases}
 use Rattle.definition.proofs.WordLaws.{same-equal, same_self}
 use Rattle.definition.proofs.CallsLaws.{called-as}
 use Rattle.definition.proofs.Answers.{give-next, through, given-same}
-use Rattle.definition.proofs.LayoutLaws.{find_none, find-hit, find-miss, redefiners-none, redefiners-hit}
-use Rattle.definition.proofs.LayoutLaws.{redefiners-miss, redefiners-ends, redefiners-next, check-base}
-use Rattle.definition.proofs.LayoutLaws.{check-alone, check-under, check-before, folded-none, folded-base}
-use Rattle.definition.proofs.LayoutLaws.{folded-alone, folded-under}
-use Rattle.definition.proofs.Cover.{item-laid, content-given, start-given}
+use Rattle.definition.proofs.LayoutLaws.{find-hit, find-miss}
+use Rattle.definition.proofs.LayoutLaws.{check-base}
+use Rattle.definition.proofs.Cover.{item-laid, laid-out, content-given, start-given}
 use Rattle.definition.proofs.Pieces.{among-left, among-right}
 use Rattle.definition.proofs.Told.{starts-placed}
 use Rattle.definition.proofs.Begins.{Rises, beginnings, fields-begin}
@@ -51,20 +48,7 @@ use Rattle.definition.proofs.Begins.{Rises, beginnings, fields-begin}
 
 -- where the cursor stands: at the end of the latest sibling without REDEFINES
 abbrev reached_by : List Entry → ℕ
-reached_by seen = (or_first after (latest plain seen)).adds
-
-given-some : {A : Type 0} (n p : ℕ) (o : Option A) (a : A) → or_refuse n p o ≡ give a → o ≡ some a
-given-some n p none a h = absurd (let z : ◌≡◌ {A = ℕ} 0 1 = cc in omega arith)
-given-some n p (some b) a h = ap some (given-same h)
-
-none-some : {A B : Type 0} {a : A} → ◌≡◌ {A = Option A} none (some a) → B
-none-some e = absurd (let z : ◌≡◌ {A = ℕ} 0 1 = cc in omega arith)
-
-some_same : {A : Type 0} {a b : A} → ◌≡◌ {A = Option A} (some a) (some b) → a ≡ b
-some_same e = cc
-
-refused-give : {A B : Type 0} {n p : ℕ} {b : B} → refused n p ≡ give b → A
-refused-give e = absurd (let z : ◌≡◌ {A = ℕ} 0 1 = cc in omega arith)
+reached_by seen = adds (or_first after (latest plain seen))
 
 flat-length : (es : Entries) (b : ℕ) → length (flat es) ≡ length (from_start b es)
 flat-length end b = refl
@@ -77,11 +61,7 @@ flat-length (entry e members later) b =
       flat-length later b,
     )
 
-reached-none : 0 ≡ reached_by []
-unfolding latest
-reached-none = refl
-
-pub latest-hit : (has : Entry → Bool) (e : Entry) (seen : List Entry) → has e ≡ true → latest has (e ∷ seen) ≡ some e
+pub latest-hit : (has : Entry → Bool) (e : Entry) (seen : List Entry) → has e ≡ true → latest has (e ∷ seen) ≡ Some e
 unfolding latest
 latest-hit has e seen h = rw (h, latest)
 
@@ -92,77 +72,59 @@ pub latest-miss :
 unfolding latest
 latest-miss has e seen h = rw (h, latest)
 
-pub latest-empty : (has : Entry → Bool) → latest has [] ≡ none
+pub latest-empty : (has : Entry → Bool) → latest has [] ≡ None
 unfolding latest
 latest-empty has = refl
 
-latest-none : (has : Entry → Bool) {t : Entry} → latest has [] ≡ some t → ⊥
-latest-none has e = none-some (sym (latest-empty has) ∙ e)
-
 -- what is found is the latest that has it
-latest-is : (has : Entry → Bool) (seen : List Entry) (t : Entry) → latest has seen ≡ some t → Latest has seen t
-latest-is has [] t h = absurd (latest-none has h)
-latest-is has (e ∷ seen) t h = by-test (has e) refl (latest-is has seen t)
-  where
-    by-test : (b : Bool) → has e ≡ b → (latest has seen ≡ some t → Latest has seen t) → Latest has (e ∷ seen) t
-    by-test true y ih =
-        let same = some_same (sym (latest-hit has e seen y) ∙ h) in
-        record {
-          since = [];
-          before = seen;
-          stands = ap (λ (x : Entry). x ∷ seen) same;
-          it-has = subst
-              (λ (x : Entry). has x ≡ true) same y;
-          none-since = tt;
-        }
-    by-test false y ih =
-        let l = ih (sym (latest-miss has e seen y) ∙ h) in
-        record {
-          since = e ∷ l.since;
-          before = l.before;
-          stands = ap (λ (x : List Entry). e ∷ x)
-              l.stands;
-          it-has = l.it-has;
-          none-since = (y, l.none-since);
-        }
+latest-is : (has : Entry → Bool) (seen : List Entry) (t : Entry) → latest has seen ≡ Some t → Latest has seen t
+unfolding latest
+latest-is has [] t h = absurd (cc)
+latest-is has (e ∷ seen) t h =
+    by_cases (has e)
+    (λ y.
+    let same : e ≡ t = grind arith in
+    record {
+      since = [];
+      before = seen;
+      stands = ap (λ (x : Entry). x ∷ seen) same;
+      it-has = subst (λ (x : Entry). has x ≡ true) same y;
+      none-since = tt;
+    })
+    (λ y.
+    let l = latest-is has seen t (grind arith) in
+    record {
+      since = e ∷ l.since;
+      before = l.before;
+      stands = ap (λ (x : List Entry). e ∷ x) l.stands;
+      it-has = l.it-has;
+      none-since = (y, l.none-since);
+    })
 
 -- the latest sibling without REDEFINES after an entry
 pub latest-next :
     (e : Entry) (seen : List Entry) (b : Bool) →
     given e.redefines ≡ b →
-    latest plain (e ∷ seen) ≡ (if b then latest plain seen else some e)
-latest-next e seen true h = latest-miss plain e seen (ap not h)
-latest-next e seen false h = latest-hit plain e seen (ap not h)
+    latest plain (e ∷ seen) ≡ (if b then latest plain seen else Some e)
+unfolding latest
+latest-next e seen b h = grind arith
 
 -- slack adds its bytes
 pub added-slack : (n : ℕ) → added (slack_of n) ≡ n
-added-slack zero = refl
-added-slack (suc n) = omega arith
+added-slack n = grind arith
 
 module _ (text : List ℕ) where
   -- the place that is found is that of the latest sibling of the name
   find-latest :
       (w : Span) (seen : List Entry) (n : ℕ) →
-      find text w (map place_of seen) ≡ some n →
-      (t : Entry) × (latest (has_name text w) seen ≡ some t) × (n ≡ t.offset)
-  find-latest w [] n h = none-some (sym (find_none text w) ∙ h)
-  find-latest w (e ∷ seen) n h = by_name (same_name text w e.name) refl (find-latest w seen n)
-    where
-      by_name :
-          (b : Bool) →
-          same_name text w e.name ≡ b →
-          (find text w (map place_of seen) ≡ some n → (t : Entry) × (latest (has_name text w) seen ≡ some t) ×
-          (n ≡ t.offset)) →
-          (t : Entry) × (latest (has_name text w) (e ∷ seen) ≡ some t) × (n ≡ t.offset)
-      by_name true y ih = (
-        e,
-        latest-hit (has_name text w) e seen y,
-        sym
-            (some_same (sym (find-hit text w (place_of e) (map place_of seen) y) ∙ h)),
-      )
-      by_name false y ih =
-          let r = ih (sym (find-miss text w (place_of e) (map place_of seen) y) ∙ h) in
-          (r.0, latest-miss (has_name text w) e seen y ∙ r.1, r.2)
+      find text w (map place_of seen) ≡ Some n →
+      (t : Entry) × (latest (has_name text w) seen ≡ Some t) × (n ≡ t.offset)
+  unfolding find search_back latest
+  find-latest w [] n h = absurd (cc)
+  find-latest w (e ∷ seen) n h =
+      by_cases (same_name text w e.name)
+      (λ y. (e, grind arith, grind arith))
+      (λ y. let r = find-latest w seen n (grind arith) in (r.0, grind arith, r.2))
 
   -- the slack of an item is what lies between the cursor and the item
   module _ (s : Statement) (kids : Forest) (seen : List Entry) (w : ℕ) (c : Pictured) (offset : ℕ) where
@@ -171,26 +133,18 @@ module _ (text : List ℕ) where
     it = entry_of s c offset (slack_from (reached_by seen) s offset)
 
     module _ (same : c ≡ content_of text s kids w)
-        (begins : start text s c (map place_of seen) (reached_by seen) ≡ give offset) where
+        (begins : start text s c (map place_of seen) (reached_by seen) ≡ Ok offset) where
       over-target :
           given s.clauses.redefines ≡ true →
           (t : Entry)
           × Latest (has_name text s.clauses.redefines) seen t
-          × (own text seen it ≡ reason 4 t.name t.offset ∷ [])
+          × (own text seen it ≡ Reason.Over t.name t.offset ∷ [])
           × (offset ≡ t.offset)
       over-target g =
-          let found : or_refuse 28 s.at (find text s.clauses.redefines (map place_of seen)) ≡ give offset =
+          let found : or_refuse (Refusal.NoTarget s.at) (find text s.clauses.redefines (map place_of seen)) ≡ Ok offset =
           rw (g, start) at begins in
-          let t = find-latest s.clauses.redefines seen offset (given-some 28 s.at _ offset found) in
-          let r : placing text seen it ≡ over t.0 = rw (g, t.1) in
-          let no-slack : slack_from (reached_by seen) s offset ≡ 0 =
-          ap (λ (b : Bool). if b then 0 else offset - reached_by seen) g in (
-            t.0,
-            latest-is (has_name text s.clauses.redefines) seen t.0 t.1,
-            ap₂
-                (λ (x : Reason) (n : ℕ). x ∷ slack_of n) r no-slack,
-            t.2,
-          )
+          let t = find-latest s.clauses.redefines seen offset (grind arith) in
+          (t.0, latest-is (has_name text s.clauses.redefines) seen t.0 t.1, grind arith, t.2)
 
       module _ (g : given s.clauses.redefines ≡ false) where
         at_offset : reached_by seen + extent (slack_before text 0 (reached_by seen) s kids) ≡ offset
@@ -203,16 +157,10 @@ module _ (text : List ℕ) where
 
         turn : (r : Reason) → or_first after (latest plain seen) ≡ r → Turn text s kids seen it r
         turn r is =
-            let placed : placing text seen it ≡ r =
-            ap (λ (b : Bool). if b then or_first over
-            (latest (has_name text s.clauses.redefines) seen) else or_first after (latest plain seen)) g
-            ∙ is in
-            let between : slack_from (reached_by seen) s offset ≡ offset - reached_by seen =
-            ap (λ (b : Bool). if b then 0 else offset - reached_by seen) g in
-            let begun : reached_by seen ≡ r.adds = ap (λ (x : Reason). x.adds) is in
+            let begun : reached_by seen ≡ adds r = ap adds is in
             record {
-              reasons = ap (λ (x : Reason). x ∷ slack_of (slack_from (reached_by seen) s offset)) placed;
-              stands = omega (arith, between, begun, at_offset);
+              reasons = grind arith;
+              stands = grind (arith, at_offset);
               fewest =
                   subst (λ (n : ℕ). Starts (aligned text s kids) c.width n offset) begun
                   (subst (λ (x : Pictured). Starts (aligned text s kids) x.width (reached_by seen) offset) (sym same)
@@ -221,17 +169,17 @@ module _ (text : List ℕ) where
             }
 
         by-latest :
-            (latest plain seen ≡ none → seen ≡ []) →
+            (latest plain seen ≡ None → seen ≡ []) →
             (o : Option Entry) →
             latest plain seen ≡ o →
-            ((seen ≡ []) × Turn text s kids seen it (reason 1 absent 0))
+            ((seen ≡ []) × Turn text s kids seen it Reason.First)
             ⊎ ((t : Entry) × Latest plain seen t × Turn text s kids seen it
-            (reason 2 t.name (t.offset + reserved t)))
-        by-latest first none q = inl (first q, turn (reason 1 absent 0) (ap (or_first after) q))
-        by-latest first (some t) q =
-            inr (t, latest-is plain seen t q, turn (reason 2 t.name (t.offset + reserved t)) (ap (or_first after) q))
+            (Reason.After t.name (t.offset + reserved t)))
+        by-latest first None q = inl (first q, turn Reason.First (ap (or_first after) q))
+        by-latest first (Some t) q =
+            inr (t, latest-is plain seen t q, turn (Reason.After t.name (t.offset + reserved t)) (ap (or_first after) q))
 
-      because : (latest plain seen ≡ none → seen ≡ []) → Because text s kids seen it
+      because : (latest plain seen ≡ None → seen ≡ []) → Because text s kids seen it
       because first = record { laid-over = over-target; in-turn = λ g. by-latest g first (latest plain seen) refl }
 
   -- the cursor after an entry
@@ -239,44 +187,35 @@ module _ (text : List ℕ) where
       (e : Entry) (seen : List Entry) (b : Bool) →
       given e.redefines ≡ b →
       advance (reached_by seen) e ≡ reached_by (e ∷ seen)
-  moves e seen true h =
-      ap (λ (c : Bool). if c then reached_by seen else entry_end e) h
-      ∙ sym (ap (λ (o : Option Entry). (or_first after o).adds) (latest-next e seen true h))
-  moves e seen false h =
-      ap (λ (c : Bool). if c then reached_by seen else entry_end e) h
-      ∙ sym (ap (λ (o : Option Entry). (or_first after o).adds) (latest-next e seen false h))
-
-  -- so some earlier sibling is without REDEFINES, if there is one at all: the first of a list redefines nothing
-  none_before : (t : Entry) (xs before : List Entry) → [] ≡ xs ++ t ∷ before → ⊥
-  none_before t [] before q = absurd (omega (arith, ap length q))
-  none_before t (x ∷ xs) before q = absurd (omega (arith, ap length q))
+  unfolding latest
+  moves e seen b h = grind arith
 
   none-earlier : (has : Entry → Bool) (t : Entry) → Latest has [] t → ⊥
-  none-earlier has t l = none_before t l.since l.before l.stands
+  none-earlier has t l = omega (arith, ap length l.stands, length-append l.since (t ∷ l.before))
 
   first_next :
       (s : Statement) (kids : Forest) (e : Entry) (seen : List Entry) →
       Because text s kids seen e →
-      (latest plain seen ≡ none → seen ≡ []) →
+      (latest plain seen ≡ None → seen ≡ []) →
       (b : Bool) →
       given s.clauses.redefines ≡ b →
       given e.redefines ≡ b →
-      latest plain (e ∷ seen) ≡ none →
+      latest plain (e ∷ seen) ≡ None →
       e ∷ seen ≡ []
   first_next s kids e seen r first true g h q =
       let t = r.laid-over g in
       let empty = first (sym (latest-next e seen true h) ∙ q) in
       absurd (none-earlier (has_name text s.clauses.redefines) t.0
       (subst (λ (l : List Entry). Latest (has_name text s.clauses.redefines) l t.0) empty t.1))
-  first_next s kids e seen r first false g h q = none-some (sym q ∙ latest-next e seen false h)
+  first_next s kids e seen r first false g h q = absurd (cc (latest-next e seen false h))
 
   pub explains :
       (f : Forest) (depth : ℕ) (seen : List Entry) (cursor reach : ℕ) (l : Laid) →
       cursor ≡ reached_by seen →
-      (latest plain seen ≡ none → seen ≡ []) →
-      lay text depth (map place_of seen) cursor reach f ≡ give l →
+      (latest plain seen ≡ None → seen ≡ []) →
+      lay text depth (map place_of seen) cursor reach f ≡ Ok l →
       Explains text seen f l.entries
-  unfolding lay
+  unfolding lay latest
   explains leaf depth seen cursor reach l q first h =
       subst (λ (x : Laid). Explains text seen leaf x.entries) (given-same h) tt
   explains (item s kids later) depth seen cursor reach l q first h =
@@ -287,7 +226,7 @@ module _ (text : List ℕ) where
       let because-it =
       subst (λ (n : ℕ). Because text s kids seen (entry_of s r.has r.offset (slack_from n s r.offset))) (sym q)
       (because s kids seen r.inner.width r.has r.offset same begins first) in
-      let inner = explains kids (suc depth) [] 0 0 r.inner reached-none (λ _. refl) r.inner-laid in
+      let inner = explains kids (suc depth) [] 0 0 r.inner refl (λ _. refl) r.inner-laid in
       let moved = ap (λ (n : ℕ). advance n e) q ∙ moves e seen (given e.redefines) refl in
       let others =
       explains later depth (e ∷ seen) (advance cursor e) (max reach (entry_end e)) r.rest moved
@@ -302,20 +241,7 @@ module _ (text : List ℕ) where
       (s : Statement) (kids : Forest) (seen : List Entry) (e : Entry) →
       Because text s kids seen e →
       added (own text seen e) ≡ e.offset
-  added-own s kids seen e r = by-redefines (given s.clauses.redefines) refl
-    where
-      turned : (x : Reason) → Turn text s kids seen e x → added (own text seen e) ≡ e.offset
-      turned x t = ap added t.reasons ∙ omega (arith, added-slack e.slack, t.stands)
-
-      by-redefines : (b : Bool) → given s.clauses.redefines ≡ b → added (own text seen e) ≡ e.offset
-      by-redefines true g = let o = r.laid-over g in ap added o.2 ∙ omega (arith, o.3)
-      by-redefines false g =
-          ⊎_elim
-          (λ (x : (seen ≡ []) × Turn text s kids seen e (reason 1 absent 0)). turned (reason 1 absent 0) x.1)
-          (λ (x : (t : Entry) × Latest plain seen t × Turn text s kids seen e
-          (reason 2 t.name (t.offset + reserved t))).
-          turned (reason 2 x.0.name (x.0.offset + reserved x.0)) x.2)
-          (r.in-turn g)
+  added-own s kids seen e r = grind (arith, r.laid-over, r.in-turn, added-slack)
 
   added-append : (xs ys : List Reason) → added (xs ++ ys) ≡ added xs + added ys
   added-append [] ys = omega arith
@@ -333,62 +259,39 @@ module _ (text : List ℕ) where
   sums leaf end seen outward x = refl
   sums (item s kids later) (entry e members others) seen outward x =
       let reasons = own text seen e ++ outward in
-      let here : added reasons ≡ added outward + e.offset =
-      omega (arith, added-append (own text seen e) outward, added-own s kids seen e x.1) in
-      let below : 0 + added reasons ≡ added outward + e.offset = omega (arith, here) in
-      ap₂ ◌∷◌ here
-      (every_append added (chains text (inside e ∷ reasons) [] members) (chains text outward (e ∷ seen) others)
-      ∙ ap₂ ◌++◌
-      (sums kids members [] (inside e ∷ reasons) x.2 ∙ ap (λ (n : ℕ). from_start n members) below)
-      (sums later others (e ∷ seen) outward x.3))
+      grind (
+        arith,
+        added-append (own text seen e) outward,
+        added-own s kids seen e x.1,
+        every_append added (chains text (inside e ∷ reasons) [] members) (chains text outward (e ∷ seen) others),
+        sums kids members [] (inside e ∷ reasons) x.2,
+        sums later others (e ∷ seen) outward x.3,
+      )
   sums leaf (entry e members others) seen outward x = elim x [ ]
   sums (item s kids later) end seen outward x = elim x [ ]
 
-  -- a placing reason, and no other, is of kind 1, 2 or 4
+  -- a placing reason is one, and names no group
   abbrev Placing : Reason → Type 0
-  Placing r = (is_placing r.kind ≡ true) × (eqb r.kind 5 ≡ false)
-
-  or_first-over : (o : Option Entry) → Placing (or_first over o)
-  or_first-over none = (refl, refl)
-  or_first-over (some e) = (refl, refl)
-
-  or_first-after : (o : Option Entry) → Placing (or_first after o)
-  or_first-after none = (refl, refl)
-  or_first-after (some e) = (refl, refl)
+  Placing r = (is_placing r ≡ true) × (inside_names r ≡ [])
 
   placing-kind : (seen : List Entry) (e : Entry) → Placing (placing text seen e)
-  placing-kind seen e =
-      by-redefines (given e.redefines) (or_first over (latest (has_name text e.redefines) seen))
-      (or_first after (latest plain seen))
-      (or_first-over (latest (has_name text e.redefines) seen))
-      (or_first-after (latest plain seen))
-    where
-      by-redefines : (b : Bool) (r q : Reason) → Placing r → Placing q → Placing (if b then r else q)
-      by-redefines true r q x y = x
-      by-redefines false r q x y = y
+  placing-kind seen e = grind arith
 
   slack-placings : (n : ℕ) (outward : List Reason) → placings# (slack_of n ++ outward) ≡ placings# outward
-  slack-placings zero outward = refl
-  slack-placings (suc n) outward = omega arith
+  slack-placings n outward = grind arith
 
   slack-insides : (n : ℕ) (outward : List Reason) → insides (slack_of n ++ outward) ≡ insides outward
-  slack-insides zero outward = refl
-  slack-insides (suc n) outward = refl
+  slack-insides n outward = grind arith
 
   own-placings :
       (seen : List Entry) (e : Entry) (outward : List Reason) →
       placings# (own text seen e ++ outward) ≡ suc (placings# outward)
-  own-placings seen e outward =
-      ap (λ (b : Bool). (if b then 1 else 0) + placings# (slack_of e.slack ++ outward)) (placing-kind seen e).0
-      ∙ omega (arith, slack-placings e.slack outward)
+  own-placings seen e outward = grind (arith, placing-kind, slack-placings)
 
   own-insides :
       (seen : List Entry) (e : Entry) (outward : List Reason) →
       insides (own text seen e ++ outward) ≡ insides outward
-  own-insides seen e outward =
-      ap (λ (b : Bool). if b then (placing text seen e).name ∷ insides (slack_of e.slack ++ outward) else insides
-      (slack_of e.slack ++ outward)) (placing-kind seen e).1
-      ∙ slack-insides e.slack outward
+  own-insides seen e outward = grind (arith, placing-kind, slack-insides)
 
   pub placed-once :
       (es : Entries) (seen : List Entry) (outward : List Reason) →
@@ -397,12 +300,13 @@ module _ (text : List ℕ) where
   placed-once end seen outward = refl
   placed-once (entry e members later) seen outward =
       let reasons = own text seen e ++ outward in
-      let here = own-placings seen e outward in
-      let below : suc (0 + placings# reasons) ≡ suc (suc (placings# outward)) = omega (arith, here) in
-      ap₂ ◌∷◌ here
-      (every_append placings# (chains text (inside e ∷ reasons) [] members) (chains text outward (e ∷ seen) later)
-      ∙ ap₂ ◌++◌ (placed-once members [] (inside e ∷ reasons) ∙ ap (λ (n : ℕ). placed_for n members) below)
-      (placed-once later (e ∷ seen) outward))
+      grind (
+        arith,
+        own-placings seen e outward,
+        every_append placings# (chains text (inside e ∷ reasons) [] members) (chains text outward (e ∷ seen) later),
+        placed-once members [] (inside e ∷ reasons),
+        placed-once later (e ∷ seen) outward,
+      )
 
   pub inside-each :
       (es : Entries) (seen : List Entry) (outward : List Reason) →
@@ -411,12 +315,13 @@ module _ (text : List ℕ) where
   inside-each end seen outward = refl
   inside-each (entry e members later) seen outward =
       let reasons = own text seen e ++ outward in
-      let here = own-insides seen e outward in
-      ap₂ ◌∷◌ here
-      (every_append insides (chains text (inside e ∷ reasons) [] members) (chains text outward (e ∷ seen) later)
-      ∙ ap₂ ◌++◌
-      (inside-each members [] (inside e ∷ reasons) ∙ ap (λ (ws : List Span). groups_around (e.name ∷ ws) members) here)
-      (inside-each later (e ∷ seen) outward))
+      grind (
+        arith,
+        own-insides seen e outward,
+        every_append insides (chains text (inside e ∷ reasons) [] members) (chains text outward (e ∷ seen) later),
+        inside-each members [] (inside e ∷ reasons),
+        inside-each later (e ∷ seen) outward,
+      )
 
   -- ---------------------------------------------------------------- folding keeps every place
 
@@ -430,55 +335,32 @@ module _ (text : List ℕ) where
   check-below :
       (es : Entries) (bases : List Place) →
       fold_check text bases (folded_below text es) ≡ fold_check text bases es
-  unfolding fold_check folded_below
+  unfolding fold_check folded_below and_then
   check-below end bases = refl
   check-below (entry e members later) bases =
-      let alone = check-below later bases in
-      let based = check-below later (place_of e ∷ bases) in
-      λ i. if given e.redefines then
-      (elim (find text e.redefines bases) [
-        | none ↦ alone i
-        | some base ↦ refuse_if (ltb e.offset base) 30
-            e.at >>= λ _. alone i
-      ]) else based i
+      grind (arith, check-below later bases, check-below later (place_of e ∷ bases))
 
   -- what a redefiner that was checked went through
   record CheckedEntry (bases : List Place) (e : Entry) (later : Entries) : Type 0 where
-    rest : fold_check text bases later ≡ give tt
-    starts-in : (base : ℕ) → find text e.redefines bases ≡ some base → base ≤ e.offset
+    rest : fold_check text bases later ≡ Ok tt
+    starts-in : (base : ℕ) → find text e.redefines bases ≡ Some base → base ≤ e.offset
 
   checked-entry :
       (bases : List Place) (e : Entry) (members later : Entries) →
       given e.redefines ≡ true →
-      fold_check text bases (entry e members later) ≡ give tt →
+      fold_check text bases (entry e members later) ≡ Ok tt →
       CheckedEntry bases e later
-  checked-entry bases e members later g h = by-find (find text e.redefines bases) refl
-    where
-      by-find : (o : Option ℕ) → find text e.redefines bases ≡ o → CheckedEntry bases e later
-      by-find none q =
-          record {
-            rest = sym (check-alone text bases e members later g q) ∙ h;
-            starts-in = λ base k. none-some
-                (sym q ∙ k);
-          }
-      by-find (some base) q =
-          ⊎_elim
-          (λ (l : e.offset < base). refused-give (sym (check-before text bases e members later g q l) ∙ h))
-          (λ (l : base ≤ e.offset).
-          record {
-            rest = sym (check-under text bases e members later g q l) ∙ h;
-            starts-in = λ c k. subst (λ (n : ℕ). n ≤ e.offset) (some_same (sym q ∙ k)) l;
-          })
-          (order e.offset base)
+  unfolding fold_check and_then
+  checked-entry bases e members later g h = record { rest = grind arith; starts-in = λ base k. grind arith }
 
   -- every list below was checked
   abbrev pub Checked : Entries → Type 0
   Checked end = Unit {0}
-  Checked (entry e members later) = (fold_check text [] members ≡ give tt) × Checked members × Checked later
+  Checked (entry e members later) = (fold_check text [] members ≡ Ok tt) × Checked members × Checked later
 
   lay-checked :
       (f : Forest) (depth : ℕ) (seen : List Place) (cursor reach : ℕ) (l : Laid) →
-      lay text depth seen cursor reach f ≡ give l →
+      lay text depth seen cursor reach f ≡ Ok l →
       Checked l.entries
   unfolding lay
   lay-checked leaf depth seen cursor reach l h = subst (λ (x : Laid). Checked x.entries) (given-same h) tt
@@ -496,8 +378,7 @@ module _ (text : List ℕ) where
     All base (entry e members later) = P e.at (base + e.offset) × All (base + e.offset) members × All base later
 
     all-if : (base : ℕ) (b : Bool) (x y : Entries) → All base x → All base y → All base (if b then x else y)
-    all-if base true x y h k = h
-    all-if base false x y h k = k
+    all-if base b x y h k = grind arith
 
     all_append : (base : ℕ) (x y : Entries) → All base x → All base y → All base (append x y)
     unfolding append
@@ -522,58 +403,25 @@ module _ (text : List ℕ) where
 
     all-redefiners :
         (es : Entries) (base : Place) (bases : List Place) (b : ℕ) →
-        ((w : Span) → same_name text base.name w ≡ true → find text w bases ≡ some base.offset) →
-        fold_check text bases es ≡ give tt →
+        ((w : Span) → same_name text base.name w ≡ true → find text w bases ≡ Some base.offset) →
+        fold_check text bases es ≡ Ok tt →
         All b es →
         All (b + base.offset) (redefiners text base es)
-    all-redefiners end base bases b found h a = subst (All (b + base.offset)) (sym (redefiners-none text base)) tt
+    unfolding redefiners fold_check and_then
+    all-redefiners end base bases b found h a = tt
     all-redefiners (entry e members later) base bases b found h a =
-        by-given (given e.redefines) refl (all-redefiners later base)
-      where
-        Goal : Entries → Type 0
-        Goal es = All (b + base.offset) es
-
-        IH : Type 0
-        IH =
-            (bases :
-            List Place) (b : ℕ) → ((w : Span) →
-            same_name text base.name w ≡ true →
-            find text w bases ≡ some base.offset) → fold_check text bases later ≡ give tt → All b later → All
-            (b + base.offset) (redefiners text base later)
-
-        by-redefined :
-            (c : Bool) →
-            given e.redefines ≡ true →
-            same_name text base.name e.redefines ≡ c →
-            IH →
-            Goal (redefiners text base (entry e members later))
-        by-redefined true g n ih =
-            let x = checked-entry bases e members later g h in
-            let l = x.starts-in base.offset (found e.redefines n) in
-            subst Goal (sym (redefiners-hit text base e members later g n))
-            (all-entry b (b + base.offset) e (rebased base.offset e) members (redefiners text base later) refl
-            (omega (arith, l)) a.0 a.1 (ih bases b found x.rest a.2))
-        by-redefined false g n ih =
-            subst Goal (sym (redefiners-miss text base e members later g n))
-            (ih bases b found (checked-entry bases e members later g h).rest a.2)
-
-        by_name :
-            (c : Bool) →
-            given e.redefines ≡ false →
-            same_name text base.name e.name ≡ c →
-            IH →
-            Goal (redefiners text base (entry e members later))
-        by_name true g n ih = subst Goal (sym (redefiners-ends text base e members later g n)) tt
-        by_name false g n ih =
-            subst Goal (sym (redefiners-next text base e members later g n))
-            (ih (place_of e ∷ bases) b
-            (λ w q. find-miss text w (place_of e) bases (same_name-left base.name w e.name q ∙ n) ∙ found w q)
-            (sym (check-base text bases e members later g) ∙ h)
-            a.2)
-
-        by-given : (c : Bool) → given e.redefines ≡ c → IH → Goal (redefiners text base (entry e members later))
-        by-given true g ih = by-redefined (same_name text base.name e.redefines) g refl ih
-        by-given false g ih = by_name (same_name text base.name e.name) g refl ih
+        by_cases (given e.redefines)
+        (λ g.
+        let x = checked-entry bases e members later g h in
+        let l = λ (n : same_name text base.name e.redefines ≡ true). x.starts-in base.offset (found e.redefines n) in
+        let own = all-entry b (b + base.offset) e (rebased base.offset e) members (redefiners text base later) refl in
+        grind (arith, l, own, all-redefiners later base bases b found x.rest a.2))
+        (λ g.
+        let next = sym (check-base text bases e members later g) ∙ h in
+        let ih = λ (n : same_name text base.name e.name ≡ false).
+        all-redefiners later base (place_of e ∷ bases) b
+        (λ w q. find-miss text w (place_of e) bases (same_name-left base.name w e.name q ∙ n) ∙ found w q) next a.2 in
+        grind (arith, ih))
 
     all-with :
         (b : ℕ) (e : Entry) (members rs later : Entries) →
@@ -582,54 +430,28 @@ module _ (text : List ℕ) where
         All (b + e.offset) rs →
         All b later →
         All b (with_redefiners text e members rs later)
-    all-with b e members end later h m r l = (h, m, l)
-    all-with b e members (entry x xs rs) later h m r l = (
-      h,
-      all-if (b + e.offset) (has_member text e.name members) _ _
-          (all_append (b + e.offset) members (entry x xs rs) m r)
-          (all-entry b (b + e.offset) e (rebased e.offset e) members (entry x xs rs) refl (omega arith) h m r),
-      l,
-    )
+    all-with b e members rs later h m r l = grind (arith, all-if, all_append, all-entry)
 
     all-folded :
         (es : Entries) (bases : List Place) (b : ℕ) →
-        fold_check text bases es ≡ give tt →
+        fold_check text bases es ≡ Ok tt →
         All b es →
         All b (folded_list text bases es)
-    all-folded end bases b h a = subst (All b) (sym (folded-none text bases)) tt
-    all-folded (entry e members later) bases b h a = by-given (given e.redefines) refl (all-folded later)
-      where
-        IH : Type 0
-        IH =
-            (bases : List Place) (b : ℕ) → fold_check text bases later ≡ give tt → All b later → All b
-            (folded_list text bases later)
-
-        by-find :
-            (o : Option ℕ) →
-            given e.redefines ≡ true →
-            find text e.redefines bases ≡ o →
-            IH →
-            All b (folded_list text bases (entry e members later))
-        by-find none g q ih =
-            subst (All b) (sym (folded-alone text bases e members later g q))
-            (a.0, a.1, ih bases b (checked-entry bases e members later g h).rest a.2)
-        by-find (some base) g q ih =
-            subst (All b) (sym (folded-under text bases e members later g q))
-            (ih bases b (checked-entry bases e members later g h).rest a.2)
-
-        by-given : (c : Bool) → given e.redefines ≡ c → IH → All b (folded_list text bases (entry e members later))
-        by-given true g ih = by-find (find text e.redefines bases) g refl ih
-        by-given false g ih =
-            let next = sym (check-base text bases e members later g) ∙ h in
-            subst (All b) (sym (folded-base text bases e members later g))
-            (all-with b e members (redefiners text (place_of e) later) (folded_list text (place_of e ∷ bases) later)
-            a.0 a.1
-            (all-redefiners later (place_of e) (place_of e ∷ bases) b
-            (λ w q. find-hit text w (place_of e) bases
-            (same_name-left e.name w e.name q ∙ same_self (uppers (name_of text e.name))))
-            next
-            a.2)
-            (ih (place_of e ∷ bases) b next a.2))
+    unfolding folded_list
+    all-folded end bases b h a = tt
+    all-folded (entry e members later) bases b h a =
+        by_cases (given e.redefines)
+        (λ g. grind (arith, all-folded later bases b (checked-entry bases e members later g h).rest a.2))
+        (λ g.
+        let next = sym (check-base text bases e members later g) ∙ h in
+        let under = all-redefiners later (place_of e) (place_of e ∷ bases) b
+        (λ w q. find-hit text w (place_of e) bases
+        (same_name-left e.name w e.name q ∙ same_self (uppers (name_of text e.name)))) next a.2 in
+        grind (
+          arith,
+          all-with b e members (redefiners text (place_of e) later) (folded_list text (place_of e ∷ bases) later) a.0 a.1 under
+              (all-folded later (place_of e ∷ bases) b next a.2),
+        ))
 
     all-below : (es : Entries) (b : ℕ) → Checked es → All b es → All b (folded_below text es)
     unfolding folded_below
@@ -668,12 +490,11 @@ module _ (text : List ℕ) where
     numbered-has :
         (n : ℕ) (es : List Entry) (ps : List ℕ) (e : Entry) →
         AllIn es ps →
-        numbered n es ≡ some e →
+        numbered n es ≡ Some e →
         P e.at (get_or ps n 0)
-    numbered-has n [] ps e h q = none-some q
-    numbered-has zero (x ∷ es) [] e h q = absurd h
-    numbered-has (suc n) (x ∷ es) [] e h q = absurd h
-    numbered-has zero (x ∷ es) (p ∷ ps) e h q = subst (λ (y : Entry). P y.at p) (some_same q) h.0
+    numbered-has n [] ps e h q = absurd (cc)
+    numbered-has n (x ∷ es) [] e h q = absurd h
+    numbered-has zero (x ∷ es) (p ∷ ps) e h q = grind arith
     numbered-has (suc n) (x ∷ es) (p ∷ ps) e h q = numbered-has n es ps e h.1 q
 
   all_map : (P Q : ℕ → ℕ → Type 0) → ((n p : ℕ) → P n p → Q n p) → (es : Entries) (b : ℕ) → All P b es → All Q b es
@@ -732,17 +553,17 @@ module _ (text : List ℕ) where
   chains-begin leaf end seen outward x = refl
   chains-begin (item s kids later) (entry e members others) seen outward x =
       let reasons = own text seen e ++ outward in
-      ap₂ ◌∷◌ x.0.0
-      (starts-append (chains text (inside e ∷ reasons) [] members) (chains text outward (e ∷ seen) others)
-      ∙ ap₂ ◌++◌ (chains-begin kids members [] (inside e ∷ reasons) x.2)
-      (chains-begin later others (e ∷ seen) outward x.3))
+      cc (
+        starts-append (chains text (inside e ∷ reasons) [] members) (chains text outward (e ∷ seen) others),
+        chains-begin kids members [] (inside e ∷ reasons) x.2,
+        chains-begin later others (e ∷ seen) outward x.3,
+      )
   chains-begin leaf (entry e members others) seen outward x = elim x [ ]
   chains-begin (item s kids later) end seen outward x = elim x [ ]
 
   among-from : (cs : List Chain) (n : ℕ) (c : Chain) → Rises n (starts cs) → Among c cs → n ≤ c.at
-  among-from (d ∷ cs) n c r (inl e) = omega (arith, r.0, ap (λ (x : Chain). x.at) e)
-  among-from (d ∷ cs) n c r (inr a) = omega (arith, r.0, among-from cs (suc d.at) c r.1 a)
-  among-from [] n c r x'' = elim x'' [ ]
+  among-from [] n c r a = absurd a
+  among-from (d ∷ cs) n c r a = grind (arith, among-from cs (suc d.at) c r.1)
 
   one-chain :
       (cs : List Chain) (n : ℕ) (c d : Chain) →
@@ -751,13 +572,14 @@ module _ (text : List ℕ) where
       Among d cs →
       c.at ≡ d.at →
       c ≡ d
-  one-chain (x ∷ cs) n c d r (inl e) (inl g) q = e ∙ sym g
-  one-chain (x ∷ cs) n c d r (inl e) (inr b) q =
-      absurd (omega (arith, among-from cs (suc x.at) d r.1 b, ap (λ (y : Chain). y.at) e, q))
-  one-chain (x ∷ cs) n c d r (inr a) (inl g) q =
-      absurd (omega (arith, among-from cs (suc x.at) c r.1 a, ap (λ (y : Chain). y.at) g, q))
-  one-chain (x ∷ cs) n c d r (inr a) (inr b) q = one-chain cs (suc x.at) c d r.1 a b q
-  one-chain [] n c d r x4 _ q = elim x4 [ ]
+  one-chain [] n c d r a b q = absurd a
+  one-chain (x ∷ cs) n c d r a b q =
+      grind (
+        arith,
+        among-from cs (suc x.at) c r.1,
+        among-from cs (suc x.at) d r.1,
+        one-chain cs (suc x.at) c d r.1,
+      )
 
   -- so the search for a statement's chain finds it
   pub chain-of :
@@ -766,12 +588,8 @@ module _ (text : List ℕ) where
       Among c cs →
       chain_at c.at cs ≡ c.reasons
   unfolding chain_at
-  chain-of (d ∷ cs) n c r (inl e) =
-      rw (eq-eqb c.at d.at (ap (λ (x : Chain). x.at) e), chain_at) (ap (λ (x : Chain). x.reasons) (sym e))
-  chain-of (d ∷ cs) n c r (inr a) =
-      rw (ne_eqb c.at d.at (λ q. omega (arith, among-from cs (suc d.at) c r.1 a, q)), chain_at)
-      (chain-of cs (suc d.at) c r.1 a)
-  chain-of [] n c r x'' = elim x'' [ ]
+  chain-of [] n c r a = absurd a
+  chain-of (d ∷ cs) n c r a = grind (arith, among-from cs (suc d.at) c r.1, chain-of cs (suc d.at) c r.1)
 
   -- ---------------------------------------------------------------- the answer
 
@@ -779,29 +597,26 @@ module _ (text : List ℕ) where
   pub record Went (f : Forest) (tree : Entries) : Type 0 where
     pub rules : Explains text [] f tree
     pub checked : Checked tree
-    pub top : fold_check text [] tree ≡ give tt
+    pub top : fold_check text [] tree ≡ Ok tt
 
-  pub went : (f : Forest) (tree : Entries) → unfolded text f ≡ give tree → Went f tree
-  unfolding unfolded
+  pub went : (f : Forest) (tree : Entries) → unfolded text f ≡ Ok tree → Went f tree
+  unfolding latest
   went f tree h =
-      through _ _ h λ l laid h₁.
-      through _ _ h₁ λ _ c h₂.
-      through _ _ h₂ λ _ _ h₃.
-      subst (Went f) (given-same h₃)
+      let r = laid-out text f tree h in
+      subst (Went f) r.is
       (record {
-        rules = explains f 0 [] 0 0 l reached-none
-            (λ _. refl) laid;
-        checked = lay-checked f 0 [] 0 0 l laid;
-        top = c;
+        rules = explains f 0 [] 0 0 r.list refl (λ _. refl) r.list-laid;
+        checked = lay-checked f 0 [] 0 0 r.list r.list-laid;
+        top = r.list-checked;
       })
 
-  module _ (f : Forest) (tree : Entries) (laid_out : unfolded text f ≡ give tree) (rise : Rises 0 (beginnings f)) where
+  module _ (f : Forest) (tree : Entries) (laid_out : unfolded text f ≡ Ok tree) (rise : Rises 0 (beginnings f)) where
     pub answered :
         (n : ℕ) (e : Entry) →
-        numbered n (flat (folded_all text tree)) ≡ some e →
+        numbered n (flat (folded_all text tree)) ≡ Some e →
         (c : Chain) × Among c (chains text [] [] tree) × (c.at ≡ e.at) ×
-        (added c.reasons ≡ get_or (from_start 0 (folded_all text tree)) n 0) × (reasons_in text f n ≡ give c.reasons)
-    unfolding reasons_in ◌>>=◌
+        (added c.reasons ≡ get_or (from_start 0 (folded_all text tree)) n 0) × (reasons_in text f n ≡ Ok c.reasons)
+    unfolding reasons_in and_then
     answered n e q =
         let cs = chains text [] [] tree in
         let w = went f tree laid_out in
@@ -813,17 +628,17 @@ module _ (text : List ℕ) where
         (all-flat P (folded_all text tree) 0 folded) q in
         let found = ap (λ (x : ℕ). chain_at x cs) (sym r.2)
         ∙ chain-of cs 0 r.0 (subst (Rises 0) (sym (chains-begin f tree [] [] w.rules)) rise) r.1 in
-        (r.0, r.1, r.2, r.3, rw (laid_out, q) (ap give found))
+        (r.0, r.1, r.2, r.3, rw (laid_out, q) (ap Ok found))
 
-    pub past : (n : ℕ) → numbered n (flat (folded_all text tree)) ≡ none → reasons_in text f n ≡ refused 53 0
-    unfolding reasons_in ◌>>=◌
+    pub past : (n : ℕ) → numbered n (flat (folded_all text tree)) ≡ None → reasons_in text f n ≡ Err Refusal.NoSuchEntry
+    unfolding reasons_in and_then
     past n q = rw (laid_out, q)
 
 -- every accepted copybook has its reasons
 reasoned :
     (text : List ℕ) (work : ℕ) (f : Forest) (tree es : Entries) →
-    record_fields text work ≡ give f →
-    unfolded text f ≡ give tree →
+    record_fields text work ≡ Ok f →
+    unfolded text f ≡ Ok tree →
     folded_all text tree ≡ es →
     Reasoned text f tree es
 reasoned text work f tree es read laid_out folds =
@@ -838,20 +653,20 @@ reasoned text work f tree es read laid_out folds =
       one-chain = λ c d. one-chain text cs 0 c d (subst (Rises 0) (sym (chains-begin text f tree [] [] rules)) rise);
       answered = λ n e q.
           subst (λ (x : Entries). (c : Chain) × Among c cs × (c.at ≡ e.at) ×
-          (added c.reasons ≡ get_or (from_start 0 x) n 0) × (reasons_in text f n ≡ give c.reasons)) folds
+          (added c.reasons ≡ get_or (from_start 0 x) n 0) × (reasons_in text f n ≡ Ok c.reasons)) folds
           (answered text f tree laid_out rise n e (ap (λ (x : Entries). numbered n (flat x)) folds ∙ q));
       past = λ n q. past text f tree laid_out rise n (ap (λ (x : Entries). numbered n (flat x)) folds ∙ q);
     }
 
 pub explained :
     (form : Form) (text : List ℕ) (work : ℕ) (es : Entries) →
-    called form (λ t. entries t work) text work ≡ give es →
+    called form (λ t. entries t work) text work ≡ Ok es →
     Explained form text work es
 unfolding entries layout entry_reasons
 explained form text work es h =
     let seen = view_in form text in
     let laying : List ℕ → Answer Entries = λ t. entries t work in
-    let accepted : entries seen work ≡ give es = sym (called-as laying laying form text work h) ∙ h in
+    let accepted : entries seen work ≡ Ok es = sym (called-as laying laying form text work h) ∙ h in
     through _ _ accepted λ f read h₁.
     through _ _ h₁ λ tree laid_out h₂.
     let folds = given-same h₂ in

@@ -1,32 +1,30 @@
 -- Laws of words and tokens: two words compared byte by byte, one step of the tokens, and the statements one by one.
 -- Assumes nothing.
-use Prim.Native.Nat.{ℕ, suc, ◌+◌, ◌-◌, ◌≤◌, ◌<◌}
-use mathlib.Core.Path.{◌≡◌, refl, sym, ◌∙◌, ap}
+use Prim.Native.Nat.{ℕ, ◌+◌, ◌-◌, ◌≤◌, ◌<◌}
+use mathlib.Core.Path.{◌≡◌, refl, ◌∙◌, ap}
 use mathlib.Core.Bool.{Bool, true, false, ◌&&◌}
 use mathlib.Core.List.{List, [], ◌∷◌, ◌++◌, map}
 use native.Mathlib.Omega.{arith}
-use lib.Dec.{eqb, leb}
 use lib.ListN.{length, get_or, drop, drop_of_length-le}
-use borrow.Author.Tests.{eqb-true, eq-eqb, ne_eqb}
+use borrow.Author.Tests.{eq-eqb, ne_eqb}
 use Rattle.definition.specs.declared.Span.{Span}
 use Rattle.definition.specs.declared.ByteKind.{ByteKind}
 use Rattle.definition.specs.declared.ByteKind.TheVariants.{Newline, Blank, Cut, Star, Period, Other}
 use Rattle.definition.specs.declared.Mode.{Mode}
 use Rattle.definition.specs.declared.Mode.TheVariants.{Fresh, Between, Dropped, Within}
 use Rattle.definition.specs.declared.Said.{Said}
-use Rattle.definition.specs.declared.Said.TheVariants.{Before, Value, Literal}
+use Rattle.definition.specs.declared.Said.TheVariants.{Literal}
 use Rattle.definition.specs.declared.Token.{Token}
 use Rattle.definition.specs.declared.Token.TheVariants.{Word, Stop, Open}
-use Rattle.std.specs.Prelude.{if◌then◌else◌}
-use Rattle.definition.specs.Basic.{is, white, same, span, part}
+use Rattle.definition.specs.Basic.{white, same, span, part}
 use Rattle.definition.specs.Words.{cut_here, ends, byte_kind, next, up_to, completed, completed_end, seen, marked}
-use Rattle.definition.specs.Words.{is_value, heard, said_next, unless_open, tokens, first_open, first_words, after_stop}
+use Rattle.definition.specs.Words.{heard, said_next, unless_open, tokens, first_open, first_words, after_stop}
 use Rattle.definition.specs.Words.{on_first, sentences}
 use Rattle.definition.specs.Unquoted.{closed}
 use Rattle.definition.proofs.Lists.{drop-next}
 
 pub never {ℓ} : {A : Type ℓ} → false ≡ true → A
-never h = absurd (let z : ◌≡◌ {A = ℕ} 0 1 = cc in omega arith)
+never h = absurd (cc)
 
 pub and_both : (a b : Bool) → (a && b) ≡ true → (a ≡ true) × (b ≡ true)
 and_both true b h = (refl, h)
@@ -45,15 +43,13 @@ unfolding same
 same-equal [] [] h = refl
 same-equal [] (y ∷ ys) h = never h
 same-equal (x ∷ xs) [] h = never h
-same-equal (x ∷ xs) (y ∷ ys) h =
-    let both = and_both (eqb x y) (same xs ys) h in
-    λ i. eqb-true x y both.0 i ∷ same-equal xs ys both.1 i
+same-equal (x ∷ xs) (y ∷ ys) h = grind (arith, same-equal xs ys)
 
 -- a word is the same as itself
 pub same_self : (l : List ℕ) → same l l ≡ true
 unfolding same
 same_self [] = refl
-same_self (x ∷ l) = rw (eq-eqb x x refl) (same_self l)
+same_self (x ∷ l) = grind (arith, same_self l)
 
 -- words of other lengths are other words
 pub same-long : (a b : List ℕ) → (length a ≡ length b → ⊥) → same a b ≡ false
@@ -61,11 +57,7 @@ unfolding same
 same-long [] [] h = absurd (h refl)
 same-long [] (y ∷ ys) h = refl
 same-long (x ∷ xs) [] h = refl
-same-long (x ∷ xs) (y ∷ ys) h = after (eqb x y) (same-long xs ys (λ e. h (ap suc e)))
-  where
-    after : (t : Bool) → same xs ys ≡ false → (t && same xs ys) ≡ false
-    after true e = e
-    after false e = refl
+same-long (x ∷ xs) (y ∷ ys) h = grind (arith, same-long xs ys)
 
 -- the words a and b, read through f and g, from i on
 module _ (f g : ℕ → ℕ) (a b : List ℕ) (i : ℕ) where
@@ -89,11 +81,13 @@ module _ (f g : ℕ → ℕ) (a b : List ℕ) (i : ℕ) where
   module _ (h : i < length a) (h' : i < length b) where
     pub same-other : (f (get_or a i 0) ≡ g (get_or b i 0) → ⊥) → same_from ≡ false
     unfolding same
-    same-other n = rw (drop-next a i h, drop-next b i h', ne_eqb (f (get_or a i 0)) (g (get_or b i 0)) n)
+    same-other n = rw (drop-next a i h, drop-next b i h') (grind arith)
 
-    pub same_next : f (get_or a i 0) ≡ g (get_or b i 0) → same_from ≡ same (map f (drop (i + 1) a)) (map g (drop (i + 1) b))
+    pub same_next :
+        f (get_or a i 0) ≡ g (get_or b i 0) →
+        same_from ≡ same (map f (drop (i + 1) a)) (map g (drop (i + 1) b))
     unfolding same
-    same_next e = rw (drop-next a i h, drop-next b i h', eq-eqb (f (get_or a i 0)) (g (get_or b i 0)) e)
+    same_next e = rw (drop-next a i h, drop-next b i h') (grind arith)
 
 -- ---------------------------------------------------------------- bytes
 
@@ -131,17 +125,9 @@ module _ (b : ℕ) (bs : List ℕ) where
           unfolding byte_kind
           kind-point d e = rw (ne_eqb b 10 n, w, c, ne_eqb b 42 s, eq-eqb b 46 d, e)
 
--- what is dropped of a line goes on to its end
-still-dropped : (w c s d : Bool) (p : ℕ) → next Dropped p (if w then Blank else if c then Cut else if s then Star else if d then Period else Other) ≡ Dropped
-still-dropped true c s d p = refl
-still-dropped false true s d p = refl
-still-dropped false false true d p = refl
-still-dropped false false false true p = refl
-still-dropped false false false false p = refl
-
 pub dropped-on : (b : ℕ) (bs : List ℕ) (p : ℕ) → (b ≡ 10 → ⊥) → next Dropped p (byte_kind b bs) ≡ Dropped
 unfolding byte_kind
-dropped-on b bs p n = rw (ne_eqb b 10 n) (still-dropped (white b) (cut_here (b ∷ bs)) (is "*" b) (is "." b && ends bs) p)
+dropped-on b bs p n = grind arith
 
 -- ---------------------------------------------------------------- tokens
 
@@ -170,34 +156,22 @@ module _ (t : List ℕ) (q : Said) (m : Mode) (i : ℕ) where
 
 -- where no literal is open every byte is what it is, and no end of a line leaves one open
 pub closed-seen : (q : Said) (k : ByteKind) → closed q ≡ true → seen q k ≡ k
-closed-seen (Before n) k h = refl
-closed-seen Value k h = refl
-closed-seen (Literal mark at) k h = never h
+closed-seen q k h = grind arith
 
 pub closed_on : (q : Said) (k : ByteKind) (ts : List Token) → closed q ≡ true → unless_open q k ts ≡ ts
-closed_on (Before n) k ts h = refl
-closed_on Value k ts h = refl
-closed_on (Literal mark at) k ts h = never h
-
-pub closed-if : (t : Bool) (q r : Said) → closed q ≡ true → closed r ≡ true → closed (if t then q else r) ≡ true
-closed-if true q r h g = h
-closed-if false q r h g = g
+closed_on q k ts h = grind arith
 
 -- a word that ends opens none and closes none
 pub heard-closed : (q : Said) (bs : List ℕ) → closed q ≡ true → closed (heard q bs) ≡ true
-heard-closed (Before n) bs h = closed-if (leb 2 n) (if is_value bs then Value else Before n) (Before (n + 1)) (closed-if (is_value bs) Value (Before n) refl refl) refl
-heard-closed Value bs h = refl
-heard-closed (Literal mark at) bs h = never h
+heard-closed q bs h = grind arith
 
 pub heard-seen : (q : Said) (bs : List ℕ) (k : ByteKind) → seen (heard q bs) k ≡ seen q k
-heard-seen (Before n) bs k = closed-seen (heard (Before n) bs) k (heard-closed (Before n) bs refl)
-heard-seen Value bs k = refl
-heard-seen (Literal mark at) bs k = refl
+heard-seen q bs k = grind (arith, heard-closed, closed-seen)
 
-pub heard-on : (q : Said) (bs : List ℕ) (k : ByteKind) (ts : List Token) → unless_open (heard q bs) k ts ≡ unless_open q k ts
-heard-on (Before n) bs k ts = closed_on (heard (Before n) bs) k ts (heard-closed (Before n) bs refl)
-heard-on Value bs k ts = refl
-heard-on (Literal mark at) bs k ts = refl
+pub heard-on :
+    (q : Said) (bs : List ℕ) (k : ByteKind) (ts : List Token) →
+    unless_open (heard q bs) k ts ≡ unless_open q k ts
+heard-on q bs k ts = grind (arith, heard-closed, closed_on)
 
 -- a byte of this kind goes on with a word
 abbrev pub stays_within : ByteKind → Bool
@@ -210,14 +184,7 @@ stays_within Other = true
 
 -- and then leaves nothing open
 in_on : (q : Said) (k : ByteKind) (ts : List Token) → stays_within k ≡ true → unless_open q k ts ≡ ts
-in_on (Before n) k ts h = refl
-in_on Value k ts h = refl
-in_on (Literal mark at) Newline ts h = never h
-in_on (Literal mark at) Blank ts h = refl
-in_on (Literal mark at) Cut ts h = refl
-in_on (Literal mark at) Star ts h = refl
-in_on (Literal mark at) Period ts h = refl
-in_on (Literal mark at) Other ts h = refl
+in_on q k ts h = grind arith
 
 module _ (t : List ℕ) (s p b : ℕ) (more : Said → Mode → List Token) where
   -- what a byte of kind k gives and leads to
@@ -226,48 +193,26 @@ module _ (t : List ℕ) (s p b : ℕ) (more : Said → Mode → List Token) wher
 
   word_on : (q : Said) (k : ByteKind) → stays_within k ≡ true → stepped q (Within s) k ≡ more (marked q p b) (Within s)
   unfolding said_next
-  word_on q Newline h = never h
-  word_on q Blank h = never h
-  word_on q Cut h = never h
-  word_on q Star h = in_on q Star (more (marked q p b) (Within s)) refl
-  word_on q Period h = never h
-  word_on q Other h = in_on q Other (more (marked q p b) (Within s)) refl
+  word_on q k h = grind (arith, in_on)
 
   -- the word that ends before p, heard
   abbrev word_heard : Said → Said
   word_heard q = heard q (part t (span s (p - s)))
 
-  word-done : (q : Said) (k : ByteKind) → stays_within k ≡ false → stepped q (Within s) k ≡ up_to s p ∷ stepped (word_heard q) Between k
+  word-done :
+      (q : Said) (k : ByteKind) →
+      stays_within k ≡ false →
+      stepped q (Within s) k ≡ up_to s p ∷ stepped (word_heard q) Between k
   unfolding said_next
-  word-done q Newline h = rw (heard-on q (part t (span s (p - s))) Newline (more (word_heard q) Fresh))
-  word-done q Blank h = rw (heard-on q (part t (span s (p - s))) Blank (more (word_heard q) Between))
-  word-done q Cut h = rw (heard-on q (part t (span s (p - s))) Cut (more (word_heard q) Dropped))
-  word-done q Star h = never (sym h)
-  word-done q Period h = rw (heard-on q (part t (span s (p - s))) Period (more (Before 0) Between))
-  word-done q Other h = never (sym h)
+  word-done q k h = grind (arith, heard-on)
 
   word-begun : (q : Said) (k : ByteKind) → stays_within k ≡ true → stepped q Between k ≡ more (marked q p b) (Within p)
   unfolding said_next
-  word-begun q Newline h = never h
-  word-begun q Blank h = never h
-  word-begun q Cut h = never h
-  word-begun q Star h = in_on q Star (more (marked q p b) (Within p)) refl
-  word-begun q Period h = never h
-  word-begun q Other h = in_on q Other (more (marked q p b) (Within p)) refl
-
--- inside a literal a byte that is not white goes into a word
-goes-quoted : (m a : ℕ) (c s d : Bool) → stays_within (seen (Literal m a) (if c then Cut else if s then Star else if d then Period else Other)) ≡ true
-goes-quoted m a true s d = refl
-goes-quoted m a false true d = refl
-goes-quoted m a false false true = refl
-goes-quoted m a false false false = refl
-
-white-10 : (b : ℕ) → white b ≡ false → b ≡ 10 → ⊥
-white-10 b w e = never (sym (rw e at w))
+  word-begun q k h = grind (arith, in_on)
 
 literal-goes : (m a b : ℕ) (bs : List ℕ) → white b ≡ false → stays_within (seen (Literal m a) (byte_kind b bs)) ≡ true
 unfolding byte_kind
-literal-goes m a b bs w = rw (ne_eqb b 10 (white-10 b w), w) (goes-quoted m a (cut_here (b ∷ bs)) (is "*" b) (is "." b && ends bs))
+literal-goes m a b bs w = grind arith
 
 module _ (t : List ℕ) (m a i : ℕ) (h : i < length t) where
   pub literal-newline :
@@ -285,7 +230,8 @@ module _ (t : List ℕ) (m a i : ℕ) (h : i < length t) where
 
   pub literal-word :
       white (get_or t i 0) ≡ false →
-      tokens t (Literal m a) Between i (drop i t) ≡ tokens t (marked (Literal m a) i (get_or t i 0)) (Within i) (i + 1) (drop (i + 1) t)
+      tokens t (Literal m a) Between i (drop i t)
+      ≡ tokens t (marked (Literal m a) i (get_or t i 0)) (Within i) (i + 1) (drop (i + 1) t)
   literal-word w =
       tokens-next t (Literal m a) Between i h
       ∙ word-begun
@@ -311,14 +257,26 @@ module _ (t : List ℕ) (q : Said) (s i : ℕ) where
   pub word-stop :
       i < length t →
       stays_within (seen_at t q i) ≡ false →
-      tokens t q (Within s) i (drop i t) ≡ up_to s i ∷ tokens t (heard q (part t (span s (i - s)))) Between i (drop i t)
+      tokens t q (Within s) i (drop i t)
+      ≡ up_to s i ∷ tokens t (heard q (part t (span s (i - s)))) Between i (drop i t)
   word-stop h n =
       tokens-next t q (Within s) i h
       ∙ word-done t s i (get_or t i 0) (λ r m. tokens t r m (i + 1) (drop (i + 1) t)) q (seen_at t q i) n
-      ∙ rw (tokens-next t (heard q (part t (span s (i - s)))) Between i h, heard-seen q (part t (span s (i - s))) (kind_at t i))
+      ∙ rw (
+        tokens-next t (heard q (part t (span s (i - s)))) Between i h,
+        heard-seen q (part t (span s (i - s))) (kind_at t i),
+      )
 
-  pub word-last : length t ≤ i → tokens t q (Within s) i (drop i t) ≡ up_to s i ∷ tokens t (heard q (part t (span s (i - s)))) Between i (drop i t)
-  word-last h = rw (tokens-end t q (Within s) i h, tokens-end t (heard q (part t (span s (i - s)))) Between i h, heard-on q (part t (span s (i - s))) Newline [])
+  pub word-last :
+      length t ≤ i →
+      tokens t q (Within s) i (drop i t)
+      ≡ up_to s i ∷ tokens t (heard q (part t (span s (i - s)))) Between i (drop i t)
+  word-last h =
+      rw (
+        tokens-end t q (Within s) i h,
+        tokens-end t (heard q (part t (span s (i - s)))) Between i h,
+        heard-on q (part t (span s (i - s))) Newline [],
+      )
 
 -- what is dropped of a line, where no literal is open
 module _ (t : List ℕ) (q : Said) (c : closed q ≡ true) (i : ℕ) (h : i < length t) where
@@ -326,18 +284,24 @@ module _ (t : List ℕ) (q : Said) (c : closed q ≡ true) (i : ℕ) (h : i < le
   unfolding said_next
   dropped-newline e =
       tokens-next t q Dropped i h
-      ∙ rw (closed-seen q (kind_at t i) c, kind-newline (get_or t i 0) (drop (i + 1) t) e) (closed_on q Newline (tokens t q Fresh (i + 1) (drop (i + 1) t)) c)
+      ∙ rw (closed-seen q (kind_at t i) c, kind-newline (get_or t i 0) (drop (i + 1) t) e)
+      (closed_on q Newline (tokens t q Fresh (i + 1) (drop (i + 1) t)) c)
 
-  pub dropped-next : (get_or t i 0 ≡ 10 → ⊥) → tokens t q Dropped i (drop i t) ≡ tokens t q Dropped (i + 1) (drop (i + 1) t)
+  pub dropped-next :
+      (get_or t i 0 ≡ 10 → ⊥) →
+      tokens t q Dropped i (drop i t) ≡ tokens t q Dropped (i + 1) (drop (i + 1) t)
   unfolding said_next
   dropped-next n =
       tokens-next t q Dropped i h
-      ∙ rw (closed-seen q (kind_at t i) c, dropped-on (get_or t i 0) (drop (i + 1) t) i n) (closed_on q (kind_at t i) (tokens t q Dropped (i + 1) (drop (i + 1) t)) c)
+      ∙ rw (closed-seen q (kind_at t i) c, dropped-on (get_or t i 0) (drop (i + 1) t) i n)
+      (closed_on q (kind_at t i) (tokens t q Dropped (i + 1) (drop (i + 1) t)) c)
 
 -- ---------------------------------------------------------------- statements
 
 -- the statements are the one that a word begins, or an empty one, and those after it
-pub sentences-word : (ts : List Token) (w : Span) → sentences (Word w ∷ ts) ≡ (w ∷ first_words ts) ∷ sentences (after_stop ts)
+pub sentences-word :
+    (ts : List Token) (w : Span) →
+    sentences (Word w ∷ ts) ≡ (w ∷ first_words ts) ∷ sentences (after_stop ts)
 unfolding sentences
 sentences-word [] w = refl
 sentences-word (Stop ∷ ts) w = refl
@@ -358,17 +322,11 @@ open_after (Word v ∷ ts) = open_after ts
 
 -- where the tokens end, with a literal that is left open or not, there is no word
 pub end-words : (q : Said) → first_words (unless_open q Newline []) ≡ []
-end-words (Before n) = refl
-end-words Value = refl
-end-words (Literal mark at) = refl
+end-words q = grind arith
 
 pub end_after : (q : Said) → after_stop (unless_open q Newline []) ≡ unless_open q Newline []
-end_after (Before n) = refl
-end_after Value = refl
-end_after (Literal mark at) = refl
+end_after q = grind arith
 
 pub end-sentences : (q : Said) → sentences (unless_open q Newline []) ≡ []
 unfolding sentences
-end-sentences (Before n) = refl
-end-sentences Value = refl
-end-sentences (Literal mark at) = refl
+end-sentences q = grind arith

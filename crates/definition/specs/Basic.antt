@@ -4,7 +4,8 @@
 use Rattle.std.specs.Prelude.{if◌then◌else◌, ℕ, ◌+◌, ◌*◌, ◌-◌, ◌/◌, ◌%◌, Bool, true, false, ◌&&◌, ◌||◌, List, [], ◌∷◌, ◌++◌, map, eqb, leb, ltb, take, drop}
 use Prim.Native.Char.{Char, code}
 use Prim.Native.String.{String, [] as ε, ◌∷◌ as ◌∷ᶜ◌}
-use Rattle.std.proofs.Math.Option.{Option, none, some}
+use Rattle.std.specs.Prelude.{Option, None, Some, Result}
+pub use Rattle.std.specs.Prelude.{Ok, Err}
 use Rattle.definition.specs.declared.Refusal.{Refusal}
 use Rattle.definition.specs.declared.Span.{Span}
 
@@ -66,21 +67,21 @@ part text w = take w.len (drop w.start text)
 
 -- the number that digits spell, after n was read
 unfoldable pub digits : ℕ → List ℕ → Option ℕ
-digits n [] = some n
-digits n (b ∷ bs) = if leb 48 b && leb b 57 then digits (n * 10 + (b - 48)) bs else none
+digits n [] = Some n
+digits n (b ∷ bs) = if leb 48 b && leb b 57 then digits (n * 10 + (b - 48)) bs else None
 
 -- at least one digit
 abbrev pub numeral : List ℕ → Option ℕ
-numeral [] = none
+numeral [] = None
 numeral (b ∷ bs) = digits 0 (b ∷ bs)
 
 abbrev pub below : ℕ → Option ℕ → Option ℕ
-below limit none = none
-below limit (some n) = if ltb n limit then some n else none
+below limit None = None
+below limit (Some n) = if ltb n limit then Some n else None
 
 -- digits, leading zeros allowed, with a plus in front or none, that spell a number below the limit
 unfoldable pub number : ℕ → List ℕ → Option ℕ
-number limit [] = none
+number limit [] = None
 number limit (b ∷ bs) = below limit (if is "+" b then numeral bs else numeral (b ∷ bs))
 
 -- a count, of an OCCURS or in a picture, is below 2^64
@@ -107,26 +108,24 @@ sum (n ∷ ns) = n + sum ns
 -- ---------------------------------------------------------------- answers
 
 -- a call is refused, or gives its answer
-pub data Answer (A : Type 0) : Type 0 where
-  refuse : Refusal → Answer A
-  give : A → Answer A
+abbrev pub Answer : Type 0 → Type 0
+Answer A = Result A Refusal
 
 -- what comes next, unless it was refused
+unfoldable pub and_then : {A B : Type 0} → Answer A → (A → Answer B) → Answer B
+and_then (Err r) f = Err r
+and_then (Ok a) f = f a
+
 infixl 1 ◌>>=◌
-unfoldable pub ◌>>=◌ : {A B : Type 0} → Answer A → (A → Answer B) → Answer B
-refuse r >>= f = refuse r
-give a >>= f = f a
+abbrev pub ◌>>=◌ : {A B : Type 0} → Answer A → (A → Answer B) → Answer B
+a >>= f = and_then a f
 
--- refusal n at position p
-abbrev pub refused : {A : Type 0} → ℕ → ℕ → Answer A
-refused n p = refuse (record { number = n; position = p; needed = 0 })
+-- that refusal if the test is true
+abbrev pub refuse_if : Bool → Refusal → Answer (Unit {0})
+refuse_if true r = Err r
+refuse_if false r = Ok tt
 
--- refusal n at position p if the test is true
-abbrev pub refuse_if : Bool → ℕ → ℕ → Answer (Unit {0})
-refuse_if true n p = refused n p
-refuse_if false n p = give tt
-
--- the value, or refusal n at position p where there is none
-abbrev pub or_refuse : {A : Type 0} → ℕ → ℕ → Option A → Answer A
-or_refuse n p none = refused n p
-or_refuse n p (some a) = give a
+-- the value, or that refusal where there is none
+abbrev pub or_refuse : {A : Type 0} → Refusal → Option A → Answer A
+or_refuse r None = Err r
+or_refuse r (Some a) = Ok a

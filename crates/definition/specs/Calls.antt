@@ -4,21 +4,17 @@
 -- check or a stage.
 -- Assumes nothing.
 use Rattle.std.specs.Prelude.{ℕ, ◌+◌, Bool, ◌&&◌, ◌||◌, not, List, [], ◌∷◌, ◌++◌, eqb, ltb, length, drop, replicate, if◌then◌else◌}
-use Rattle.std.proofs.Math.Option.{Option, none, some}
+use Rattle.std.specs.Prelude.{Option, None, Some}
 use Rattle.definition.specs.declared.Statement.{Statement}
 use Rattle.definition.specs.declared.Usage.{Usage}
-use Rattle.definition.specs.declared.SignClause.{SignClause}
+use Rattle.definition.specs.declared.SignKind.{SignKind}
 use Rattle.definition.specs.declared.Pictured.{Pictured}
 use Rattle.definition.specs.declared.Owner.{Owner}
-use Rattle.definition.specs.declared.PicAnswer.{PicAnswer}
 use Rattle.definition.specs.declared.Extract.{Extract}
-use Rattle.definition.specs.declared.ExtractAnswer.{ExtractAnswer}
 use Rattle.definition.specs.declared.Report.{Report}
-use Rattle.definition.specs.declared.Writing.{Writing}
-use Rattle.definition.specs.declared.OwnerAnswer.{OwnerAnswer}
-use Rattle.definition.specs.declared.Check.{Check}
+use Rattle.definition.specs.declared.Refusal.{Refusal}
 use Rattle.definition.specs.Limits.{most_bytes, least_work, most_items}
-use Rattle.definition.specs.Basic.{Answer, refuse, give, ◌>>=◌, refused, refuse_if}
+use Rattle.definition.specs.Basic.{Answer, Err, Ok, ◌>>=◌, refuse_if}
 use Rattle.definition.specs.Words.{tokens_of, first_open, statement_words}
 use Rattle.definition.specs.Cards.{view, first_other, Form, free_text, card_text}
 use Rattle.definition.specs.Statement.{statements}
@@ -37,24 +33,24 @@ use Rattle.definition.specs.Extract.{widths, items, misweighed, extract}
 
 -- the position of the first byte over 127, counted from p
 unfoldable pub first_wide : ℕ → List ℕ → Option ℕ
-first_wide p [] = none
-first_wide p (b ∷ bs) = if ltb 127 b then some p else first_wide (p + 1) bs
+first_wide p [] = None
+first_wide p (b ∷ bs) = if ltb 127 b then Some p else first_wide (p + 1) bs
 
 -- 1: text over 65,535 bytes; 2: a byte over 127
 unfoldable pub text_checks : List ℕ → Answer (Unit {0})
 text_checks text = do
-  _ ← refuse_if (ltb most_bytes (length text)) 1 0
-  elim (first_wide 0 text) [ none ↦ give tt | some p ↦ refused 2 p ]
+  _ ← refuse_if (ltb most_bytes (length text)) Refusal.TextTooLong
+  elim (first_wide 0 text) [ None ↦ Ok tt | Some p ↦ Err (Refusal.WideByte p) ]
 
 -- and 3: lent work memory under 16,384 numbers
 unfoldable pub entry_checks : List ℕ → ℕ → Answer (Unit {0})
 entry_checks text work = do
   _ ← text_checks text
-  refuse_if (ltb work least_work) 3 0
+  refuse_if (ltb work least_work) Refusal.WorkTooShort
 
 -- 50: the first unclosed literal, at its opening mark
 unfoldable pub literal_check : List ℕ → Answer (Unit {0})
-literal_check text = elim (first_open (tokens_of text)) [ none ↦ give tt | some p ↦ refused 50 p ]
+literal_check text = elim (first_open (tokens_of text)) [ None ↦ Ok tt | Some p ↦ Err (Refusal.UnclosedLiteral p) ]
 
 -- the kept statements of a copybook; 50 is looked for in the whole text, before the first 10
 unfoldable pub kept_statements : List ℕ → Answer (List Statement)
@@ -67,7 +63,7 @@ unfoldable pub record_fields : List ℕ → ℕ → Answer Forest
 record_fields text work = do
   _ ← entry_checks text work
   ss ← kept_statements text
-  give (record_of ss)
+  Ok (record_of ss)
 
 -- its folded top list: the refusals so far are the reader's, and a copybook without one is accepted
 unfoldable pub entries : List ℕ → ℕ → Answer Entries
@@ -80,7 +76,7 @@ entries text work = do
 -- the bytes to be written, or 31 and their number where the lent output has only `room` bytes
 abbrev pub fitting : ℕ → List ℕ → Answer (List ℕ)
 fitting room bs =
-    if ltb room (length bs) then refuse (record { number = 31; position = 0; needed = length bs }) else give bs
+    if ltb room (length bs) then Err (Refusal.OutputTooShort (length bs)) else Ok bs
 
 -- the layout listing
 unfoldable pub layout_listing : List ℕ → ℕ → ℕ → Answer (List ℕ)
@@ -108,7 +104,7 @@ report Report.Details text work room = layout_details text work room
 report (Report.Reasons number) text work room = entry_reasons text work number room
 
 -- the picture answer
-unfoldable pub picture_answer : Usage → SignClause → List ℕ → Answer Pictured
+unfoldable pub picture_answer : Usage → Option SignKind → List ℕ → Answer Pictured
 picture_answer usage sign bs = do
   _ ← text_checks bs
   picture 0 usage sign bs
@@ -125,9 +121,9 @@ picture_mask usage bs room = do
 unfoldable pub owner_in : List ℕ → Forest → ℕ → Answer Owner
 owner_in text f position = do
   es ← layout text f
-  _ ← refuse_if (overlaid f) 40 0
-  _ ← refuse_if (not (ltb position (record_length es))) 41 0
-  give (owner_of (pieces text f) position)
+  _ ← refuse_if (overlaid f) Refusal.Overlaid
+  _ ← refuse_if (not (ltb position (record_length es))) Refusal.OutsideRecord
+  Ok (owner_of (pieces text f) position)
 
 -- the byte owner
 unfoldable pub byte_owner : List ℕ → ℕ → ℕ → Answer Owner
@@ -139,16 +135,16 @@ byte_owner text work position = do
 -- outside its range, 60 for a budget of 0
 unfoldable pub extract_of : List ℕ → List ℕ → ℕ → ℕ → Answer Extract
 extract_of bytes weights limit budget = do
-  _ ← refuse_if (ltb most_items (length bytes) || not (eqb (length weights) (length bytes))) 58 0
-  _ ← refuse_if (misweighed weights) 59 0
-  _ ← refuse_if (eqb budget 0) 60 0
-  give (extract limit budget (items bytes weights))
+  _ ← refuse_if (ltb most_items (length bytes) || not (eqb (length weights) (length bytes))) Refusal.WrongItems
+  _ ← refuse_if (misweighed weights) Refusal.BadWeight
+  _ ← refuse_if (eqb budget 0) Refusal.NoBudget
+  Ok (extract limit budget (items bytes weights))
 
 -- an extract of a record of these fields: 40 for a kept REDEFINES or DEPENDING ON
 unfoldable pub extract_in : List ℕ → Forest → List ℕ → ℕ → ℕ → Answer Extract
 extract_in text f weights limit budget = do
   es ← layout text f
-  _ ← refuse_if (overlaid f) 40 0
+  _ ← refuse_if (overlaid f) Refusal.Overlaid
   extract_of (widths es) weights limit budget
 
 -- the extract
@@ -159,13 +155,13 @@ extract_answer text work weights limit budget = do
 
 -- the record check: 42 for a record of `len` bytes that is too short, only if not variable
 abbrev pub record_check : ℕ → Bool → ℕ → Answer (Unit {0})
-record_check record_len is_variable len = refuse_if (not is_variable && ltb len record_len) 42 0
+record_check record_len is_variable len = refuse_if (not is_variable && ltb len record_len) Refusal.RecordTooShort
 
 -- ---------------------------------------------------------------- cards
 
 -- 51: the first indicator that is none of the four, at that byte
 unfoldable pub indicator_check : List ℕ → Answer (Unit {0})
-indicator_check text = elim (first_other 0 1 text) [ none ↦ give tt | some p ↦ refused 51 p ]
+indicator_check text = elim (first_other 0 1 text) [ None ↦ Ok tt | Some p ↦ Err (Refusal.BadIndicator p) ]
 
 -- 1, 2 and 3 look at the whole card text, ignored columns included; then 51
 unfoldable pub card_checks : List ℕ → ℕ → Answer (Unit {0})
@@ -199,13 +195,13 @@ left a out work = record { answer = a; output = out; work = work }
 
 -- how many bytes were written
 abbrev pub written : Answer (List ℕ) → Answer ℕ
-written (refuse r) = refuse r
-written (give bs) = give (length bs)
+written (Err r) = Err r
+written (Ok bs) = Ok (length bs)
 
 -- a refusal changes no byte of the output, and bytes past a written answer keep their values
 abbrev pub output_after : Answer (List ℕ) → List ℕ → List ℕ
-output_after (refuse r) out = out
-output_after (give bs) out = bs ++ drop (length bs) out
+output_after (Err r) out = out
+output_after (Ok bs) out = bs ++ drop (length bs) out
 
 -- work memory is zero after every call
 abbrev pub cleared : List ℕ → List ℕ
@@ -269,26 +265,3 @@ owner_cards_call = owner_call_in card_text
 
 abbrev pub reasons_cards_call : List ℕ → ℕ → List ℕ → List ℕ → After ℕ
 reasons_cards_call = reasons_call_in card_text
-
--- ---------------------------------------------------------------- what the answers of the code mean
-
-abbrev pub picture_of : PicAnswer → Answer Pictured
-picture_of (PicAnswer.Accepted p) = give p
-picture_of (PicAnswer.Refused r) = refuse r
-
-abbrev pub writing_of : Writing → Answer ℕ
-writing_of (Writing.Written n) = give n
-writing_of (Writing.Refused r) = refuse r
-
-abbrev pub owner_answer_of : OwnerAnswer → Answer Owner
-owner_answer_of (OwnerAnswer.Piece k first place) = give (Owner.Piece k first place)
-owner_answer_of (OwnerAnswer.Slack k) = give (Owner.Slack k)
-owner_answer_of (OwnerAnswer.Refused r) = refuse r
-
-abbrev pub extract_answer_of : ExtractAnswer → Answer Extract
-extract_answer_of (ExtractAnswer.Chosen a) = give a
-extract_answer_of (ExtractAnswer.Refused r) = refuse r
-
-abbrev pub check_of : Check → Answer (Unit {0})
-check_of Check.Passed = give tt
-check_of (Check.Refused r) = refuse r

@@ -7,7 +7,7 @@
 -- tab is one column; in columns 8 to 72 the rules of free text hold, for a line whose first non-blank there is `*` too.
 -- Assumes nothing.
 use Rattle.std.specs.Prelude.{ℕ, ◌+◌, Bool, true, false, ◌&&◌, ◌||◌, not, List, [], ◌∷◌, eqb, leb, if◌then◌else◌}
-use Rattle.std.proofs.Math.Option.{Option, none, some}
+use Rattle.std.specs.Prelude.{Option, None, Some}
 use Rattle.definition.specs.Basic.{among}
 
 abbrev pub indicator_column : ℕ
@@ -59,9 +59,9 @@ other_indicator b bs = not (among " */D" b || no_column b bs)
 
 -- the position of the first such indicator: p is that of the next byte, and n its column
 unfoldable pub first_other : ℕ → ℕ → List ℕ → Option ℕ
-first_other p n [] = none
+first_other p n [] = None
 first_other p n (b ∷ bs) =
-    if eqb n indicator_column && other_indicator b bs then some p else first_other (p + 1) (column_next n b) bs
+    if eqb n indicator_column && other_indicator b bs then Some p else first_other (p + 1) (column_next n b) bs
 
 -- ---------------------------------------------------------------- forms
 

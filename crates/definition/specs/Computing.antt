@@ -1,6 +1,6 @@
 -- One name for all that is sealed: a theorem that computes the definition at an example says `unfolding computing`.
 -- Assumes nothing.
-use Rattle.definition.specs.Basic.{same, digits, number, sum, ◌>>=◌}
+use Rattle.definition.specs.Basic.{same, digits, number, sum, and_then}
 use Rattle.definition.specs.Words.{byte_kind, said_next, tokens, first_open, sentences, statement_words}
 use Rattle.definition.specs.Statement.{pick, keyword_of, clause_step, step, clauses, named, statement, statements}
 use Rattle.definition.specs.Tree.{above, not_above, forest, higher, still_open, parents, parents_in, fields}
@@ -27,7 +27,7 @@ use Rattle.definition.specs.Key.{named_in, key_in, all_agree, keys_in, copybooks
 
 unfoldable pub computing : Unit {0}
 unfolding
-    same digits number ◌>>=◌ byte_kind said_next tokens first_open sentences statement_words pick keyword_of clause_step
+    same digits number and_then byte_kind said_next tokens first_open sentences statement_words pick keyword_of clause_step
     step clauses named statement statements
     above not_above forest higher still_open parents parents_in fields
     inherit inherit_along

@@ -7,7 +7,8 @@ use Rattle.definition.specs.declared.Span.{Span}
 use Rattle.definition.specs.declared.Statement.{Statement}
 use Rattle.definition.specs.declared.Entry.{Entry}
 use Rattle.definition.specs.declared.Owner.{Owner}
-use Rattle.definition.specs.Basic.{part, Answer, give, refused}
+use Rattle.definition.specs.declared.Refusal.{Refusal}
+use Rattle.definition.specs.Basic.{Err, part, Answer, Ok}
 use Rattle.definition.specs.Tree.{Forest, leaf, item}
 use Rattle.definition.specs.Fold.{Entries, end, entry, times, total}
 use Rattle.definition.specs.Layout.{entry_of}
@@ -157,7 +158,7 @@ pub record Demand (text : List ℕ) (owner : ℕ → Answer Owner) (f : Forest) 
   pub named :
       (q : ℕ) (l : q < record_length es) →
       let x = (one-owner q l).owner in
-      owner q ≡ give (naming x.holder x.first q)
+      owner q ≡ Ok (naming x.holder x.first q)
   -- a record cut so, and joined again, is itself
   pub whole : (bs : List ℕ) → length bs ≡ record_length es → join (cut (pieces text f) bs) ≡ bs
 
@@ -166,8 +167,8 @@ pub record Demand (text : List ℕ) (owner : ℕ → Answer Owner) (f : Forest) 
 -- a dropped root aside, has a REDEFINES or a DEPENDING ON; then the byte owner refuses every position
 pub record Kept (form : Form) (text : List ℕ) (work : ℕ) (es : Entries) : Type 0 where
   pub of : Forest
-  pub read : record_fields (view_in form text) work ≡ give of
-  pub laid_out : layout (view_in form text) of ≡ give es
+  pub read : record_fields (view_in form text) work ≡ Ok of
+  pub laid_out : layout (view_in form text) of ≡ Ok es
   pub spelt : EachSpan (λ w. part (view_in form text) w ≡ part text w) es
   pub demand : overlaid of ≡ false → Demand (view_in form text) (owner_on form text work) of es
-  pub refuses : overlaid of ≡ true → (q : ℕ) → owner_on form text work q ≡ refused 40 0
+  pub refuses : overlaid of ≡ true → (q : ℕ) → owner_on form text work q ≡ Err Refusal.Overlaid

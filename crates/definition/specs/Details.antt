@@ -2,7 +2,7 @@
 -- bytes, in the order of the listing. Numbers are little-endian, 4 bytes unless said.
 -- Assumes nothing.
 use Rattle.std.specs.Prelude.{ℕ, suc, ◌+◌, max, ◌≡◌, true, false, List, [], ◌∷◌, ◌++◌, ltb, if◌then◌else◌}
-use Rattle.std.proofs.Math.Option.{Option, none, some}
+use Rattle.std.specs.Prelude.{Option, None, Some}
 use Rattle.definition.specs.declared.Entry.{Entry}
 use Rattle.definition.specs.Basic.{given, le4, le8}
 use Rattle.definition.specs.Fold.{Entries, end, entry}
@@ -49,13 +49,13 @@ entries_details es = details_bytes (details_in 0 0 es)
 
 -- the group around a row of that depth, by the rows before it, the latest first: the latest that is less deep
 unfoldable pub group_around : ℕ → List Detail → Option Detail
-group_around depth [] = none
-group_around depth (g ∷ before) = if ltb g.depth depth then some g else group_around depth before
+group_around depth [] = None
+group_around depth (g ∷ before) = if ltb g.depth depth then Some g else group_around depth before
 
 -- the first byte of a group, and 0 for the record
 abbrev pub first_of : Option Detail → ℕ
-first_of none = 0
-first_of (some g) = g.first
+first_of None = 0
+first_of (Some g) = g.first
 
 -- the first byte of a member is its group's plus its offset, and that of an entry at the top is its offset
 abbrev pub FirstBytes : List Detail → List Detail → Type 0

@@ -3,7 +3,7 @@
 -- earlier siblings where none has the name.
 -- Assumes nothing.
 use Rattle.std.specs.Prelude.{ℕ, suc, ◌≡◌, true, false, List, [], ◌∷◌, ◌++◌, length}
-use Rattle.std.proofs.Math.Option.{none, some}
+use Rattle.std.specs.Prelude.{None, Some}
 use Rattle.definition.specs.declared.Span.{Span}
 use Rattle.definition.specs.Fold.{same_name, Place, search_back}
 
@@ -19,8 +19,8 @@ pub record StopsAtTheName (text : List ℕ) (w : Span) : Type 0 where
       (nearer : List Place) (p : Place) (further : List Place) →
       NoneNamed text w nearer →
       same_name text w p.name ≡ true →
-      search_back text w (nearer ++ p ∷ further) ≡ record { found = some p.offset; compared = suc (length nearer) }
+      search_back text w (nearer ++ p ∷ further) ≡ record { found = Some p.offset; compared = suc (length nearer) }
   pub no-match :
       (earlier : List Place) →
       NoneNamed text w earlier →
-      search_back text w earlier ≡ record { found = none; compared = length earlier }
+      search_back text w earlier ≡ record { found = None; compared = length earlier }

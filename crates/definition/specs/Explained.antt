@@ -1,20 +1,21 @@
 -- What holds of the reasons of every accepted copybook, free text or cards (`explained`, of the proofs, keeps it): each
 -- is the one by which the layout rules placed the item, and they add up to its offset from the record start.
 -- Assumes nothing.
-use Rattle.std.specs.Prelude.{ℕ, suc, ◌+◌, ◌≡◌, Bool, true, false, ◌||◌, List, [], ◌∷◌, ◌++◌, ◌⊎◌, eqb, get_or, if◌then◌else◌}
-use Rattle.std.proofs.Math.Option.{none, some}
+use Rattle.std.specs.Prelude.{ℕ, suc, ◌+◌, ◌≡◌, Bool, true, false, List, [], ◌∷◌, ◌++◌, ◌⊎◌, get_or, if◌then◌else◌}
+use Rattle.std.specs.Prelude.{None, Some}
 use Rattle.definition.specs.declared.Span.{Span}
 use Rattle.definition.specs.declared.Statement.{Statement}
 use Rattle.definition.specs.declared.Entry.{Entry}
 use Rattle.definition.specs.declared.Reason.{Reason}
-use Rattle.definition.specs.Basic.{absent, given, give, ◌>>=◌, refused}
+use Rattle.definition.specs.declared.Refusal.{Refusal}
+use Rattle.definition.specs.Basic.{Err, given, Ok, ◌>>=◌}
 use Rattle.definition.specs.Tree.{Forest, leaf, item}
 use Rattle.definition.specs.Fold.{Entries, end, entry, reserved, folded_all}
 use Rattle.definition.specs.Record.{unfolded}
 use Rattle.definition.specs.Cards.{Form, view_in}
 use Rattle.definition.specs.Calls.{record_fields, fitting, entry_reasons, called}
 use Rattle.definition.specs.Demand.{Starts, aligned, Among}
-use Rattle.definition.specs.Reasons.{reason, slack_of, plain, has_name, own, Chain, chains, flat, numbered}
+use Rattle.definition.specs.Reasons.{adds, slack_of, plain, has_name, own, Chain, chains, flat, numbered}
 use Rattle.definition.specs.Reasons.{reasons_in, reasons_bytes}
 
 -- ---------------------------------------------------------------- one item
@@ -36,8 +37,8 @@ pub record Latest (has : Entry → Bool) (seen : List Entry) (t : Entry) : Type 
 pub record Turn (text : List ℕ) (s : Statement) (kids : Forest) (seen : List Entry) (e : Entry)
     (r : Reason) : Type 0 where
   pub reasons : own text seen e ≡ r ∷ slack_of e.slack
-  pub stands : e.offset ≡ r.adds + e.slack
-  pub fewest : Starts (aligned text s kids) e.width r.adds e.offset
+  pub stands : e.offset ≡ adds r + e.slack
+  pub fewest : Starts (aligned text s kids) e.width (adds r) e.offset
 
 -- the item of a statement, with its earlier siblings, the latest first
 pub record Because (text : List ℕ) (s : Statement) (kids : Forest) (seen : List Entry) (e : Entry) : Type 0 where
@@ -47,14 +48,14 @@ pub record Because (text : List ℕ) (s : Statement) (kids : Forest) (seen : Lis
       given s.clauses.redefines ≡ true →
       (t : Entry)
       × Latest (has_name text s.clauses.redefines) seen t
-      × (own text seen e ≡ reason 4 t.name t.offset ∷ [])
+      × (own text seen e ≡ Reason.Over t.name t.offset ∷ [])
       × (e.offset ≡ t.offset)
   -- else kind 1, where no sibling is earlier, or kind 2: it names the latest earlier sibling without REDEFINES and adds
   -- its end; then the slack
   pub in-turn :
       given s.clauses.redefines ≡ false →
-      ((seen ≡ []) × Turn text s kids seen e (reason 1 absent 0))
-      ⊎ ((t : Entry) × Latest plain seen t × Turn text s kids seen e (reason 2 t.name (t.offset + reserved t)))
+      ((seen ≡ []) × Turn text s kids seen e Reason.First)
+      ⊎ ((t : Entry) × Latest plain seen t × Turn text s kids seen e (Reason.After t.name (t.offset + reserved t)))
 
 -- the entries of a list and of those below it, one for each statement
 abbrev pub Explains : List ℕ → List Entry → Forest → Entries → Type 0
@@ -72,20 +73,31 @@ Explains text seen (item s kids later) end = ⊥
 -- the bytes that reasons add
 abbrev pub added : List Reason → ℕ
 added [] = 0
-added (r ∷ rs) = r.adds + added rs
+added (r ∷ rs) = adds r + added rs
 
 -- how many are placing reasons, of kind 1, 2 or 4
-abbrev pub is_placing : ℕ → Bool
-is_placing k = eqb k 1 || eqb k 2 || eqb k 4
+abbrev pub is_placing : Reason → Bool
+is_placing Reason.First = true
+is_placing (Reason.After name n) = true
+is_placing (Reason.Slack n) = false
+is_placing (Reason.Over name n) = true
+is_placing (Reason.Inside name) = false
 
 abbrev pub placings# : List Reason → ℕ
 placings# [] = 0
-placings# (r ∷ rs) = (if is_placing r.kind then 1 else 0) + placings# rs
+placings# (r ∷ rs) = (if is_placing r then 1 else 0) + placings# rs
 
 -- what those name that say inside a group
+abbrev pub inside_names : Reason → List Span
+inside_names Reason.First = []
+inside_names (Reason.After name n) = []
+inside_names (Reason.Slack n) = []
+inside_names (Reason.Over name n) = []
+inside_names (Reason.Inside name) = name ∷ []
+
 abbrev pub insides : List Reason → List Span
 insides [] = []
-insides (r ∷ rs) = if eqb r.kind 5 then r.name ∷ insides rs else insides rs
+insides (r ∷ rs) = inside_names r ++ insides rs
 
 abbrev pub every : {A : Type 0} → (List Reason → A) → List Chain → List A
 every f [] = []
@@ -132,21 +144,21 @@ pub record Reasoned (text : List ℕ) (f : Forest) (tree es : Entries) : Type 0 
   -- the record start by the listing too;
   pub answered :
       (n : ℕ) (e : Entry) →
-      numbered n (flat es) ≡ some e →
+      numbered n (flat es) ≡ Some e →
       (c : Chain)
       × Among c (chains text [] [] tree)
       × (c.at ≡ e.at)
       × (added c.reasons ≡ get_or (from_start 0 es) n 0)
-      × (reasons_in text f n ≡ give c.reasons)
+      × (reasons_in text f n ≡ Ok c.reasons)
   -- past the listing is 53
-  pub past : (n : ℕ) → numbered n (flat es) ≡ none → reasons_in text f n ≡ refused 53 0
+  pub past : (n : ℕ) → numbered n (flat es) ≡ None → reasons_in text f n ≡ Err Refusal.NoSuchEntry
 
 -- what holds of every accepted copybook
 pub record Explained (form : Form) (text : List ℕ) (work : ℕ) (es : Entries) : Type 0 where
   pub of : Forest
-  pub read : record_fields (view_in form text) work ≡ give of
+  pub read : record_fields (view_in form text) work ≡ Ok of
   pub tree : Entries
-  pub laid_out : unfolded (view_in form text) of ≡ give tree
+  pub laid_out : unfolded (view_in form text) of ≡ Ok tree
   pub folds : es ≡ folded_all (view_in form text) tree
   pub reasoned : Reasoned (view_in form text) of tree es
   -- the call answers with the bytes of the reasons, where the lent output has room for them

@@ -4,7 +4,7 @@
 use Rattle.std.specs.Prelude.{ℕ, ◌+◌, ◌≤◌, ◌<◌, ◌≡◌, false, List, [], ◌∷◌, length}
 use Rattle.definition.specs.declared.Extract.{Extract}
 use Rattle.definition.specs.Limits.{most_items}
-use Rattle.definition.specs.Basic.{give}
+use Rattle.definition.specs.Basic.{Ok}
 use Rattle.definition.specs.Tree.{Forest}
 use Rattle.definition.specs.Fold.{Entries}
 use Rattle.definition.specs.Record.{layout}
@@ -48,8 +48,8 @@ pub record Extracted (text : List ℕ) (work : ℕ) (weights : List ℕ) (limit 
   -- the fields of the record, and the entries of its listing,
   pub of : Forest
   pub shown : Entries
-  pub read : record_fields text work ≡ give of
-  pub laid_out : layout text of ≡ give shown
+  pub read : record_fields text work ≡ Ok of
+  pub laid_out : layout text of ≡ Ok shown
   -- without REDEFINES and DEPENDING ON,
   pub plain : overlaid of ≡ false
   -- at most 16 at the top, a weight for each, each in its range,

@@ -2,12 +2,12 @@
 -- `fold_redefines`, `rebase` and `is_synthetic_union` of the Rust, odd corners included.
 -- Assumes nothing.
 use Rattle.std.specs.Prelude.{ℕ, suc, ◌+◌, ◌*◌, ◌-◌, max, Bool, true, false, List, [], ◌∷◌, ltb, if◌then◌else◌}
-use Rattle.std.proofs.Math.Option.{Option, none, some}
+use Rattle.std.specs.Prelude.{Option, None, Some}
 use Rattle.definition.specs.declared.Span.{Span}
-use Rattle.definition.specs.declared.Occurs.{Occurs}
 use Rattle.definition.specs.declared.FieldKind.{FieldKind}
 use Rattle.definition.specs.declared.Entry.{Entry}
-use Rattle.definition.specs.Basic.{bytes, same, uppers, absent, given, part, Answer, give}
+use Rattle.definition.specs.declared.Refusal.{Refusal}
+use Rattle.definition.specs.Basic.{bytes, same, uppers, absent, given, part, Answer, Ok}
 use Rattle.definition.specs.Basic.{◌>>=◌, refuse_if}
 
 -- ---------------------------------------------------------------- entries
@@ -22,9 +22,9 @@ unfoldable pub append : Entries → Entries → Entries
 append end b = b
 append (entry e members later) b = entry e members (append later b)
 
-abbrev pub times : Occurs → ℕ
-times Occurs.Once = 1
-times (Occurs.Times n) = n
+abbrev pub times : Option ℕ → ℕ
+times None = 1
+times (Some n) = n
 
 -- the bytes of all occurrences, and those of them that are reserved: none under DEPENDING ON
 abbrev pub total : Entry → ℕ
@@ -70,9 +70,9 @@ one_more s = record { found = s.found; compared = suc s.compared }
 -- the search for a name, backward from the item: it ends at the first match. The places are the earlier siblings, the
 -- latest first
 unfoldable pub search_back : List ℕ → Span → List Place → Search
-search_back text w [] = record { found = none; compared = 0 }
+search_back text w [] = record { found = None; compared = 0 }
 search_back text w (p ∷ ps) =
-    if same_name text w p.name then record { found = some p.offset; compared = 1 }
+    if same_name text w p.name then record { found = Some p.offset; compared = 1 }
     else one_more (search_back text w ps)
 
 -- where it ended: the offset of the first place of that name
@@ -132,7 +132,7 @@ union e width =
       width = width;
       kind = FieldKind.Group;
       picture = absent;
-      occurs = Occurs.Once;
+      occurs = None;
       depending = absent;
       redefines = absent;
       over = absent;
@@ -155,21 +155,21 @@ with_redefiners text e members (entry r ms rs) later =
 
 -- 30: a redefiner that starts before its base. `bases` are the earlier bases, the latest first
 unfoldable pub fold_check : List ℕ → List Place → Entries → Answer (Unit {0})
-fold_check text bases end = give tt
+fold_check text bases end = Ok tt
 fold_check text bases (entry e members later) =
     if given e.redefines then
     (elim (find text e.redefines bases) [
-      | none ↦ fold_check text bases later
-      | some base ↦ do
-        _ ← refuse_if (ltb e.offset base) 30 e.at
+      | None ↦ fold_check text bases later
+      | Some base ↦ do
+        _ ← refuse_if (ltb e.offset base) (Refusal.StartsBeforeBase e.at)
         fold_check text bases later
     ])
     else fold_check text (place_of e ∷ bases) later
 
 -- a redefiner stands with its base where some base has that name
 abbrev pub has_base : Option ℕ → Bool
-has_base none = false
-has_base (some base) = true
+has_base None = false
+has_base (Some base) = true
 
 -- each base stands with its redefiners; a redefiner stands by itself only where no base has that name
 unfoldable pub folded_list : List ℕ → List Place → Entries → Entries

@@ -2,16 +2,16 @@
 -- their records are sorted by it. Names, places and kinds are those of the folded listings.
 -- Assumes nothing.
 use Rattle.std.specs.Prelude.{ℕ, ◌≡◌, Bool, true, false, ◌&&◌, ◌||◌, not, List, [], ◌∷◌, eqb, leb, length, take, drop, if◌then◌else◌}
-use Rattle.std.proofs.Math.Option.{Option, none, some}
+use Rattle.std.specs.Prelude.{Option, None, Some}
 use Rattle.definition.specs.declared.Span.{Span}
-use Rattle.definition.specs.declared.Occurs.{Occurs}
 use Rattle.definition.specs.declared.Usage.{Usage}
 use Rattle.definition.specs.declared.FieldKind.{FieldKind}
 use Rattle.definition.specs.declared.Entry.{Entry}
-use Rattle.definition.specs.declared.KeyAnswer.{KeyAnswer}
+use Rattle.definition.specs.declared.KeyColumn.{KeyColumn}
+use Rattle.definition.specs.declared.Refusal.{Refusal}
 use Rattle.definition.specs.Limits.{longest_mask, fewest_in_set, most_in_set}
 use Rattle.definition.specs.Basic.{same, uppers, absent, given, part, sum}
-use Rattle.definition.specs.Basic.{Answer, refuse, give, ◌>>=◌, refuse_if, or_refuse}
+use Rattle.definition.specs.Basic.{Answer, Err, Ok, ◌>>=◌, refuse_if, or_refuse}
 use Rattle.definition.specs.Fold.{Entries, end, entry, append, name_of}
 use Rattle.definition.specs.Record.{variable}
 use Rattle.definition.specs.Listing.{kind_byte, details}
@@ -42,9 +42,9 @@ named_in text name behind (entry e members later) =
 -- ---------------------------------------------------------------- the key of a copybook
 
 -- without OCCURS: OCCURS 0 and OCCURS 1 are OCCURS
-abbrev pub is_once : Occurs → Bool
-is_once Occurs.Once = true
-is_once (Occurs.Times n) = false
+abbrev pub is_once : Option ℕ → Bool
+is_once None = true
+is_once (Some n) = false
 
 abbrev pub is_group : FieldKind → Bool
 is_group FieldKind.Text = false
@@ -62,8 +62,8 @@ may_be_key x =
 
 -- the mask that is answered of a picture; that of an accepted copybook's edited item is not refused
 abbrev pub mask_answered : Answer (List ℕ) → List ℕ
-mask_answered (refuse r) = []
-mask_answered (give m) = m
+mask_answered (Err r) = []
+mask_answered (Ok m) = m
 
 -- what an edited key is compared by, and not by its place in the text: the mask of its picture
 abbrev pub key_mask : List ℕ → FieldKind → Span → List ℕ
@@ -89,9 +89,9 @@ key_of text e =
 
 -- exactly one entry has the name, and it may be a key
 abbrev pub one_key : List ℕ → List Named → Option Key
-one_key text [] = none
-one_key text (x ∷ []) = if may_be_key x then some (key_of text x.own) else none
-one_key text (x ∷ y ∷ more) = none
+one_key text [] = None
+one_key text (x ∷ []) = if may_be_key x then Some (key_of text x.own) else None
+one_key text (x ∷ y ∷ more) = None
 
 abbrev pub key_among : List ℕ → List ℕ → Entries → Option Key
 key_among text name es = one_key text (named_in text name false es)
@@ -100,7 +100,7 @@ key_among text name es = one_key text (named_in text name false es)
 unfoldable pub key_in : ℕ → List ℕ → List ℕ → Answer (Option Key)
 key_in work name text = do
   es ← entries text work
-  give (key_among text name es)
+  Ok (key_among text name es)
 
 -- ---------------------------------------------------------------- the key of a set
 
@@ -116,9 +116,9 @@ same_key a b =
     && (same (kind_details a.kind) (kind_details b.kind) && same a.mask b.mask))
 
 abbrev pub agree : Option Key → Option Key → Bool
-agree none b = false
-agree (some a) none = false
-agree (some a) (some b) = same_key a b
+agree None b = false
+agree (Some a) None = false
+agree (Some a) (Some b) = same_key a b
 
 unfoldable pub all_agree : Option Key → List (Option Key) → Bool
 all_agree a [] = true
@@ -126,16 +126,16 @@ all_agree a (b ∷ bs) = agree a b && all_agree a bs
 
 -- the key of the first, where all later ones agree with it
 abbrev pub common : List (Option Key) → Option Key
-common [] = none
-common (a ∷ bs) = if all_agree a bs then a else none
+common [] = None
+common (a ∷ bs) = if all_agree a bs then a else None
 
 -- the keys of copybooks, or the refusal of the first that is refused, its position counted in that copybook
 unfoldable pub keys_in : ℕ → List ℕ → List (List ℕ) → Answer (List (Option Key))
-keys_in work name [] = give []
+keys_in work name [] = Ok []
 keys_in work name (text ∷ texts) = do
   k ← key_in work name text
   ks ← keys_in work name texts
-  give (k ∷ ks)
+  Ok (k ∷ ks)
 
 -- the bytes lent, cut into copybooks of these lengths
 unfoldable pub copybooks : List ℕ → List ℕ → List (List ℕ)
@@ -148,21 +148,16 @@ is_set lengths texts =
     leb fewest_in_set (length lengths) && (leb (length lengths) most_in_set && eqb (sum lengths) (length texts))
 
 -- the offset and width of the key that all copybooks of a set have: 56 before any reading, 57 after it
-unfoldable pub key_of_texts : List ℕ → List ℕ → List ℕ → ℕ → Answer (ℕ × ℕ)
+unfoldable pub key_of_texts : List ℕ → List ℕ → List ℕ → ℕ → Answer KeyColumn
 key_of_texts texts lengths name work = do
-  _ ← refuse_if (not (is_set lengths texts)) 56 0
+  _ ← refuse_if (not (is_set lengths texts)) Refusal.NotASet
   ks ← keys_in work name (copybooks lengths texts)
-  k ← or_refuse 57 0 (common ks)
-  give (k.offset, k.width)
+  k ← or_refuse Refusal.NoCommonKey (common ks)
+  Ok (record { offset = k.offset; width = k.width })
 
 -- the call, with work memory lent
-abbrev pub key_call : List ℕ → List ℕ → List ℕ → List ℕ → After (ℕ × ℕ)
+abbrev pub key_call : List ℕ → List ℕ → List ℕ → List ℕ → After KeyColumn
 key_call texts lengths name work = left (key_of_texts texts lengths name (length work)) [] (cleared work)
-
--- what the answer of the code means
-abbrev pub key_answer_of : KeyAnswer → Answer (ℕ × ℕ)
-key_answer_of (KeyAnswer.Key offset width) = give (offset, width)
-key_answer_of (KeyAnswer.Refused r) = refuse r
 
 -- ---------------------------------------------------------------- what holds of it (`KeyLaws`, of the proofs)
 
@@ -184,7 +179,7 @@ pub record IsKey (text name : List ℕ) (es : Entries) (k : Key) : Type 0 where
   pub none_before : NoEntryNamed text name before
   pub none_after : NoEntryNamed text name after
   pub fixed : variable before ≡ false
-  pub once : own.occurs ≡ Occurs.Once
+  pub once : own.occurs ≡ None
   pub plain : given own.redefines ≡ false
   pub no-group : is_group own.kind ≡ false
   pub offset-is : own.offset ≡ k.offset
@@ -195,7 +190,7 @@ pub record IsKey (text name : List ℕ) (es : Entries) (k : Key) : Type 0 where
 -- a copybook is read, and k is its key
 pub record HasKey (work : ℕ) (name : List ℕ) (k : Key) (text : List ℕ) : Type 0 where
   pub listing : Entries
-  pub read : entries text work ≡ give listing
+  pub read : entries text work ≡ Ok listing
   pub key : IsKey text name listing k
 
 abbrev pub AllHave : ℕ → List ℕ → Key → List (List ℕ) → Type 0

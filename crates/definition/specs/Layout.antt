@@ -12,8 +12,9 @@ use Rattle.definition.specs.declared.FieldKind.{FieldKind}
 use Rattle.definition.specs.declared.Pictured.{Pictured}
 use Rattle.definition.specs.declared.Statement.{Statement}
 use Rattle.definition.specs.declared.Entry.{Entry}
+use Rattle.definition.specs.declared.Refusal.{Refusal}
 use Rattle.definition.specs.Limits.{deepest, largest}
-use Rattle.definition.specs.Basic.{given, part, fewest, Answer, give, ◌>>=◌}
+use Rattle.definition.specs.Basic.{given, part, fewest, Answer, Ok, ◌>>=◌}
 use Rattle.definition.specs.Basic.{refuse_if, or_refuse}
 use Rattle.definition.specs.Statement.{sign_of}
 use Rattle.definition.specs.Tree.{Forest, leaf, item}
@@ -23,20 +24,20 @@ use Rattle.definition.specs.Fold.{fold_check}
 
 -- 20: a list too deep, at its first statement; record fields are depth 0
 abbrev pub shallow : ℕ → Forest → Answer (Unit {0})
-shallow depth leaf = give tt
-shallow depth (item s kids later) = refuse_if (ltb deepest depth) 20 s.at
+shallow depth leaf = Ok tt
+shallow depth (item s kids later) = refuse_if (ltb deepest depth) (Refusal.TooDeep s.at)
 
 -- kind and width by the picture, which must be there (21): it says them (22 to 27)
 abbrev pub by_picture : List ℕ → Statement → Usage → Answer Pictured
 by_picture text s usage = do
-  _ ← refuse_if (not (given s.clauses.picture)) 21 s.at
+  _ ← refuse_if (not (given s.clauses.picture)) (Refusal.NoPicture s.at)
   picture s.at usage (sign_of s.clauses.sign) (part text s.clauses.picture)
 
 -- a float of so many bytes, which has no picture (52)
 abbrev pub float : Statement → ℕ → Answer Pictured
 float s width = do
-  _ ← refuse_if (given s.clauses.picture) 52 s.at
-  give (pictured (FieldKind.Float (8 * width)) width)
+  _ ← refuse_if (given s.clauses.picture) (Refusal.FloatWithPicture s.at)
+  Ok (pictured (FieldKind.Float (8 * width)) width)
 
 -- kind and width of an elementary item, by a usage
 abbrev pub under_usage : List ℕ → Statement → ItemUsage → Answer Pictured
@@ -50,7 +51,7 @@ elementary text s = under_usage text s s.usage
 
 -- kind and width of an item: a group is as wide as its list, whatever usage holds for it
 abbrev pub content : List ℕ → Statement → Forest → ℕ → Answer Pictured
-content text s (item t kids later) width = give (pictured FieldKind.Group width)
+content text s (item t kids later) width = Ok (pictured FieldKind.Group width)
 content text s leaf width = elementary text s
 
 -- where an item starts: with REDEFINES at the offset of the latest earlier sibling of that name (28), else at the
@@ -58,9 +59,9 @@ content text s leaf width = elementary text s
 -- the latest first
 abbrev pub start : List ℕ → Statement → Pictured → List Place → ℕ → Answer ℕ
 start text s c seen cursor =
-    if given s.clauses.redefines then or_refuse 28 s.at (find text s.clauses.redefines seen)
-    else if s.clauses.sync && is_alignable c.kind then give (cursor + fewest c.width cursor)
-    else give cursor
+    if given s.clauses.redefines then or_refuse (Refusal.NoTarget s.at) (find text s.clauses.redefines seen)
+    else if s.clauses.sync && is_alignable c.kind then Ok (cursor + fewest c.width cursor)
+    else Ok cursor
 
 -- the slack directly before an item: the bytes from the cursor to the item, and none before a redefiner
 abbrev pub slack_from : ℕ → Statement → ℕ → ℕ
@@ -103,7 +104,7 @@ pub record Laid : Type 0 where
 -- starts; `reach` is the largest end so far. Depth first: a group's inner list, the fold's check included, comes before
 -- the group's own item checks
 unfoldable pub lay : List ℕ → ℕ → List Place → ℕ → ℕ → Forest → Answer Laid
-lay text depth seen cursor reach leaf = give (record { entries = end; width = reach })
+lay text depth seen cursor reach leaf = Ok (record { entries = end; width = reach })
 lay text depth seen cursor reach (item s kids later) = do
   _ ← shallow (suc depth) kids
   inner ← lay text (suc depth) [] 0 0 kids
@@ -111,6 +112,6 @@ lay text depth seen cursor reach (item s kids later) = do
   c ← content text s kids inner.width
   offset ← start text s c seen cursor
   let e = entry_of s c offset (slack_from cursor s offset)
-  _ ← refuse_if (too_large e) 29 s.at
+  _ ← refuse_if (too_large e) (Refusal.TooLarge s.at)
   l ← lay text depth (place_of e ∷ seen) (advance cursor e) (max reach (entry_end e)) later
-  give (record { entries = entry e inner.entries l.entries; width = l.width })
+  Ok (record { entries = entry e inner.entries l.entries; width = l.width })

@@ -10,6 +10,7 @@ pub mod Fold
 pub mod Distance
 pub mod Layout
 pub mod Record
+pub mod Refusals
 pub mod Listing
 pub mod Owner
 pub mod Search

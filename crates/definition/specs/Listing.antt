@@ -1,9 +1,8 @@
 -- The bytes of the layout listing: one byte of kind, then a body whose length the kind fixes. Numbers are
 -- little-endian, 4 bytes unless said.
 -- Assumes nothing.
-use Rattle.std.specs.Prelude.{ℕ, suc, Bool, true, false, List, [], ◌∷◌, ◌++◌}
+use Rattle.std.specs.Prelude.{ℕ, suc, Bool, true, false, List, [], ◌∷◌, ◌++◌, Option, None, Some}
 use Rattle.definition.specs.declared.Span.{Span}
-use Rattle.definition.specs.declared.Occurs.{Occurs}
 use Rattle.definition.specs.declared.SignKind.{SignKind}
 use Rattle.definition.specs.declared.NumRepr.{NumRepr}
 use Rattle.definition.specs.declared.FieldKind.{FieldKind}
@@ -32,9 +31,9 @@ abbrev pub span_bytes : Span → List ℕ
 span_bytes w = le4 w.start ++ le4 w.len
 
 -- occurs mark (1 byte) and occurs count; OCCURS 0 has mark 1
-abbrev pub occurs_bytes : Occurs → List ℕ
-occurs_bytes Occurs.Once = 0 ∷ le4 0
-occurs_bytes (Occurs.Times n) = 1 ∷ le4 n
+abbrev pub occurs_bytes : Option ℕ → List ℕ
+occurs_bytes None = 0 ∷ le4 0
+occurs_bytes (Some n) = 1 ∷ le4 n
 
 abbrev pub kind_byte : FieldKind → ℕ
 kind_byte FieldKind.Text = 1

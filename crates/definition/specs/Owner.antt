@@ -9,7 +9,7 @@ use Rattle.definition.specs.declared.FieldKind.{FieldKind}
 use Rattle.definition.specs.declared.Pictured.{Pictured}
 use Rattle.definition.specs.declared.Statement.{Statement}
 use Rattle.definition.specs.declared.Owner.{Owner}
-use Rattle.definition.specs.Basic.{given, fewest, Answer, refuse, give}
+use Rattle.definition.specs.Basic.{given, fewest, Answer, Err, Ok}
 use Rattle.definition.specs.Tree.{Forest, leaf, item}
 use Rattle.definition.specs.Picture.{pictured, is_alignable}
 use Rattle.definition.specs.Fold.{times}
@@ -50,8 +50,8 @@ size (item s kids later) = suc (size kids + size later)
 
 -- kind and width of an elementary item; none is refused in an accepted copybook
 abbrev pub or_none : Answer Pictured → Pictured
-or_none (refuse r) = pictured FieldKind.Text 0
-or_none (give c) = c
+or_none (Err r) = pictured FieldKind.Text 0
+or_none (Ok c) = c
 
 abbrev pub storage : List ℕ → Statement → Pictured
 storage text s = or_none (elementary text s)

@@ -7,15 +7,15 @@
 -- Assumes nothing.
 use Rattle.std.specs.Prelude.{ℕ, zero, suc, ◌+◌, ◌-◌, ◌/◌, max, Bool, true, false, ◌&&◌, ◌||◌, not, List, [], ◌∷◌, ◌++◌, reverse, eqb, leb, ltb, length, replicate, if◌then◌else◌}
 use Prim.Native.String.{String}
-use Rattle.std.proofs.Math.Option.{Option, none, some}
+use Rattle.std.specs.Prelude.{Option, None, Some}
 use Rattle.definition.specs.declared.Usage.{Usage}
 use Rattle.definition.specs.declared.SignKind.{SignKind}
-use Rattle.definition.specs.declared.SignClause.{SignClause}
 use Rattle.definition.specs.declared.NumRepr.{NumRepr}
 use Rattle.definition.specs.declared.FieldKind.{FieldKind}
 use Rattle.definition.specs.declared.Pictured.{Pictured}
+use Rattle.definition.specs.declared.Refusal.{Refusal}
 use Rattle.definition.specs.Limits.{most_symbols, most_digits, longest_mask}
-use Rattle.definition.specs.Basic.{is, among, white, upper, count, Answer, give, ◌>>=◌}
+use Rattle.definition.specs.Basic.{is, among, white, upper, count, Answer, Ok, ◌>>=◌}
 use Rattle.definition.specs.Basic.{refuse_if, or_refuse}
 
 -- ---------------------------------------------------------------- repeats
@@ -30,34 +30,34 @@ trim bs = reverse (trim_start (reverse (trim_start bs)))
 
 -- what stands before the first `)`, if there is one
 abbrev pub in_front : ℕ → Option (List ℕ) → Option (List ℕ)
-in_front b none = none
-in_front b (some l) = some (b ∷ l)
+in_front b None = None
+in_front b (Some l) = Some (b ∷ l)
 
 unfoldable pub before_close : List ℕ → Option (List ℕ)
-before_close [] = none
-before_close (b ∷ bs) = if is ")" b then some [] else in_front b (before_close bs)
+before_close [] = None
+before_close (b ∷ bs) = if is ")" b then Some [] else in_front b (before_close bs)
 
 -- how often a symbol stands, and how many bytes say so: `(n)` after it, or nothing
 unfoldable pub repeat : ℕ → List ℕ → Answer (ℕ × ℕ)
-repeat at [] = give (1, 0)
+repeat at [] = Ok (1, 0)
 repeat at (b ∷ bs) =
     elim (is "(" b) [
       | true ↦ do
-        l ← or_refuse 22 at (before_close bs)
-        n ← or_refuse 23 at (count (trim l))
-        give (n, length l + 2)
-      | false ↦ give (1, 0)
+        l ← or_refuse (Refusal.UnclosedRepeat at) (before_close bs)
+        n ← or_refuse (Refusal.BadRepeat at) (count (trim l))
+        Ok (n, length l + 2)
+      | false ↦ Ok (1, 0)
     ]
 
 -- the symbols, in upper case, each as often as it stands: `skip` bytes are passed over, and `n` symbols stand already
 unfoldable pub expand : ℕ → ℕ → ℕ → List ℕ → Answer (List ℕ)
-expand at n skip [] = give []
+expand at n skip [] = Ok []
 expand at n (suc skip) (b ∷ bs) = expand at n skip bs
 expand at n zero (b ∷ bs) = do
   r ← repeat at bs
-  _ ← refuse_if (ltb most_symbols (n + r.0)) 24 at
+  _ ← refuse_if (ltb most_symbols (n + r.0)) (Refusal.TooManySymbols at)
   l ← expand at (n + r.0) r.1 bs
-  give (replicate r.0 (upper b) ++ l)
+  Ok (replicate r.0 (upper b) ++ l)
 
 -- ---------------------------------------------------------------- symbols, one by one
 
@@ -142,10 +142,10 @@ is_display Usage.Comp3 = false
 is_display Usage.Comp = false
 
 -- the sign that an item has: none without a sign symbol; else what the SIGN clause says, or embedded
-abbrev pub resolve_sign : Bool → SignClause → SignKind
+abbrev pub resolve_sign : Bool → Option SignKind → SignKind
 resolve_sign false c = SignKind.Unsigned
-resolve_sign true SignClause.Absent = SignKind.Embedded
-resolve_sign true (SignClause.Given k) = k
+resolve_sign true None = SignKind.Embedded
+resolve_sign true (Some k) = k
 
 abbrev pub is_embedded : SignKind → Bool
 is_embedded SignKind.Unsigned = false
@@ -191,7 +191,7 @@ abbrev pub is_masked : Usage → List ℕ → Bool
 is_masked usage l = is_edited l && is_display usage
 
 -- kind and width of legal symbols; edited precision is at least 1
-unfoldable pub kinded : Usage → SignClause → List ℕ → Pictured
+unfoldable pub kinded : Usage → Option SignKind → List ℕ → Pictured
 kinded usage clause l =
     let sign = resolve_sign (is_signed l) clause in
     if is_text l then pictured FieldKind.Text (tally "XA" l)
@@ -213,12 +213,12 @@ too_long usage l =
 unfoldable pub symbols : ℕ → Usage → List ℕ → Answer (List ℕ)
 symbols at usage bs = do
   l ← expand at 0 0 (trim bs)
-  _ ← refuse_if (not (legal l)) 25 at
-  _ ← refuse_if (mixed l) 26 at
-  _ ← refuse_if (too_long usage l) 27 at
-  give l
+  _ ← refuse_if (not (legal l)) (Refusal.BadSymbol at)
+  _ ← refuse_if (mixed l) (Refusal.MixedPicture at)
+  _ ← refuse_if (too_long usage l) (Refusal.TooLong at)
+  Ok l
 
-unfoldable pub picture : ℕ → Usage → SignClause → List ℕ → Answer Pictured
+unfoldable pub picture : ℕ → Usage → Option SignKind → List ℕ → Answer Pictured
 picture at usage sign bs = do
   l ← symbols at usage bs
-  give (kinded usage sign l)
+  Ok (kinded usage sign l)

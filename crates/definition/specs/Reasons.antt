@@ -2,11 +2,12 @@
 -- Reasons name items as the copybook has them before folding. `Explained` says what holds of them.
 -- Assumes nothing.
 use Rattle.std.specs.Prelude.{ℕ, zero, suc, Bool, not, List, [], ◌∷◌, ◌++◌, eqb, if◌then◌else◌}
-use Rattle.std.proofs.Math.Option.{Option, none, some}
+use Rattle.std.specs.Prelude.{Option, None, Some}
 use Rattle.definition.specs.declared.Span.{Span}
 use Rattle.definition.specs.declared.Entry.{Entry}
 use Rattle.definition.specs.declared.Reason.{Reason}
-use Rattle.definition.specs.Basic.{absent, given, le4, Answer, give, ◌>>=◌, or_refuse}
+use Rattle.definition.specs.declared.Refusal.{Refusal}
+use Rattle.definition.specs.Basic.{absent, given, le4, Answer, Ok, ◌>>=◌, or_refuse}
 use Rattle.definition.specs.Tree.{Forest}
 use Rattle.definition.specs.Fold.{Entries, end, entry, entry_end, same_name, folded_all}
 use Rattle.definition.specs.Record.{unfolded}
@@ -14,37 +15,53 @@ use Rattle.definition.specs.Listing.{span_bytes}
 
 -- ---------------------------------------------------------------- reasons
 
--- its kind, the name of the item that it names, or none, and the bytes that it adds
-abbrev pub reason : ℕ → Span → ℕ → Reason
-reason kind name adds = record { kind = kind; name = name; adds = adds }
-
--- 1, first in its list, adds 0
-abbrev pub first_in : Reason
-first_in = reason 1 absent 0
-
--- 2, directly after the sibling named, adds that sibling's offset plus reserved width
+-- directly after the sibling named: adds that sibling's offset plus reserved width
 abbrev pub after : Entry → Reason
-after e = reason 2 e.name (entry_end e)
+after e = Reason.After e.name (entry_end e)
 
--- 3, so many slack bytes for alignment, if any
+-- so many slack bytes for alignment, if any
 abbrev pub slack_of : ℕ → List Reason
 slack_of zero = []
-slack_of (suc n) = reason 3 absent (suc n) ∷ []
+slack_of (suc n) = Reason.Slack (suc n) ∷ []
 
--- 4, laid over the redefined item named, adds the target's offset
+-- laid over the redefined item named: adds the target's offset
 abbrev pub over : Entry → Reason
-over e = reason 4 e.name e.offset
+over e = Reason.Over e.name e.offset
 
--- 5, inside the group named, adds 0
+-- inside the group named
 abbrev pub inside : Entry → Reason
-inside e = reason 5 e.name 0
+inside e = Reason.Inside e.name
+
+-- its kind: 1 first in its list, 2 after an item, 3 slack, 4 over an item, 5 inside a group
+abbrev pub reason_kind : Reason → ℕ
+reason_kind Reason.First = 1
+reason_kind (Reason.After name adds) = 2
+reason_kind (Reason.Slack adds) = 3
+reason_kind (Reason.Over name adds) = 4
+reason_kind (Reason.Inside name) = 5
+
+-- the name of the item that it names, if any
+abbrev pub reason_name : Reason → Span
+reason_name Reason.First = absent
+reason_name (Reason.After name adds) = name
+reason_name (Reason.Slack adds) = absent
+reason_name (Reason.Over name adds) = name
+reason_name (Reason.Inside name) = name
+
+-- the bytes that it adds
+abbrev pub adds : Reason → ℕ
+adds Reason.First = 0
+adds (Reason.After name n) = n
+adds (Reason.Slack n) = n
+adds (Reason.Over name n) = n
+adds (Reason.Inside name) = 0
 
 -- ---------------------------------------------------------------- the reasons of an item
 
 -- the latest of the earlier siblings that has this; they stand with the latest first
 unfoldable pub latest : (Entry → Bool) → List Entry → Option Entry
-latest has [] = none
-latest has (e ∷ seen) = if has e then some e else latest has seen
+latest has [] = None
+latest has (e ∷ seen) = if has e then Some e else latest has seen
 
 -- it is without REDEFINES; it has that name, case aside
 abbrev pub plain : Entry → Bool
@@ -54,8 +71,8 @@ abbrev pub has_name : List ℕ → Span → Entry → Bool
 has_name text w e = same_name text w e.name
 
 abbrev pub or_first : (Entry → Reason) → Option Entry → Reason
-or_first r none = first_in
-or_first r (some e) = r e
+or_first r None = Reason.First
+or_first r (Some e) = r e
 
 -- the placing reason: with REDEFINES laid over the latest earlier sibling of that name, else directly after the latest
 -- earlier one without REDEFINES, or first in its list
@@ -100,8 +117,8 @@ flat end = []
 flat (entry e members later) = e ∷ (flat members ++ flat later)
 
 abbrev pub numbered : ℕ → List Entry → Option Entry
-numbered n [] = none
-numbered zero (e ∷ es) = some e
+numbered n [] = None
+numbered zero (e ∷ es) = Some e
 numbered (suc n) (e ∷ es) = numbered n es
 
 -- the chain of an entry by its number: that of the statement behind it; a folded group has its base's chain, for it
@@ -109,12 +126,12 @@ numbered (suc n) (e ∷ es) = numbered n es
 unfoldable pub reasons_in : List ℕ → Forest → ℕ → Answer (List Reason)
 reasons_in text f number = do
   es ← unfolded text f
-  e ← or_refuse 53 0 (numbered number (flat (folded_all text es)))
-  give (chain_at e.at (chains text [] [] es))
+  e ← or_refuse Refusal.NoSuchEntry (numbered number (flat (folded_all text es)))
+  Ok (chain_at e.at (chains text [] [] es))
 
 -- each is 13 bytes: its kind, the named item's start and length (0 if none), and the bytes it adds
 abbrev pub reason_bytes : Reason → List ℕ
-reason_bytes r = r.kind ∷ span_bytes r.name ++ le4 r.adds
+reason_bytes r = reason_kind r ∷ span_bytes (reason_name r) ++ le4 (adds r)
 
 unfoldable pub reasons_bytes : List Reason → List ℕ
 reasons_bytes [] = []

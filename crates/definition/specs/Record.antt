@@ -1,8 +1,9 @@
 -- The record: its folded top list, its length, and whether it is variable: `parse` and `from_fields` of the Rust.
 -- Assumes nothing.
+use Rattle.definition.specs.declared.Refusal.{Refusal}
 use Rattle.std.specs.Prelude.{ℕ, max, Bool, false, ◌||◌, List, [], ltb}
 use Rattle.definition.specs.Limits.{largest}
-use Rattle.definition.specs.Basic.{given, Answer, give, ◌>>=◌, refuse_if}
+use Rattle.definition.specs.Basic.{given, Answer, Ok, ◌>>=◌, refuse_if}
 use Rattle.definition.specs.Tree.{Forest}
 use Rattle.definition.specs.Fold.{Entries, end, entry, entry_end, fold_check, folded_all}
 use Rattle.definition.specs.Layout.{lay}
@@ -19,9 +20,9 @@ variable (entry e members later) = given e.depending || variable members || vari
 
 -- 29 again, for a top-level end; for a fold it carries its base's position
 unfoldable pub ends_fit : Entries → Answer (Unit {0})
-ends_fit end = give tt
+ends_fit end = Ok tt
 ends_fit (entry e members later) = do
-  _ ← refuse_if (ltb largest (entry_end e)) 29 e.at
+  _ ← refuse_if (ltb largest (entry_end e)) (Refusal.TooLarge e.at)
   ends_fit later
 
 -- the fields of the record, laid out, as the copybook has them before folding
@@ -30,10 +31,10 @@ unfolded text f = do
   l ← lay text 0 [] 0 0 f
   _ ← fold_check text [] l.entries
   _ ← ends_fit (folded_all text l.entries)
-  give l.entries
+  Ok l.entries
 
 -- the entries of the listing: every list folded
 unfoldable pub layout : List ℕ → Forest → Answer Entries
 layout text f = do
   es ← unfolded text f
-  give (folded_all text es)
+  Ok (folded_all text es)

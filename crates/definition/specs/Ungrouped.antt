@@ -4,21 +4,20 @@
 -- Assumes nothing.
 use Rattle.std.specs.Prelude.{ℕ, suc, Bool, true, false, ◌&&◌, ◌||◌, not, List, [], ◌∷◌, eqb, leb, if◌then◌else◌}
 use Prim.Native.String.{String}
-use Rattle.std.proofs.Math.Option.{Option, none, some}
+use Rattle.std.specs.Prelude.{Option, None, Some}
 use Rattle.definition.specs.declared.Span.{Span}
 use Rattle.definition.specs.declared.Usage.{Usage}
 use Rattle.definition.specs.declared.ItemUsage.{ItemUsage}
-use Rattle.definition.specs.declared.UsageClause.{UsageClause}
 use Rattle.definition.specs.declared.Clauses.{Clauses}
 use Rattle.definition.specs.declared.Expect.{Expect}
 use Rattle.definition.specs.declared.Expect.TheVariants.{Clause}
-use Rattle.definition.specs.declared.Step.TheVariants.{Go, Fail}
 use Rattle.definition.specs.declared.Statement.{Statement}
+use Rattle.definition.specs.declared.Refusal.{Refusal}
 use Rattle.definition.specs.Limits.{most_statements}
-use Rattle.definition.specs.Basic.{uppers, absent, part, number, Answer, refuse, give, ◌>>=◌}
-use Rattle.definition.specs.Basic.{refused, refuse_if, or_refuse}
+use Rattle.definition.specs.Basic.{uppers, absent, part, number, Answer, Err, Ok, ◌>>=◌}
+use Rattle.definition.specs.Basic.{refuse_if, or_refuse}
 use Rattle.definition.specs.Words.{statement_words}
-use Rattle.definition.specs.Statement.{key, no_clauses, step, finish, statement_of}
+use Rattle.definition.specs.Statement.{key, no_clauses, missing, step, finish, statement_of}
 use Rattle.definition.specs.Tree.{Forest, leaf, item, forest, fields}
 use Rattle.definition.specs.Fold.{Entries}
 use Rattle.definition.specs.Record.{layout}
@@ -44,35 +43,35 @@ unfoldable pub clauses_alone : List ℕ → ℕ → Expect → Clauses → List 
 clauses_alone text at e c [] = finish at e c
 clauses_alone text at e c (w ∷ ws) =
     elim (step e w (as_seen (uppers (part text w))) c) [
-      | Go e' c' ↦ clauses_alone text at e' c' ws
-      | Fail n ↦ refused n at
+      | Ok (e', c') ↦ clauses_alone text at e' c' ws
+      | Err m ↦ Err (missing at m)
     ]
 
 -- the words after the level, a statement, the kept statements, each as `Statement` has it
 unfoldable pub named_alone : List ℕ → ℕ → ℕ → List Span → Answer Statement
-named_alone text at level [] = give (statement_of level at absent no_clauses)
+named_alone text at level [] = Ok (statement_of level at absent no_clauses)
 named_alone text at level (w ∷ ws) = do
   c ← clauses_alone text at Clause no_clauses ws
-  give (statement_of level at w c)
+  Ok (statement_of level at w c)
 
 unfoldable pub statement_alone : List ℕ → List Span → Answer (Option Statement)
-statement_alone text [] = give none
+statement_alone text [] = Ok None
 statement_alone text (w ∷ ws) = do
-  level ← or_refuse 10 w.start (number 256 (part text w))
-  if eqb level 88 then give none else do
+  level ← or_refuse (Refusal.BadLevel w.start) (number 256 (part text w))
+  if eqb level 88 then Ok None else do
     s ← named_alone text w.start level ws
-    give (some s)
+    Ok (Some s)
 
 unfoldable pub statements_alone : List ℕ → ℕ → List (List Span) → Answer (List Statement)
-statements_alone text n [] = give []
+statements_alone text n [] = Ok []
 statements_alone text n (ws ∷ wss) = do
   r ← statement_alone text ws
   elim r [
-    | none ↦ statements_alone text n wss
-    | some s ↦ do
-      _ ← refuse_if (leb most_statements n) 14 s.at
+    | None ↦ statements_alone text n wss
+    | Some s ↦ do
+      _ ← refuse_if (leb most_statements n) (Refusal.TooManyStatements s.at)
       ss ← statements_alone text (suc n) wss
-      give (s ∷ ss)
+      Ok (s ∷ ss)
   ]
 
 -- the folded top list: no usage is inherited
@@ -86,23 +85,23 @@ entries_alone text work = do
 -- ---------------------------------------------------------------- the test
 
 -- a usage other than DISPLAY is named
-abbrev pub is_other : UsageClause → Bool
-is_other UsageClause.Absent = false
-is_other (UsageClause.Given (ItemUsage.Picture Usage.Display)) = false
-is_other (UsageClause.Given (ItemUsage.Picture Usage.Comp3)) = true
-is_other (UsageClause.Given (ItemUsage.Picture Usage.Comp)) = true
-is_other (UsageClause.Given ItemUsage.Comp1) = true
-is_other (UsageClause.Given ItemUsage.Comp2) = true
+abbrev pub is_other : Option ItemUsage → Bool
+is_other None = false
+is_other (Some (ItemUsage.Picture Usage.Display)) = false
+is_other (Some (ItemUsage.Picture Usage.Comp3)) = true
+is_other (Some (ItemUsage.Picture Usage.Comp)) = true
+is_other (Some ItemUsage.Comp1) = true
+is_other (Some ItemUsage.Comp2) = true
 
 -- a float is named
-abbrev pub is_float : UsageClause → Bool
-is_float UsageClause.Absent = false
-is_float (UsageClause.Given (ItemUsage.Picture u)) = false
-is_float (UsageClause.Given ItemUsage.Comp1) = true
-is_float (UsageClause.Given ItemUsage.Comp2) = true
+abbrev pub is_float : Option ItemUsage → Bool
+is_float None = false
+is_float (Some (ItemUsage.Picture u)) = false
+is_float (Some ItemUsage.Comp1) = true
+is_float (Some ItemUsage.Comp2) = true
 
 -- after a usage another is said, or none: no float is named, and no other usage than DISPLAY is taken back
-abbrev pub lasts : UsageClause → UsageClause → Bool
+abbrev pub lasts : Option ItemUsage → Option ItemUsage → Bool
 lasts u v = not (is_float v) && (not (is_other u) || is_other v)
 
 -- so word by word: DISPLAY and the words of floats may say more where a clause may begin
@@ -110,14 +109,14 @@ unfoldable pub lasting : List ℕ → Expect → Clauses → List Span → Bool
 lasting text e c [] = true
 lasting text e c (w ∷ ws) =
     elim (step e w (uppers (part text w)) c) [
-      | Go e' c' ↦ lasts c.usage c'.usage && lasting text e' c' ws
-      | Fail n ↦ true
+      | Ok (e', c') ↦ lasts c.usage c'.usage && lasting text e' c' ws
+      | Err m ↦ true
     ]
 
 -- level 88 is skipped
 abbrev pub is_skipped : Option ℕ → Bool
-is_skipped none = false
-is_skipped (some level) = eqb level 88
+is_skipped None = false
+is_skipped (Some level) = eqb level 88
 
 -- so in a statement of these words, and in all statements
 abbrev pub lasting_in : List ℕ → List Span → Bool
@@ -130,9 +129,9 @@ lasting_all text [] = true
 lasting_all text (ws ∷ wss) = lasting_in text ws && lasting_all text wss
 
 -- a usage is named
-abbrev pub names_usage : UsageClause → Bool
-names_usage UsageClause.Absent = false
-names_usage (UsageClause.Given u) = true
+abbrev pub names_usage : Option ItemUsage → Bool
+names_usage None = false
+names_usage (Some u) = true
 
 -- no statement with children names a usage
 abbrev pub is_plain : Statement → Forest → Bool
@@ -145,8 +144,8 @@ plain_groups (item s kids later) = is_plain s kids && plain_groups kids && plain
 
 -- so of the kept statements, where they are read
 abbrev pub plain_read : Answer (List Statement) → Bool
-plain_read (refuse r) = true
-plain_read (give ss) = plain_groups (forest ss)
+plain_read (Err r) = true
+plain_read (Ok ss) = plain_groups (forest ss)
 
 -- the test: the copybooks for which the Rust has an answer, as far as usages go
 abbrev pub plain_usages : List ℕ → Bool

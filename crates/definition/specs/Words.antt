@@ -9,7 +9,7 @@
 -- like any other.
 -- Assumes nothing.
 use Rattle.std.specs.Prelude.{ℕ, ◌+◌, ◌-◌, Bool, true, false, ◌&&◌, ◌||◌, List, [], ◌∷◌, ◌++◌, eqb, leb, if◌then◌else◌}
-use Rattle.std.proofs.Math.Option.{Option, none, some}
+use Rattle.std.specs.Prelude.{Option, None, Some}
 use Rattle.definition.specs.declared.Span.{Span}
 use Rattle.definition.specs.declared.ByteKind.{ByteKind}
 use Rattle.definition.specs.declared.ByteKind.TheVariants.{Newline, Blank, Cut, Star, Period, Other}
@@ -145,10 +145,10 @@ tokens_of text = tokens text (Before 0) Fresh 0 text
 
 -- the opening mark of the first unclosed literal
 unfoldable pub first_open : List Token → Option ℕ
-first_open [] = none
+first_open [] = None
 first_open (Word w ∷ ts) = first_open ts
 first_open (Stop ∷ ts) = first_open ts
-first_open (Open p ∷ ts) = some p
+first_open (Open p ∷ ts) = Some p
 
 -- ---------------------------------------------------------------- statements
 

@@ -3,6 +3,11 @@
 
 #![tactic(auto)]
 
+ghost use Rattle.std.specs.Prelude.{◌≡◌};
+ghost use Rattle.definition.specs.Basic.{given};
+ghost use Rattle.definition.specs.Refusals.{refusal_number, refusal_position, refusal_needed};
+ghost use Rattle.definition.specs.Statement.{missing};
+
 // The limits that the rules name, as `specs/Limits` has them.
 pub const MOST_BYTES: usize = 65535;
 
@@ -36,6 +41,18 @@ pub const MOST_IN_SET: usize = 16;
 pub struct Span {
     pub start: usize,
     pub len: usize,
+}
+
+impl Span {
+    /// No place in the text.
+    pub const ABSENT: Span = Span { start: 0, len: 0 };
+
+    /// Whether it is a place in the text.
+    pub fn is_given(self) -> bool
+        ensures { result ≡ given self }
+    {
+        0 < self.len
+    }
 }
 
 // What a byte of the text is to the reader, by itself and the bytes after it: the end of a line, other white space, the
@@ -94,13 +111,6 @@ pub enum ItemUsage {
     Comp2,
 }
 
-// What a statement says of the usage: nothing, or one of the five.
-#[derive(Clone, Copy)]
-pub enum UsageClause {
-    Absent,
-    Given(ItemUsage),
-}
-
 #[derive(Clone, Copy)]
 pub enum SignKind {
     Unsigned,
@@ -109,18 +119,11 @@ pub enum SignKind {
     TrailingSeparate,
 }
 
-// The sign that a picture is read with: none, or one of the four.
+// What SIGN says: whether LEADING and SEPARATE were said.
 #[derive(Clone, Copy)]
-pub enum SignClause {
-    Absent,
-    Given(SignKind),
-}
-
-// What a statement says of the sign: nothing, or whether LEADING and SEPARATE were said.
-#[derive(Clone, Copy)]
-pub enum SignWords {
-    Absent,
-    Said { leading: bool, separate: bool },
+pub struct SignWords {
+    pub leading: bool,
+    pub separate: bool,
 }
 
 #[derive(Clone, Copy)]
@@ -164,21 +167,15 @@ pub struct Pictured {
     pub width: usize,
 }
 
-// An item without OCCURS stands once.
-#[derive(Clone, Copy)]
-pub enum Occurs {
-    Once,
-    Times(u64),
-}
-
-// What the clauses of a statement say.
+// What the clauses of a statement say: the usage and the sign, where one is named, and the count of OCCURS. An item
+// without OCCURS stands once.
 #[derive(Clone, Copy)]
 pub struct Clauses {
     pub picture: Span,
-    pub usage: UsageClause,
-    pub sign: SignWords,
+    pub usage: Option<ItemUsage>,
+    pub sign: Option<SignWords>,
     pub sync: bool,
-    pub occurs: Occurs,
+    pub occurs: Option<u64>,
     pub depending: Span,
     pub redefines: Span,
 }
@@ -225,11 +222,25 @@ pub enum Expect {
     Nothing,
 }
 
-// A word of a statement leads on to what is expected next and the clauses so far, or is refused with a number.
+// What a statement lacks at the end of a clause: a count after OCCURS, a bound after TO, or a name after DEPENDING.
 #[derive(Clone, Copy)]
-pub enum Step {
-    Go(Expect, Clauses),
-    Fail(u32),
+pub enum Missing {
+    Count,
+    Bound,
+    Name,
+}
+
+impl Missing {
+    /// Why the statement that begins at that byte is refused.
+    pub fn at(self, position: usize) -> Refusal
+        ensures { result ≡ missing position self }
+    {
+        match self {
+            Missing::Count => Refusal::BadCount { position },
+            Missing::Bound => Refusal::BadBound { position },
+            Missing::Name => Refusal::NoDependingName { position },
+        }
+    }
 }
 
 // A kept statement; `at` is the first byte of its first word. `usage` is the usage that holds for it: its own, or else
@@ -255,7 +266,7 @@ pub struct Entry {
     pub width: usize,
     pub kind: FieldKind,
     pub picture: Span,
-    pub occurs: Occurs,
+    pub occurs: Option<u64>,
     pub depending: Span,
     pub redefines: Span,
     pub over: Span,
@@ -263,13 +274,15 @@ pub struct Entry {
     pub folded: bool,
 }
 
-// Why an item stands where it does: the reason's kind, 1 to 5, the name of the item that it names, or none, and the
-// bytes that it adds.
+// Why an item stands where it does: first in its list; directly after an item, which adds the bytes up to its end; so
+// many slack bytes before it; over an item, which adds that item's offset; or inside a group.
 #[derive(Clone, Copy)]
-pub struct Reason {
-    pub kind: u8,
-    pub name: Span,
-    pub adds: usize,
+pub enum Reason {
+    First,
+    After { name: Span, adds: usize },
+    Slack { adds: usize },
+    Over { name: Span, adds: usize },
+    Inside { name: Span },
 }
 
 // What a byte of a record belongs to: a piece, that is one occurrence of the elementary item whose entry has that
@@ -298,19 +311,141 @@ pub struct Extract {
     pub off: usize,
 }
 
-// Why a call is turned down: document 01's number, a position, and the length that the output should have had.
+// Why a call is turned down, with the position that is told: the byte of the text, of the card text or of the picture
+// that it is about; or with the length that the output should have had.
 #[derive(Clone, Copy)]
-pub struct Refusal {
-    pub number: u32,
-    pub position: usize,
-    pub needed: usize,
+pub enum Refusal {
+    TextTooLong,
+    WideByte { position: usize },
+    WorkTooShort,
+    BadLevel { position: usize },
+    BadCount { position: usize },
+    BadBound { position: usize },
+    NoDependingName { position: usize },
+    TooManyStatements { position: usize },
+    TooDeep { position: usize },
+    NoPicture { position: usize },
+    UnclosedRepeat { position: usize },
+    BadRepeat { position: usize },
+    TooManySymbols { position: usize },
+    BadSymbol { position: usize },
+    MixedPicture { position: usize },
+    TooLong { position: usize },
+    NoTarget { position: usize },
+    TooLarge { position: usize },
+    StartsBeforeBase { position: usize },
+    OutputTooShort { needed: usize },
+    Overlaid,
+    OutsideRecord,
+    RecordTooShort,
+    UnclosedLiteral { position: usize },
+    BadIndicator { position: usize },
+    FloatWithPicture { position: usize },
+    NoSuchEntry,
+    NotASet,
+    NoCommonKey,
+    WrongItems,
+    BadWeight,
+    NoBudget,
 }
 
-// The answer of the picture entry.
+impl Refusal {
+    /// Its number.
+    pub fn number(self) -> u32
+        ensures { result ≡ refusal_number self }
+    {
+        match self {
+            Refusal::TextTooLong => 1,
+            Refusal::WideByte { position: _ } => 2,
+            Refusal::WorkTooShort => 3,
+            Refusal::BadLevel { position: _ } => 10,
+            Refusal::BadCount { position: _ } => 11,
+            Refusal::BadBound { position: _ } => 12,
+            Refusal::NoDependingName { position: _ } => 13,
+            Refusal::TooManyStatements { position: _ } => 14,
+            Refusal::TooDeep { position: _ } => 20,
+            Refusal::NoPicture { position: _ } => 21,
+            Refusal::UnclosedRepeat { position: _ } => 22,
+            Refusal::BadRepeat { position: _ } => 23,
+            Refusal::TooManySymbols { position: _ } => 24,
+            Refusal::BadSymbol { position: _ } => 25,
+            Refusal::MixedPicture { position: _ } => 26,
+            Refusal::TooLong { position: _ } => 27,
+            Refusal::NoTarget { position: _ } => 28,
+            Refusal::TooLarge { position: _ } => 29,
+            Refusal::StartsBeforeBase { position: _ } => 30,
+            Refusal::OutputTooShort { needed: _ } => 31,
+            Refusal::Overlaid => 40,
+            Refusal::OutsideRecord => 41,
+            Refusal::RecordTooShort => 42,
+            Refusal::UnclosedLiteral { position: _ } => 50,
+            Refusal::BadIndicator { position: _ } => 51,
+            Refusal::FloatWithPicture { position: _ } => 52,
+            Refusal::NoSuchEntry => 53,
+            Refusal::NotASet => 56,
+            Refusal::NoCommonKey => 57,
+            Refusal::WrongItems => 58,
+            Refusal::BadWeight => 59,
+            Refusal::NoBudget => 60,
+        }
+    }
+
+    /// The position that it is about, 0 where there is none.
+    pub fn position(self) -> usize
+        ensures { result ≡ refusal_position self }
+    {
+        match self {
+            Refusal::TextTooLong => 0,
+            Refusal::WideByte { position } => position,
+            Refusal::WorkTooShort => 0,
+            Refusal::BadLevel { position } => position,
+            Refusal::BadCount { position } => position,
+            Refusal::BadBound { position } => position,
+            Refusal::NoDependingName { position } => position,
+            Refusal::TooManyStatements { position } => position,
+            Refusal::TooDeep { position } => position,
+            Refusal::NoPicture { position } => position,
+            Refusal::UnclosedRepeat { position } => position,
+            Refusal::BadRepeat { position } => position,
+            Refusal::TooManySymbols { position } => position,
+            Refusal::BadSymbol { position } => position,
+            Refusal::MixedPicture { position } => position,
+            Refusal::TooLong { position } => position,
+            Refusal::NoTarget { position } => position,
+            Refusal::TooLarge { position } => position,
+            Refusal::StartsBeforeBase { position } => position,
+            Refusal::OutputTooShort { needed: _ } => 0,
+            Refusal::Overlaid => 0,
+            Refusal::OutsideRecord => 0,
+            Refusal::RecordTooShort => 0,
+            Refusal::UnclosedLiteral { position } => position,
+            Refusal::BadIndicator { position } => position,
+            Refusal::FloatWithPicture { position } => position,
+            Refusal::NoSuchEntry => 0,
+            Refusal::NotASet => 0,
+            Refusal::NoCommonKey => 0,
+            Refusal::WrongItems => 0,
+            Refusal::BadWeight => 0,
+            Refusal::NoBudget => 0,
+        }
+    }
+
+    /// The length that the output should have had, 0 where it is not about the output.
+    pub fn needed(self) -> usize
+        ensures { result ≡ refusal_needed self }
+    {
+        match self {
+            Refusal::OutputTooShort { needed } => needed,
+            _ => 0,
+        }
+    }
+}
+
+// The column that is the key of a set of copybooks, in each of their records.
 #[derive(Clone, Copy)]
-pub enum PicAnswer {
-    Accepted(Pictured),
-    Refused(Refusal),
+pub struct KeyColumn {
+    pub offset: usize,
+    pub width: usize,
 }
 
 // What is written of a copybook's record: the layout listing, the details of its entries, or the reasons of the entry
@@ -320,46 +455,4 @@ pub enum Report {
     Listing,
     Details,
     Reasons(usize),
-}
-
-// The answer of an entry that writes bytes: how many.
-#[derive(Clone, Copy)]
-pub enum Writing {
-    Written(usize),
-    Refused(Refusal),
-}
-
-// The answer of the byte owner.
-#[derive(Clone, Copy)]
-pub enum OwnerAnswer {
-    Piece {
-        entry: usize,
-        first: usize,
-        place: usize,
-    },
-    Slack {
-        entry: usize,
-    },
-    Refused(Refusal),
-}
-
-// The answer of the extract.
-#[derive(Clone, Copy)]
-pub enum ExtractAnswer {
-    Chosen(Extract),
-    Refused(Refusal),
-}
-
-// The answer of a key for a set of copybooks.
-#[derive(Clone, Copy)]
-pub enum KeyAnswer {
-    Key { offset: usize, width: usize },
-    Refused(Refusal),
-}
-
-// The answer of a check: the entry's own checks, and the record check.
-#[derive(Clone, Copy)]
-pub enum Check {
-    Passed,
-    Refused(Refusal),
 }

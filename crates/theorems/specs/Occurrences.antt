@@ -1,0 +1,59 @@
+-- What `Demand` comes to, occurrence by occurrence: which occurrences the entries say that there are, where slack may
+-- stand, and how many pieces an entry has.
+-- Assumes nothing.
+use Rattle.std.specs.Prelude.{ℕ, suc, ◌+◌, ◌*◌, ◌-◌, ◌<◌, ◌≡◌, true, List, [], ◌∷◌, ◌⊎◌, eqb, if◌then◌else◌}
+use Rattle.definition.specs.declared.Statement.{Statement}
+use Rattle.definition.specs.declared.Entry.{Entry}
+use Rattle.definition.specs.Fold.{Entries, end, entry, times}
+use Rattle.definition.specs.Layout.{entry_of}
+use Rattle.definition.specs.Owner.{Holder, occurrence, slack, storage, is_aligned}
+use Rattle.definition.specs.Search.{entries#}
+use Rattle.definition.specs.Demand.{Fewest, Spot, spot}
+
+-- an occurrence of the elementary entry of number n, so many bytes wide, starts at the byte `first`: by the entries'
+-- offsets, widths and counts. The first entry of the list has number k, and the list starts at the byte `base`
+abbrev pub Within : ℕ → ℕ → Entries → ℕ → Spot → Type 0 → Type 0
+Within k width end start y inner = y ≡ spot (occurrence k) start width
+Within k width (entry e members later) start y inner = inner
+
+unfoldable pub Occurs : ℕ → ℕ → Entries → Spot → Type 0
+Occurs k base end y = ⊥
+Occurs k base (entry e members later) y =
+    ((i : ℕ)
+    × (i < times e.occurs)
+    × Within k e.width members (base + e.offset + i * e.width) y
+    (Occurs (suc k) (base + e.offset + i * e.width) members y))
+    ⊎ Occurs (suc k + entries# members) base later y
+
+-- slack stands directly before the place of an entry of its list, which is that of an elementary SYNC binary or float
+-- item, and is the fewest bytes that align it: the list starts at the byte `base`, and its earlier items end `reached`
+-- bytes after that
+pub record Slackened (text : List ℕ) (first width : ℕ) : Type 0 where
+  pub statement : Statement
+  pub slackened : Entry
+  pub base : ℕ
+  pub reached : ℕ
+  pub is_one : is_aligned text statement ≡ true
+  pub told-so : slackened ≡ entry_of statement (storage text statement) slackened.offset (slackened.offset - reached)
+  pub from : first ≡ base + reached
+  pub up_to : first + width ≡ base + slackened.offset
+  pub fewest : Fewest slackened.width reached width
+
+-- the pieces of the entry of number n
+abbrev pub is_of : ℕ → Holder → ℕ
+is_of n (occurrence k) = if eqb n k then 1 else 0
+is_of n (slack k) = 0
+
+abbrev pub pieces# : ℕ → List Spot → ℕ
+pieces# n [] = 0
+pieces# n (x ∷ xs) = is_of n x.holder + pieces# n xs
+
+-- the counts along the groups around that entry, multiplied
+abbrev pub here# : ℕ → ℕ → Entries → ℕ → ℕ
+here# n k end inner = if eqb n k then 1 else 0
+here# n k (entry e members later) inner = inner
+
+unfoldable pub counts : ℕ → ℕ → Entries → ℕ
+counts n k end = 0
+counts n k (entry e members later) =
+    times e.occurs * here# n k members (counts n (suc k) members) + counts n (suc k + entries# members) later

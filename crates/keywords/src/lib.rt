@@ -1,4 +1,4 @@
-// The keyword that a word is, in whatever case: the spellings of its first letter are compared, and no others.
+//! The keyword that a word is, in whatever case: the spellings of its first letter are compared, and no others.
 #![tactic(auto)]
 
 ghost use Rattle.std.specs.Prelude.{◌≡◌};
@@ -9,22 +9,24 @@ ghost use Rattle.keywords.specs.Letters.{starting};
 
 use definition::Keyword;
 
-// `k` where the word is the spelling, else the other.
+/// `k` where the word is the spelling, else the other.
+#[tactic(auto, unfolding(definition::specs::Statement::pick))]
 fn pick(word: &[u8], spelling: &[u8], k: Keyword, other: Keyword) -> Keyword
     ensures { result ≡ pick_of (uppers word.now) spelling.now k other }
 {
     if text::same_key(word, spelling) {
-        return k;
+        k
+    } else {
+        other
     }
-    other
 }
 
-// What the spellings with C say.
+/// What the spellings with C say.
+// Kept: as `with_p`, `with_s`, `with_v` – no plainer: a table of spellings has a line for each too, and a loop.
 fn with_c(word: &[u8]) -> Keyword
     ensures { result ≡ meaning (uppers word.now) (starting 67 spellings) Other }
 {
-    let k = Keyword::Other;
-    let k = pick(word, b"COMP-3", Keyword::Comp3, k);
+    let k = pick(word, b"COMP-3", Keyword::Comp3, Keyword::Other);
     let k = pick(word, b"COMPUTATIONAL-3", Keyword::Comp3, k);
     let k = pick(word, b"COMP", Keyword::Comp, k);
     let k = pick(word, b"COMPUTATIONAL", Keyword::Comp, k);
@@ -35,43 +37,36 @@ fn with_c(word: &[u8]) -> Keyword
     let k = pick(word, b"COMP-1", Keyword::Comp1, k);
     let k = pick(word, b"COMPUTATIONAL-1", Keyword::Comp1, k);
     let k = pick(word, b"COMP-2", Keyword::Comp2, k);
-    let k = pick(word, b"COMPUTATIONAL-2", Keyword::Comp2, k);
-    k
+    pick(word, b"COMPUTATIONAL-2", Keyword::Comp2, k)
 }
 
-// What the spellings with P say.
+/// What the spellings with P say.
 fn with_p(word: &[u8]) -> Keyword
     ensures { result ≡ meaning (uppers word.now) (starting 80 spellings) Other }
 {
-    let k = Keyword::Other;
-    let k = pick(word, b"PIC", Keyword::Picture, k);
+    let k = pick(word, b"PIC", Keyword::Picture, Keyword::Other);
     let k = pick(word, b"PICTURE", Keyword::Picture, k);
-    let k = pick(word, b"PACKED-DECIMAL", Keyword::Comp3, k);
-    k
+    pick(word, b"PACKED-DECIMAL", Keyword::Comp3, k)
 }
 
-// What the spellings with S say.
+/// What the spellings with S say.
 fn with_s(word: &[u8]) -> Keyword
     ensures { result ≡ meaning (uppers word.now) (starting 83 spellings) Other }
 {
-    let k = Keyword::Other;
-    let k = pick(word, b"SIGN", Keyword::Sign, k);
+    let k = pick(word, b"SIGN", Keyword::Sign, Keyword::Other);
     let k = pick(word, b"SYNC", Keyword::Sync, k);
-    let k = pick(word, b"SYNCHRONIZED", Keyword::Sync, k);
-    k
+    pick(word, b"SYNCHRONIZED", Keyword::Sync, k)
 }
 
-// What the spellings with V say.
+/// What the spellings with V say.
 fn with_v(word: &[u8]) -> Keyword
     ensures { result ≡ meaning (uppers word.now) (starting 86 spellings) Other }
 {
-    let k = Keyword::Other;
-    let k = pick(word, b"VALUE", Keyword::Value, k);
-    let k = pick(word, b"VALUES", Keyword::Value, k);
-    k
+    let k = pick(word, b"VALUE", Keyword::Value, Keyword::Other);
+    pick(word, b"VALUES", Keyword::Value, k)
 }
 
-// What the spellings with a letter say.
+/// What the spellings with a letter say.
 fn with_letter(b: u8, word: &[u8]) -> Keyword
     ensures { result ≡ meaning (uppers word.now) (starting b spellings) Other }
 {
@@ -89,12 +84,13 @@ fn with_letter(b: u8, word: &[u8]) -> Keyword
     }
 }
 
-// The clause that a word begins.
+/// The clause that a word begins.
+#[tactic(auto, using(crate::proofs::LetterLaws::letter_steps))]
 pub fn keyword_of(word: &[u8]) -> Keyword
     ensures { result ≡ keyword_of (uppers word.now) }
 {
-    if word.len() == 0 {
-        return Keyword::Other;
+    match word {
+        [first, ..] => with_letter(text::upper(*first), word),
+        [] => Keyword::Other,
     }
-    with_letter(text::upper(word[0]), word)
 }

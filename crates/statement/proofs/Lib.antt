@@ -1,2 +1,1 @@
 pub mod EndLaws
-pub mod ReadLaws

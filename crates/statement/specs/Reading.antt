@@ -1,7 +1,7 @@
 -- What the answers of the statement reader say, in terms of the definition and of the tokens from a place on.
 -- Assumes nothing.
 use Rattle.std.specs.Prelude.{ℕ, ◌<◌, ◌≤◌, ◌≡◌, List, [], ◌∷◌, length}
-use Rattle.std.proofs.Math.Option.{none, some}
+use Rattle.std.specs.Prelude.{None, Some}
 use Rattle.definition.specs.declared.ByteKind.TheVariants.{Newline}
 use Rattle.definition.specs.declared.Clauses.{Clauses}
 use Rattle.definition.specs.declared.Expect.{Expect}
@@ -9,15 +9,12 @@ use Rattle.definition.specs.declared.Refusal.{Refusal}
 use Rattle.definition.specs.declared.Span.{Span}
 use Rattle.definition.specs.declared.Statement.{Statement}
 use Rattle.definition.specs.declared.Token.{Token}
-use Rattle.definition.specs.Basic.{Answer, refuse, give}
+use Rattle.definition.specs.Basic.{Answer, Err, Ok}
 use Rattle.definition.specs.Statement.{no_clauses, clauses, named, statement}
 use Rattle.definition.specs.Words.{unless_open, first_open, sentences, first_words, after_stop}
 use Rattle.tokens.specs.declared.Stand.{Stand}
-use Rattle.tokens.specs.Tokens.{said_at, tokens_at}
+use Rattle.tokens.specs.Tokens.{tokens_at}
 use Rattle.clauses.specs.Places.{SpanInside, Fits}
-use Rattle.statement.specs.declared.Finished.{Finished}
-use Rattle.statement.specs.declared.ClausesRead.{ClausesRead}
-use Rattle.statement.specs.declared.NamedRead.{NamedRead}
 use Rattle.statement.specs.declared.StatementRead.{StatementRead}
 
 -- ---------------------------------------------------------------- places in the text
@@ -40,38 +37,28 @@ pub record Ends (text : List ℕ) (from next : Stand) : Type 0 where
   pub within : next.at ≤ length text
   pub rest : after_stop (tokens_at text from) ≡ tokens_at text next
 
--- what the end of a statement gives
-abbrev pub finished_of : Finished → Answer Clauses
-finished_of (Finished.Whole c) = give c
-finished_of (Finished.Refused r) = refuse r
-
--- the answer of a statement that ends before `next`
-abbrev pub closing : Stand → Answer Clauses → ClausesRead
-closing next (give c) = ClausesRead.Done c next
-closing next (refuse r) = ClausesRead.Refused r
-
 -- the clauses of the words from a place on, and where they end
 pub record ClausesDone (text : List ℕ) (at : ℕ) (from : Stand) (c : Clauses) (next : Stand) : Type 0 where
-  pub is : clauses text at Expect.Clause no_clauses (words_from text from) ≡ give c
+  pub is : clauses text at Expect.Clause no_clauses (words_from text from) ≡ Ok c
   pub fits : Fits text c
   pub ends : Ends text from next
 
--- what an answer says of the clauses from a place on, of the statement that begins at a position
-abbrev pub ClausesAre : List ℕ → ℕ → Stand → ClausesRead → Type 0
-ClausesAre text at from (ClausesRead.Done c next) = ClausesDone text at from c next
-ClausesAre text at from (ClausesRead.Refused r) =
-    clauses text at Expect.Clause no_clauses (words_from text from) ≡ refuse r
+-- what an answer says of the clauses from a place on, of the statement that begins at a position, where the reader
+-- stands at `next` then
+abbrev pub ClausesAre : List ℕ → ℕ → Stand → Answer Clauses → Stand → Type 0
+ClausesAre text at from (Ok c) next = ClausesDone text at from c next
+ClausesAre text at from (Err r) next = clauses text at Expect.Clause no_clauses (words_from text from) ≡ Err r
 
 -- the statement of the name and the clauses from a place on, and where they end
 pub record NamedDone (text : List ℕ) (at level : ℕ) (from : Stand) (s : Statement) (next : Stand) : Type 0 where
-  pub is : named text at level (words_from text from) ≡ give s
+  pub is : named text at level (words_from text from) ≡ Ok s
   pub fits : StatementFits text s
   pub ends : Ends text from next
 
 -- what an answer says of the words after the level
-abbrev pub NamedAre : List ℕ → ℕ → ℕ → Stand → NamedRead → Type 0
-NamedAre text at level from (NamedRead.Done s next) = NamedDone text at level from s next
-NamedAre text at level from (NamedRead.Refused r) = named text at level (words_from text from) ≡ refuse r
+abbrev pub NamedAre : List ℕ → ℕ → ℕ → Stand → Answer Statement → Stand → Type 0
+NamedAre text at level from (Ok s) next = NamedDone text at level from s next
+NamedAre text at level from (Err r) next = named text at level (words_from text from) ≡ Err r
 
 -- ---------------------------------------------------------------- the first statement of the tokens
 
@@ -84,28 +71,28 @@ pub record Followed (ts : List Token) (text : List ℕ) (low : ℕ) (next : Stan
 
 -- the first statement is kept
 pub record FirstKept (ts : List Token) (text : List ℕ) (low : ℕ) (s : Statement) (next : Stand) : Type 0 where
-  pub is : statement text (first_words ts) ≡ give (some s)
+  pub is : statement text (first_words ts) ≡ Ok (Some s)
   pub fits : StatementFits text s
   pub followed : Followed ts text low next
 
 -- it is skipped
 pub record FirstSkipped (ts : List Token) (text : List ℕ) (low : ℕ) (next : Stand) : Type 0 where
-  pub is : statement text (first_words ts) ≡ give none
+  pub is : statement text (first_words ts) ≡ Ok None
   pub followed : Followed ts text low next
 
 -- it is refused
 pub record FirstRefused (ts : List Token) (text : List ℕ) (r : Refusal) : Type 0 where
-  pub is : statement text (first_words ts) ≡ refuse r
+  pub is : statement text (first_words ts) ≡ Err r
   pub all_are : sentences ts ≡ first_words ts ∷ sentences (after_stop ts)
 
 -- there is none: the tokens end where the reader stands at `next`
 pub record FirstNone (ts : List Token) (text : List ℕ) (next : Stand) : Type 0 where
-  pub ends : ts ≡ unless_open (said_at text next) Newline []
+  pub ends : ts ≡ unless_open next.said Newline []
   pub within : next.at ≤ length text
 
--- what an answer says of the first statement of the tokens
-abbrev pub FirstStatement : List Token → List ℕ → ℕ → StatementRead → Type 0
-FirstStatement ts text low (StatementRead.Kept s next) = FirstKept ts text low s next
-FirstStatement ts text low (StatementRead.Skipped next) = FirstSkipped ts text low next
-FirstStatement ts text low (StatementRead.Refused r) = FirstRefused ts text r
-FirstStatement ts text low (StatementRead.End next) = FirstNone ts text next
+-- what an answer says of the first statement of the tokens, where the reader stands at `next` then
+abbrev pub FirstStatement : List Token → List ℕ → ℕ → Answer StatementRead → Stand → Type 0
+FirstStatement ts text low (Ok (StatementRead.Kept s)) next = FirstKept ts text low s next
+FirstStatement ts text low (Ok StatementRead.Skipped) next = FirstSkipped ts text low next
+FirstStatement ts text low (Ok StatementRead.End) next = FirstNone ts text next
+FirstStatement ts text low (Err r) next = FirstRefused ts text r

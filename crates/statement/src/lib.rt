@@ -1,262 +1,130 @@
-// One statement of a copybook: its level, its name and its clauses, as `parse_stmt` of the Rust reads them.
+//! One statement of a copybook: its level, its name and its clauses, as `parse_stmt` of the Rust reads them.
 #![tactic(auto)]
 
 ghost use Rattle.std.specs.Prelude.{◌≡◌, ◌∷◌, ◌+◌, ◌≤◌, ◌<◌, length};
-ghost use Rattle.definition.specs.Basic.{span, refused};
 ghost use Rattle.definition.specs.Statement.{finish as finish_of, statement_of};
 ghost use Rattle.definition.specs.declared.Token.TheVariants.{Word};
 ghost use Rattle.tokens.specs.Tokens.{tokens_at};
-ghost use Rattle.statement.specs.Reading.{finished_of, closing, ClausesAre, Ends, NamedAre, FirstStatement};
+ghost use Rattle.statement.specs.Reading.{ClausesAre, Ends, NamedAre, FirstStatement};
 
-use definition::{Clauses, Expect, ItemUsage, Refusal, Span, Statement, Step, Usage};
-use text::Level;
+use definition::{Clauses, Expect, ItemUsage, Missing, Refusal, Span, Statement, Usage};
 use tokens::{Next, Stand};
 
-// What the end of a statement gives: its clauses, or a refusal.
-#[derive(Clone, Copy)]
-enum Finished {
-    Whole(Clauses),
-    Refused(Refusal),
-}
+// Kept: the text beside `&mut Stand` – no plainer: with `&mut WordReader` each contract has to say that its text stays.
 
-// A refusal at the statement's position.
-fn turned_down(number: u32, at: usize) -> Finished
-    ensures { finished_of result ≡ refused number at }
-{
-    Finished::Refused(Refusal {
-        number: number,
-        position: at,
-        needed: 0,
-    })
-}
-
-// The statement ends: a count, a bound or a name may be missing.
-fn finish(at: usize, e: Expect, c: Clauses) -> Finished
-    ensures { finished_of result ≡ finish_of at e c }
+/// The clauses of a statement that begins at `at` and ends where `e` is expected; or what it lacks, a count (11), a
+/// bound (12) or a name (13).
+fn finish(at: usize, e: Expect, c: Clauses) -> Result<Clauses, Refusal>
+    ensures { result ≡ finish_of at e c }
 {
     match e {
-        Expect::Clause => Finished::Whole(c),
-        Expect::IsPicture => Finished::Whole(c),
-        Expect::APicture => Finished::Whole(c),
-        Expect::Target => Finished::Whole(c),
-        Expect::ACount => turned_down(11, at),
-        Expect::To => Finished::Whole(c),
-        Expect::Bound => turned_down(12, at),
-        Expect::Times => Finished::Whole(c),
-        Expect::DependingOn => Finished::Whole(c),
-        Expect::OnName => turned_down(13, at),
-        Expect::AName => turned_down(13, at),
-        Expect::UsageIs => Finished::Whole(c),
-        Expect::SignIs => Finished::Whole(c),
-        Expect::SignWord => Finished::Whole(c),
-        Expect::Side => Finished::Whole(c),
-        Expect::Nothing => Finished::Whole(c),
+        Expect::ACount => Err(Missing::Count.at(at)),
+        Expect::Bound => Err(Missing::Bound.at(at)),
+        Expect::OnName | Expect::AName => Err(Missing::Name.at(at)),
+        _ => Ok(c),
     }
 }
 
-// The clauses of a statement and where the reader stands after it, or a refusal.
-#[derive(Clone, Copy)]
-pub enum ClausesRead {
-    Done(Clauses, Stand),
-    Refused(Refusal),
-}
-
-// The clauses of a statement that ends before `next`.
-fn closed(at: usize, e: Expect, c: Clauses, next: Stand) -> ClausesRead
-    ensures { result ≡ closing next (finish_of at e c) }
+/// The clauses of the statement that begins at `at`, from where the reader stands on; it stands after the statement
+/// then, if it is not refused.
+pub fn read_clauses(text: &[u8], at: usize, place: &mut Stand) -> Result<Clauses, Refusal>
+    requires { place.old.at ≤ length text.now }
+    ensures { ClausesAre text.now at place.old result place.new }
 {
-    match finish(at, e, c) {
-        Finished::Whole(c) => ClausesRead::Done(c, next),
-        Finished::Refused(r) => ClausesRead::Refused(r),
-    }
-}
-
-// The clauses from there on, of the statement that begins at `at`.
-pub fn read_clauses(text: &[u8], at: usize, from: Stand) -> ClausesRead
-    requires { from.at ≤ length text.now }
-    ensures { ClausesAre text.now at from result }
-{
-    let mut place = from;
     let mut e = Expect::Clause;
     let mut c = clauses::no_clauses();
     loop {
         match words::word_at(text, place) {
-            Next::Word { start, len, next } => {
-                match clauses::step(
-                    e,
-                    Span {
-                        start: start,
-                        len: len,
-                    },
-                    &text[start..start + len],
-                    c,
-                ) {
-                    Step::Go(e2, c2) => {
-                        e = e2;
-                        c = c2;
-                        place = next;
-                    }
-                    Step::Fail(n) => {
-                        return ClausesRead::Refused(Refusal {
-                            number: n,
-                            position: at,
-                            needed: 0,
-                        });
-                    }
-                }
-            }
-            Next::Stop { next } => {
-                return closed(at, e, c, next);
-            }
-            Next::End { next } => {
-                return closed(at, e, c, next);
-            }
+            Next::Word(w) => match clauses::step(e, w, &text[w.start..w.start + w.len], &mut c) {
+                Ok(next) => e = next,
+                Err(missing) => return Err(missing.at(at)),
+            },
+            Next::Stop => return finish(at, e, c),
+            Next::End => return finish(at, e, c),
         }
     }
 }
 
-// Where the reader stands after the statement that goes on there.
-fn skip_statement(text: &[u8], from: Stand) -> Stand
-    requires { from.at ≤ length text.now }
-    ensures { Ends text.now from result }
+/// Moves a reader behind the statement that goes on there.
+fn skip_statement(text: &[u8], place: &mut Stand)
+    requires { place.old.at ≤ length text.now }
+    ensures { Ends text.now place.old place.new }
 {
-    let mut place = from;
     loop {
         match words::word_at(text, place) {
-            Next::Word {
-                start: _,
-                len: _,
-                next,
-            } => {
-                place = next;
-            }
-            Next::Stop { next } => {
-                return next;
-            }
-            Next::End { next } => {
-                return next;
-            }
+            Next::Word(_) => continue,
+            Next::Stop => return,
+            Next::End => return,
         }
     }
 }
 
-// The statement of a level at a position, with a name and clauses, by itself.
+/// The statement of a level at a position, with a name and clauses, by itself.
 fn statement_of(level: u8, at: usize, name: Span, c: Clauses) -> Statement
     ensures { result ≡ statement_of level at name c }
 {
-    let usage = c.usage;
     Statement {
-        level: level,
-        at: at,
-        name: name,
+        level,
+        at,
+        name,
         clauses: c,
-        usage: clauses::usage_of(ItemUsage::Picture(Usage::Display), usage),
+        usage: c.usage.unwrap_or(ItemUsage::Picture(Usage::Display)),
     }
 }
 
-// A statement of the words after its level, and where the reader stands after it, or a refusal.
-#[derive(Clone, Copy)]
-enum NamedRead {
-    Done(Statement, Stand),
-    Refused(Refusal),
-}
-
-// The words after the level, from there on: a name, or none, and clauses.
-fn read_named(text: &[u8], at: usize, level: u8, from: Stand) -> NamedRead
-    requires { (at < length text.now) × (from.at ≤ length text.now) }
-    ensures { NamedAre text.now at level from result }
+/// The statement of the words after the level, from where the reader stands on: a name, or none, and clauses. It
+/// stands after the statement then, if it is not refused.
+fn read_named(text: &[u8], at: usize, level: u8, place: &mut Stand) -> Result<Statement, Refusal>
+    requires { (at < length text.now) × (place.old.at ≤ length text.now) }
+    ensures { NamedAre text.now at level place.old result place.new }
 {
-    match words::word_at(text, from) {
-        Next::Word { start, len, next } => {
-            match read_clauses(text, at, next) {
-                ClausesRead::Done(c, after) => {
-                    return NamedRead::Done(
-                        statement_of(
-                            level,
-                            at,
-                            Span {
-                                start: start,
-                                len: len,
-                            },
-                            c,
-                        ),
-                        after,
-                    );
-                }
-                ClausesRead::Refused(r) => {
-                    return NamedRead::Refused(r);
-                }
-            }
+    match words::word_at(text, place) {
+        Next::Word(name) => {
+            let c = read_clauses(text, at, place)?;
+            Ok(statement_of(level, at, name, c))
         }
-        Next::Stop { next } => {
-            return NamedRead::Done(
-                statement_of(level, at, clauses::nowhere(), clauses::no_clauses()),
-                next,
-            );
-        }
-        Next::End { next } => {
-            return NamedRead::Done(
-                statement_of(level, at, clauses::nowhere(), clauses::no_clauses()),
-                next,
-            );
-        }
+        Next::Stop => Ok(statement_of(level, at, Span::ABSENT, clauses::no_clauses())),
+        Next::End => Ok(statement_of(level, at, Span::ABSENT, clauses::no_clauses())),
     }
 }
 
-// A kept statement and where the reader stands after it; where it stands after one that is skipped; a refusal; or the
-// end of the tokens, and where the reader stands there.
+/// What a reader finds: a statement that is kept, one that is skipped, or the end of the tokens.
 #[derive(Clone, Copy)]
 pub enum StatementRead {
-    Kept(Statement, Stand),
-    Skipped(Stand),
-    Refused(Refusal),
-    End(Stand),
+    Kept(Statement),
+    Skipped,
+    End,
 }
 
-// The statement whose first word is given, and goes on at `from`: its level, then the rest.
-fn read_levelled(text: &[u8], start: usize, len: usize, from: Stand) -> StatementRead
-    requires { (start < length text.now) × (start + len ≤ length text.now) × (from.at ≤ length text.now) }
-    ensures { FirstStatement (Word (span start len) ∷ tokens_at text.now from) text.now
-        from.at result }
+/// The statement whose first word is given, and which goes on where the reader stands: its level, or 10, then the rest.
+fn read_levelled(text: &[u8], first: Span, place: &mut Stand) -> Result<StatementRead, Refusal>
+    requires { (first.start < length text.now) × (first.start + first.len ≤ length text.now)
+        × (place.old.at ≤ length text.now) }
+    ensures { FirstStatement (Word first ∷ tokens_at text.now place.old) text.now place.old.at result place.new }
 {
-    match text::level_of(&text[start..start + len]) {
-        Level::Value(level) => {
-            if level == 88 {
-                return StatementRead::Skipped(skip_statement(text, from));
-            }
-            match read_named(text, start, level, from) {
-                NamedRead::Done(s, next) => {
-                    return StatementRead::Kept(s, next);
-                }
-                NamedRead::Refused(r) => {
-                    return StatementRead::Refused(r);
-                }
-            }
+    match text::level_of(&text[first.start..first.start + first.len]) {
+        Some(88) => {
+            skip_statement(text, place);
+            Ok(StatementRead::Skipped)
         }
-        Level::Bad => {
-            return StatementRead::Refused(Refusal {
-                number: 10,
-                position: start,
-                needed: 0,
-            });
+        Some(level) => {
+            let s = read_named(text, first.start, level, place)?;
+            Ok(StatementRead::Kept(s))
         }
+        None => Err(Refusal::BadLevel {
+            position: first.start,
+        }),
     }
 }
 
-// The first statement from where a reader stands.
-pub fn read_statement(text: &[u8], from: Stand) -> StatementRead
-    requires { from.at ≤ length text.now }
-    ensures { FirstStatement (tokens_at text.now from) text.now (from.at + 1) result }
+/// The first statement from where a reader stands, which then stands behind it, if it is not refused.
+pub fn read_statement(text: &[u8], place: &mut Stand) -> Result<StatementRead, Refusal>
+    requires { place.old.at ≤ length text.now }
+    ensures { FirstStatement (tokens_at text.now place.old) text.now (place.old.at + 1) result place.new }
 {
-    match words::word_at(text, from) {
-        Next::Word { start, len, next } => {
-            return read_levelled(text, start, len, next);
-        }
-        Next::Stop { next } => {
-            return StatementRead::Skipped(next);
-        }
-        Next::End { next } => {
-            return StatementRead::End(next);
-        }
+    match words::word_at(text, place) {
+        Next::Word(first) => read_levelled(text, first, place),
+        Next::Stop => Ok(StatementRead::Skipped),
+        Next::End => Ok(StatementRead::End),
     }
 }

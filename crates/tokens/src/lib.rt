@@ -1,282 +1,256 @@
-// The tokens of a copybook text: its words, and the periods that end its statements. `next_token` finds the first from
-// where a reader stands, `tokenize` and `split_statements` of the Rust in one walk, and knows where a literal is; a
-// literal that its line does not close ends the tokens, so that where a reader stands then says whether the text is
-// refused (50).
+//! The tokens of a copybook text: its words, and the periods that end its statements. `next_token` finds the first from
+//! where a reader stands, `tokenize` and `split_statements` of the Rust in one walk, and knows where a literal is; a
+//! literal that its line does not close ends the tokens, so that where a reader stands then says whether the text is
+//! refused (50).
 #![tactic(auto)]
 
-ghost use Rattle.std.specs.Prelude.{◌≡◌, ◌+◌, ◌≤◌, ◌<◌, length, drop, get_or};
-ghost use Rattle.definition.specs.Calls.{literal_check, check_of};
-ghost use Rattle.definition.specs.declared.Said.TheVariants.{Literal};
-ghost use Rattle.definition.specs.Words.{cut_here, ends, byte_kind, is_value, seen};
-ghost use Rattle.definition.proofs.WordLaws.{stays_within, seen_at};
-ghost use Rattle.tokens.specs.Tokens.{VALUE, open_mark, last_mark, said_of, at_start, behind as behind_of, tokens_at};
-ghost use Rattle.tokens.specs.Tokens.{NextLine, WordCounted, PlainEnd, MarkSeen, WordEnd, WordFrom, AheadIs};
-ghost use Rattle.tokens.specs.Tokens.{InsideIs};
-ghost use Rattle.tokens.specs.Tokens.{Looks, First, open_check};
+ghost use Rattle.std.specs.Prelude.{◌≡◌, ◌≤◌, ◌<◌, length, get_or, not};
+ghost use Rattle.definition.specs.Basic.{white};
+ghost use Rattle.definition.specs.Calls.{literal_check};
+ghost use Rattle.definition.specs.Words.{cut_here, ends, byte_kind, is_value, heard, marked};
+ghost use Rattle.definition.proofs.WordLaws.{kind_at, seen_at, stays_within};
+ghost use Rattle.tokens.specs.Tokens.{at_start, behind as behind_of, tokens_at, NextLine, PlainEnd, WordEnd, WordFrom};
+ghost use Rattle.tokens.specs.Tokens.{After, AheadIs, InsideIs, Looks, First, open_check};
 
-use definition::{ByteKind, Check, Refusal};
+use definition::{ByteKind, Refusal, Said, Span};
 
 // ---------------------------------------------------------------- where a reader stands
 
-// What `said` has after VALUE, and in a literal.
-const VALUE: usize = 3;
-
-const IN_APOSTROPHES: usize = 4;
-
-const IN_QUOTES: usize = 5;
-
-// The marks of literals.
-const APOSTROPHE: u8 = 39;
-
-const QUOTE: u8 = 34;
-
-// Where a reader stands: the place that it has reached, and what its statement has said, as far as its literals go.
-// That is 0, 1 or 2 words, 2 standing for more, and no VALUE from the third on; VALUE; or VALUE and a literal that is
-// open, with this mark. Place 0 begins a line, and between words any other place stands behind a token.
+/// Where a reader stands: the place that it has reached, and what its statement has said, as far as its literals go.
+/// Place 0 begins a line, and between words any other place stands behind a token.
 #[derive(Clone, Copy)]
 pub struct Stand {
     pub at: usize,
-    pub said: usize,
+    pub said: Said,
 }
 
-// The beginning of a text.
-pub fn at_start() -> Stand
-    ensures { result ≡ at_start }
-{
-    Stand { at: 0, said: 0 }
-}
+impl Stand {
+    /// The beginning of a text.
+    pub fn at_start() -> Stand
+        ensures { result ≡ at_start }
+    {
+        Stand::behind(0)
+    }
 
-// A place behind a statement.
-fn behind(at: usize) -> Stand
-    ensures { result ≡ behind_of at }
-{
-    Stand { at: at, said: 0 }
+    /// A place behind a statement.
+    fn behind(at: usize) -> Stand
+        ensures { result ≡ behind_of at }
+    {
+        Stand {
+            at,
+            said: Said::Before(0),
+        }
+    }
+
+    /// 50 at the opening mark, if a literal is open where a reader stands at the end of its tokens.
+    pub fn left_open(self) -> Result<(), Refusal>
+        ensures { result ≡ open_check self }
+    {
+        match self.said {
+            Said::Literal { mark: _, at } => Err(Refusal::UnclosedLiteral { position: at }),
+            _ => Ok(()),
+        }
+    }
 }
 
 // ---------------------------------------------------------------- bytes
 
-// Whether `*>` stands at a place.
-fn cut_here(text: &[u8], i: usize) -> bool
-    ensures { result ≡ cut_here (drop i text.now) }
+/// Whether the bytes begin with `*>`.
+fn cut_here(rest: &[u8]) -> bool
+    ensures { result ≡ cut_here rest.now }
 {
-    if text.len() <= i {
-        return false;
+    match rest {
+        [b'*', b'>', ..] => true,
+        _ => false,
     }
-    if text[i] != b'*' {
-        return false;
-    }
-    if text.len() <= i + 1 {
-        return false;
-    }
-    text[i + 1] == b'>'
 }
 
-// Whether a period before a place ends a statement.
-fn ends_statement(text: &[u8], i: usize) -> bool
-    ensures { result ≡ ends (drop i text.now) }
+/// Whether a period before these bytes ends a statement.
+fn ends(rest: &[u8]) -> bool
+    ensures { result ≡ ends rest.now }
 {
-    if text.len() <= i {
-        return true;
+    match rest {
+        [b, ..] => text::is_white(*b) || cut_here(rest),
+        [] => true,
     }
-    if text::is_white(text[i]) {
-        return true;
-    }
-    cut_here(text, i)
 }
 
-// What a byte is, by itself and the bytes after it.
-fn byte_kind(text: &[u8], i: usize) -> ByteKind
-    requires { i < length text.now }
-    ensures { result ≡ byte_kind (get_or text.now i 0) (drop (i + 1) text.now) }
+/// What a byte is, by itself and the bytes after it.
+// Kept: inlined, as `kind_at` and `goes_on` – speed: without it reading was 45 % slower, with it within a tenth.
+#[inline(always)]
+#[tactic(auto, using(crate::proofs::TokenLaws::kind_steps), unfolding(definition::specs::Words::byte_kind))]
+fn byte_kind(b: u8, rest: &[u8]) -> ByteKind
+    ensures { result ≡ byte_kind b rest.now }
 {
-    let b = text[i];
-    if b == 10 {
+    if b == b'\n' {
         return ByteKind::Newline;
     }
     if text::is_white(b) {
         return ByteKind::Blank;
     }
-    if cut_here(text, i) {
-        return ByteKind::Cut;
-    }
     if b == b'*' {
-        return ByteKind::Star;
+        return match rest {
+            [b'>', ..] => ByteKind::Cut,
+            _ => ByteKind::Star,
+        };
     }
-    if b != b'.' {
-        return ByteKind::Other;
-    }
-    if ends_statement(text, i + 1) {
+    if b == b'.' && ends(rest) {
         return ByteKind::Period;
     }
     ByteKind::Other
 }
 
-// Whether a byte of this kind goes on with a word.
+/// What the byte at a place is.
+#[inline(always)]
+#[tactic(auto, using(crate::proofs::TokenLaws::rest_steps))]
+fn kind_at(text: &[u8], i: usize) -> ByteKind
+    requires { i < length text.now }
+    ensures { result ≡ kind_at text.now i }
+{
+    byte_kind(text[i], &text[i + 1..])
+}
+
+/// Whether a byte of this kind goes on with a word.
 fn in_word(k: ByteKind) -> bool
     ensures { result ≡ stays_within k }
 {
-    match k {
-        ByteKind::Newline => false,
-        ByteKind::Blank => false,
-        ByteKind::Cut => false,
-        ByteKind::Star => true,
-        ByteKind::Period => false,
-        ByteKind::Other => true,
-    }
+    matches!(k, ByteKind::Star | ByteKind::Other)
 }
 
-// The beginning of the line after the one at a place, or the text's end.
+/// The beginning of the line after the one at a place, or the text's end.
 fn next_line(text: &[u8], at: usize) -> usize
     requires { at ≤ length text.now }
     ensures { NextLine text.now at result }
 {
-    let mut i = at;
-    while i < text.len() {
-        if text[i] == 10 {
+    for i in at..text.len() {
+        if text[i] == b'\n' {
             return i + 1;
         }
-        i += 1;
     }
-    i
+    text.len()
 }
 
 // ---------------------------------------------------------------- words
 
-// Whether a word is VALUE or VALUES.
+/// Whether a word is VALUE or VALUES.
 fn is_value(word: &[u8]) -> bool
     ensures { result ≡ is_value word.now }
 {
-    if word.len() == 5 {
-        return text::same_key(word, b"VALUE");
-    }
-    if word.len() == 6 {
-        return text::same_key(word, b"VALUES");
-    }
-    false
+    text::same_key(word, b"VALUE") || text::same_key(word, b"VALUES")
 }
 
-// What is said after a word that comes after n words and before VALUE: the word may be VALUE if it is third or later.
-fn counted(n: usize, word: &[u8]) -> usize
-    requires { n < VALUE }
-    ensures { WordCounted n word.now result }
+/// What is said after a word: it may be VALUE if it is third or later.
+fn heard(said: Said, word: &[u8]) -> Said
+    ensures { result ≡ heard said word.now }
 {
-    if n < 2 {
-        return n + 1;
+    match said {
+        Said::Before(n) => {
+            if n < 2 {
+                Said::Before(n + 1)
+            } else if is_value(word) {
+                Said::Value
+            } else {
+                said
+            }
+        }
+        _ => said,
     }
-    if is_value(word) {
-        return VALUE;
-    }
-    n
 }
 
-// The end of the word that goes on at a place, before VALUE: a mark is a byte like any other.
+/// The end of the word that goes on at a place, before VALUE: a mark is a byte like any other.
+// Kept: beside `marked_end` – no plainer: before VALUE a word is heard as a whole, and after it byte by byte.
 fn word_end(text: &[u8], at: usize) -> usize
     requires { at ≤ length text.now }
     ensures { PlainEnd text.now at result }
 {
-    let mut i = at;
-    while i < text.len() {
-        if in_word(byte_kind(text, i)) {
-            i += 1;
-        } else {
+    for i in at..text.len() {
+        if !in_word(kind_at(text, i)) {
             return i;
         }
     }
-    i
+    text.len()
 }
 
 // ---------------------------------------------------------------- literals
 
-// The mark of a literal.
-fn mark_of(said: usize) -> u8
-    ensures { result ≡ open_mark said }
+/// What is said after a byte of a word, at place p: after VALUE a mark opens a literal, and the same mark closes it.
+fn marked(said: Said, p: usize, b: u8) -> Said
+    ensures { result ≡ marked said p b }
 {
-    if said == IN_APOSTROPHES {
-        return APOSTROPHE;
-    }
-    QUOTE
-}
-
-// What is said after a byte of a word, after VALUE: a mark opens a literal, and the same mark closes it.
-fn marked(said: usize, b: u8) -> usize
-    requires { VALUE ≤ said }
-    ensures { MarkSeen said b result }
-{
-    if said == VALUE {
-        if b == APOSTROPHE {
-            return IN_APOSTROPHES;
+    match said {
+        Said::Before(_) => said,
+        Said::Value => {
+            if b == b'\'' || b == b'"' {
+                Said::Literal { mark: b, at: p }
+            } else {
+                said
+            }
         }
-        if b == QUOTE {
-            return IN_QUOTES;
-        }
-        return VALUE;
+        Said::Literal { mark, at: _ } => { if b == mark { Said::Value } else { said } }
     }
-    if b == mark_of(said) {
-        return VALUE;
-    }
-    said
 }
 
-// What a byte inside a literal is: neither a period nor `*>` counts there.
-fn quoted(k: ByteKind) -> ByteKind
-    ensures { result ≡ seen (Literal 0 0) k }
+/// Whether a word goes on at a place inside a literal: neither a period nor `*>` counts, so only white space ends it.
+#[inline(always)]
+#[tactic(auto, using(crate::proofs::TokenLaws::kind_steps))]
+fn goes_on_inside(text: &[u8], i: usize) -> bool
+    requires { i < length text.now }
+    ensures { result ≡ not (white (get_or text.now i 0)) }
 {
-    match k {
-        ByteKind::Newline => ByteKind::Newline,
-        ByteKind::Blank => ByteKind::Blank,
-        ByteKind::Cut => ByteKind::Other,
-        ByteKind::Star => ByteKind::Star,
-        ByteKind::Period => ByteKind::Other,
-        ByteKind::Other => ByteKind::Other,
-    }
+    !text::is_white(text[i])
 }
 
-// Whether a word goes on at a place, after VALUE.
-fn goes_on(text: &[u8], i: usize, said: usize) -> bool
-    requires { (i < length text.now) × (VALUE ≤ said) }
-    ensures { result ≡ stays_within (seen_at text.now (said_of text.now said i) i) }
+/// Whether a word goes on at a place.
+#[inline(always)]
+fn goes_on(text: &[u8], i: usize, said: Said) -> bool
+    requires { i < length text.now }
+    ensures { result ≡ stays_within (seen_at text.now said i) }
 {
-    if said == VALUE {
-        return in_word(byte_kind(text, i));
+    match said {
+        Said::Literal { mark: _, at: _ } => goes_on_inside(text, i),
+        _ => in_word(kind_at(text, i)),
     }
-    in_word(quoted(byte_kind(text, i)))
 }
 
-// Where a reader in a word stands when the word ends, after VALUE.
-fn marked_end(text: &[u8], at: usize, said: usize) -> Stand
-    requires { (at ≤ length text.now) × (VALUE ≤ said) }
+/// Where a reader in a word stands when the word ends, after VALUE.
+fn marked_end(text: &[u8], at: usize, said: Said) -> Stand
+    requires { (at ≤ length text.now) × After said }
     ensures { WordEnd text.now at said result }
 {
-    let mut i = at;
-    let mut q = said;
-    while i < text.len() {
-        if goes_on(text, i, q) {
-            q = marked(q, text[i]);
-            i += 1;
-        } else {
-            return Stand { at: i, said: q };
+    let mut said = said;
+    for i in at..text.len() {
+        if !goes_on(text, i, said) {
+            return Stand { at: i, said };
         }
+        said = marked(said, i, text[i]);
     }
-    Stand { at: i, said: q }
+    Stand {
+        at: text.len(),
+        said,
+    }
 }
 
-// Where a reader stands behind the word that begins at a place: before VALUE its marks need not be looked for.
-fn behind_word(text: &[u8], i: usize, said: usize) -> Stand
+/// Where a reader stands behind the word that begins at a place: before VALUE its marks need not be looked for.
+fn behind_word(text: &[u8], i: usize, said: Said) -> Stand
     requires { i < length text.now }
     ensures { WordFrom text.now i said result }
 {
-    if said < VALUE {
-        let e = word_end(text, i + 1);
-        let said = counted(said, &text[i..e]);
-        return Stand { at: e, said: said };
+    match said {
+        Said::Before(_) => {
+            let at = word_end(text, i + 1);
+            Stand {
+                at,
+                said: heard(said, &text[i..at]),
+            }
+        }
+        _ => marked_end(text, i + 1, marked(said, i, text[i])),
     }
-    marked_end(text, i + 1, marked(said, text[i]))
 }
 
 // ---------------------------------------------------------------- tokens
 
-// What stands after blanks, comments and line ends: a word that begins at a place, the end of a statement and the place
-// behind it, or the end of all tokens.
+/// What stands after blanks, comments and line ends: a word that begins at a place, the end of a statement and the
+/// place behind it, or the end of all tokens.
 #[derive(Clone, Copy)]
 enum Ahead {
     Word(usize),
@@ -284,7 +258,8 @@ enum Ahead {
     End(usize),
 }
 
-// What stands at a place or after it, where no literal is open; `fresh` says that the line has only blanks before it.
+/// What stands at a place or after it, where no literal is open; `fresh` says that the line has only blanks before it.
+// Kept: a `while` – no plainer: a comment's step goes to the next line, and no range says how far.
 fn look_ahead(text: &[u8], at: usize, fresh: bool) -> Ahead
     requires { at ≤ length text.now }
     ensures { AheadIs text.now at fresh result }
@@ -292,7 +267,7 @@ fn look_ahead(text: &[u8], at: usize, fresh: bool) -> Ahead
     let mut i = at;
     let mut f = fresh;
     while i < text.len() {
-        match byte_kind(text, i) {
+        match kind_at(text, i) {
             ByteKind::Newline => {
                 f = true;
                 i += 1;
@@ -322,135 +297,81 @@ fn look_ahead(text: &[u8], at: usize, fresh: bool) -> Ahead
     Ahead::End(i)
 }
 
-// What stands at a place or after it, inside a literal.
+/// What stands at a place or after it, inside a literal.
 fn look_inside(text: &[u8], at: usize) -> Ahead
     requires { at ≤ length text.now }
     ensures { InsideIs text.now at result }
 {
-    let mut i = at;
-    while i < text.len() {
+    for i in at..text.len() {
         let b = text[i];
-        if b == 10 {
+        if b == b'\n' {
             return Ahead::End(i);
         }
-        if text::is_white(b) {
-            i += 1;
-        } else {
+        if !text::is_white(b) {
             return Ahead::Word(i);
         }
     }
-    Ahead::End(i)
+    Ahead::End(text.len())
 }
 
-// A word and where the reader stands behind it; the end of a statement and where it stands behind that; or no more
-// tokens, and where it stands then: the text has ended, or the line of a literal has.
+/// What a reader finds: a word, the end of a statement, or no more tokens, since the text has ended or the line of a
+/// literal has.
 #[derive(Clone, Copy)]
 pub enum Next {
-    Word {
-        start: usize,
-        len: usize,
-        next: Stand,
-    },
-    Stop {
-        next: Stand,
-    },
-    End {
-        next: Stand,
-    },
+    Word(Span),
+    Stop,
+    End,
 }
 
-// What stands ahead of a reader.
+/// What stands ahead of a reader.
 fn look(text: &[u8], s: Stand) -> Ahead
     requires { s.at ≤ length text.now }
     ensures { Looks text.now s result }
 {
-    if VALUE < s.said {
-        return look_inside(text, s.at);
+    match s.said {
+        Said::Literal { mark: _, at: _ } => look_inside(text, s.at),
+        _ => look_ahead(text, s.at, s.at == 0),
     }
-    look_ahead(text, s.at, s.at == 0)
 }
 
-// The first token from where a reader stands.
-pub fn next_token(text: &[u8], s: Stand) -> Next
-    requires { s.at ≤ length text.now }
-    ensures { First (tokens_at text.now s) text.now s.at result }
+/// The first token from where a reader stands, which then stands behind it; after the last one, where the text has ended
+/// or the line of a literal has.
+pub fn next_token(text: &[u8], s: &mut Stand) -> Next
+    requires { s.old.at ≤ length text.now }
+    ensures { First (tokens_at text.now s.old) text.now s.old.at result s.new }
 {
-    match look(text, s) {
+    match look(text, *s) {
         Ahead::Word(i) => {
-            let next = behind_word(text, i, s.said);
-            return Next::Word {
+            *s = behind_word(text, i, s.said);
+            Next::Word(Span {
                 start: i,
-                len: next.at - i,
-                next: next,
-            };
+                len: s.at - i,
+            })
         }
         Ahead::Stop(at) => {
-            return Next::Stop { next: behind(at) };
+            *s = Stand::behind(at);
+            Next::Stop
         }
         Ahead::End(at) => {
-            return Next::End {
-                next: Stand {
-                    at: at,
-                    said: s.said,
-                },
-            };
+            s.at = at;
+            Next::End
         }
     }
 }
 
 // ---------------------------------------------------------------- refusal 50
 
-// The last place before one that has a mark; 0 where there is none.
-fn last_mark(text: &[u8], at: usize, mark: u8) -> usize
-    requires { at ≤ length text.now }
-    ensures { result ≡ last_mark mark text.now at }
+/// 50 at the opening mark, if a literal is open where the tokens of a text end: they do at the first literal that its
+/// line does not close.
+pub fn open_check(text: &[u8]) -> Result<(), Refusal>
+    ensures { result ≡ literal_check text.now }
 {
-    let mut i = at;
-    while 0 < i {
-        i -= 1;
-        if text[i] == mark {
-            return i;
-        }
-    }
-    0
-}
-
-// 50 at the opening mark, if a literal is open where the tokens end.
-pub fn left_open(text: &[u8], s: Stand) -> Check
-    requires { s.at ≤ length text.now }
-    ensures { check_of result ≡ open_check text.now s }
-{
-    if VALUE < s.said {
-        let mark = mark_of(s.said);
-        return Check::Refused(Refusal {
-            number: 50,
-            position: last_mark(text, s.at, mark),
-            needed: 0,
-        });
-    }
-    Check::Passed
-}
-
-// The same of the whole text: the tokens end at the first literal that its line does not close.
-pub fn open_check(text: &[u8]) -> Check
-    ensures { check_of result ≡ literal_check text.now }
-{
-    let mut s = at_start();
+    let mut s = Stand::at_start();
     loop {
-        match next_token(text, s) {
-            Next::Word {
-                start: _,
-                len: _,
-                next,
-            } => {
-                s = next;
-            }
-            Next::Stop { next } => {
-                s = next;
-            }
-            Next::End { next } => {
-                return left_open(text, next);
-            }
+        match next_token(text, &mut s) {
+            Next::Word(_) => continue,
+            Next::Stop => continue,
+            Next::End => return s.left_open(),
         }
     }
 }

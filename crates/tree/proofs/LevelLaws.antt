@@ -6,17 +6,17 @@ use mathlib.Core.Path.{◌≡◌, refl, ap, ap₂, ◌∙◌}
 use mathlib.Core.List.{List, [], ◌∷◌}
 use native.Mathlib.Numerals.{add-one}
 use native.Mathlib.Omega.{arith}
+use Rattle.std.specs.Prelude.{Option, None, Some}
 use lib.Dec.{lit<}
 use lib.ListN.{length, get_or, set}
 use lib.Seq.{get_or-set_same, get_or-set_other}
-use borrow.Author.Tests.{lt-ltb, le-ltb}
 use Rattle.definition.specs.declared.ItemUsage.{ItemUsage}
 use Rattle.definition.specs.declared.Statement.{Statement}
 use Rattle.definition.specs.Tree.{Open, opened, innermost}
 use Rattle.definition.specs.Usages.{around}
 use Rattle.definition.proofs.ParentLaws.{Fit}
 use Rattle.rows.specs.Columns.{PARENT}
-use Rattle.rows.specs.Table.{cell, put_row, usage_in}
+use Rattle.rows.specs.Table.{cell, put_row, usage_in, row_code}
 use Rattle.rows.proofs.TableLaws.{cell_other, usage-other}
 use Rattle.tree.specs.Levels.{top_down, usage_around}
 
@@ -50,12 +50,10 @@ module _ (w ls : List ℕ) where
   pub down-more :
       (n v k : ℕ) →
       n < length ls →
-      top_down w (set ls n v) (n + 1) (k + 1) ≡ opened v (suc k) (usage_in w k) ∷ top_down w ls n (cell w k PARENT)
+      top_down w (set ls n v) (n + 1) (suc k) ≡ opened v (suc k) (usage_in w k) ∷ top_down w ls n (cell w k PARENT)
   unfolding top_down
   down-more n v k h =
-      let one : n + 1 ≡ suc n = add-one n in
-      let row : k + 1 ≡ suc k = add-one k in
-      (λ i. top_down w (set ls n v) (one i) (row i)) ∙ more
+      ap (λ (m : ℕ). top_down w (set ls n v) m (suc k)) (add-one n) ∙ more
     where
       here : suc k - 1 ≡ k
       here = omega arith
@@ -79,13 +77,15 @@ down-put w ls k p s (suc n) row h =
 
 -- the innermost open one has the usage that holds around
 pub down-around :
-    (w ls : List ℕ) (k n row : ℕ) →
-    Fit k (top_down w ls n row) →
-    row ≡ innermost (top_down w ls n row) →
-    usage_around w row ≡ around (top_down w ls n row)
+    (w ls : List ℕ) (k n : ℕ) (row : Option ℕ) →
+    Fit k (top_down w ls n (row_code row)) →
+    row_code row ≡ innermost (top_down w ls n (row_code row)) →
+    usage_around w row ≡ around (top_down w ls n (row_code row))
 unfolding top_down
-down-around w ls k zero row h e = rw (le-ltb 0 row (omega arith))
-down-around w ls k (suc n) row h e = rw (lt-ltb 0 row h.1)
+down-around w ls k zero None h e = refl
+down-around w ls k zero (Some j) h e = absurd (omega arith)
+down-around w ls k (suc n) None h e = absurd (omega (arith, h.1))
+down-around w ls k (suc n) (Some j) h e = ap (usage_in w) (let same : j ≡ suc j - 1 = omega arith in same)
 
 -- what is one of the first k is one of more
 pub fit-more : (k : ℕ) (os : List Open) → Fit k os → Fit (suc k) os

@@ -10,13 +10,12 @@ use Rattle.definition.specs.declared.Refusal.{Refusal}
 use Rattle.definition.specs.declared.ItemUsage.{ItemUsage}
 use Rattle.definition.specs.declared.Statement.{Statement}
 use Rattle.definition.specs.Limits.{least_work, most_statements}
-use Rattle.definition.specs.Basic.{Answer, refuse, give, ◌>>=◌}
+use Rattle.definition.specs.Basic.{Answer, Err, Ok, ◌>>=◌, and_then}
 use Rattle.definition.specs.Tree.{Open, opened, still_open, innermost, parents, parents_in, forest}
 use Rattle.definition.specs.Usages.{inheriting, inherited, around, inherit_along}
 use Rattle.definition.specs.Calls.{kept_statements}
 use Rattle.definition.proofs.ParentLaws.{length-parents, parents-forest}
 use Rattle.definition.proofs.UsageLaws.{length-along, along-forest}
-use Rattle.tree.specs.declared.RowsRead.{RowsRead}
 use Rattle.rows.specs.Columns.{ROW}
 use Rattle.rows.specs.Table.{Placed, Storable, Storables, put_row, put_rows, statements_from, parents_from}
 use Rattle.tree.specs.Reading.{stopped, ready, outcome, Held, RowsAre}
@@ -29,19 +28,19 @@ module _ (n : ℕ) (s : Statement) where
       (w : List ℕ) (os : List Open) (a : Answer (List Statement)) →
       let outer = still_open s.level os in
       let t = inheriting (around outer) s in
-      outcome w n os (a >>= λ ss. give (s ∷ ss))
+      outcome w n os (a >>= λ ss. Ok (s ∷ ss))
       ≡ outcome (put_row w n (innermost outer) t) (n + 1) (opened s.level (suc n) t.usage ∷ outer) a
-  unfolding ◌>>=◌ put_rows parents inherit_along
-  outcome-kept w os (refuse r) = refl
-  outcome-kept w os (give ss) =
+  unfolding and_then put_rows parents inherit_along
+  outcome-kept w os (Err r) = refl
+  outcome-kept w os (Ok ss) =
       let e : n + suc (length ss) ≡ suc n + length ss = omega arith in
       let held = inherit_along os n (s ∷ ss) in
       rw (add-one n) (ap (λ (k : ℕ). ready k (put_rows w n (parents os n held) held)) e)
 
-  pub held_kept : Storable s → (a : Answer (List Statement)) → Held (n + 1) a → Held n (a >>= λ ss. give (s ∷ ss))
-  unfolding ◌>>=◌
-  held_kept h (refuse r) k = tt
-  held_kept h (give ss) k = ((h, k.0), omega (arith, k.1))
+  pub held_kept : Storable s → (a : Answer (List Statement)) → Held (n + 1) a → Held n (a >>= λ ss. Ok (s ∷ ss))
+  unfolding and_then
+  held_kept h (Err r) k = tt
+  held_kept h (Ok ss) k = ((h, k.0), omega (arith, k.1))
 
 -- ---------------------------------------------------------------- what an answer says
 
@@ -62,7 +61,7 @@ along-storable os k (s ∷ ss) h =
 -- n rows hold the kept statements, each with the usage that holds for it, and their parents in the forest
 pub record Stored (text w w' : List ℕ) (n : ℕ) : Type 0 where
   pub kept : List Statement
-  pub are : kept_statements text ≡ give kept
+  pub are : kept_statements text ≡ Ok kept
   pub many : n ≡ length kept
   pub few : n ≤ most_statements
   pub storable : Storables kept
@@ -71,9 +70,9 @@ pub record Stored (text w w' : List ℕ) (n : ℕ) : Type 0 where
   pub back : statements_from w' 0 n ≡ inherit_along [] 0 kept
   pub under : parents_from w' 0 n ≡ parents_in 0 0 (inherited (forest kept))
 
-by-refusal : (w : List ℕ) (r : Refusal) (a : Answer (List Statement)) → stopped r ≡ outcome w 0 [] a → a ≡ refuse r
-by-refusal w r (refuse q) p = cc
-by-refusal w r (give ss) p = absurd (let z : ◌≡◌ {A = ℕ} 0 1 = cc in omega arith)
+by-refusal : (w : List ℕ) (r : Refusal) (a : Answer (List Statement)) → stopped r ≡ outcome w 0 [] a → a ≡ Err r
+by-refusal w r (Err q) p = cc
+by-refusal w r (Ok ss) p = absurd (let z : ◌≡◌ {A = ℕ} 0 1 = cc in omega arith)
 
 module _ {text w w' : List ℕ} where
   module _ (n : ℕ) (room : least_work ≤ length w) where
@@ -83,8 +82,8 @@ module _ {text w w' : List ℕ} where
         ready n w' ≡ outcome w 0 [] a →
         Held 0 a →
         Stored text w w' n
-    by_answer (refuse r) e p h = absurd (let z : ◌≡◌ {A = ℕ} 0 1 = cc in omega arith)
-    by_answer (give ss) e p h =
+    by_answer (Err r) e p h = absurd (let z : ◌≡◌ {A = ℕ} 0 1 = cc in omega arith)
+    by_answer (Ok ss) e p h =
         let many : n ≡ 0 + length ss = cc in
         let held = inherit_along [] 0 ss in
         let rows : w' ≡ put_rows w 0 (parents [] 0 held) held = cc in
@@ -110,8 +109,8 @@ module _ {text w w' : List ℕ} where
               ∙ ap (parents_in 0 0) (along-forest ss));
         }
 
-    pub stored : RowsAre text w (RowsRead.Rows n) w' → Stored text w w' n
+    pub stored : RowsAre text w (Ok n) w' → Stored text w w' n
     stored r = by_answer (kept_statements text) refl r.rows.is r.rows.held
 
-  pub turned_down : (r : Refusal) → RowsAre text w (RowsRead.Refused r) w' → kept_statements text ≡ refuse r
+  pub turned_down : (r : Refusal) → RowsAre text w (Err r) w' → kept_statements text ≡ Err r
   turned_down r h = by-refusal w r (kept_statements text) h.rows.is

@@ -4,16 +4,15 @@ use Rattle.std.specs.Prelude.{ℕ, suc, ◌+◌, ◌≤◌, ◌≡◌, List, [],
 use Rattle.definition.specs.declared.Refusal.{Refusal}
 use Rattle.definition.specs.declared.Statement.{Statement}
 use Rattle.definition.specs.Limits.{most_statements}
-use Rattle.definition.specs.Basic.{Answer, refuse, give}
+use Rattle.definition.specs.Basic.{Answer, Err, Ok}
 use Rattle.definition.specs.Calls.{literal_check, kept_statements}
 use Rattle.definition.specs.Statement.{statements}
 use Rattle.definition.specs.Words.{statement_words}
+use Rattle.tokens.specs.declared.Stand.{Stand}
 use Rattle.tokens.specs.Tokens.{open_check}
 use Rattle.definition.specs.Tree.{Open, opened, still_open, innermost, parents}
 use Rattle.definition.specs.Usages.{inheriting, around, inherit_along}
 use Rattle.tree.specs.declared.OpenLevels.{OpenLevels}
-use Rattle.tree.specs.declared.RowsRead.{RowsRead}
-use Rattle.tree.specs.declared.StatementsRead.{StatementsRead}
 use Rattle.tree.specs.Levels.{stack_of, Nested}
 use Rattle.rows.specs.Table.{Storable, Storables, put_row, put_rows}
 
@@ -38,40 +37,35 @@ pub data Outcome : Type 0 where
 
 -- what the kept statements of a text lead to from row n on, where these are open: each with the usage that holds for it
 abbrev pub outcome : List ℕ → ℕ → List Open → Answer (List Statement) → Outcome
-outcome w n os (refuse r) = stopped r
-outcome w n os (give ss) =
+outcome w n os (Err r) = stopped r
+outcome w n os (Ok ss) =
     let held = inherit_along os n ss in ready (n + length ss) (put_rows w n (parents os n held) held)
 
 -- what an answer says, with work memory as the call leaves it; after a refusal its contents are left open
-abbrev pub outcome_of : RowsRead → List ℕ → Outcome
-outcome_of (RowsRead.Rows n) w = ready n w
-outcome_of (RowsRead.Refused r) w = stopped r
+abbrev pub outcome_of : Answer ℕ → List ℕ → Outcome
+outcome_of (Ok n) w = ready n w
+outcome_of (Err r) w = stopped r
 
 -- the statements from row n on can be read back from their rows, of which there are no more than 800
 abbrev pub Held : ℕ → Answer (List Statement) → Type 0
-Held n (refuse r) = Unit {0}
-Held n (give ss) = Storables ss × (n + length ss ≤ most_statements)
+Held n (Err r) = Unit {0}
+Held n (Ok ss) = Storables ss × (n + length ss ≤ most_statements)
 
 -- the answer r, and work memory w' after it, where these are the kept statements and w was work memory
-pub record RowsOf (kept : Answer (List Statement)) (w : List ℕ) (r : RowsRead) (w' : List ℕ) : Type 0 where
+pub record RowsOf (kept : Answer (List Statement)) (w : List ℕ) (r : Answer ℕ) (w' : List ℕ) : Type 0 where
   pub is : outcome_of r w' ≡ outcome w 0 [] kept
   pub held : Held 0 kept
 
--- how many rows the statements of a text have, or their refusal
-abbrev pub rows_of : StatementsRead → RowsRead
-rows_of (StatementsRead.Rows n end) = RowsRead.Rows n
-rows_of (StatementsRead.Refused r) = RowsRead.Refused r
-
 -- where the tokens of a text end says what is refused of its literals
-abbrev pub EndOf : List ℕ → StatementsRead → Type 0
-EndOf text (StatementsRead.Rows n end) = (end.at ≤ length text) × (literal_check text ≡ open_check text end)
-EndOf text (StatementsRead.Refused r) = Unit {0}
+abbrev pub EndOf : List ℕ → Answer ℕ → Stand → Type 0
+EndOf text (Ok n) end = (end.at ≤ length text) × (literal_check text ≡ open_check end)
+EndOf text (Err r) end = Unit {0}
 
--- the same of the statements of a text, its literals aside
-pub record StatementsAre (text w : List ℕ) (r : StatementsRead) (w' : List ℕ) : Type 0 where
-  pub rows : RowsOf (statements text 0 (statement_words text)) w (rows_of r) w'
-  pub end : EndOf text r
+-- the same of the statements of a text, its literals aside, where the reader stands at `last` then
+pub record StatementsAre (text w : List ℕ) (r : Answer ℕ) (w' : List ℕ) (last : Stand) : Type 0 where
+  pub rows : RowsOf (statements text 0 (statement_words text)) w r w'
+  pub end : EndOf text r last
 
 -- the same of the kept statements of a text
-pub record RowsAre (text w : List ℕ) (r : RowsRead) (w' : List ℕ) : Type 0 where
+pub record RowsAre (text w : List ℕ) (r : Answer ℕ) (w' : List ℕ) : Type 0 where
   pub rows : RowsOf (kept_statements text) w r w'

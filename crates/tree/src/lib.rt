@@ -1,201 +1,159 @@
-// A text read into rows of work memory: the open levels that give each statement its parent, the usage that it takes
-// from there, and the reading.
+//! A text read into rows of work memory: the open levels that give each statement its parent, the usage that it takes
+//! from there, and the reading.
 #![tactic(auto)]
 
-ghost use Rattle.std.specs.Prelude.{◌≡◌, ◌+◌, ◌*◌, ◌-◌, ◌≤◌, ◌<◌, length};
+ghost use Rattle.std.specs.Prelude.{◌≡◌, ◌+◌, ◌*◌, ◌≤◌, ◌<◌, length};
 ghost use Rattle.definition.specs.Limits.{most_bytes, least_work, most_statements};
-ghost use Rattle.rows.specs.Columns.{ROW, PARENT};
-ghost use Rattle.rows.specs.Table.{Placed, cell};
+ghost use Rattle.rows.specs.Columns.{ROW};
+ghost use Rattle.rows.specs.Table.{Placed, row_code};
 ghost use Rattle.definition.specs.Usages.{inheriting as inheriting_of};
-ghost use Rattle.tree.specs.Levels.{NoneOpen, Nested, Closed, Opened, usage_around};
+ghost use Rattle.tokens.specs.Tokens.{at_start};
+ghost use Rattle.tree.specs.Levels.{outer_row, usage_around, NoneOpen, Nested, Closed, Opened};
 ghost use Rattle.tree.specs.Reading.{Added, StatementsAre, RowsAre};
 
-use definition::{Check, ItemUsage, MOST_STATEMENTS, Refusal, Statement, Usage};
-use rows::{PARENT, ROW};
+use definition::{ItemUsage, MOST_STATEMENTS, Refusal, Statement, Usage};
+use rows::Rows;
 use statement::StatementRead;
 use tokens::Stand;
 
-// A number of 32 bits as a place.
-fn wide(n: u32) -> usize
-    ensures { result ≡ n }
+// ---------------------------------------------------------------- open levels
+
+/// The row that a row stands under, if there are both.
+fn outer_row(rows: Rows, row: Option<usize>) -> Option<usize>
+    requires { row_code row ≤ rows.count }
+    ensures { result ≡ outer_row rows.entry.work.now row }
 {
-    n as usize
+    match row {
+        Some(k) => rows.parent(k),
+        None => None,
+    }
 }
 
-// The levels that are open, the innermost last, and how many; the row of the innermost and 1, or 0 for none. The rows
-// of the others follow by the parents.
+/// The usage that holds around a statement under that row, or under none.
+fn usage_around(rows: Rows, row: Option<usize>) -> ItemUsage
+    requires { row_code row ≤ rows.count }
+    ensures { result ≡ usage_around rows.entry.work.now row }
+{
+    match row {
+        Some(k) => rows.usage(k),
+        None => ItemUsage::Picture(Usage::Display),
+    }
+}
+
+/// The levels that are open, the innermost last, and how many; and the row of the innermost, if any. The rows of the
+/// others follow by the parents.
 #[derive(Clone, Copy)]
 pub struct OpenLevels {
     pub levels: [u8; 256],
     pub count: usize,
-    pub row: usize,
+    pub row: Option<usize>,
 }
 
-// No level is open.
-fn none_open() -> OpenLevels
-    ensures { NoneOpen result }
-{
-    OpenLevels {
-        levels: [0; 256],
-        count: 0,
-        row: 0,
-    }
-}
-
-// The parent of row - 1: its row and 1, or 0 for none.
-fn parent_of(work: &[u32], row: usize) -> usize
-    requires { (0 < row) × (ROW * row ≤ length work.now) }
-    ensures { result ≡ cell work.now (row - 1) PARENT }
-{
-    let k = row - 1;
-    wide(work[ROW * k + PARENT])
-}
-
-// Closes the levels that are not smaller than a statement's.
-fn close(work: &[u32], o: OpenLevels, level: u8, k: usize) -> OpenLevels
-    requires { Nested work.now k o }
-    ensures { Closed work.now k o level result }
-{
-    let levels = o.levels;
-    let mut n = o.count;
-    let mut row = o.row;
-    while 0 < n {
-        if levels[n - 1] < level {
-            return OpenLevels {
-                levels: levels,
-                count: n,
-                row: row,
-            };
+impl OpenLevels {
+    /// No level is open.
+    fn none() -> OpenLevels
+        ensures { NoneOpen result }
+    {
+        OpenLevels {
+            levels: [0; 256],
+            count: 0,
+            row: None,
         }
-        row = parent_of(work, row);
-        n -= 1;
     }
-    OpenLevels {
-        levels: levels,
-        count: n,
-        row: 0,
+
+    /// Closes the levels that are not smaller than a statement's.
+    // Kept: a `while` – no plainer: `count` itself falls with each level, and a range would count it a second time.
+    fn close(&mut self, rows: Rows, level: u8)
+        requires { Nested rows.work.now rows.count self.old }
+        ensures { Closed rows.entry.work.now rows.entry.count self.old level self.new }
+    {
+        while 0 < self.count {
+            if self.levels[self.count - 1] < level {
+                return;
+            }
+            self.row = outer_row(rows, self.row);
+            self.count -= 1;
+        }
+        self.row = None;
+    }
+
+    /// Opens a statement's level, in row k, after the others were closed.
+    fn open(&mut self, level: u8, k: usize)
+        requires { self.old.count ≤ level }
+        ensures { Opened self.old level k self.new }
+    {
+        self.levels[self.count] = level;
+        self.count += 1;
+        self.row = Some(k);
     }
 }
 
-// Opens a statement's level, in row k, after the others were closed.
-fn open(o: OpenLevels, level: u8, k: usize) -> OpenLevels
-    requires { (o.count ≤ level) × (k < 4294967295) }
-    ensures { Opened o level k result }
-{
-    let mut levels = o.levels;
-    let n = o.count;
-    levels[n] = level;
-    OpenLevels {
-        levels: levels,
-        count: n + 1,
-        row: k + 1,
-    }
-}
+// ---------------------------------------------------------------- rows
 
-// The usage that holds around a statement whose parent is row - 1, or that has none.
-fn usage_around(work: &[u32], row: usize) -> ItemUsage
-    requires { ROW * row ≤ length work.now }
-    ensures { result ≡ usage_around work.now row }
-{
-    if 0 < row {
-        return rows::usage_in(work, row - 1);
-    }
-    ItemUsage::Picture(Usage::Display)
-}
-
-// A statement with the usage that holds for it, where `outer` holds around it.
+/// A statement with the usage that holds for it, where `outer` holds around it.
 fn inheriting(outer: ItemUsage, s: Statement) -> Statement
     ensures { result ≡ inheriting_of outer s }
 {
-    let name = s.name;
-    let said = s.clauses;
-    let usage = said.usage;
     Statement {
-        level: s.level,
-        at: s.at,
-        name: name,
-        clauses: said,
-        usage: clauses::usage_of(outer, usage),
+        usage: s.clauses.usage.unwrap_or(outer),
+        ..s
     }
 }
 
-// A statement into row k, under the innermost open one of a smaller level, whose usage it takes where it names none;
-// its own level is open then.
-fn add_row(work: &mut [u32], k: usize, o: OpenLevels, s: Statement) -> OpenLevels
-    requires { (ROW * k + ROW ≤ length work.old) × (k < most_statements) × Nested work.old k o × Placed s }
-    ensures { Added work.old k o s work.new result }
+/// A statement into row k, under the innermost open one of a smaller level, whose usage it takes where it names none;
+/// its own level is open then.
+fn add_row(work: &mut [u32], k: usize, o: &mut OpenLevels, s: Statement)
+    requires { (ROW * k + ROW ≤ length work.old) × (k < most_statements) × Nested work.old k o.old × Placed s }
+    ensures { Added work.old k o.old s work.new o.new }
 {
-    let level = s.level;
-    let outer = close(work, o, level, k);
-    let around = usage_around(work, outer.row);
-    rows::put_row(work, k, outer.row as u32, inheriting(around, s));
-    open(outer, level, k)
+    let rows = Rows::new(work, k);
+    o.close(rows, s.level);
+    let around = usage_around(rows, o.row);
+    rows::put_row(work, k, rows::row_code(o.row), inheriting(around, s));
+    o.open(s.level, k);
 }
 
-// The number of rows that a text has, or why it is refused.
-#[derive(Clone, Copy)]
-pub enum RowsRead {
-    Rows(usize),
-    Refused(Refusal),
-}
-
-// The number of rows, and where the reader stands at the end of the tokens; or the refusal of a statement.
-#[derive(Clone, Copy)]
-enum StatementsRead {
-    Rows(usize, Stand),
-    Refused(Refusal),
-}
-
-// The statements of a text as rows of work memory, from row 0 on, whether a literal is left open or not.
-fn read_statements(text: &[u8], work: &mut [u32]) -> StatementsRead
-    requires { (length text.now ≤ most_bytes) × (least_work ≤ length work.old) }
-    ensures { StatementsAre text.now work.old result work.new }
+/// The statements of a text as rows of work memory, from row 0 on, whether a literal is left open or not: how many, and
+/// the reader stands where the tokens end then; or the refusal of a statement.
+// Kept: a loop – no plainer: a statement may be skipped or be the last, so no range says how many rows come.
+// Kept: the text beside `&mut Stand` – no plainer: with `&mut WordReader` each contract has to say that its text stays.
+fn read_statements(text: &[u8], work: &mut [u32], from: &mut Stand) -> Result<usize, Refusal>
+    requires { (length text.now ≤ most_bytes) × (least_work ≤ length work.old) × (from.old ≡ at_start) }
+    ensures { StatementsAre text.now work.old result work.new from.new }
 {
-    let mut from = tokens::at_start();
     let mut n = 0;
-    let mut levels = none_open();
+    let mut levels = OpenLevels::none();
     loop {
-        match statement::read_statement(text, from) {
-            StatementRead::Kept(s, next) => {
+        match statement::read_statement(text, from)? {
+            StatementRead::Kept(s) => {
                 if MOST_STATEMENTS <= n {
-                    return StatementsRead::Refused(Refusal {
-                        number: 14,
-                        position: s.at,
-                        needed: 0,
-                    });
+                    return Err(Refusal::TooManyStatements { position: s.at });
                 }
-                levels = add_row(work, n, levels, s);
+                add_row(work, n, &mut levels, s);
                 n += 1;
-                from = next;
             }
-            StatementRead::Skipped(next) => {
-                from = next;
-            }
-            StatementRead::Refused(r) => {
-                return StatementsRead::Refused(r);
-            }
-            StatementRead::End(next) => {
-                return StatementsRead::Rows(n, next);
-            }
+            StatementRead::Skipped => continue,
+            StatementRead::End => return Ok(n),
         }
     }
 }
 
-// The kept statements of a text as rows of work memory, from row 0 on. 50 comes before any other refusal of theirs:
-// where the tokens were read to their end, where the reader stands says whether a literal is open, and else the rest of
-// the text is looked through.
-pub fn read_rows(text: &[u8], work: &mut [u32]) -> RowsRead
+/// The kept statements of a text as rows of work memory, from row 0 on: how many there are. 50 comes before any other
+/// refusal of theirs: where the tokens were read to their end, where the reader stands says whether a literal is open,
+/// and else the rest of the text is looked through.
+pub fn read_rows(text: &[u8], work: &mut [u32]) -> Result<usize, Refusal>
     requires { (length text.now ≤ most_bytes) × (least_work ≤ length work.old) }
     ensures { RowsAre text.now work.old result work.new }
 {
-    match read_statements(text, work) {
-        StatementsRead::Rows(n, end) => match tokens::left_open(text, end) {
-            Check::Passed => RowsRead::Rows(n),
-            Check::Refused(open) => RowsRead::Refused(open),
-        },
-        StatementsRead::Refused(r) => match tokens::open_check(text) {
-            Check::Passed => RowsRead::Refused(r),
-            Check::Refused(open) => RowsRead::Refused(open),
-        },
+    let mut place = Stand::at_start();
+    match read_statements(text, work, &mut place) {
+        Ok(n) => {
+            place.left_open()?;
+            Ok(n)
+        }
+        Err(refusal) => {
+            tokens::open_check(text)?;
+            Err(refusal)
+        }
     }
 }

@@ -1,4 +1,4 @@
-// A word reader: it holds the copybook text and where it stands in it.
+//! A word reader: it holds the copybook text and where it stands in it.
 #![tactic(auto)]
 
 ghost use Rattle.std.specs.Prelude.{◌≡◌, ◌≤◌, length};
@@ -12,26 +12,31 @@ pub struct WordReader<'a> {
     pub stand: Stand,
 }
 
-// A reader of a text that stands there.
-pub fn reader_at<'a>(text: &'a [u8], stand: Stand) -> WordReader<'a>
-    ensures { (result.text ≡ text.entry) × (result.stand ≡ stand) }
-{
-    WordReader { text, stand }
+impl<'a> WordReader<'a> {
+    /// A reader of a text that stands there.
+    pub fn at(text: &'a [u8], stand: Stand) -> WordReader<'a>
+        ensures { (result.text ≡ text.entry) × (result.stand ≡ stand) }
+    {
+        WordReader { text, stand }
+    }
+
+    /// The first token before the reader, which then stands behind it.
+    pub fn next_token(&mut self) -> Next
+        requires { self.old.stand.at ≤ length self.old.text.now }
+        ensures { First (tokens_at self.old.text.now self.old.stand) self.old.text.now self.old.stand.at result
+            self.new.stand × (self.new.text ≡ self.old.text) }
+    {
+        tokens::next_token(self.text, &mut self.stand)
+    }
 }
 
-// The first token before a reader.
-pub fn word_of<'a>(r: WordReader<'a>) -> Next
-    requires { r.stand.at ≤ length r.text.now }
-    ensures { First (tokens_at r.entry.text.now r.entry.stand) r.entry.text.now
-        r.entry.stand.at result }
+/// The first token of a text from there on, by a reader made for it; the place is then the one behind it.
+pub fn word_at(text: &[u8], stand: &mut Stand) -> Next
+    requires { stand.old.at ≤ length text.now }
+    ensures { First (tokens_at text.now stand.old) text.now stand.old.at result stand.new }
 {
-    tokens::next_token(r.text, r.stand)
-}
-
-// The first token of a text from there on, by a reader made for it.
-pub fn word_at(text: &[u8], stand: Stand) -> Next
-    requires { stand.at ≤ length text.now }
-    ensures { First (tokens_at text.now stand) text.now stand.at result }
-{
-    word_of(reader_at(text, stand))
+    let mut reader = WordReader::at(text, *stand);
+    let next = reader.next_token();
+    *stand = reader.stand;
+    next
 }

@@ -1,6 +1,6 @@
 -- `cards::view_into` meets its contract. The loop's invariant: the view is what is written, and that of the bytes left;
 -- no indicator so far is refused.
-use Prim.Native.Nat.{ℕ, ◌+◌, ◌-◌, ◌≤◌}
+use Prim.Native.Nat.{ℕ, ◌+◌, ◌≤◌}
 use mathlib.Core.Path.{◌≡◌}
 use mathlib.Core.Bool.{Bool}
 use mathlib.Core.List.{List, ◌++◌}
@@ -20,6 +20,3 @@ pub record Left (t out₀ out : List ℕ) (i n : ℕ) (code : Bool) : Type 0 whe
 
 abbrev pub invariant-loop-i : goal.invariant-loop-i
 invariant-loop-i l = Left l.cards l.initial.view l.view l.i l.n l.code
-
-abbrev pub decreases-loop-i : goal.decreases-loop-i
-decreases-loop-i l = length l.cards - l.i

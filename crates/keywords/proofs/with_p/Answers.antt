@@ -1,9 +1,5 @@
 -- `keywords::with_p` meets its contract: one pick after the other, as the table has them.
-use mathlib.Core.Path.{refl}
-use Rattle.keywords.proofs.LetterLaws.{over}
 use Rattle.keywords.proofs.with_p.Goals as goal
 
 pub returns : goal.returns
-returns c = over _ _ _ c.pick-k-3.ensures
-    (over _ _ _ c.pick-k-2.ensures
-    (over _ _ _ c.pick-k.ensures refl))
+returns c = cc

@@ -19,8 +19,8 @@ pub record Left (t : List ℕ) (at : ℕ) (from place : Stand) (e : Expect) (c :
   pub same : clauses t at Expect.Clause no_clauses (words_from t from) ≡ clauses t at e c (words_from t place)
   pub fits : Fits t c
 
-abbrev pub invariant-loop-start : goal.invariant-loop-start
-invariant-loop-start l = Left l.text l.at l.initial.place l.place l.e l.c
+abbrev pub invariant-loop-w : goal.invariant-loop-w
+invariant-loop-w l = Left l.text l.at l.fn.place l.place l.e l.c
 
-abbrev pub decreases-loop-start : goal.decreases-loop-start
-decreases-loop-start l = length l.text - l.place.at
+abbrev pub decreases-loop-w : goal.decreases-loop-w
+decreases-loop-w l = length l.text - l.place.at

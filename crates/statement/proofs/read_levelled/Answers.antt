@@ -2,86 +2,78 @@
 use Prim.Native.Nat.{ℕ, ◌+◌, ◌-◌}
 use mathlib.Core.Path.{◌≡◌, sym, ap, ◌∙◌}
 use mathlib.Core.List.{List, ◌∷◌}
-use mathlib.Core.Option.{some}
+use Rattle.std.specs.Prelude.{Option, None, Some}
+use Rattle.std.proofs.lemmas.Result.{err_from_is_err_and}
 use native.Mathlib.Nat.{add-sub_cancel_left}
 use lib.ListN.{take, drop}
 use Rattle.definition.specs.declared.Refusal.{Refusal}
+use Rattle.definition.specs.declared.Span.{Span}
 use Rattle.definition.specs.declared.Statement.{Statement}
 use Rattle.definition.specs.declared.Token.{Token}
 use Rattle.definition.specs.declared.Token.TheVariants.{Word}
-use Rattle.definition.specs.Basic.{span, part, number}
+use Rattle.definition.specs.Basic.{part, number, Err}
+use Rattle.definition.specs.Statement.{named}
 use Rattle.definition.specs.Words.{first_open, sentences, first_words}
 use Rattle.definition.proofs.StatementLaws.{statement-bad, statement-skipped, statement-kept, statement-refused}
 use Rattle.definition.proofs.WordLaws.{sentences-word, open_after}
-use Rattle.text.specs.declared.Level.{Level}
 use Rattle.tokens.specs.declared.Stand.{Stand}
 use Rattle.tokens.specs.Tokens.{tokens_at}
-use Rattle.text.specs.Words.{levelled}
-use Rattle.statement.specs.declared.NamedRead.{NamedRead}
-use Rattle.statement.specs.declared.StatementRead.{StatementRead}
-use Rattle.statement.specs.Reading.{words_from, Ends, NamedDone, NamedAre, Followed, FirstStatement}
+use Rattle.statement.specs.Reading.{words_from, Ends, NamedDone, Followed, FirstKept, FirstSkipped, FirstRefused}
 use Rattle.statement.proofs.read_levelled.Goals as goal
 
--- the tokens of a statement whose first word is known
-abbrev all : List ℕ → ℕ → ℕ → Stand → List Token
-all t s l from = Word (span s l) ∷ tokens_at t from
+module _ (t : List ℕ) (w : Span) (from : Stand) {v : Option ℕ} (p : v ≡ number 256 (take (w.start + w.len - w.start) (drop w.start t))) where
+  -- the tokens of the statement
+  abbrev all : List Token
+  all = Word w ∷ tokens_at t from
 
--- the statements after it are those after its end
-followed : (t : List ℕ) (s l : ℕ) {from n : Stand} → Ends t from n → Followed (all t s l from) t from.at n
-unfolding first_open
-followed t s l {from} e =
-    record {
-      all_are = sentences-word (tokens_at t from) (span s l) ∙ ap (λ (ts : List Token). first_words (all t s l from) ∷ sentences ts) e.rest;
-      opens = sym (open_after (tokens_at t from)) ∙ ap first_open e.rest;
-      up = e.up;
-      within = e.within;
-    }
-
--- the level, of the word as the definition has it
-level-is : (t : List ℕ) (s l : ℕ) (v : Level) → levelled v ≡ number 256 (take (s + l - s) (drop s t)) → number 256 (part t (span s l)) ≡ levelled v
-level-is t s l v p = sym (simp add-sub_cancel_left at p)
-
-module _ (t : List ℕ) (s l : ℕ) (from : Stand) {v : Level} (p : levelled v ≡ number 256 (take (s + l - s) (drop s t))) where
-  -- the first word is no level
-  bad : v ≡ Level.Bad → FirstStatement (all t s l from) t from.at (StatementRead.Refused (record { number = 10; position = s; needed = 0 }))
-  bad e =
+  -- the statements after it are those after its end
+  followed : {n : Stand} → Ends t from n → Followed all t from.at n
+  unfolding first_open
+  followed e =
       record {
-        is = statement-bad t (span s l) (words_from t from) (level-is t s l v p ∙ ap levelled e);
-        all_are = sentences-word (tokens_at t from) (span s l);
+        all_are = sentences-word (tokens_at t from) w ∙ ap (λ (ts : List Token). first_words all ∷ sentences ts) e.rest;
+        opens = sym (open_after (tokens_at t from)) ∙ ap first_open e.rest;
+        up = e.up;
+        within = e.within;
       }
 
-  module _ {k : ℕ} (e : v ≡ Level.Value k) where
-    -- it is one
-    read : number 256 (part t (span s l)) ≡ some k
-    read = level-is t s l v p ∙ ap levelled e
+  -- the level, of the word as the definition has it
+  level-is : number 256 (part t w) ≡ v
+  level-is = sym (simp add-sub_cancel_left at p)
 
+  -- the first word is no level
+  bad : v ≡ None → FirstRefused all t (Refusal.BadLevel w.start)
+  bad e = record { is = statement-bad t w (words_from t from) (level-is ∙ e); all_are = sentences-word (tokens_at t from) w }
+
+  module _ {k : ℕ} (e : v ≡ Some k) where
     -- 88 is skipped
-    skipped : {n : Stand} → k ≡ 88 → Ends t from n → FirstStatement (all t s l from) t from.at (StatementRead.Skipped n)
-    skipped q h = record { is = statement-skipped t (span s l) (words_from t from) read q; followed = followed t s l h }
+    skipped : {n : Stand} → k ≡ 88 → Ends t from n → FirstSkipped all t from.at n
+    skipped q h = record { is = statement-skipped t w (words_from t from) (level-is ∙ e) q; followed = followed h }
 
-    module _ (q : k ≡ 88 → ⊥) {y : NamedRead} (g : NamedAre t s k from y) where
+    module _ (q : k ≡ 88 → ⊥) where
       -- any other is kept, or refused for what follows
-      kept : {x : Statement} {n : Stand} → y ≡ NamedRead.Done x n → FirstStatement (all t s l from) t from.at (StatementRead.Kept x n)
-      kept {x} {n} i =
-          let d : NamedDone t s k from x n = rw i at g in
-          record { is = statement-kept t (span s l) (words_from t from) read q d.is; fits = d.fits; followed = followed t s l d.ends }
+      kept : {x : Statement} {n : Stand} → NamedDone t w.start k from x n → FirstKept all t from.at x n
+      kept d = record { is = statement-kept t w (words_from t from) (level-is ∙ e) q d.is; fits = d.fits; followed = followed d.ends }
 
-      refused : {x : Refusal} → y ≡ NamedRead.Refused x → FirstStatement (all t s l from) t from.at (StatementRead.Refused x)
-      refused {x} i =
-          let d : NamedAre t s k from (NamedRead.Refused x) = rw i at g in
-          record {
-            is = statement-refused t (span s l) (words_from t from) read q d;
-            all_are = sentences-word (tokens_at t from) (span s l);
-          }
+      refused : {x : Refusal} → named t w.start k (words_from t from) ≡ Err x → FirstRefused all t x
+      refused d = record { is = statement-refused t w (words_from t from) (level-is ∙ e) q d; all_are = sentences-word (tokens_at t from) w }
 
-pub returns-then-level-eq88 : goal.returns-then-level-eq88
-returns-then-level-eq88 c = search skipped
+pub returns-in-Some-eq88 : goal.returns-in-Some-eq88
+returns-in-Some-eq88 c =
+    let a = c.args in
+    let o = c.in-Some-eq88 in
+    skipped a.text.now a.first a.place.now c.level_of.ensures o.is o.field-0-test c.skip_statement.ensures
 
-pub returns-in-Done : goal.returns-in-Done
-returns-in-Done c = search kept
+pub returns-in_ok-s-in-Some : goal.returns-in_ok-s-in-Some
+returns-in_ok-s-in-Some c =
+    let a = c.args in
+    kept a.text.now a.first a.place.now c.level_of.ensures c.in-Some.is c.in-Some.level-test.1 c.in_ok-s-in-Some.ensures
 
-pub returns-in-Refused : goal.returns-in-Refused
-returns-in-Refused c = search refused
+pub returns-in_err-s-in-Some : goal.returns-in_err-s-in-Some
+returns-in_err-s-in-Some c =
+    let p = err_from_is_err_and c.from_residual.result c.from_residual.ensures.1 in
+    let a = c.args in
+    rw (p.1, p.2) (refused a.text.now a.first a.place.now c.level_of.ensures c.in-Some.is c.in-Some.level-test.1 c.in_err-s-in-Some.ensures)
 
-pub returns-in-Bad : goal.returns-in-Bad
-returns-in-Bad c = search bad
+pub returns-in-None : goal.returns-in-None
+returns-in-None c = let a = c.args in bad a.text.now a.first a.place.now c.level_of.ensures c.in-None.is

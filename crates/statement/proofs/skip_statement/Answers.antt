@@ -1,18 +1,14 @@
-use Rattle.tokens.proofs.TokenLaws.{word-less}
 use Rattle.statement.proofs.EndLaws.{reached-start, reached-word, ends-stop, ends-text}
 use Rattle.statement.proofs.skip_statement.Goals as goal
 
-pub loop-next-init : goal.loop-next-init
-loop-next-init c = search reached-start
+pub loop-init : goal.loop-init
+loop-init c = search reached-start
 
-pub loop-next-smaller : goal.loop-next-smaller
-loop-next-smaller c = search word-less
-
-pub loop-next-preserved : goal.loop-next-preserved
-loop-next-preserved c = search reached-word
+pub loop-preserved : goal.loop-preserved
+loop-preserved c = reached-word c.loop.invariant c.in-Word.ensures
 
 pub returns-in-Stop : goal.returns-in-Stop
-returns-in-Stop c = search ends-stop
+returns-in-Stop c = ends-stop c.loop.invariant c.in-Stop.ensures
 
 pub returns-in-End : goal.returns-in-End
-returns-in-End c = search ends-text
+returns-in-End c = ends-text c.loop.invariant c.in-End.ensures

@@ -4,8 +4,8 @@ use lib.ListN.{length}
 use Rattle.statement.proofs.EndLaws.{Reached}
 use Rattle.statement.proofs.skip_statement.Given as goal
 
-abbrev pub invariant-loop-next : goal.invariant-loop-next
-invariant-loop-next l = Reached l.text l.initial.place l.place
+abbrev pub invariant-loop : goal.invariant-loop
+invariant-loop l = Reached l.text l.fn.place l.place
 
-abbrev pub decreases-loop-next : goal.decreases-loop-next
-decreases-loop-next l = length l.text - l.place.at
+abbrev pub decreases-loop : goal.decreases-loop
+decreases-loop l = length l.text - l.place.at

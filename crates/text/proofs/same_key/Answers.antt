@@ -1,6 +1,6 @@
--- `text::same_key` meets its contract: the keyword is read as it stands.
-use Rattle.definition.proofs.WordLaws.{map-itself}
+-- `text::same_key` meets its contract.
+use Rattle.text.proofs.Steps.{same_is}
 use Rattle.text.proofs.same_key.Goals as goal
 
 pub returns : goal.returns
-returns c = simp map-itself at c.same_folded.ensures
+returns c = same_is _ _ _ c.is_spelt.ensures

@@ -1,12 +1,7 @@
 -- `tokens::look_inside` meets its contract. The loop's invariant: the tokens are those from i on, and no mark was
 -- passed.
-use Prim.Native.Nat.{◌-◌}
-use lib.ListN.{length}
 use Rattle.tokens.specs.Tokens.{Skips}
 use Rattle.tokens.proofs.look_inside.Given as goal
 
 abbrev pub invariant-loop-i : goal.invariant-loop-i
 invariant-loop-i l = Skips l.text l.at l.i
-
-abbrev pub decreases-loop-i : goal.decreases-loop-i
-decreases-loop-i l = length l.text - l.i

@@ -1,5 +1,5 @@
 use Prim.Native.Nat.{ℕ, ◌+◌, ◌<◌, ◌≤◌}
-use mathlib.Core.Path.{◌≡◌, refl, sym, ◌∙◌}
+use mathlib.Core.Path.{◌≡◌, subst, refl, sym, ◌∙◌}
 use mathlib.Core.List.{List}
 use native.Mathlib.Omega.{arith}
 use lib.ListN.{length, get_or}
@@ -13,8 +13,8 @@ start : {t : List ℕ} {at : ℕ} → at ≤ length t → Left t at at
 start h = record { up = omega arith; within = h; rest = λ q c. refl }
 
 module _ {t : List ℕ} {at i : ℕ} (inv : Left t at i) where
-  done : length t ≤ i → NextLine t at i
-  done h = record { up = inv.up; within = inv.within; rest = λ q c. inv.rest q c ∙ tokens-end t q Dropped i h ∙ sym (tokens-end t q Fresh i h) }
+  done : length t ≤ i → NextLine t at (length t)
+  done h = let w = inv.within in let e : i ≡ length t = omega arith in subst (NextLine t at) e (record { up = inv.up; within = inv.within; rest = λ q c. inv.rest q c ∙ tokens-end t q Dropped i h ∙ sym (tokens-end t q Fresh i h) })
 
   module _ (h : i < length t) where
     found : get_or t i 0 ≡ 10 → NextLine t at (i + 1)
@@ -43,4 +43,4 @@ pub loop-i-preserved : goal.loop-i-preserved
 loop-i-preserved c = search next
 
 pub returns : goal.returns
-returns c = search done
+returns c = done c.loop-i.invariant c.loop-i-test.false

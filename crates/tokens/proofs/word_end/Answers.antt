@@ -1,5 +1,5 @@
 use Prim.Native.Nat.{ℕ, ◌+◌, ◌<◌, ◌≤◌}
-use mathlib.Core.Path.{◌≡◌, refl, ◌∙◌}
+use mathlib.Core.Path.{◌≡◌, subst, refl, ◌∙◌}
 use mathlib.Core.Bool.{Bool, true, false}
 use mathlib.Core.List.{List}
 use native.Mathlib.Omega.{arith}
@@ -15,8 +15,8 @@ start : {t : List ℕ} {at : ℕ} → at ≤ length t → Left t at at
 start h = record { up = omega arith; within = h; rest = λ n s. refl }
 
 module _ {t : List ℕ} {at i : ℕ} (inv : Left t at i) where
-  done : length t ≤ i → PlainEnd t at i
-  done h = record { up = inv.up; within = inv.within; rest = λ n s. inv.rest n s ∙ word-last t (Before n) s i h }
+  done : length t ≤ i → PlainEnd t at (length t)
+  done h = let w = inv.within in let e : i ≡ length t = omega arith in subst (PlainEnd t at) e (record { up = inv.up; within = inv.within; rest = λ n s. inv.rest n s ∙ word-last t (Before n) s i h })
 
   module _ (h : i < length t) {k : ByteKind} {r : Bool} (e : k ≡ kind_at t i) (p : r ≡ stays_within k) where
     here : stays_within (kind_at t i) ≡ r
@@ -34,8 +34,8 @@ loop-i-init c = search start
 pub loop-i-preserved : goal.loop-i-preserved
 loop-i-preserved c = search next
 
-pub returns-else-in_word : goal.returns-else-in_word
-returns-else-in_word c = search found
+pub returns-then-not-in_word : goal.returns-then-not-in_word
+returns-then-not-in_word c = search found
 
 pub returns : goal.returns
-returns c = search done
+returns c = done c.loop-i.invariant c.loop-i-test.false

@@ -1,6 +1,5 @@
 -- `tree::add_row` meets its contract: the innermost level that stays open is the statement's parent, and the usage of
 -- its row holds around the statement.
-use borrow.Author.Rules.{rules}
 use Prim.Native.Nat.{ℕ, suc, ◌+◌, ◌*◌, ◌≤◌}
 use mathlib.Core.Path.{◌≡◌, sym, ap, ap₂, subst, ◌∙◌}
 use mathlib.Core.List.{List, ◌∷◌}
@@ -12,7 +11,7 @@ use Rattle.definition.specs.Tree.{Open, opened, still_open, innermost}
 use Rattle.definition.specs.Usages.{inheriting, around}
 use Rattle.definition.proofs.ParentLaws.{Fit}
 use Rattle.rows.specs.Columns.{ROW}
-use Rattle.rows.specs.Table.{Placed, Storable, put_row}
+use Rattle.rows.specs.Table.{Placed, Storable, put_row, row_code}
 use Rattle.rows.proofs.TableLaws.{length-put_row, usage-put, parent-put}
 use Rattle.tree.specs.declared.OpenLevels.{OpenLevels}
 use Rattle.tree.specs.Levels.{top_down, stack_of, usage_around, Nested, Closed, Opened}
@@ -26,8 +25,8 @@ module _
     (fits : ROW * k + ROW ≤ length w) (closed : Closed w k o s.level u)
   where
     -- the row of the innermost level that stays open is there
-    row_in : ROW * u.row ≤ length w
-    row_in = omega (arith, closed.low)
+    row_in : row_code u.row ≤ k
+    row_in = closed.low
 
     -- its usage holds around the statement
     around-is : usage_around w u.row ≡ around (still_open s.level (stack_of w o))
@@ -42,24 +41,24 @@ module _
       held-storable = record { level = closed.byte; placed = inheriting-placed (usage_around w u.row) s placed }
 
       -- the levels that stay open are as they were
-      stack-put : stack_of (put_row w k u.row held) r ≡ opened s.level (suc k) held.usage ∷ stack_of w u
+      stack-put : stack_of (put_row w k (row_code u.row) held) r ≡ opened s.level (suc k) held.usage ∷ stack_of w u
       stack-put =
-          let w' = put_row w k u.row held in
+          let w' = put_row w k (row_code u.row) held in
           opening.is w'
           ∙ ap₂ (λ (x : ItemUsage) (os : List Open). opened s.level (suc k) x ∷ os)
-          (usage-put w k u.row held fits held-storable)
-          (ap (top_down w' u.levels u.count) (parent-put w k u.row held fits)
-          ∙ down-put w u.levels k u.row held u.count u.row closed.fit)
+          (usage-put w k (row_code u.row) held fits held-storable)
+          (ap (top_down w' u.levels u.count) (parent-put w k (row_code u.row) held fits)
+          ∙ down-put w u.levels k (row_code u.row) held u.count (row_code u.row) closed.fit)
 
-      nested-put : Nested (put_row w k u.row held) (suc k) r
+      nested-put : Nested (put_row w k (row_code u.row) held) (suc k) r
       nested-put =
-          let few = length-down w u.levels u.count u.row in
+          let few = length-down w u.levels u.count (row_code u.row) in
           record {
             few = opening.few;
             fit =
                 subst (Fit (suc k)) (sym stack-put)
                 (omega (arith, closed.few, few), omega arith, omega arith, fit-more k (stack_of w u) closed.fit);
-            there = omega (arith, length-put_row w k u.row held);
+            there = omega (arith, length-put_row w k (row_code u.row) held);
           }
 
       -- what the calls say together
@@ -67,12 +66,12 @@ module _
           {w' : List ℕ} {a : ItemUsage} {t : Statement} →
           a ≡ usage_around w u.row →
           t ≡ inheriting a s →
-          w' ≡ put_row w k u.row t →
+          w' ≡ put_row w k (row_code u.row) t →
           Added w k o s w' r
       added {w'} {a} {t} ea et e =
           let outer = still_open s.level (stack_of w o) in
           let is : t ≡ held = et ∙ ap (λ (x : ItemUsage). inheriting x s) ea in
-          subst (λ (x : List ℕ). Added w k o s x r) (sym (e ∙ ap (put_row w k u.row) is))
+          subst (λ (x : List ℕ). Added w k o s x r) (sym (e ∙ ap (put_row w k (row_code u.row)) is))
           (record {
             row =
                 ap₂ (λ (p : ℕ) (x : ItemUsage). put_row w k p (inheriting x s))
@@ -85,15 +84,18 @@ module _
             storable = record { level = closed.byte; placed = placed };
           })
 
--- the statement can be stored with the usage that it takes
-placed-so : (a : ItemUsage) (s : Statement) {t : Statement} → Placed s → t ≡ inheriting a s → Placed t
-placed-so a s placed e = rw e (inheriting-placed a s placed)
-
-pub usage_around-around-requires : goal.usage_around-around-requires
-usage_around-around-requires c = search row_in
-
-pub put_row-requires : goal.put_row-requires
-put_row-requires c = (search rules, search placed-so)
+-- the rows that are read are those of work memory
+there : {v w : List ℕ} {m k : ℕ} (o : OpenLevels) (level : ℕ) (u : OpenLevels) → v ≡ w → m ≡ k → Closed v m o level u → Closed w k o level u
+there {v} {w} {m} {k} o level u p q h =
+    subst (λ (x : List ℕ). Closed x k o level u) p (subst (λ (n : ℕ). Closed v n o level u) q h)
 
 pub returns : goal.returns
-returns c = search added
+returns c =
+    let a = c.args in
+    let e = c.new-rows.ensures in
+    let closed : Closed a.work.now a.k a.o.now a.s.level c.close.new.self = there a.o.now a.s.level c.close.new.self e.0 e.1 c.close.ensures in
+    let around : c.usage_around-around.result ≡ usage_around a.work.now c.close.new.self.row =
+    c.usage_around-around.ensures ∙ ap (λ (x : List ℕ). usage_around x c.close.new.self.row) e.0 in
+    let put : c.put_row.new.work ≡ put_row a.work.now a.k (row_code c.close.new.self.row) c.inheriting.result =
+    c.put_row.ensures ∙ ap (λ (n : ℕ). put_row a.work.now a.k n c.inheriting.result) c.row_code.ensures in
+    added a.work.now a.k a.s c.requires.0 closed c.requires.3 c.open.ensures around c.inheriting.ensures put

@@ -36,7 +36,7 @@ pub record Left (t w₀ w : List ℕ) (from : Stand) (n : ℕ) (o : OpenLevels) 
   pub held : Held n (rest t from n) → Held 0 (whole t)
 
 abbrev pub invariant-loop-s : goal.invariant-loop-s
-invariant-loop-s l = Left l.text l.initial.work l.work l.from l.n l.levels
+invariant-loop-s l = Left l.text l.fn.work l.work l.from l.n l.levels
 
 abbrev pub decreases-loop-s : goal.decreases-loop-s
 decreases-loop-s l = length l.text - l.from.at

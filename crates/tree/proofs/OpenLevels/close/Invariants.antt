@@ -1,0 +1,24 @@
+-- `tree::OpenLevels::close` meets its contract. The loop's invariant: what stays open of all levels is what stays open
+-- of those that are left.
+use Prim.Native.Nat.{ℕ, ◌≤◌, ◌<◌}
+use mathlib.Core.Path.{◌≡◌}
+use mathlib.Core.List.{List}
+use Rattle.definition.specs.Tree.{still_open}
+use Rattle.definition.proofs.ParentLaws.{Fit}
+use Rattle.tree.specs.declared.OpenLevels.{OpenLevels}
+use Rattle.tree.specs.Levels.{stack_of}
+use Rattle.tree.proofs.OpenLevels.close.Given as goal
+
+-- o has what is left of o₀
+pub record Left (w : List ℕ) (k level : ℕ) (o₀ o : OpenLevels) : Type 0 where
+  pub byte : level < 256
+  pub few : o.count ≤ 256
+  pub whole : Fit k (stack_of w o₀)
+  pub fit : Fit k (stack_of w o)
+  pub rest : still_open level (stack_of w o₀) ≡ still_open level (stack_of w o)
+
+abbrev pub invariant-loop-self : goal.invariant-loop-self
+invariant-loop-self l = Left l.rows.work.now l.rows.count l.level l.initial.self l.self
+
+abbrev pub decreases-loop-self : goal.decreases-loop-self
+decreases-loop-self l = l.self.count

@@ -1,47 +1,34 @@
--- What has a number is read back from it: flags, signs, storages, kinds, usages and what is said of a sign.
+-- What has a number is read back from it: kinds, usage clauses and what is said of a sign. Flags, signs, storages and
+-- usages: `specs/Laws`.
 -- Assumes nothing.
+use Rattle.std.specs.Prelude.{Option, None, Some}
 use Prim.Native.Nat.{◌+◌, ◌*◌, ◌/◌, ◌%◌, ◌<◌}
 use mathlib.Core.Path.{◌≡◌, refl, ap, ap₂, ◌∙◌}
 use mathlib.Core.Bool.{Bool, true, false}
 use native.Mathlib.Omega.{arith}
-use lib.Dec.{eqb}
 use Rattle.definition.specs.declared.SignKind.{SignKind}
 use Rattle.definition.specs.declared.NumRepr.{NumRepr}
 use Rattle.definition.specs.declared.FieldKind.{FieldKind}
 use Rattle.definition.specs.declared.Usage.{Usage}
 use Rattle.definition.specs.declared.ItemUsage.{ItemUsage}
-use Rattle.definition.specs.declared.UsageClause.{UsageClause}
 use Rattle.definition.specs.declared.SignWords.{SignWords}
 use Rattle.definition.specs.Listing.{flag, sign_byte, storage_byte}
 use Rattle.kinds.specs.declared.KindNumbers.{KindNumbers}
-use Rattle.kinds.specs.Kinds.{sign_at, storage_at, kind_numbers, numbers_of, kind_of, packed, unpacked, kind_code}
-use Rattle.kinds.specs.Kinds.{kind_at, Bytes}
-use Rattle.kinds.specs.Usages.{item_usage_byte, item_usage_at, usage_code, usage_clause_at, sign_code, sign_words_at}
+use Rattle.kinds.specs.Kinds.{kind_numbers, numbers_of, kind_of, packed, unpacked, kind_code, kind_at, Bytes}
+use Rattle.kinds.specs.Usages.{item_usage_byte, usage_code, usage_clause_at, said, sign_code, sign_words_at}
+use Rattle.kinds.specs.Laws.{sign-back, storage-back}
+pub use Rattle.kinds.specs.Laws.{flag-back, usage-back}
 
-pub flag-back : (b : Bool) → eqb (flag b) 1 ≡ b
-flag-back true = refl
-flag-back false = refl
-
+-- the numbers of flags, signs and storages take one bit, two and two
 pub flag-few : (b : Bool) → flag b < 2
 flag-few true = omega arith
 flag-few false = omega arith
-
-sign-back : (s : SignKind) → sign_at (sign_byte s) ≡ s
-sign-back SignKind.Unsigned = refl
-sign-back SignKind.Embedded = refl
-sign-back SignKind.LeadingSeparate = refl
-sign-back SignKind.TrailingSeparate = refl
 
 sign-few : (s : SignKind) → sign_byte s < 4
 sign-few SignKind.Unsigned = omega arith
 sign-few SignKind.Embedded = omega arith
 sign-few SignKind.LeadingSeparate = omega arith
 sign-few SignKind.TrailingSeparate = omega arith
-
-storage-back : (r : NumRepr) → storage_at (storage_byte r) ≡ r
-storage-back NumRepr.Display = refl
-storage-back NumRepr.Comp3 = refl
-storage-back NumRepr.Zoned = refl
 
 storage-few : (r : NumRepr) → storage_byte r < 4
 storage-few NumRepr.Display = omega arith
@@ -107,13 +94,6 @@ kind-back k h = ap kind_of (unpacked-back (numbers_of k) (numbers-few k h)) ∙ 
 
 -- ---------------------------------------------------------------- clauses
 
-pub usage-back : (u : ItemUsage) → item_usage_at (item_usage_byte u) ≡ u
-usage-back (ItemUsage.Picture Usage.Display) = refl
-usage-back (ItemUsage.Picture Usage.Comp3) = refl
-usage-back (ItemUsage.Picture Usage.Comp) = refl
-usage-back ItemUsage.Comp1 = refl
-usage-back ItemUsage.Comp2 = refl
-
 pub usage-few : (u : ItemUsage) → item_usage_byte u < 7
 usage-few (ItemUsage.Picture Usage.Display) = omega arith
 usage-few (ItemUsage.Picture Usage.Comp3) = omega arith
@@ -121,28 +101,34 @@ usage-few (ItemUsage.Picture Usage.Comp) = omega arith
 usage-few ItemUsage.Comp1 = omega arith
 usage-few ItemUsage.Comp2 = omega arith
 
-pub usage-clause-back : (u : UsageClause) → usage_clause_at (usage_code u) ≡ u
-usage-clause-back UsageClause.Absent = refl
-usage-clause-back (UsageClause.Given (ItemUsage.Picture Usage.Display)) = refl
-usage-clause-back (UsageClause.Given (ItemUsage.Picture Usage.Comp3)) = refl
-usage-clause-back (UsageClause.Given (ItemUsage.Picture Usage.Comp)) = refl
-usage-clause-back (UsageClause.Given ItemUsage.Comp1) = refl
-usage-clause-back (UsageClause.Given ItemUsage.Comp2) = refl
+pub usage-clause-back : (u : Option ItemUsage) → usage_clause_at (usage_code u) ≡ u
+usage-clause-back None = refl
+usage-clause-back (Some (ItemUsage.Picture Usage.Display)) = refl
+usage-clause-back (Some (ItemUsage.Picture Usage.Comp3)) = refl
+usage-clause-back (Some (ItemUsage.Picture Usage.Comp)) = refl
+usage-clause-back (Some ItemUsage.Comp1) = refl
+usage-clause-back (Some ItemUsage.Comp2) = refl
 
-pub usage-clause-few : (u : UsageClause) → usage_code u < 8
-usage-clause-few UsageClause.Absent = omega arith
-usage-clause-few (UsageClause.Given u) = omega (arith, usage-few u)
+pub usage-clause-few : (u : Option ItemUsage) → usage_code u < 8
+usage-clause-few None = omega arith
+usage-clause-few (Some u) = omega (arith, usage-few u)
 
-pub sign-words-back : (s : SignWords) → sign_words_at (sign_code s) ≡ s
-sign-words-back SignWords.Absent = refl
-sign-words-back (SignWords.Said false false) = refl
-sign-words-back (SignWords.Said true false) = refl
-sign-words-back (SignWords.Said false true) = refl
-sign-words-back (SignWords.Said true true) = refl
+said-back : (leading separate : Bool) → sign_words_at (sign_code (said leading separate)) ≡ said leading separate
+said-back true true = refl
+said-back true false = refl
+said-back false true = refl
+said-back false false = refl
 
-pub sign-words-few : (s : SignWords) → sign_code s < 8
-sign-words-few SignWords.Absent = omega arith
-sign-words-few (SignWords.Said false false) = omega arith
-sign-words-few (SignWords.Said true false) = omega arith
-sign-words-few (SignWords.Said false true) = omega arith
-sign-words-few (SignWords.Said true true) = omega arith
+said-few : (leading separate : Bool) → sign_code (said leading separate) < 8
+said-few true true = omega arith
+said-few true false = omega arith
+said-few false true = omega arith
+said-few false false = omega arith
+
+pub sign-words-back : (s : Option SignWords) → sign_words_at (sign_code s) ≡ s
+sign-words-back None = refl
+sign-words-back (Some s) = said-back s.leading s.separate
+
+pub sign-words-few : (s : Option SignWords) → sign_code s < 8
+sign-words-few None = omega arith
+sign-words-few (Some s) = said-few s.leading s.separate

@@ -1,12 +1,16 @@
 -- The numbers of a kind, and the kind of its numbers. The listing's numbers of kinds, signs and storages are the
 -- definition's (`Listing`).
 -- Assumes nothing.
-use Rattle.std.specs.Prelude.{ℕ, ◌+◌, ◌*◌, ◌/◌, ◌%◌, ◌<◌, eqb, if◌then◌else◌}
+use Rattle.std.specs.Prelude.{ℕ, ◌+◌, ◌*◌, ◌/◌, ◌%◌, ◌<◌, Bool, eqb, if◌then◌else◌}
 use Rattle.definition.specs.declared.SignKind.{SignKind}
 use Rattle.definition.specs.declared.NumRepr.{NumRepr}
 use Rattle.definition.specs.declared.FieldKind.{FieldKind}
 use Rattle.definition.specs.Listing.{flag, sign_byte, storage_byte}
 use Rattle.kinds.specs.declared.KindNumbers.{KindNumbers}
+
+-- a flag from its number
+abbrev pub flag_at : ℕ → Bool
+flag_at n = eqb n 1
 
 -- a sign from its number
 abbrev pub sign_at : ℕ → SignKind
@@ -42,10 +46,10 @@ numbers_of (FieldKind.Float bits) = kind_numbers 7 0 0 bits 0 0
 abbrev pub kind_of : KindNumbers → FieldKind
 kind_of n =
     if eqb n.kind 1 then FieldKind.Text
-    else if eqb n.kind 2 then FieldKind.Int (eqb n.signed 1) (sign_at n.sign)
-    else if eqb n.kind 3 then FieldKind.Binary (eqb n.signed 1)
+    else if eqb n.kind 2 then FieldKind.Int (flag_at n.signed) (sign_at n.sign)
+    else if eqb n.kind 3 then FieldKind.Binary (flag_at n.signed)
     else if eqb n.kind 4 then FieldKind.Decimal n.precision n.scale (storage_at n.storage) (sign_at n.sign)
-    else if eqb n.kind 5 then FieldKind.Edited n.precision n.scale (eqb n.signed 1)
+    else if eqb n.kind 5 then FieldKind.Edited n.precision n.scale (flag_at n.signed)
     else if eqb n.kind 7 then FieldKind.Float n.precision
     else FieldKind.Group
 

@@ -10,7 +10,7 @@ use Rattle.definition.specs.declared.Entry.{Entry}
 use Rattle.definition.specs.declared.Refusal.{Refusal}
 use Rattle.definition.specs.Limits.{largest}
 use Rattle.std.specs.Prelude.{if◌then◌else◌}
-use Rattle.definition.specs.Basic.{Answer, refuse, give, refused}
+use Rattle.definition.specs.Basic.{Answer, Err, Ok}
 use Rattle.definition.specs.Fold.{times, total, entry_end}
 use Rattle.definition.specs.Layout.{too_large}
 use Rattle.definition.proofs.Answers.{or-false}
@@ -38,25 +38,25 @@ pub record Ends (e : Entry) (n : ℕ) : Type 0 where
 module _ (e : Entry) where
   -- by the test
   abbrev tested : Bool → Answer ℕ
-  tested b = if b then refused 29 e.at else give (entry_end e)
+  tested b = if b then Err (Refusal.TooLarge e.at) else Ok (entry_end e)
 
-  pub ends_at : {n : ℕ} → give n ≡ end_of e → Ends e n
+  pub ends_at : {n : ℕ} → Ok n ≡ end_of e → Ends e n
   ends_at {n} h = go (too_large e) refl
     where
       go : (b : Bool) → too_large e ≡ b → Ends e n
       go true q =
-          absurd (let z : give n ≡ refused 29 e.at = h ∙ ap tested q in let y : ◌≡◌ {A = ℕ} 0 1 = cc in omega arith)
+          absurd (let z : Ok n ≡ Err (Refusal.TooLarge e.at) = h ∙ ap tested q in let y : ◌≡◌ {A = ℕ} 0 1 = cc in omega arith)
       go false q =
-          let z : give n ≡ give (entry_end e) = h ∙ ap tested q in
+          let z : Ok n ≡ Ok (entry_end e) = h ∙ ap tested q in
           let same : entry_end e ≡ n = cc in
           let i = within e q in
           record { fits = q; is = same; starts = i.starts; ends = omega (arith, i.ends, same) }
 
   -- or that it is
-  pub ends-not : {r : Refusal} → refuse r ≡ end_of e → (refuse r ≡ refused {A = ℕ} 29 e.at) × (too_large e ≡ true)
+  pub ends-not : {r : Refusal} → Err r ≡ end_of e → (◌≡◌ {A = Answer ℕ} (Err r) (Err (Refusal.TooLarge e.at))) × (too_large e ≡ true)
   ends-not {r} h = go (too_large e) refl
     where
-      go : (b : Bool) → too_large e ≡ b → (refuse r ≡ refused {A = ℕ} 29 e.at) × (too_large e ≡ true)
+      go : (b : Bool) → too_large e ≡ b → (◌≡◌ {A = Answer ℕ} (Err r) (Err (Refusal.TooLarge e.at))) × (too_large e ≡ true)
       go true q = (h ∙ ap tested q, q)
       go false q =
-          absurd (let z : refuse r ≡ give (entry_end e) = h ∙ ap tested q in let y : ◌≡◌ {A = ℕ} 0 1 = cc in omega arith)
+          absurd (let z : Err r ≡ Ok (entry_end e) = h ∙ ap tested q in let y : ◌≡◌ {A = ℕ} 0 1 = cc in omega arith)

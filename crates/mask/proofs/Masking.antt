@@ -6,7 +6,7 @@ use mathlib.Core.List.{List, ◌++◌}
 use native.Mathlib.Omega.{arith}
 use lib.ListN.{length, length-append}
 use lib.Seq.{sets}
-use Rattle.definition.specs.Basic.{Answer, refuse, give, ◌>>=◌}
+use Rattle.definition.specs.Basic.{Answer, Err, Ok, and_then}
 use Rattle.definition.specs.Picture.{mask}
 use Rattle.definition.proofs.Lists.{sets-append}
 use Rattle.definition.proofs.PictureLaws.{onto, without-append}
@@ -17,16 +17,16 @@ mask-sum p l = ap length (without-append "SV" p l) ∙ length-append (mask p) (m
 
 module _ (k : ℕ) (p : List ℕ) where
   pub room-run : (x : Answer (List ℕ)) {room : ℕ} → MaskRoom k (onto p x) room → k + length (mask p) ≤ room
-  unfolding ◌>>=◌
-  room-run (refuse r) h = absurd h
-  room-run (give l) h = omega (arith, mask-sum p l)
+  unfolding and_then
+  room-run (Err r) h = absurd h
+  room-run (Ok l) h = omega (arith, mask-sum p l)
 
   pub room-rest : (x : Answer (List ℕ)) (room : ℕ) → MaskRoom k (onto p x) room → MaskRoom (k + length (mask p)) x room
-  unfolding ◌>>=◌
-  room-rest (refuse r) room h = absurd h
-  room-rest (give l) room h = omega (arith, mask-sum p l)
+  unfolding and_then
+  room-rest (Err r) room h = absurd h
+  room-rest (Ok l) room h = omega (arith, mask-sum p l)
 
   pub put-run : (x : Answer (List ℕ)) (out : List ℕ) → put k (onto p x) out ≡ put (k + length (mask p)) x (sets out k (mask p))
-  unfolding ◌>>=◌
-  put-run (refuse r) out = refl
-  put-run (give l) out = ap (sets out k) (without-append "SV" p l) ∙ sets-append (mask p) (mask l) out k
+  unfolding and_then
+  put-run (Err r) out = refl
+  put-run (Ok l) out = ap (sets out k) (without-append "SV" p l) ∙ sets-append (mask p) (mask l) out k

@@ -3,9 +3,9 @@
 use Rattle.std.specs.Prelude.{ℕ, ◌+◌, ◌≤◌, ◌≡◌, Bool, List, [], length, replicate, if◌then◌else◌}
 use Rattle.std.proofs.lemmas.List.Edits.{sets}
 use Rattle.definition.specs.declared.Usage.{Usage}
-use Rattle.definition.specs.Basic.{among, Answer, refuse, give, ◌>>=◌}
+use Rattle.definition.specs.Basic.{among, Answer, Err, Ok, ◌>>=◌}
 use Rattle.definition.specs.Picture.{mask, symbols, is_masked}
-use Rattle.definition.specs.Calls.{After, fitting}
+use Rattle.definition.specs.Calls.{fitting}
 
 -- the symbol takes no byte of a mask
 abbrev pub hidden : ℕ → Bool
@@ -13,13 +13,13 @@ hidden b = among "SV" b
 
 -- there are symbols, and their mask has room from k on
 abbrev pub MaskRoom : ℕ → Answer (List ℕ) → ℕ → Type 0
-MaskRoom k (refuse r) room = ⊥
-MaskRoom k (give l) room = k + length (mask l) ≤ room
+MaskRoom k (Err r) room = ⊥
+MaskRoom k (Ok l) room = k + length (mask l) ≤ room
 
 -- the output with their mask from k on
 abbrev pub put : ℕ → Answer (List ℕ) → List ℕ → List ℕ
-put k (refuse r) out = []
-put k (give l) out = sets out k (mask l)
+put k (Err r) out = []
+put k (Ok l) out = sets out k (mask l)
 
 -- the mask of a run was written from k on, and r is the place after it
 pub record Wrote (out : List ℕ) (k b n r : ℕ) (after : List ℕ) : Type 0 where
@@ -29,7 +29,3 @@ pub record Wrote (out : List ℕ) (k b n r : ℕ) (after : List ℕ) : Type 0 wh
 -- the mask of a picture whose text was checked
 abbrev pub mask_in : Usage → List ℕ → ℕ → Answer (List ℕ)
 mask_in usage bs room = symbols 0 usage bs >>= λ l. fitting room (if is_masked usage l then mask l else [])
-
--- an answer and the output, with no work memory lent
-abbrev pub mask_after : Answer ℕ → List ℕ → After ℕ
-mask_after a out = record { answer = a; output = out; work = [] }

@@ -1,16 +1,15 @@
 -- Laws of equal names: either may come first, and the one stands for the other; names with the same bytes have the same
--- fingerprint; lists in upper case, place by place.
+-- fingerprint.
 -- Assumes nothing.
-use Prim.Native.Nat.{ℕ, zero, suc, ◌<◌}
+use Prim.Native.Nat.{ℕ}
 use mathlib.Core.Path.{◌≡◌, refl, sym, ap, ap₂}
 use mathlib.Core.Bool.{Bool, true, false, ◌&&◌}
 use mathlib.Core.List.{List, [], ◌∷◌}
 use native.Mathlib.Omega.{arith}
 use lib.Dec.{eqb}
-use lib.ListN.{length, get_or}
 use borrow.Author.Tests.{eqb-true, eqb-false, eq-eqb, ne_eqb}
 use Rattle.definition.specs.declared.Span.{Span}
-use Rattle.definition.specs.Basic.{same, upper, uppers}
+use Rattle.definition.specs.Basic.{same, uppers}
 use Rattle.definition.specs.Fold.{name_of, same_name}
 use Rattle.definition.proofs.WordLaws.{same-equal}
 use Rattle.names.specs.Prints.{print_of, name_print}
@@ -41,15 +40,6 @@ apart a b h = by-test (same a b) refl
     by-test : (t : Bool) → same a b ≡ t → t ≡ false
     by-test true e = absurd (h (same-equal a b e))
     by-test false e = refl
-
-pub upper-length : (l : List ℕ) → length (uppers l) ≡ length l
-upper-length [] = refl
-upper-length (x ∷ xs) = ap suc (upper-length xs)
-
-pub upper-at : (l : List ℕ) (i : ℕ) → i < length l → get_or (uppers l) i 0 ≡ upper (get_or l i 0)
-upper-at [] i h = absurd (omega arith)
-upper-at (x ∷ xs) zero h = refl
-upper-at (x ∷ xs) (suc i) h = upper-at xs i (omega arith)
 
 -- ---------------------------------------------------------------- the same name
 

@@ -1,5 +1,5 @@
-// Names in a text: the part that a span fills, whether two names are the same, case aside or case included, and a
-// name's fingerprint; an absent name means FILLER. Leans on `definition` and `text`.
+//! Names in a text: the part that a span fills, whether two names are the same, case aside or case included, and a
+//! name's fingerprint; an absent name means FILLER. Leans on `definition` and `text`.
 #![tactic(auto)]
 
 ghost use Rattle.std.specs.Prelude.{◌≡◌, ◌+◌, ◌<◌, if◌then◌else◌};
@@ -9,40 +9,34 @@ ghost use Rattle.names.specs.Prints.{byte_back, print_of, name_print};
 
 use definition::Span;
 
-// The part of the text that a span fills, cut off at the text's end.
+/// The part of the text that a span fills, cut off at the text's end.
 pub fn part_of(text: &[u8], w: Span) -> &[u8]
     ensures { result.now ≡ part text.now w }
 {
-    let start = w.start;
-    let len = w.len;
-    if text.len() <= start {
-        return &text[0..0];
-    }
-    if text.len() - start < len {
-        return &text[start..];
-    }
-    let end = start + len;
-    &text[start..end]
+    let rest = &text[w.start.min(text.len())..];
+    &rest[..w.len.min(rest.len())]
 }
 
-// The part of the text that a span fills, or this word where it is absent.
+/// The part of the text that a span fills, or this word where it is absent.
 pub fn part_or<'a>(text: &'a [u8], w: Span, filler: &'a [u8]) -> &'a [u8]
     ensures { result.now ≡ (if given w then part text.now w else filler.now) }
 {
-    if 0 < w.len {
-        return part_of(text, w);
+    if w.is_given() {
+        part_of(text, w)
+    } else {
+        filler
     }
-    filler
 }
 
-// Whether two names are the same, case aside; an absent one means FILLER.
+/// Whether two names are the same, case aside; an absent one means FILLER.
+// Kept: a twin of `same_spellings` – no plainer: two relations of the definition, one line each.
 pub fn same_names(text: &[u8], a: Span, b: Span) -> bool
     ensures { result ≡ same_name text.now a b }
 {
     text::same_name(part_or(text, a, b"FILLER"), part_or(text, b, b"FILLER"))
 }
 
-// Whether two names are spelled the same; an absent one means FILLER.
+/// Whether two names are spelled the same; an absent one means FILLER.
 pub fn same_spellings(text: &[u8], a: Span, b: Span) -> bool
     ensures { result ≡ same_spelling text.now a b }
 {
@@ -51,7 +45,7 @@ pub fn same_spellings(text: &[u8], a: Span, b: Span) -> bool
 
 // ---------------------------------------------------------------- fingerprints
 
-// The byte k places before a word's last, in upper case, or 0 where there is none.
+/// The byte k places before a word's last, in upper case, or 0 where there is none.
 fn byte_back(w: &[u8], k: usize) -> u8
     ensures { result ≡ byte_back (uppers w.now) k }
 {
@@ -61,17 +55,20 @@ fn byte_back(w: &[u8], k: usize) -> u8
     text::upper(w[w.len() - 1 - k])
 }
 
-// The fingerprint of a word, case aside.
+/// The fingerprint of a word, case aside.
+#[tactic(auto, unfolding(crate::specs::Prints::print_of))]
 fn print_word(w: &[u8]) -> u32
     ensures { result ≡ print_of (uppers w.now) }
 {
-    let x = byte_back(w, 2) as u32;
-    let y = byte_back(w, 1) as u32;
-    let z = byte_back(w, 0) as u32;
-    (((w.len() % 256) as u32 * 256 + x) * 256 + y) * 256 + z
+    u32::from_be_bytes([
+        (w.len() % 256) as u8,
+        byte_back(w, 2),
+        byte_back(w, 1),
+        byte_back(w, 0),
+    ])
 }
 
-// The fingerprint of a name; an absent one means FILLER.
+/// The fingerprint of a name; an absent one means FILLER.
 pub fn print_of(text: &[u8], w: Span) -> u32
     ensures { result ≡ name_print text.now w }
 {

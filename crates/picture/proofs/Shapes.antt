@@ -1,14 +1,14 @@
 -- Laws of the shape: by the tallies it is that of the symbols, and the checks of the shape are those of the symbols.
 -- Assumes nothing.
 use Prim.Native.Nat.{ℕ, ◌+◌, ◌-◌}
-use mathlib.Core.Path.{◌≡◌, refl, sym, ap, ap₂, ◌∙◌}
+use mathlib.Core.Path.{◌≡◌, refl, sym, ap, ◌∙◌}
 use mathlib.Core.Bool.{Bool, true, false, not}
 use mathlib.Core.List.{List}
 use native.Mathlib.Omega.{arith}
 use lib.ListN.{length}
 use Rattle.definition.specs.declared.Refusal.{Refusal}
 use Rattle.definition.specs.declared.Usage.{Usage}
-use Rattle.definition.specs.Basic.{Answer, refuse, give, ◌>>=◌, refuse_if}
+use Rattle.definition.specs.Basic.{Answer, Err, Ok, ◌>>=◌, and_then, refuse_if}
 use Rattle.definition.specs.Picture.{trim, expand, tally, before_point, fraction, all_digits, stored_digits, without, mask}
 use Rattle.definition.specs.Picture.{mixed, too_long, symbols}
 use Rattle.definition.proofs.Answers.{bound, through, given-same, map-refused}
@@ -16,9 +16,8 @@ use Rattle.definition.proofs.PictureLaws.{tally-sides, without-length, mask-widt
 use Rattle.symbols.specs.declared.Tallies.{Tallies}
 use Rattle.symbols.specs.declared.Half.{Half}
 use Rattle.picture.specs.declared.PicShape.{PicShape}
-use Rattle.picture.specs.declared.Shaped.{Shaped}
 use Rattle.symbols.specs.Shape.{tallies, halves, nothing, counts}
-use Rattle.picture.specs.Kinds.{stored_of, shape_of, shape_for, judged, Reads}
+use Rattle.picture.specs.Kinds.{stored_of, shape_of, shape_for, mixed_by, long_by, checked, shaped}
 use Rattle.symbols.proofs.Halves.{legal-halves}
 use Rattle.symbols.proofs.Counting.{no_digit}
 
@@ -52,47 +51,85 @@ module _ (l : List ℕ) where
         width = width_same i;
       }
 
--- the checks, then the shape
-checks-shape :
-    {A B : Type 0} (f : A → B) (a : A) (x y z : Bool) (at : ℕ) →
-    ((refuse_if x 25 at >>= λ _. refuse_if y 26 at >>= λ _. refuse_if z 27 at >>= λ _. give a) >>= λ v. give (f v)) ≡
-    (refuse_if x 25 at >>= λ _. refuse_if y 26 at >>= λ _. refuse_if z 27 at >>= λ _. give (f a))
-unfolding ◌>>=◌
-checks-shape f a true y z at = refl
-checks-shape f a false true z at = refl
-checks-shape f a false false true at = refl
-checks-shape f a false false false at = refl
-
--- the shape of the symbols that are not refused
+-- the shape of the symbols that are not refused, by the checks of the shape
 pub symbols-shape :
-    (at : ℕ) (usage : Usage) (bs : List ℕ) (x : Answer (List ℕ)) →
-    expand at 0 0 (trim bs) ≡ x →
-    (symbols at usage bs >>= λ l. give (shape_for l)) ≡ (x >>= λ l. judged at usage (shape_for l) (halves Half.Nothing l))
-unfolding ◌>>=◌ symbols
-symbols-shape at usage bs (refuse r) e = rw e
-symbols-shape at usage bs (give l) e =
-    rw (e, legal-halves l) (checks-shape shape_for l (not (nothing (halves Half.Nothing l))) (mixed l) (too_long usage l) at)
+    (at : ℕ) (usage : Usage) (bs : List ℕ) {l : List ℕ} {s : PicShape} {half : Half} →
+    expand at 0 0 (trim bs) ≡ Ok l → s ≡ shape_for l → half ≡ halves Half.Nothing l →
+    shaped at usage bs ≡ (checked at usage s half >>= λ _. Ok s)
+unfolding and_then symbols
+symbols-shape at usage bs {l} e p h = rw (p, h, e, legal-halves l) (go (not (nothing (halves Half.Nothing l))) (mixed l) (too_long usage l))
+  where
+    go : (x y z : Bool) →
+        ((refuse_if x (Refusal.BadSymbol at) >>= λ _. refuse_if y (Refusal.MixedPicture at) >>= λ _. refuse_if z (Refusal.TooLong at) >>= λ _. Ok l) >>= λ v. Ok (shape_for v)) ≡
+        ((refuse_if x (Refusal.BadSymbol at) >>= λ _. refuse_if y (Refusal.MixedPicture at) >>= λ _. refuse_if z (Refusal.TooLong at)) >>= λ _. Ok (shape_for l))
+    go true y z = refl
+    go false true z = refl
+    go false false true = refl
+    go false false false = refl
 
--- a refusal of the counting is that of the symbols
-pub counts-refused : (at : ℕ) (bs : List ℕ) {r : Refusal} → refuse r ≡ counts at bs → expand at 0 0 bs ≡ refuse r
-counts-refused at bs h = map-refused (λ l. (tallies l, halves Half.Nothing l)) (expand at 0 0 bs) (sym h)
+-- what was counted
+module _ (at : ℕ) (usage : Usage) (bs : List ℕ) where
+  -- a refusal of the counting is that of the symbols
+  pub counts-refused : {r : Refusal} → Err r ≡ counts at (trim bs) → Err r ≡ shaped at usage bs
+  unfolding and_then symbols
+  counts-refused h = rw (map-refused (λ l. (tallies l, halves Half.Nothing l)) (expand at 0 0 (trim bs)) (sym h))
 
--- the checks of what was counted are those of the symbols
-pub counts-given :
-    (at : ℕ) (bs : List ℕ) (usage : Usage) (x : Answer (List ℕ)) {t : Tallies} {half : Half} →
-    expand at 0 0 bs ≡ x →
-    give (t, half) ≡ counts at bs →
-    judged at usage (shape_of t) half ≡ (x >>= λ l. judged at usage (shape_for l) (halves Half.Nothing l))
-unfolding ◌>>=◌
-counts-given at bs usage (refuse y) e h = absurd (let q = rw e at h in let z : ◌≡◌ {A = ℕ} 0 1 = cc in omega arith)
-counts-given at bs usage (give l) {t} {half} e h =
-    let both = given-same (rw e at h) in
-    let same : t ≡ tallies l = ap (λ (x : Tallies × Half). x.0) both in
-    let awaited : half ≡ halves Half.Nothing l = ap (λ (x : Tallies × Half). x.1) both in
-    ap₂ (judged at usage) (ap shape_of same ∙ shape_same l) awaited
+  module _ {t : Tallies} {half : Half} (h : ◌≡◌ {A = Answer (Tallies × Half)} (Ok (t, half)) (counts at (trim bs))) {s : PicShape} (is : s ≡ shape_of t) where
+    by-checks : shaped at usage bs ≡ (checked at usage s half >>= λ _. Ok s)
+    unfolding and_then
+    by-checks = go (expand at 0 0 (trim bs)) refl h
+      where
+        go : (x : Answer (List ℕ)) → expand at 0 0 (trim bs) ≡ x → ◌≡◌ {A = Answer (Tallies × Half)} (Ok (t, half)) (x >>= λ l. Ok (tallies l, halves Half.Nothing l)) → shaped at usage bs ≡ (checked at usage s half >>= λ _. Ok s)
+        go (Err y) e h = absurd (let z : ◌≡◌ {A = ℕ} 0 1 = cc in omega arith)
+        go (Ok l) e h =
+            let both = given-same h in
+            let same : t ≡ tallies l = ap (λ (x : Tallies × Half). x.0) both in
+            let awaited : half ≡ halves Half.Nothing l = ap (λ (x : Tallies × Half). x.1) both in
+            symbols-shape at usage bs e (is ∙ ap shape_of same ∙ shape_same l) awaited
+
+    pub checks-refused : {r : Refusal} → Err r ≡ checked at usage s half → Err r ≡ shaped at usage bs
+    unfolding and_then
+    checks-refused e = rw (by-checks, ← e)
+
+    pub checks-passed : Ok tt ≡ checked at usage s half → Ok s ≡ shaped at usage bs
+    unfolding and_then
+    checks-passed e = rw (by-checks, ← e)
+
+-- a shape that passed the checks is not too long
+pub not-long : (at : ℕ) (usage : Usage) (s : PicShape) (half : Half) → Ok tt ≡ checked at usage s half → long_by usage s ≡ false
+unfolding and_then
+not-long at usage s half e = go (not (nothing half)) (mixed_by s) (long_by usage s) e
+  where
+    go : (x y z : Bool) → Ok tt ≡ (refuse_if x (Refusal.BadSymbol at) >>= λ _. refuse_if y (Refusal.MixedPicture at) >>= λ _. refuse_if z (Refusal.TooLong at)) → z ≡ false
+    go x y false e = refl
+    go true y true e = absurd (let z : ◌≡◌ {A = ℕ} 0 1 = cc in omega arith)
+    go false true true e = absurd (let z : ◌≡◌ {A = ℕ} 0 1 = cc in omega arith)
+    go false false true e = absurd (let z : ◌≡◌ {A = ℕ} 0 1 = cc in omega arith)
+
+-- the checks, one after the other
+module _ (at : ℕ) (usage : Usage) (s : PicShape) (half : Half) where
+  pub check-illegal : nothing half ≡ false → checked at usage s half ≡ Err (Refusal.BadSymbol at)
+  unfolding and_then
+  check-illegal x = rw x
+
+  module _ (x : nothing half ≡ true) where
+    pub check-mixed : mixed_by s ≡ true → checked at usage s half ≡ Err (Refusal.MixedPicture at)
+    unfolding and_then
+    check-mixed y = rw (x, y)
+
+    module _ (y : mixed_by s ≡ false) where
+      pub check-long : long_by usage s ≡ true → checked at usage s half ≡ Err (Refusal.TooLong at)
+      unfolding and_then
+      check-long z = rw (x, y, z)
+
+      pub check-passed : long_by usage s ≡ false → checked at usage s half ≡ Ok tt
+      unfolding and_then
+      check-passed z = rw (x, y, z)
+
+pub ruleset check_steps = (check-illegal, check-mixed, check-long, check-passed)
 
 -- symbols that are not refused were expanded
-symbols-expanded : (at : ℕ) (usage : Usage) (bs : List ℕ) {l : List ℕ} → symbols at usage bs ≡ give l → expand at 0 0 (trim bs) ≡ give l
+symbols-expanded : (at : ℕ) (usage : Usage) (bs : List ℕ) {l : List ℕ} → symbols at usage bs ≡ Ok l → expand at 0 0 (trim bs) ≡ Ok l
 unfolding symbols
 symbols-expanded at usage bs h =
     through _ _ h λ _ e h₁.
@@ -104,17 +141,16 @@ symbols-expanded at usage bs h =
 -- the symbols behind a shape
 pub record Behind (at : ℕ) (usage : Usage) (bs : List ℕ) (s : PicShape) : Type 0 where
   pub list : List ℕ
-  pub are : symbols at usage bs ≡ give list
-  pub expanded : expand at 0 0 (trim bs) ≡ give list
+  pub are : symbols at usage bs ≡ Ok list
+  pub expanded : expand at 0 0 (trim bs) ≡ Ok list
   pub shape : s ≡ shape_for list
 
 -- a shape that was read has symbols behind it
-pub behind : {at : ℕ} {usage : Usage} {bs : List ℕ} {r : Shaped} → Reads at usage bs r → {s : PicShape} → r ≡ Shaped.Shape s → Behind at usage bs s
-behind {at} {usage} {bs} k {s} e =
-    let given : give s ≡ (symbols at usage bs >>= λ l. give (shape_for l)) = rw e at k.same in
+pub behind : (at : ℕ) (usage : Usage) (bs : List ℕ) {s : PicShape} → Ok s ≡ shaped at usage bs → Behind at usage bs s
+behind at usage bs {s} given =
     let b = bound _ _ (sym given) in
     record { list = b.value; are = b.first; expanded = symbols-expanded at usage bs b.first; shape = sym (given-same b.rest) }
 
 -- a refusal that was read is the symbols'
-pub behind-refused : {at : ℕ} {usage : Usage} {bs : List ℕ} {r : Shaped} → Reads at usage bs r → {x : Refusal} → r ≡ Shaped.Refused x → symbols at usage bs ≡ refuse x
-behind-refused {at} {usage} {bs} k {x} e = map-refused shape_for (symbols at usage bs) (sym (rw e at k.same))
+pub behind-refused : (at : ℕ) (usage : Usage) (bs : List ℕ) {x : Refusal} → Err x ≡ shaped at usage bs → symbols at usage bs ≡ Err x
+behind-refused at usage bs e = map-refused shape_for (symbols at usage bs) (sym e)

@@ -1,18 +1,18 @@
 -- A picture's shape: the numbers that its kind and width and the last refusals depend on.
 -- Assumes nothing.
-use Rattle.std.specs.Prelude.{ℕ, ◌+◌, ◌-◌, ◌≤◌, max, ◌≡◌, Bool, false, ◌&&◌, ◌||◌, not, List, ltb, length, if◌then◌else◌}
+use Rattle.std.specs.Prelude.{ℕ, ◌+◌, ◌-◌, ◌≤◌, max, ◌≡◌, Bool, false, ◌&&◌, ◌||◌, not, List, ltb, length, if◌then◌else◌, Option}
 use Rattle.definition.specs.declared.Usage.{Usage}
-use Rattle.definition.specs.declared.SignClause.{SignClause}
+use Rattle.definition.specs.declared.SignKind.{SignKind}
 use Rattle.definition.specs.declared.FieldKind.{FieldKind}
 use Rattle.definition.specs.declared.Pictured.{Pictured}
+use Rattle.definition.specs.declared.Refusal.{Refusal}
 use Rattle.definition.specs.Limits.{most_digits, longest_mask}
-use Rattle.definition.specs.Basic.{Answer, refuse, give, ◌>>=◌, refuse_if}
+use Rattle.definition.specs.Basic.{Answer, Ok, ◌>>=◌, refuse_if}
 use Rattle.definition.specs.Picture.{tally, without, mask, fraction, all_digits, stored_digits, is_signed, is_edited}
 use Rattle.definition.specs.Picture.{pictured, is_display, resolve_sign, storage_width, numeric, symbols}
 use Rattle.symbols.specs.declared.Tallies.{Tallies}
 use Rattle.symbols.specs.declared.Half.{Half}
 use Rattle.picture.specs.declared.PicShape.{PicShape}
-use Rattle.picture.specs.declared.Shaped.{Shaped}
 use Rattle.symbols.specs.Shape.{nothing}
 
 -- the shape of a list of symbols
@@ -60,7 +60,7 @@ abbrev pub long_by : Usage → PicShape → Bool
 long_by usage s = not (ltb 0 s.text) && (ltb most_digits s.digits || masked_by usage s && ltb longest_mask s.mask)
 
 -- kind and width
-abbrev pub kinded_by : Usage → SignClause → PicShape → Pictured
+abbrev pub kinded_by : Usage → Option SignKind → PicShape → Pictured
 kinded_by usage clause s =
     let sign = resolve_sign s.signed clause in
     if ltb 0 s.text then pictured FieldKind.Text s.text
@@ -68,12 +68,11 @@ kinded_by usage clause s =
     else pictured (numeric usage s.digits s.scale s.signed sign) (storage_width usage sign s.stored)
 
 -- the last checks: 25, 26, 27
-abbrev pub judged : ℕ → Usage → PicShape → Half → Answer PicShape
-judged at usage s half = do
-  _ ← refuse_if (not (nothing half)) 25 at
-  _ ← refuse_if (mixed_by s) 26 at
-  _ ← refuse_if (long_by usage s) 27 at
-  give s
+abbrev pub checked : ℕ → Usage → PicShape → Half → Answer (Unit {0})
+checked at usage s half = do
+  _ ← refuse_if (not (nothing half)) (Refusal.BadSymbol at)
+  _ ← refuse_if (mixed_by s) (Refusal.MixedPicture at)
+  refuse_if (long_by usage s) (Refusal.TooLong at)
 
 -- a shape that is not too long
 pub record Fit (usage : Usage) (s : PicShape) : Type 0 where
@@ -81,22 +80,6 @@ pub record Fit (usage : Usage) (s : PicShape) : Type 0 where
   pub part : s.scale ≤ s.digits
   pub held : s.stored ≤ s.digits
 
--- the answer of the code that reads a shape
-abbrev pub shaped_of : Shaped → Answer PicShape
-shaped_of (Shaped.Shape s) = give s
-shaped_of (Shaped.Refused r) = refuse r
-
--- its shape fits
-abbrev pub FitIn : Usage → Shaped → Type 0
-FitIn usage (Shaped.Shape s) = Fit usage s
-FitIn usage (Shaped.Refused r) = Unit {0}
-
--- what the last checks leave
-pub record Judged (at : ℕ) (usage : Usage) (s : PicShape) (half : Half) (r : Shaped) : Type 0 where
-  pub same : shaped_of r ≡ judged at usage s half
-  pub fits : FitIn usage r
-
 -- the shape of a picture that is not refused
-pub record Reads (at : ℕ) (usage : Usage) (bs : List ℕ) (r : Shaped) : Type 0 where
-  pub same : shaped_of r ≡ (symbols at usage bs >>= λ l. give (shape_for l))
-  pub fits : FitIn usage r
+abbrev pub shaped : ℕ → Usage → List ℕ → Answer PicShape
+shaped at usage bs = symbols at usage bs >>= λ l. Ok (shape_for l)

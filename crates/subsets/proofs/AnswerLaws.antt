@@ -9,13 +9,13 @@ use lib.Dec.{leb}
 use lib.ListN.{length, get_or}
 use borrow.Author.Tests.{le-ltb, leb-true, eq-eqb, ne_eqb}
 use Rattle.definition.specs.declared.Extract.{Extract}
-use Rattle.definition.specs.declared.ExtractAnswer.{ExtractAnswer}
+use Rattle.definition.specs.declared.Refusal.{Refusal}
 use Rattle.definition.specs.Limits.{largest, most_items, least_weight, most_weight}
 use Rattle.std.specs.Prelude.{if◌then◌else◌}
-use Rattle.definition.specs.Basic.{sum, give, ◌>>=◌}
+use Rattle.definition.specs.Basic.{sum, Err, Ok, and_then}
 use Rattle.definition.specs.Extract.{Item, items, misweighed, weight_of, chosen, subsets#, up_from, examined}
 use Rattle.definition.specs.Extract.{heaviest, alone, off_by, extract}
-use Rattle.definition.specs.Calls.{extract_of, extract_answer_of}
+use Rattle.definition.specs.Calls.{extract_of}
 use Rattle.definition.proofs.ExtractLaws.{length-up_from, subsets-pos, off-all, off_less, alone-heavier}
 use Rattle.subsets.specs.declared.Found.{Found}
 use Rattle.subsets.specs.Sums.{Narrow, Weighable, Budgeted, HasSubsets, FoundIs}
@@ -60,22 +60,22 @@ module _
       weight_is : f.weight ≡ top_weight limit budget (items bs ws)
       weight_is = found.weight ∙ ap (λ (k : ℕ). weight_of (chosen k (items bs ws))) subset-is
 
-      looked-is : f.looked ≡ length (examined budget (items bs ws))
-      looked-is = found.looked ∙ as_many ∙ sym (length-up_from 0 (min budget (subsets# (items bs ws))))
+      looked-is : count ≡ length (examined budget (items bs ws))
+      looked-is = as_many ∙ sym (length-up_from 0 (min budget (subsets# (items bs ws))))
 
       -- what was found is the answer, with how far off it is
       answer-is :
           (off : ℕ) →
           off
           ≡ off_by limit (items bs ws) (length (examined budget (items bs ws))) (top_weight limit budget (items bs ws)) →
-          record { subset = f.subset; weight = f.weight; examined = f.looked; off = off }
+          record { subset = f.subset; weight = f.weight; examined = count; off = off }
           ≡ extract limit budget (items bs ws)
       answer-is off e = λ i. record { subset = subset-is i; weight = weight_is i; examined = looked-is i; off = e i }
 
       -- all were looked at
       pub all_seen :
-          all ≤ f.looked →
-          record { subset = f.subset; weight = f.weight; examined = f.looked; off = 0 }
+          all ≤ count →
+          record { subset = f.subset; weight = f.weight; examined = count; off = 0 }
           ≡ extract limit budget (items bs ws)
       all_seen h =
           let whole : subsets# (items bs ws) ≤ length (examined budget (items bs ws)) =
@@ -91,8 +91,8 @@ module _
         not-below = omega (arith, weight_is, enough)
 
         pub some-seen :
-            f.looked < all →
-            record { subset = f.subset; weight = f.weight; examined = f.looked; off = s - f.weight }
+            count < all →
+            record { subset = f.subset; weight = f.weight; examined = count; off = s - f.weight }
             ≡ extract limit budget (items bs ws)
         some-seen h =
             let part : length (examined budget (items bs ws)) < subsets# (items bs ws) =
@@ -142,25 +142,25 @@ module _ {bs : List ℕ} (ws : List ℕ) (n : Narrow bs) (p : length ws ≡ leng
 module _ {bs : List ℕ} (ws : List ℕ) (limit budget : ℕ) (n : Narrow bs) where
   pub answers-58 :
       (length ws ≡ length bs → ⊥) →
-      extract_answer_of (ExtractAnswer.Refused (record { number = 58; position = 0; needed = 0 }))
+      Err Refusal.WrongItems
       ≡ extract_of bs ws limit budget
-  unfolding extract_of ◌>>=◌
+  unfolding extract_of and_then
   answers-58 h = rw (le-ltb most_items (length bs) n.few, ne_eqb (length ws) (length bs) h)
 
   module _ (p : length ws ≡ length bs) {b : Bool} (q : b ≡ misweighed ws) where
     pub answers-59 :
         b ≡ true →
-        extract_answer_of (ExtractAnswer.Refused (record { number = 59; position = 0; needed = 0 }))
+        Err Refusal.BadWeight
         ≡ extract_of bs ws limit budget
-    unfolding extract_of ◌>>=◌
+    unfolding extract_of and_then
     answers-59 e = rw (le-ltb most_items (length bs) n.few, eq-eqb (length ws) (length bs) p, ← q, e)
 
     module _ (e : b ≡ false) where
       pub answers-60 :
           budget ≡ 0 →
-          extract_answer_of (ExtractAnswer.Refused (record { number = 60; position = 0; needed = 0 }))
+          Err Refusal.NoBudget
           ≡ extract_of bs ws limit budget
-      unfolding extract_of ◌>>=◌
+      unfolding extract_of and_then
       answers-60 z =
           rw (le-ltb most_items (length bs) n.few, eq-eqb (length ws) (length bs) p, ← q, e, eq-eqb budget 0 z)
 
@@ -168,9 +168,9 @@ module _ {bs : List ℕ} (ws : List ℕ) (limit budget : ℕ) (n : Narrow bs) wh
           (budget ≡ 0 → ⊥) →
           {a : Extract} →
           a ≡ extract limit budget (items bs ws) →
-          extract_answer_of (ExtractAnswer.Chosen a) ≡ extract_of bs ws limit budget
-      unfolding extract_of ◌>>=◌
+          Ok a ≡ extract_of bs ws limit budget
+      unfolding extract_of and_then
       answers-chosen z f =
           rw
           (le-ltb most_items (length bs) n.few, eq-eqb (length ws) (length bs) p, ← q, e, ne_eqb budget 0 z)
-          (ap give f)
+          (ap Ok f)

@@ -10,14 +10,15 @@ use native.Mathlib.Omega.{arith}
 use lib.Dec.{eqb, leb}
 use lib.ListN.{length, get_or, drop, drop_of_length-le}
 use borrow.Author.Tests.{lt-ltb, le-ltb, le-leb, lt-leb}
-use Rattle.definition.specs.Limits.{most_weight, least_weight}
+use Rattle.definition.specs.Limits.{most_weight}
 use Rattle.std.specs.Prelude.{if◌then◌else◌}
 use Rattle.definition.specs.Basic.{sum}
-use Rattle.definition.specs.Extract.{Item, items, misweighed, bytes_of, weight_of}
+use Rattle.definition.specs.Extract.{Item, items, bytes_of, weight_of}
 use Rattle.definition.specs.Extract.{chosen, up_from, heavier, heaviest, alone}
 use Rattle.definition.proofs.Lists.{drop-next}
 use Rattle.subsets.specs.declared.Sums.{Sums}
-use Rattle.subsets.specs.Sums.{sum_in, SumsAre, Weighable, HasNext, HasSubsets, FoundIs}
+use Rattle.subsets.proofs.SumLaws.{Turn}
+use Rattle.subsets.specs.Sums.{sum_in, SumsAre, Weighable, HasSubsets, FoundIs}
 
 -- ---------------------------------------------------------------- the items of a subset
 
@@ -138,10 +139,6 @@ module _
     {bs ws : List ℕ} {limit count best weighs width weight looked : ℕ}
     (l : Looking bs ws limit count best weighs width weight looked)
   where
-    -- there is a next one
-    pub has-next : looked < count → HasNext bs ws (looked - 1) (record { width = width; weight = weight })
-    has-next h = record { items-are = l.items-are; sums = l.last-is; more = omega (arith, l.low, l.few) }
-
     module _ (more : looked < count) {s : Sums} (is-next : SumsAre bs ws (suc (looked - 1)) s) where
       its-width : s.width ≡ bytes_of (chosen looked (items bs ws))
       its-width =
@@ -177,12 +174,11 @@ module _
                 ∙ ap (λ (b : ℕ). heaviest limit (items bs ws) b (up_from (looked + 1) (count - (looked + 1)))) e;
           }
 
-      -- past one that does not fit,
+      -- past one that does not fit or is no heavier,
       pub passes-wide : limit < s.width → Looking bs ws limit count best weighs s.width s.weight (looked + 1)
       passes-wide h =
           goes_on best weighs l.best-is (pass-wide limit (items bs ws) best looked (omega (arith, its-width)))
 
-      -- past one that is no heavier,
       pub passes-light : s.weight ≤ weighs → Looking bs ws limit count best weighs s.width s.weight (looked + 1)
       passes-light h =
           goes_on best weighs l.best-is
@@ -199,14 +195,13 @@ module _
           (omega (arith, its-weight, best-weighs)))
 
     pub looking-ends :
-        count ≤ looked → FoundIs limit count bs ws (record { subset = best; weight = weighs; looked = looked })
+        count ≤ looked → FoundIs limit count bs ws (record { subset = best; weight = weighs })
     unfolding heaviest
     looking-ends h =
         record {
           subset =
               sym (l.same ∙ ap (λ (l : List ℕ). heaviest limit (items bs ws) best l) (numbers-end looked count h));
           weight = l.best-is ∙ sym (weight-sum best bs ws l.items-are.paired);
-          looked = omega (arith, l.high);
         }
 
 -- ---------------------------------------------------------------- the items that fit alone
@@ -243,67 +238,33 @@ module _ {bs ws : List ℕ} {limit s i : ℕ} (l : Summing bs ws limit s i) wher
   unfolding alone
   summing-ends h = sym (l.same ∙ rw (drop_of_length-le bs h) (omega arith))
 
-  module _ (here : i < length bs) where
-    pub weight-there : i < length ws
-    weight-there = omega (arith, l.items-are.paired)
-
+  module _ {b w j : ℕ} (t : Turn bs ws i b w) (next : j ≡ i + 1) where
     -- an item that does not fit alone is left out
-    pub sums-not : limit < get_or bs i 0 → Summing bs ws limit s (i + 1)
+    pub sums-not : limit < b → Summing bs ws limit s j
     unfolding alone
     sums-not h =
-        record {
+        let wide : limit < get_or bs i 0 = omega (arith, t.width) in
+        let here = t.width-there in
+        rw next
+        (record {
           items-are = l.items-are;
           within = omega arith;
           same =
               l.same
-              ∙ rw (drop-next bs i here, drop-next ws i weight-there, lt-leb (get_or bs i 0) limit h) refl;
-        }
+              ∙ rw (drop-next bs i t.width-there, drop-next ws i t.weight-there, lt-leb (get_or bs i 0) limit wide) refl;
+        })
 
     -- and one that does is counted
-    pub sums-too : get_or bs i 0 ≤ limit → Summing bs ws limit (s + get_or ws i 0) (i + 1)
+    pub sums-too : b ≤ limit → Summing bs ws limit (s + w) j
     unfolding alone
     sums-too h =
-        record {
+        let narrow : get_or bs i 0 ≤ limit = omega (arith, t.width) in
+        let here = t.width-there in
+        rw (next, t.weight)
+        (record {
           items-are = l.items-are;
           within = omega arith;
           same =
               l.same
-              ∙ rw (drop-next bs i here, drop-next ws i weight-there, le-leb (get_or bs i 0) limit h) (omega arith);
-        }
-
--- ---------------------------------------------------------------- the weights
-
--- the first i weights are in their range
-pub record Ranged (ws : List ℕ) (i : ℕ) : Type 0 where
-  pub within : i ≤ length ws
-  pub same : misweighed ws ≡ misweighed (drop i ws)
-
-pub ranged-starts : {ws : List ℕ} → Ranged ws 0
-ranged-starts = record { within = omega arith; same = refl }
-
-module _ {ws : List ℕ} {i : ℕ} (l : Ranged ws i) where
-  pub ranged-ends : length ws ≤ i → false ≡ misweighed ws
-  unfolding misweighed
-  ranged-ends h = sym (l.same ∙ rw (drop_of_length-le ws h))
-
-  module _ (here : i < length ws) where
-    pub too-light : get_or ws i 0 < least_weight → true ≡ misweighed ws
-    unfolding misweighed
-    too-light h = sym (l.same ∙ rw (drop-next ws i here, lt-leb least_weight (get_or ws i 0) h))
-
-    module _ (low : least_weight ≤ get_or ws i 0) where
-      pub too-heavy : most_weight < get_or ws i 0 → true ≡ misweighed ws
-      unfolding misweighed
-      too-heavy h =
-          sym (l.same
-          ∙ rw (drop-next ws i here, le-leb least_weight (get_or ws i 0) low, lt-leb (get_or ws i 0) most_weight h))
-
-      pub ranged-goes-on : get_or ws i 0 ≤ most_weight → Ranged ws (i + 1)
-      unfolding misweighed
-      ranged-goes-on h =
-          record {
-            within = omega arith;
-            same =
-                l.same
-                ∙ rw (drop-next ws i here, le-leb least_weight (get_or ws i 0) low, le-leb (get_or ws i 0) most_weight h);
-          }
+              ∙ rw (drop-next bs i t.width-there, drop-next ws i t.weight-there, le-leb (get_or bs i 0) limit narrow) (omega arith);
+        })

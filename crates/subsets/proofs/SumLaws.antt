@@ -4,7 +4,6 @@ use Prim.Native.Nat.{ℕ, zero, suc, ◌+◌, ◌*◌, ◌-◌, ◌/◌, ◌%◌
 use mathlib.Core.Path.{◌≡◌, refl, ◌∙◌}
 use mathlib.Core.Bool.{Bool, true, false}
 use mathlib.Core.List.{List, [], ◌∷◌}
-use mathlib.Core.Logic.{⊎_elim}
 use native.Mathlib.Nat.{pow-suc, sub-zero}
 use native.Mathlib.Omega.{arith}
 use lib.Dec.{eqb}
@@ -13,7 +12,7 @@ use borrow.Author.Tests.{eq-eqb}
 use Rattle.definition.specs.Limits.{largest, most_weight}
 use Rattle.std.specs.Prelude.{if◌then◌else◌}
 use Rattle.definition.specs.Basic.{sum}
-use Rattle.definition.proofs.Lists.{order, drop-next}
+use Rattle.definition.proofs.Lists.{drop-next}
 use Rattle.subsets.specs.declared.Sums.{Sums}
 use Rattle.subsets.specs.Sums.{sum_in, SumsAre, Weighable, HasNext}
 
@@ -57,6 +56,13 @@ module _ (xs : List ℕ) (i m : ℕ) (here : i < length xs) where
       let half : suc m / 2 ≡ m / 2 = omega arith in
       rw (drop-next xs i here, e, half, h) (omega arith)
 
+-- the width and the weight of the item at a place
+pub record Turn (bs ws : List ℕ) (i b w : ℕ) : Type 0 where
+  pub width-there : i < length bs
+  pub weight-there : i < length ws
+  pub width : b ≡ get_or bs i 0
+  pub weight : w ≡ get_or ws i 0
+
 -- where the first i items have left: what is left of the number, and of the sum
 pub record Left (xs : List ℕ) (number rest i s : ℕ) : Type 0 where
   pub same : sum_in (suc number) xs ≡ sum_in (suc rest) (drop i xs)
@@ -82,53 +88,21 @@ leaving-starts h =
       weight-left = record { same = refl; now-is = h.sums.weight };
     }
 
--- while something is left of the number, an item is
-some_left : (n i rest : ℕ) → i ≤ n → suc rest < 2 ^ (n - i) → i < n
-some_left n i rest h l =
-    ⊎_elim
-    (λ (p : i < n). p)
-    (λ (p : n ≤ i). let e : n - i ≡ 0 = omega arith in let z : suc rest < 2 ^ 0 = rw e at l in absurd (omega arith))
-    (order i n)
-
 half-left : (n i rest : ℕ) → i < n → suc rest < 2 ^ (n - i) → rest % 2 ≡ 1 → suc (rest / 2) < 2 ^ (n - (i + 1))
 half-left n i rest h l odd =
     let e : n - i ≡ suc (n - (i + 1)) = omega arith in
     let z : suc rest < 2 ^ suc (n - (i + 1)) = rw e at l in
     omega (arith, pow-suc 2 (n - (i + 1)))
 
+-- while something is left of the number, an item is
+pub none_left : {bs ws : List ℕ} {number width weight rest i : ℕ} → Leaving bs ws number width weight rest i → length bs ≤ i → ⊥
+none_left {bs} {rest = rest} {i} l h =
+    let e : length bs - i ≡ 0 = omega arith in
+    let z : suc rest < 2 ^ 0 = rw e at l.below in
+    let y : ◌≡◌ {A = ℕ} 0 1 = omega arith in
+    omega arith
+
 module _ {bs ws : List ℕ} {number width weight rest i : ℕ} (l : Leaving bs ws number width weight rest i) where
-  pub width-here : i < length bs
-  width-here = some_left (length bs) i rest l.within l.below
-
-  pub weight-here : i < length ws
-  weight-here = omega (arith, width-here, l.items-are.paired)
-
-  module _ (odd : rest % 2 ≡ 1) where
-    -- no difference is below 0
-    pub width-falls : get_or bs i 0 ≤ width
-    width-falls = omega (arith, odd-now bs i rest width-here odd, l.width-left.now-is)
-
-    pub weight-falls : get_or ws i 0 ≤ weight
-    weight-falls = omega (arith, odd-now ws i rest weight-here odd, l.weight-left.now-is)
-
-    pub leaving-goes-on : Leaving bs ws number (width - get_or bs i 0) (weight - get_or ws i 0) (rest / 2) (i + 1)
-    leaving-goes-on =
-        record {
-          items-are = l.items-are;
-          within = omega (arith, width-here);
-          below = half-left (length bs) i rest width-here l.below odd;
-          width-left =
-              record {
-                same = l.width-left.same ∙ odd-next bs i rest width-here odd;
-                now-is = omega (arith, odd-now bs i rest width-here odd, l.width-left.now-is);
-              };
-          weight-left =
-              record {
-                same = l.weight-left.same ∙ odd-next ws i rest weight-here odd;
-                now-is = omega (arith, odd-now ws i rest weight-here odd, l.weight-left.now-is);
-              };
-        }
-
   -- no sum is too large
   pub width_fits : width ≤ 16 * largest
   width_fits =
@@ -138,12 +112,40 @@ module _ {bs ws : List ℕ} {number width weight rest i : ℕ} (l : Leaving bs w
   weight-fits =
       omega (arith, l.weight-left.now-is, sum_bound rest (drop i ws), drop-bound i ws, l.items-are.light)
 
-  pub leaving-ends :
-      (rest % 2 ≡ 1 → ⊥) →
-      SumsAre bs ws (suc number) (record { width = width + get_or bs i 0; weight = weight + get_or ws i 0 })
-  leaving-ends h =
-      let even : rest % 2 ≡ 0 = omega (arith, h) in
-      record {
-        width = omega (arith, l.width-left.same, even-next bs i rest width-here even, l.width-left.now-is);
-        weight = omega (arith, l.weight-left.same, even-next ws i rest weight-here even, l.weight-left.now-is);
-      }
+  module _ {b w : ℕ} (t : Turn bs ws i b w) where
+    module _ (uneven : rest % 2 ≡ 0 → ⊥) where
+      odd : rest % 2 ≡ 1
+      odd = omega (arith, uneven)
+
+      -- no difference is below 0
+      pub width-falls : b ≤ width
+      width-falls = omega (arith, t.width, odd-now bs i rest t.width-there odd, l.width-left.now-is)
+
+      pub weight-falls : w ≤ weight
+      weight-falls = omega (arith, t.weight, odd-now ws i rest t.weight-there odd, l.weight-left.now-is)
+
+      pub leaving-goes-on : {j : ℕ} → j ≡ i + 1 → Leaving bs ws number (width - b) (weight - w) (rest / 2) j
+      leaving-goes-on e =
+          rw e
+          (record {
+            items-are = l.items-are;
+            within = omega (arith, t.width-there);
+            below = half-left (length bs) i rest t.width-there l.below odd;
+            width-left =
+                record {
+                  same = l.width-left.same ∙ odd-next bs i rest t.width-there odd;
+                  now-is = omega (arith, t.width, odd-now bs i rest t.width-there odd, l.width-left.now-is);
+                };
+            weight-left =
+                record {
+                  same = l.weight-left.same ∙ odd-next ws i rest t.weight-there odd;
+                  now-is = omega (arith, t.weight, odd-now ws i rest t.weight-there odd, l.weight-left.now-is);
+                };
+          })
+
+    pub leaving-ends : rest % 2 ≡ 0 → SumsAre bs ws (suc number) (record { width = width + b; weight = weight + w })
+    leaving-ends even =
+        record {
+          width = omega (arith, t.width, l.width-left.same, even-next bs i rest t.width-there even, l.width-left.now-is);
+          weight = omega (arith, t.weight, l.weight-left.same, even-next ws i rest t.weight-there even, l.weight-left.now-is);
+        }

@@ -47,8 +47,7 @@ pub record HasSubsets (bs ws : List ℕ) (count : ℕ) : Type 0 where
   pub some : 0 < count
   pub few : count ≤ 2 ^ length bs
 
--- the best of the first subsets, its weight, and how many they are
+-- the best of the first subsets, and its weight
 pub record FoundIs (limit count : ℕ) (bs ws : List ℕ) (r : Found) : Type 0 where
   pub subset : r.subset ≡ heaviest limit (items bs ws) 0 (up_from 0 count)
   pub weight : r.weight ≡ weight_of (chosen r.subset (items bs ws))
-  pub looked : r.looked ≡ count

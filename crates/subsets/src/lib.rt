@@ -1,116 +1,95 @@
-// The heaviest subset of some items that fits a limit, among as many as are looked at: an extract, from the widths and
-// the weights of the items. Subsets are numbered in binary, the first item being the lowest bit; width and weight are
-// kept from one to the next.
+//! The heaviest subset of some items that fits a limit, among as many as are looked at: an extract, from the widths and
+//! the weights of the items. Subsets are numbered in binary, the first item being the lowest bit; width and weight are
+//! kept from one to the next. Leans on `definition`.
 #![tactic(auto)]
 
-ghost use Rattle.std.specs.Prelude.{◌≡◌, suc, ◌+◌, ◌*◌, ◌^◌, ◌≤◌, ◌<◌, min, length};
-ghost use Rattle.definition.specs.Calls.{extract_answer_of, extract_of};
+ghost use Rattle.std.specs.Prelude.{◌≡◌, suc, ◌^◌, ◌≤◌};
+ghost use Rattle.definition.specs.Calls.{extract_of};
 ghost use Rattle.definition.specs.Extract.{misweighed, items, weight_of, alone, extract};
 ghost use Rattle.definition.specs.Limits.{most_items};
 ghost use Rattle.subsets.specs.Sums.{SumsAre, Weighable, HasNext, Budgeted, HasSubsets, Narrow, FoundIs};
 
-use definition::{Extract, ExtractAnswer, LEAST_WEIGHT, MOST_WEIGHT, Refusal};
+use definition::{Extract, LEAST_WEIGHT, MOST_WEIGHT, Refusal};
 
-// The bytes of a subset and its weight.
+/// The bytes of a subset and its weight.
 #[derive(Clone, Copy)]
 pub struct Sums {
     pub width: usize,
     pub weight: usize,
 }
 
-// The heaviest of the subsets looked at, its weight, and their number.
+/// The heaviest of the subsets looked at, and its weight.
 #[derive(Clone, Copy)]
 pub struct Found {
     pub subset: usize,
     pub weight: usize,
-    pub looked: usize,
 }
 
-// The sums of the subset after the one of that number: its first items leave, up to the first that it has not, which
-// joins.
+/// The sums of the subset after the one of that number: its first items leave, up to the first that it has not, which
+/// joins.
 fn next_sums(widths: &[u32], weights: &[u32], number: usize, sums: Sums) -> Sums
     requires { HasNext widths.now weights.now number sums }
     ensures { SumsAre widths.now weights.now (suc number) result }
 {
-    let mut width = sums.width;
-    let mut weight = sums.weight;
+    let mut sums = sums;
     let mut rest = number;
-    let mut i = 0;
-    while rest % 2 == 1 {
-        width -= widths[i] as usize;
-        weight -= weights[i] as usize;
+    for (width, weight) in widths.iter().zip(weights) {
+        if rest % 2 == 0 {
+            return Sums {
+                width: sums.width + *width as usize,
+                weight: sums.weight + *weight as usize,
+            };
+        }
+        sums = Sums {
+            width: sums.width - *width as usize,
+            weight: sums.weight - *weight as usize,
+        };
         rest /= 2;
-        i += 1;
     }
-    Sums {
-        width: width + widths[i] as usize,
-        weight: weight + weights[i] as usize,
-    }
+    sums
 }
 
-// The heaviest of the first `count` subsets that fits the limit, the earliest if equal. The empty one, number 0, always
-// fits.
+/// The heaviest of the first `count` subsets that fits the limit, the earliest if equal. The empty one, number 0,
+/// always fits.
 fn best_of(widths: &[u32], weights: &[u32], limit: usize, count: usize) -> Found
     requires { HasSubsets widths.now weights.now count }
     ensures { FoundIs limit count widths.now weights.now result }
 {
-    let mut best = 0;
-    let mut heaviest = 0;
-    let mut width = 0;
-    let mut weight = 0;
-    let mut looked = 1;
-    while looked < count {
-        let sums = next_sums(widths, weights, looked - 1, Sums { width, weight });
-        width = sums.width;
-        weight = sums.weight;
-        if limit < width {
-            looked += 1;
-        } else {
-            if weight <= heaviest {
-                looked += 1;
-            } else {
-                best = looked;
-                heaviest = weight;
-                looked += 1;
-            }
+    let mut best = Found {
+        subset: 0,
+        weight: 0,
+    };
+    let mut sums = Sums {
+        width: 0,
+        weight: 0,
+    };
+    for number in 1..count {
+        sums = next_sums(widths, weights, number - 1, sums);
+        if sums.width <= limit && best.weight < sums.weight {
+            best = Found {
+                subset: number,
+                weight: sums.weight,
+            };
         }
     }
-    Found {
-        subset: best,
-        weight: heaviest,
-        looked,
-    }
+    best
 }
 
-// The weight of all items that fit alone.
+/// The weight of all items that fit alone.
 fn alone_weight(widths: &[u32], weights: &[u32], limit: usize) -> usize
     requires { Weighable widths.now weights.now }
     ensures { result ≡ weight_of (alone limit (items widths.now weights.now)) }
 {
     let mut sum = 0;
-    let mut i = 0;
-    while i < widths.len() {
-        if limit < widths[i] as usize {
-            i += 1;
-        } else {
-            sum += weights[i] as usize;
-            i += 1;
+    for (width, weight) in widths.iter().zip(weights) {
+        if *width as usize <= limit {
+            sum += *weight as usize;
         }
     }
     sum
 }
 
-// The smaller of two numbers.
-fn smaller(a: usize, b: usize) -> usize
-    ensures { result ≡ min a b }
-{
-    if a < b {
-        return a;
-    }
-    b
-}
-
-// How many subsets n items have.
+/// How many subsets n items have.
 fn subset_count(n: usize) -> usize
     requires { n ≤ most_items }
     ensures { result ≡ 2 ^ n }
@@ -118,73 +97,59 @@ fn subset_count(n: usize) -> usize
     1 << n
 }
 
-// The extract, where there is a subset to look at.
+/// The extract, where there is a subset to look at.
 fn extract_of(widths: &[u32], weights: &[u32], limit: usize, budget: usize) -> Extract
     requires { Budgeted widths.now weights.now budget }
     ensures { result ≡ extract limit budget (items widths.now weights.now) }
 {
     let all = subset_count(widths.len());
-    let found = best_of(widths, weights, limit, smaller(budget, all));
-    if found.looked < all {
-        return Extract {
-            subset: found.subset,
-            weight: found.weight,
-            examined: found.looked,
-            off: alone_weight(widths, weights, limit) - found.weight,
-        };
-    }
+    let examined = budget.min(all);
+    let found = best_of(widths, weights, limit, examined);
+    let off = if examined < all {
+        alone_weight(widths, weights, limit) - found.weight
+    } else {
+        0
+    };
     Extract {
         subset: found.subset,
         weight: found.weight,
-        examined: found.looked,
-        off: 0,
+        examined,
+        off,
     }
 }
 
-// Whether some weight is outside its range.
+/// Whether some weight is outside its range.
+#[tactic(auto, unfolding(definition::specs::Extract::misweighed))]
 fn is_misweighed(weights: &[u32]) -> bool
     ensures { result ≡ misweighed weights.now }
 {
-    let mut i = 0;
-    while i < weights.len() {
-        if weights[i] < LEAST_WEIGHT {
+    for weight in weights {
+        if *weight < LEAST_WEIGHT || MOST_WEIGHT < *weight {
             return true;
         }
-        if MOST_WEIGHT < weights[i] {
-            return true;
-        }
-        i += 1;
     }
     false
 }
 
-// The extract of up to 16 items of these widths: 58 for another number of weights than of items, 59 for a weight
-// outside its range, 60 for a budget of 0.
-pub fn choose(widths: &[u32], weights: &[u32], limit: usize, budget: usize) -> ExtractAnswer
+/// The extract of up to 16 items of these widths: 58 for another number of weights than of items, 59 for a weight
+/// outside its range, 60 for a budget of 0.
+pub fn choose(
+    widths: &[u32],
+    weights: &[u32],
+    limit: usize,
+    budget: usize,
+) -> Result<Extract, Refusal>
     requires { Narrow widths.now }
-    ensures { extract_answer_of result ≡ extract_of widths.now weights.now limit budget }
+    ensures { result ≡ extract_of widths.now weights.now limit budget }
 {
-    let misweighed = is_misweighed(weights);
     if weights.len() != widths.len() {
-        return ExtractAnswer::Refused(Refusal {
-            number: 58,
-            position: 0,
-            needed: 0,
-        });
+        return Err(Refusal::WrongItems);
     }
-    if misweighed {
-        return ExtractAnswer::Refused(Refusal {
-            number: 59,
-            position: 0,
-            needed: 0,
-        });
+    if is_misweighed(weights) {
+        return Err(Refusal::BadWeight);
     }
     if budget == 0 {
-        return ExtractAnswer::Refused(Refusal {
-            number: 60,
-            position: 0,
-            needed: 0,
-        });
+        return Err(Refusal::NoBudget);
     }
-    ExtractAnswer::Chosen(extract_of(widths, weights, limit, budget))
+    Ok(extract_of(widths, weights, limit, budget))
 }

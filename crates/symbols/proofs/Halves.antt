@@ -130,3 +130,22 @@ legal-halves (a ∷ b ∷ l) = go (is "C" a) (is "D" a) (symbol a) refl refl ref
     go false true s ec ed es two one = rw (eqb-true a 68 ed) (legal-d b l (is "B" b) refl two)
     go false false true ec ed es two one = rw (ec, ed, es, legal) one
     go false false false ec ed es two one = rw (ec, ed, es, legal) (wrong-ends l refl)
+
+-- the third and later copies change nothing
+pub halves-none : (p : Half) (b n : ℕ) → n ≡ 0 → halves p (replicate n b) ≡ p
+unfolding halves
+halves-none p b n e = rw e
+
+pub halves-once : (p : Half) (b n : ℕ) → n ≡ 1 → halves p (replicate n b) ≡ awaits p b
+unfolding halves
+halves-once p b n e = rw e
+
+pub halves-later : (p : Half) (b n : ℕ) → (n ≡ 0 → ⊥) → (n ≡ 1 → ⊥) → halves p (replicate n b) ≡ awaits (awaits p b) b
+halves-later p b zero z o = absurd (z refl)
+halves-later p b (suc zero) z o = absurd (o refl)
+halves-later p b (suc (suc n)) z o = halves-more p b n
+
+pub halves-still : (p : Half) (b n : ℕ) → nothing p ≡ true → symbol b ≡ true → halves p (replicate n b) ≡ p
+halves-still p b n h s = sym (halves-symbol p b n (sym h) refl (sym s) refl)
+
+pub ruleset half_steps = (halves-none, halves-once, halves-later, halves-still)

@@ -1,5 +1,4 @@
-pub mod Keys
 pub mod Halves
 pub mod Counting
-pub mod Repeating
 pub mod Running
+pub mod Repeating

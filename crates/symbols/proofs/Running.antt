@@ -1,130 +1,141 @@
 -- Laws of a run of one symbol: it is read by a repeat, or it is written out.
 -- Assumes nothing.
 use Prim.Native.Nat.{ℕ, zero, suc, ◌+◌, ◌-◌, ◌≤◌, ◌<◌}
-use mathlib.Core.Path.{◌≡◌, sym, ap, subst, ◌∙◌}
-use mathlib.Core.List.{List, []}
+use mathlib.Core.Path.{◌≡◌, refl, sym, ap, ap₂, subst, ◌∙◌}
+use mathlib.Core.Bool.{Bool, true, false}
+use lib.Dec.{eqb}
+use borrow.Author.Tests.{eqb-true}
+use Rattle.std.specs.Prelude.{cond, Result, MatchResult}
+use Rattle.std.specs.List.{prefix_len}
+use Rattle.std.proofs.lemmas.List.Sums.{prefix_len-le-length}
+use mathlib.Core.List.{List, [], ◌∷◌, ◌++◌}
 use mathlib.Core.Logic.{⊎_elim}
 use native.Mathlib.Nat.{add-zero}
 use native.Mathlib.Omega.{arith}
-use lib.ListN.{length, get_or, drop, replicate, length-drop, replicate-append-replicate}
+use lib.ListN.{length, drop, replicate}
+use Rattle.definition.specs.declared.Refusal.{Refusal}
 use Rattle.definition.specs.Limits.{most_symbols}
-use Rattle.definition.specs.Basic.{upper, give, ◌>>=◌}
+use Rattle.definition.specs.Basic.{upper, Err, Ok, and_then}
 use Rattle.definition.specs.Picture.{repeat, expand}
 use Rattle.definition.proofs.Lists.{order}
-use Rattle.definition.proofs.PictureLaws.{onto, onto-nil, onto-onto, expand-refused, expand-many, expand-more}
-use Rattle.symbols.specs.declared.Repeat.{Repeat}
-use Rattle.symbols.specs.Repeats.{Repeated, Alike, Runs, Run}
-use Rattle.symbols.proofs.Repeating.{none_after, plain-after}
+use Rattle.definition.proofs.PictureLaws.{onto, onto-nil, onto-onto}
+use Rattle.symbols.specs.Repeats.{opens, Runs, Stops}
+use Rattle.symbols.proofs.Repeating.{expand-refused, expand-many, expand-more, repeat-other, repeat-once}
 
-module _ (at : ℕ) (t : List ℕ) (i : ℕ) where
+module _ (at b : ℕ) where
   -- a symbol with its repeat
-  pub by-repeat : i < length t → (r : Repeat) → Repeated at (drop (i + 1) t) r → Run at t i r
-  by-repeat h (Repeat.Times n skip) read =
-      let given : repeat at (drop (i + 1) t) ≡ give (n, skip) = sym read.same in
-      record {
-        is =
-            record {
-              more = λ k m. expand-more at k t i h given m;
-              many = λ k few m. expand-many at k t i h given m;
-            };
-        within = omega (arith, read.within, length-drop (i + 1) t);
-      }
-  by-repeat h (Repeat.Refused x) read =
-      record { is = λ k. expand-refused at k t i h (sym read.same); within = omega arith }
+  pub by-repeat : (rest : List ℕ) {n skip : ℕ} → repeat at rest ≡ Ok (n, skip) → Runs at (b ∷ rest) n b (drop skip rest)
+  by-repeat rest e = record { more = λ k m. expand-more at k b rest e m; many = λ k few m. expand-many at k b rest e m }
 
-  abbrev symbol-there : ℕ
-  symbol-there = upper (get_or t i 0)
+  pub by-refusal : (rest : List ℕ) {r : Refusal} → repeat at rest ≡ Err r → Stops at (b ∷ rest) r
+  by-refusal rest e k = expand-refused at k b rest e
 
-  -- none yet
-  none : Runs at t i 0 i
-  none =
+  -- the same symbol once more in front
+  one_more : (n : ℕ) (bs rest : List ℕ) → repeat at bs ≡ Ok (1, 0) → Runs at bs n b rest → Runs at (b ∷ bs) (suc n) b rest
+  unfolding and_then
+  one_more n bs rest once run =
       record {
         more =
             λ k m.
-            sym (onto-nil (expand at k 0 (drop i t)))
-            ∙ ap (λ (n : ℕ). onto [] (expand at n 0 (drop i t))) (sym (add-zero k));
+            let next : k + 1 + n ≤ most_symbols = omega arith in
+            let count : k + 1 + n ≡ k + suc n = omega arith in
+            expand-more at k b bs once (omega arith)
+            ∙ ap (onto (replicate 1 (upper b))) (run.more (k + 1) next)
+            ∙ onto-onto (replicate 1 (upper b)) (replicate n (upper b)) (expand at (k + 1 + n) 0 rest)
+            ∙ ap (λ (j : ℕ). onto (replicate (suc n) (upper b)) (expand at j 0 rest)) count;
+        many =
+            λ k few m.
+            ⊎_elim
+            (λ (l : most_symbols < k + 1). expand-many at k b bs once l)
+            (λ (l : k + 1 ≤ most_symbols).
+            expand-more at k b bs once l ∙ ap (onto (replicate 1 (upper b))) (run.many (k + 1) l (omega arith)))
+            (order most_symbols (k + 1));
+      }
+
+  -- none yet
+  none : (rest : List ℕ) → Runs at rest 0 b rest
+  none rest =
+      record {
+        more = λ k m. sym (onto-nil (expand at k 0 rest)) ∙ ap (λ (n : ℕ). onto [] (expand at n 0 rest)) (sym (add-zero k));
         many = λ k few m. absurd (let z : ◌≡◌ {A = ℕ} 0 1 = omega arith in omega arith);
       }
 
-  -- the same symbol once more
-  module _
-      (d : ℕ) (h : i + d < length t) (same : get_or t (i + d) 0 ≡ get_or t i 0)
-      (once : Repeated at (drop (i + d + 1) t) (Repeat.Times 1 0)) (run : Runs at t i d (i + d))
-    where
-      given : repeat at (drop (i + d + 1) t) ≡ give (1, 0)
-      given = sym once.same
+  module _ (other : b ≡ 40 → ⊥) (rest : List ℕ) (once : repeat at rest ≡ Ok (1, 0)) where
+    -- copies of it, each but the last followed by the next
+    after-copies : (n : ℕ) → repeat at (replicate n b ++ rest) ≡ Ok (1, 0)
+    after-copies zero = once
+    after-copies (suc n) = repeat-other at b (replicate n b ++ rest) other
 
-      longer :
-          (k : ℕ) →
-          k + suc d ≤ most_symbols →
-          expand at k 0 (drop i t)
-          ≡ onto (replicate (suc d) symbol-there) (expand at (k + suc d) 0 (drop (i + suc d) t))
-      longer k m =
-          let few : k + d ≤ most_symbols = omega arith in
-          let next : k + d + 1 ≤ most_symbols = omega arith in
-          let count : k + d + 1 ≡ k + suc d = omega arith in
-          let place : i + d + 1 + 0 ≡ i + suc d = omega arith in
-          let size : d + 1 ≡ suc d = omega arith in
-          let before = replicate d symbol-there in
-          let rest = expand at (k + d + 1) 0 (drop (i + d + 1 + 0) t) in
-          run.more k few
-          ∙ ap (onto before) (expand-more at (k + d) t (i + d) h given next)
-          ∙ ap (λ (b : ℕ). onto before (onto (replicate 1 (upper b)) rest)) same
-          ∙ onto-onto before (replicate 1 symbol-there) rest
-          ∙ ap (λ (l : List ℕ). onto l rest) (replicate-append-replicate d 1 symbol-there)
-          ∙ (λ j. onto (replicate (size j) symbol-there) (expand at (count j) 0 (drop (place j) t)))
+    pub copies : (n : ℕ) → Runs at (replicate n b ++ rest) n b rest
+    copies zero = none rest
+    copies (suc n) = one_more n (replicate n b ++ rest) rest (after-copies n) (copies n)
 
-      pub once_more : Runs at t i (suc d) (i + suc d)
-      unfolding ◌>>=◌
-      once_more =
-          record {
-            more = longer;
-            many =
-                λ k few m.
-                ⊎_elim
-                (λ (l : most_symbols < k + d). run.many k few l)
-                (λ (l : k + d ≤ most_symbols).
-                let over : most_symbols < k + d + 1 = omega arith in
-                run.more k l ∙ ap (onto (replicate d symbol-there)) (expand-many at (k + d) t (i + d) h given over))
-                (order most_symbols (k + d));
-          }
+-- ---------------------------------------------------------------- the run that is read
 
-  module _ (other : get_or t i 0 ≡ 40 → ⊥) where
-    -- a byte and d more like it, each but the last followed by the next
-    written : (d : ℕ) → Alike t i d → Runs at t i d (i + d)
-    written zero a = subst (Runs at t i 0) (sym (add-zero i)) none
-    written (suc d) a =
-        let within : i + d < length t = omega (arith, a.within) in
-        let next : i + d + 1 < length t = omega (arith, a.within) in
-        let place : i + d + 1 ≡ i + suc d = omega arith in
-        let last = a.same (suc d) (omega arith) in
-        let there : get_or t (i + d + 1) 0 ≡ get_or t i 0 = ap (λ (j : ℕ). get_or t j 0) place ∙ last in
-        once_more d within (a.same d (omega arith)) (plain-after at t (i + d + 1) next (λ e. other (sym there ∙ e)))
-        (written d (record { within = within; same = λ j l. a.same j (omega arith) }))
+-- the copies in front of a list
+abbrev front : ℕ → List ℕ → ℕ
+front b l = prefix_len (λ x. eqb x b) l
 
-    module _ {d : ℕ} (a : Alike t i d) where
-      -- all but the last, which has a repeat
-      pub but-the-last : 0 < d → Run at t i (Repeat.Times d (d - 1))
-      but-the-last h =
-          let place : i + d ≡ i + 1 + (d - 1) = omega arith in
-          record { is = subst (Runs at t i d) place (written d a); within = omega (arith, a.within) }
+front-rest : (b : ℕ) (l : List ℕ) → l ≡ replicate (front b l) b ++ drop (front b l) l
+front-rest b [] = refl
+front-rest b (x ∷ xs) = go (eqb x b) refl (front-rest b xs)
+  where
+    go :
+        (t : Bool) → eqb x b ≡ t → xs ≡ replicate (front b xs) b ++ drop (front b xs) xs →
+        x ∷ xs ≡ replicate (cond t (1 + front b xs) 0) b ++ drop (cond t (1 + front b xs) 0) (x ∷ xs)
+    go true e ih =
+        let one : suc (front b xs) ≡ 1 + front b xs = omega arith in
+        subst (λ n. x ∷ xs ≡ replicate n b ++ drop n (x ∷ xs)) one (ap₂ (λ y ys. y ∷ ys) (eqb-true x b e) ih)
+    go false e ih = refl
 
-      all : Repeated at (drop (i + d + 1) t) (Repeat.Times 1 0) → Run at t i (Repeat.Times (d + 1) d)
-      all once =
-          let size : suc d ≡ d + 1 = omega arith in
-          let place : i + suc d ≡ i + 1 + d = omega arith in
-          let run = once_more d a.within (a.same d (omega arith)) once (written d a) in
-          record {
-            is = subst (λ (n : ℕ). Runs at t i n (i + 1 + d)) size (subst (Runs at t i (suc d)) place run);
-            within = omega (arith, a.within);
-          }
+-- a copy in front is a copy after the others
+swap : (b n : ℕ) (t : List ℕ) → b ∷ replicate n b ++ t ≡ replicate n b ++ b ∷ t
+swap b zero t = refl
+swap b (suc n) t = ap (λ l. b ∷ l) (swap b n t)
 
-      -- all of them, and another byte than `(` or none after the last
-      pub all_plain : i + 1 + d < length t → (get_or t (i + 1 + d) 0 ≡ 40 → ⊥) → Run at t i (Repeat.Times (d + 1) d)
-      all_plain h e =
-          let place : i + 1 + d ≡ i + d + 1 = omega arith in
-          let there = ap (λ (j : ℕ). get_or t j 0) place in
-          all (plain-after at t (i + d + 1) (omega arith) (λ q. e (there ∙ q)))
+drop-copies : (b n : ℕ) (t : List ℕ) → drop n (replicate n b ++ t) ≡ t
+drop-copies b zero t = refl
+drop-copies b (suc n) t = drop-copies b n t
 
-      pub all_end : length t ≤ i + 1 + d → Run at t i (Repeat.Times (d + 1) d)
-      all_end h = all (none_after at t (i + d + 1) (omega arith))
+module _ (at b : ℕ) (rest : List ℕ) where
+  pub run-repeat :
+      (r : Result (ℕ × ℕ) Refusal) → r ≡ repeat at rest →
+      MatchResult r (λ r. Runs at (b ∷ rest) r.0 b (drop r.1 rest)) (λ e. Stops at (b ∷ rest) e)
+  run-repeat (Ok p) e = by-repeat at b rest (sym e)
+  run-repeat (Err x) e = by-refusal at b rest (sym e)
+
+  module _ (more : ℕ) (is : more ≡ front b rest) (other : b ≡ 40 → ⊥) where
+    tail : List ℕ
+    tail = drop more rest
+
+    whole : rest ≡ replicate more b ++ drop more rest
+    whole = subst (λ n. rest ≡ replicate n b ++ drop n rest) (sym is) (front-rest b rest)
+
+    -- all but the last, which has a repeat
+    pub but-the-last : (more ≡ 0 → ⊥) → Runs at (b ∷ rest) more b (drop (more - 1) rest)
+    but-the-last some = go more refl whole
+      where
+        go : (n : ℕ) → more ≡ n → rest ≡ replicate n b ++ drop more rest → Runs at (b ∷ rest) n b (drop (n - 1) rest)
+        go zero e w = absurd (some e)
+        go (suc n) e w =
+            let run = copies at b other (b ∷ drop more rest) (repeat-other at b (drop more rest) other) (suc n) in
+            let left : drop n rest ≡ b ∷ drop more rest =
+            ap (drop n) (w ∙ swap b n (drop more rest)) ∙ drop-copies b n (b ∷ drop more rest) in
+            let less : n ≡ suc n - 1 = omega arith in
+            subst (λ m. Runs at (b ∷ rest) (suc n) b (drop m rest)) less
+            (subst (λ l. Runs at l (suc n) b (drop n rest)) (sym (ap (λ l. b ∷ l) w ∙ swap b (suc n) (drop more rest)))
+            (subst (Runs at (replicate (suc n) b ++ b ∷ drop more rest) (suc n) b) (sym left) run))
+
+    -- all of them, and no `(` after the last
+    pub all-of-them : opens (drop more rest) ≡ false → Runs at (b ∷ rest) (more + 1) b (drop more rest)
+    all-of-them h =
+        let run = copies at b other (drop more rest) (repeat-once at (drop more rest) h) (suc more) in
+        let size : suc more ≡ more + 1 = omega arith in
+        subst (λ n. Runs at (b ∷ rest) n b (drop more rest)) size
+        (subst (λ l. Runs at l (suc more) b (drop more rest)) (sym (ap (λ l. b ∷ l) whole)) run)
+
+-- no more than there are
+pub front-le : (b : ℕ) (l : List ℕ) → front b l ≤ length l
+front-le b l = prefix_len-le-length (λ x. eqb x b) l
+
+pub ruleset run_steps = (run-repeat, but-the-last, all-of-them, front-le)

@@ -1,13 +1,12 @@
 -- What the reader counts of a picture's symbols, and what it awaits of CR or DB.
 -- Assumes nothing.
-use Rattle.std.specs.Prelude.{ℕ, ◌+◌, ◌≤◌, Bool, true, false, List, [], ◌∷◌, ltb, length, ◌≡◌, if◌then◌else◌}
+use Rattle.std.specs.Prelude.{ℕ, ◌+◌, ◌≤◌, Bool, true, false, List, [], ◌∷◌, ltb, length, if◌then◌else◌}
 use Prim.Native.String.{String}
 use Rattle.definition.specs.Limits.{most_symbols}
-use Rattle.definition.specs.Basic.{is, among, Answer, refuse, give, ◌>>=◌}
+use Rattle.definition.specs.Basic.{is, among, Answer, Ok, ◌>>=◌}
 use Rattle.definition.specs.Picture.{expand, symbol, tally, before_point}
 use Rattle.symbols.specs.declared.Tallies.{Tallies}
 use Rattle.symbols.specs.declared.Half.{Half}
-use Rattle.symbols.specs.declared.Counted.{Counted}
 
 -- the tallies, by a count of each set of symbols
 abbrev pub tallied : ℕ → ℕ → (String → ℕ) → Tallies
@@ -106,19 +105,4 @@ nothing Half.Wrong = false
 
 -- the symbols of a picture, counted
 abbrev pub counts : ℕ → List ℕ → Answer (Tallies × Half)
-counts at bs = expand at 0 0 bs >>= λ l. give (tallies l, halves Half.Nothing l)
-
--- the answer of the code that counts
-abbrev pub counted_of : Counted → Answer (Tallies × Half)
-counted_of (Counted.Symbols t half) = give (t, half)
-counted_of (Counted.Refused r) = refuse r
-
--- its tallies are small
-abbrev pub SmallIn : Counted → Type 0
-SmallIn (Counted.Symbols t half) = Small t
-SmallIn (Counted.Refused r) = Unit {0}
-
--- it is the definition's
-pub record Counts (at : ℕ) (bs : List ℕ) (r : Counted) : Type 0 where
-  pub same : counted_of r ≡ counts at bs
-  pub small : SmallIn r
+counts at bs = expand at 0 0 bs >>= λ l. Ok (tallies l, halves Half.Nothing l)

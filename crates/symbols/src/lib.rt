@@ -1,164 +1,121 @@
-// The symbols of a picture: each with its repeat `(n)`, and their count, run by run: a symbol with its repeat is one
-// step, whatever n is. Leans on `definition` and `text`.
+//! The symbols of a picture: each with its repeat `(n)`, and their count, run by run: a symbol with its repeat is one
+//! step, whatever n is. Leans on `definition` and `text`.
 #![tactic(auto)]
 
-ghost use Rattle.std.specs.Prelude.{◌<◌, ◌≡◌, [], ◌∷◌, reverse, length, replicate, drop};
-ghost use Rattle.definition.specs.Picture.{trim_start, trim as trimmed, symbol};
-ghost use Rattle.symbols.specs.Repeats.{ClosedAt, Repeated, Alike, Run};
-ghost use Rattle.symbols.specs.Shape.{tallies, run_of, unless, joined, Adds, awaits, halves, nothing, Counts};
+ghost use Rattle.std.specs.Prelude.{◌≡◌, ◌+◌, ◌≤◌, ◌∷◌, IfOk, MatchResult, length, reverse, replicate, drop, nat_eq, position};
+ghost use Rattle.std.specs.List.{prefix_len};
+ghost use Rattle.definition.specs.Picture.{trim_start, trim as trimmed, repeat, symbol};
+ghost use Rattle.symbols.specs.Repeats.{opens, Runs, Stops};
+ghost use Rattle.symbols.specs.Shape.{run_of, unless, joined, Adds, Small, awaits, halves, nothing, counts};
 
 use definition::{MOST_SYMBOLS, Refusal};
-use text::Number;
 
 // ---------------------------------------------------------------- the repeat of a symbol
 
-// A text without the white space in front of it.
-fn trim_start(s: &[u8]) -> &[u8]
+/// A text without the white space in front of it.
+// Kept: a twin of `trim_end` – no plainer: they differ in a pattern, and the library's white space leaves byte 11 out.
+#[tactic(auto, unfolding(definition::specs::Picture::trim_start))]
+fn trim_start(mut s: &[u8]) -> &[u8]
     ensures { result.now ≡ trim_start s.now }
 {
-    let mut i = 0;
-    while i < s.len() {
-        if text::is_white(s[i]) {
-            i += 1;
-        } else {
-            return &s[i..];
-        }
+    while let [first, rest @ ..] = s
+        && text::is_white(*first)
+    {
+        s = rest;
     }
-    &s[i..]
+    s
 }
 
-// A text without the white space after it.
-fn trim_end(s: &[u8]) -> &[u8]
+/// A text without the white space after it.
+#[tactic(auto, unfolding(definition::specs::Picture::trim_start))]
+fn trim_end(mut s: &[u8]) -> &[u8]
     ensures { result.now ≡ reverse (trim_start (reverse s.now)) }
 {
-    let mut e = s.len();
-    while 0 < e {
-        if text::is_white(s[e - 1]) {
-            e -= 1;
-        } else {
-            return &s[0..e];
-        }
+    while let [rest @ .., last] = s
+        && text::is_white(*last)
+    {
+        s = rest;
     }
-    &s[0..e]
+    s
 }
 
-// A text without the white space around it.
+/// A text without the white space around it.
+#[tactic(auto, unfolding(definition::specs::Picture::trim))]
 pub fn trim(s: &[u8]) -> &[u8]
     ensures { result.now ≡ trimmed s.now }
 {
     trim_end(trim_start(s))
 }
 
-// Where the first `)` of a text stands, or the length of a text that has none.
-fn close_at(s: &[u8]) -> usize
-    ensures { ClosedAt s.now result }
+/// Where the first `)` of a text stands.
+fn close_at(s: &[u8]) -> Option<usize>
+    ensures { result ≡ position (λ b. nat_eq b 41) s.now }
 {
-    let mut i = 0;
-    while i < s.len() {
-        if s[i] == b')' {
-            return i;
-        }
-        i += 1;
-    }
-    i
+    s.iter().position(|b| *b == b')')
 }
 
-// How often a symbol stands, and how many bytes after it say so; or why that cannot be read.
-#[derive(Clone, Copy)]
-pub enum Repeat {
-    Times { n: usize, skip: usize },
-    Refused(Refusal),
+/// Whether a text begins with a `(`.
+fn opens(text: &[u8]) -> bool
+    ensures { result ≡ opens text.now }
+{
+    matches!(text, [b'(', ..])
 }
 
-// How often a symbol stands, by the text after its `(`: 22 if no `)` follows, 23 for a count that is none, both at
-// `at`.
-fn repeat_in(inside: &[u8], at: usize) -> Repeat
-    ensures { Repeated at (40 ∷ inside.now) result }
+/// How often a symbol stands, and how many bytes after it say so, by the text after its `(`: 22 if no `)` follows, 23
+/// for a count that is none, both at `at`.
+#[tactic(auto, using(crate::proofs::Repeating::repeat_steps))]
+fn repeat_in(inside: &[u8], at: usize) -> Result<(usize, usize), Refusal>
+    ensures same { result ≡ repeat at (40 ∷ inside.now) }
+    ensures within { IfOk result (λ r. r.1 ≤ length inside.now + 1) }
 {
-    let k = close_at(inside);
-    if k < inside.len() {
-        let word = trim(&inside[0..k]);
-        match text::count_of(word) {
-            Number::Value(n) => {
-                return Repeat::Times {
-                    n: n as usize,
-                    skip: k + 2,
-                };
-            }
-            Number::Bad => {
-                return Repeat::Refused(Refusal {
-                    number: 23,
-                    position: at,
-                    needed: 0,
-                });
-            }
-        }
-    }
-    Repeat::Refused(Refusal {
-        number: 22,
-        position: at,
-        needed: 0,
-    })
+    let k = close_at(inside).ok_or(Refusal::UnclosedRepeat { position: at })?;
+    let n = text::count_of(trim(&inside[..k])).ok_or(Refusal::BadRepeat { position: at })?;
+    Ok((n as usize, k + 2))
 }
 
-// How often a symbol stands, by the text from the place after it on: once, if no `(` is there.
-pub fn repeat_at(picture: &[u8], next: usize, at: usize) -> Repeat
-    ensures { Repeated at (drop next picture.now) result }
+/// How often a symbol stands, and how many bytes after it say so, by the text after it: once, and none, if no `(` is
+/// there; or why that cannot be read, as `repeat_in` has it.
+#[tactic(auto, using(crate::proofs::Repeating::repeat_steps))]
+pub fn repeat_at(rest: &[u8], at: usize) -> Result<(usize, usize), Refusal>
+    ensures same { result ≡ repeat at rest.now }
+    ensures within { IfOk result (λ r. r.1 ≤ length rest.now) }
 {
-    if next < picture.len() {
-        if picture[next] == b'(' {
-            let inside = next + 1;
-            return repeat_in(&picture[inside..], at);
-        }
-        return Repeat::Times { n: 1, skip: 0 };
+    match rest {
+        [b'(', inside @ ..] => repeat_in(inside, at),
+        _ => Ok((1, 0)),
     }
-    Repeat::Times { n: 1, skip: 0 }
 }
 
-// How many bytes after the one at a place are the same as it, one after the other.
-fn alike_after(picture: &[u8], i: usize) -> usize
-    requires { i < length picture.now }
-    ensures { Alike picture.now i result }
+/// How many bytes in front of a text are this one.
+#[tactic(auto, using(crate::proofs::Running::run_steps))]
+fn alike(b: u8, text: &[u8]) -> usize
+    ensures value { result ≡ prefix_len (λ x. nat_eq x b) text.now }
+    ensures within { result ≤ length text.now }
 {
-    let b = picture[i];
-    let mut d = 0;
-    while d < picture.len() - (i + 1) {
-        if picture[i + 1 + d] == b {
-            d += 1;
-        } else {
-            return d;
-        }
-    }
-    d
+    text.iter().take_while(|x| **x == b).count()
 }
 
-// A run of one symbol from a place on: how often it stands, and how many bytes after the first say so. A symbol written
-// out many times is one run, up to one with a `(` after it, which is a run by itself.
-fn run_at(picture: &[u8], i: usize, at: usize) -> Repeat
-    requires { i < length picture.now }
-    ensures { Run at picture.now i result }
+/// A run of a symbol, by the text after it: how often it stands, and how many bytes after it say so. A symbol written
+/// out many times is one run, up to one with a `(` after it, which is a run by itself.
+#[tactic(auto, using(crate::proofs::Running::run_steps))]
+fn run_at(b: u8, rest: &[u8], at: usize) -> Result<(usize, usize), Refusal>
+    ensures run { MatchResult result (λ r. Runs at (b ∷ rest.now) r.0 b (drop r.1 rest.now)) (λ e. Stops at (b ∷ rest.now) e) }
+    ensures within { IfOk result (λ r. r.1 ≤ length rest.now) }
 {
-    if picture[i] == b'(' {
-        return repeat_at(picture, i + 1, at);
+    let more = alike(b, rest);
+    if more == 0 || b == b'(' {
+        return repeat_at(rest, at);
     }
-    let d = alike_after(picture, i);
-    let next = i + 1 + d;
-    if next < picture.len() {
-        if picture[next] == b'(' {
-            if 0 < d {
-                return Repeat::Times { n: d, skip: d - 1 };
-            }
-            return repeat_at(picture, i + 1, at);
-        }
-        return Repeat::Times { n: d + 1, skip: d };
+    if opens(&rest[more..]) {
+        return Ok((more, more - 1));
     }
-    Repeat::Times { n: d + 1, skip: d }
+    Ok((more + 1, more))
 }
 
 // ---------------------------------------------------------------- symbols, judged run by run
 
-// How often the symbols of each set stand in a list of symbols: X A; 9 Z *; those of 9 Z * before the point; P; V and
-// `.`; `$`; `+`; `-`; the signs S + - C D; the editing symbols; S and V, which take no byte of a mask; and all symbols.
+/// How often the symbols of each set stand in a list of symbols: X A; 9 Z *; those of 9 Z * before the point; P; V and
+/// `.`; `$`; `+`; `-`; the signs S + - C D; the editing symbols; S and V, which take no byte of a mask; and all symbols.
 #[derive(Clone, Copy)]
 pub struct Tallies {
     pub text: u32,
@@ -175,11 +132,16 @@ pub struct Tallies {
     pub symbols: u32,
 }
 
-// The tallies of no symbols.
-fn no_symbols() -> Tallies
-    ensures { result ≡ tallies [] }
+/// A count of what stands before the point, where so many points stand already.
+fn before_point(points: u32, n: u32) -> u32
+    ensures { result ≡ unless points n }
 {
-    Tallies {
+    if points == 0 { n } else { 0 }
+}
+
+impl Tallies {
+    /// The tallies of no symbols.
+    const NONE: Tallies = Tallies {
         text: 0,
         digits: 0,
         whole: 0,
@@ -192,126 +154,65 @@ fn no_symbols() -> Tallies
         edits: 0,
         hidden: 0,
         symbols: 0,
-    }
-}
+    };
 
-// A count of what stands before the point, where so many points stand already.
-fn before_point(points: u32, n: u32) -> u32
-    ensures { result ≡ unless points n }
-{
-    if points == 0 {
-        return n;
-    }
-    0
-}
-
-// The tallies of some symbols and of one more that stands n times: only those that it touches change. Neighbours, as
-// `/` and `0`, have arms of their own here and in `is_symbol`: in one arm they would be a range, of which its proof has
-// two cases.
-fn add_run(s: Tallies, b: u8, n: u32) -> Tallies
-    requires { Adds s n }
-    ensures { result ≡ joined s (run_of b n) }
-{
-    let mut r = s;
-    r.symbols = s.symbols + n;
-    match b {
-        b'X' | b'A' => {
-            r.text = s.text + n;
-            return r;
-        }
-        b'9' => {
-            r.digits = s.digits + n;
-            r.whole = s.whole + before_point(s.points, n);
-            return r;
-        }
-        b'Z' | b'*' => {
-            r.digits = s.digits + n;
-            r.whole = s.whole + before_point(s.points, n);
-            r.edits = s.edits + n;
-            return r;
-        }
-        b'P' => {
-            r.scaled = s.scaled + n;
-            return r;
-        }
-        b'V' => {
-            r.points = s.points + n;
-            r.hidden = s.hidden + n;
-            return r;
-        }
-        b'S' => {
-            r.signs = s.signs + n;
-            r.hidden = s.hidden + n;
-            return r;
-        }
-        b'.' => {
-            r.points = s.points + n;
-            r.edits = s.edits + n;
-            return r;
-        }
-        b',' | b'/' | b'B' => {
-            r.edits = s.edits + n;
-            return r;
-        }
-        b'0' => {
-            r.edits = s.edits + n;
-            return r;
-        }
-        b'$' => {
-            r.dollars = s.dollars + n;
-            r.edits = s.edits + n;
-            return r;
-        }
-        b'+' => {
-            r.pluses = s.pluses + n;
-            r.signs = s.signs + n;
-            r.edits = s.edits + n;
-            return r;
-        }
-        b'-' => {
-            r.minuses = s.minuses + n;
-            r.signs = s.signs + n;
-            r.edits = s.edits + n;
-            return r;
-        }
-        b'C' => {
-            r.signs = s.signs + n;
-            r.edits = s.edits + n;
-            return r;
-        }
-        b'D' => {
-            r.signs = s.signs + n;
-            r.edits = s.edits + n;
-            return r;
-        }
-        _ => {
-            return r;
+    /// One more symbol that stands n times: only the tallies that it touches change. Neighbours, as `/` and `0`, have
+    /// arms of their own here and in `is_symbol`: in one arm they would be a range, of which its proof has two cases.
+    fn add(&mut self, b: u8, n: u32)
+        requires { Adds self.old n }
+        ensures { self.new ≡ joined self.old (run_of b n) }
+    {
+        self.symbols += n;
+        match b {
+            b'X' | b'A' => self.text += n,
+            b'9' => {
+                self.digits += n;
+                self.whole += before_point(self.points, n);
+            }
+            b'Z' | b'*' => {
+                self.digits += n;
+                self.whole += before_point(self.points, n);
+                self.edits += n;
+            }
+            b'P' => self.scaled += n,
+            b'V' => {
+                self.points += n;
+                self.hidden += n;
+            }
+            b'S' => {
+                self.signs += n;
+                self.hidden += n;
+            }
+            b'.' => {
+                self.points += n;
+                self.edits += n;
+            }
+            b',' | b'/' | b'B' => self.edits += n,
+            b'0' => self.edits += n,
+            b'$' => {
+                self.dollars += n;
+                self.edits += n;
+            }
+            b'+' => {
+                self.pluses += n;
+                self.signs += n;
+                self.edits += n;
+            }
+            b'-' => {
+                self.minuses += n;
+                self.signs += n;
+                self.edits += n;
+            }
+            b'C' | b'D' => {
+                self.signs += n;
+                self.edits += n;
+            }
+            _ => {}
         }
     }
 }
 
-// What is awaited of CR or DB: nothing, an R after the C, a B after the D; or a byte that is no symbol was seen.
-#[derive(Clone, Copy)]
-pub enum Half {
-    Nothing,
-    C,
-    D,
-    Wrong,
-}
-
-// Whether every byte was a symbol or half of a CR or DB.
-pub fn is_legal(half: Half) -> bool
-    ensures { result ≡ nothing half }
-{
-    match half {
-        Half::Nothing => true,
-        Half::C => false,
-        Half::D => false,
-        Half::Wrong => false,
-    }
-}
-
-// Whether a byte is a symbol by itself.
+/// Whether a byte is a symbol by itself.
 fn is_symbol(b: u8) -> bool
     ensures { result ≡ symbol b }
 {
@@ -323,105 +224,75 @@ fn is_symbol(b: u8) -> bool
     }
 }
 
-// What is awaited after a symbol, where nothing was.
-fn first_half(b: u8) -> Half
-    ensures { result ≡ awaits Half.Nothing b }
-{
-    if b == b'C' {
-        return Half::C;
-    }
-    if b == b'D' {
-        return Half::D;
-    }
-    if is_symbol(b) {
-        return Half::Nothing;
-    }
-    Half::Wrong
-}
-
-// What is awaited after one more symbol.
-fn next_half(p: Half, b: u8) -> Half
-    ensures { result ≡ awaits p b }
-{
-    match p {
-        Half::Nothing => first_half(b),
-        Half::C => {
-            if b == b'R' {
-                return Half::Nothing;
-            }
-            Half::Wrong
-        }
-        Half::D => {
-            if b == b'B' {
-                return Half::Nothing;
-            }
-            Half::Wrong
-        }
-        Half::Wrong => Half::Wrong,
-    }
-}
-
-// What is awaited after a symbol that stands n times: the third and later copies change nothing.
-fn half_later(p: Half, b: u8, n: usize) -> Half
-    ensures { result ≡ halves p (replicate n b) }
-{
-    if n == 0 {
-        return p;
-    }
-    let q = next_half(p, b);
-    if n == 1 {
-        return q;
-    }
-    next_half(q, b)
-}
-
-// The same; the most common case, a symbol by itself where nothing is awaited, comes first.
-fn half_after(p: Half, b: u8, n: usize) -> Half
-    ensures { result ≡ halves p (replicate n b) }
-{
-    if is_legal(p) {
-        if is_symbol(b) {
-            return p;
-        }
-    }
-    half_later(p, b, n)
-}
-
-// The symbols of a picture, counted, with what is awaited of CR or DB at its end; or why they cannot be read.
+/// What is awaited of CR or DB: nothing, an R after the C, a B after the D; or a byte that is no symbol was seen.
+// Kept: `Wrong` among the states – no plainer: it is told at the end, after refusals 22 to 24 of later symbols.
 #[derive(Clone, Copy)]
-pub enum Counted {
-    Symbols { tallies: Tallies, half: Half },
-    Refused(Refusal),
+pub enum Half {
+    Nothing,
+    C,
+    D,
+    Wrong,
 }
 
-// The symbols of a trimmed picture, counted run by run: 22, 23, and 24 for more than 65,535 symbols, as they are met.
-pub fn count_symbols(picture: &[u8], at: usize) -> Counted
-    ensures { Counts at picture.now result }
-{
-    let mut s = no_symbols();
-    let mut half = Half::Nothing;
-    let mut i = 0;
-    while i < picture.len() {
-        let b = text::upper(picture[i]);
-        let next = i + 1;
-        match run_at(picture, i, at) {
-            Repeat::Times { n, skip } => {
-                let left = (MOST_SYMBOLS - s.symbols) as usize;
-                if left < n {
-                    return Counted::Refused(Refusal {
-                        number: 24,
-                        position: at,
-                        needed: 0,
-                    });
-                }
-                i = next + skip;
-                half = half_after(half, b, n);
-                s = add_run(s, b, n as u32);
-            }
-            Repeat::Refused(r) => {
-                return Counted::Refused(r);
-            }
+impl Half {
+    /// Whether every byte was a symbol or half of a CR or DB.
+    pub fn is_legal(self) -> bool
+        ensures { result ≡ nothing self }
+    {
+        matches!(self, Half::Nothing)
+    }
+
+    /// What is awaited after one more symbol.
+    fn next(self, b: u8) -> Half
+        ensures { result ≡ awaits self b }
+    {
+        match (self, b) {
+            (Half::Nothing, b'C') => Half::C,
+            (Half::Nothing, b'D') => Half::D,
+            (Half::Nothing, _) if is_symbol(b) => Half::Nothing,
+            (Half::C, b'R') => Half::Nothing,
+            (Half::D, b'B') => Half::Nothing,
+            _ => Half::Wrong,
         }
     }
-    Counted::Symbols { tallies: s, half }
+
+    /// What is awaited after a symbol that stands n times: the third and later copies change nothing. The most common
+    /// case, a symbol by itself where nothing is awaited, comes first.
+    #[tactic(auto, using(crate::proofs::Halves::half_steps))]
+    fn after(self, b: u8, n: usize) -> Half
+        ensures { result ≡ halves self (replicate n b) }
+    {
+        if self.is_legal() && is_symbol(b) {
+            return self;
+        }
+        match n {
+            0 => self,
+            1 => self.next(b),
+            _ => self.next(b).next(b),
+        }
+    }
+}
+
+/// The symbols of a trimmed picture, counted run by run, with what is awaited of CR or DB at its end: 22, 23, and 24
+/// for more than 65,535 symbols, as they are met, all at `at`.
+pub fn count_symbols(picture: &[u8], at: usize) -> Result<(Tallies, Half), Refusal>
+    ensures same { result ≡ counts at picture.now }
+    ensures small { IfOk result (λ r. Small r.0) }
+{
+    let mut tallies = Tallies::NONE;
+    let mut half = Half::Nothing;
+    let mut left = picture;
+    // Kept: a loop over what is left – no plainer: a run takes its own number of bytes, which no iterator's step does.
+    while let [first, rest @ ..] = left {
+        let (n, skip) = run_at(*first, rest, at)?;
+        let room = (MOST_SYMBOLS - tallies.symbols) as usize;
+        if room < n {
+            return Err(Refusal::TooManySymbols { position: at });
+        }
+        let b = text::upper(*first);
+        half = half.after(b, n);
+        tallies.add(b, n as u32);
+        left = &rest[skip..];
+    }
+    Ok((tallies, half))
 }

@@ -3,29 +3,31 @@ use Prim.Native.Nat.{ℕ}
 use mathlib.Core.Path.{◌≡◌}
 use mathlib.Core.List.{List, []}
 use lib.ListN.{length}
+use Rattle.std.proofs.lemmas.Result.{err_from_is_err_and}
 use Rattle.definition.specs.declared.Refusal.{Refusal}
 use Rattle.definition.specs.declared.Usage.{Usage}
-use Rattle.definition.specs.declared.Check.{Check}
-use Rattle.definition.specs.Basic.{Answer, refuse, ◌>>=◌}
-use Rattle.definition.specs.Calls.{text_checks, picture_mask, after_writing, mask_call, check_of}
-use Rattle.mask.specs.Masks.{mask_in, mask_after}
+use Rattle.definition.specs.Basic.{Answer, Err, Ok, and_then}
+use Rattle.definition.specs.Calls.{left, after_writing, mask_call, picture_mask, text_checks}
+use Rattle.mask.specs.Masks.{mask_in}
 use Rattle.mask.proofs.picture_mask.Goals as goal
 
-module _ (usage : Usage) (bs out : List ℕ) (k : Check) (e : check_of k ≡ text_checks bs) where
+module _ (usage : Usage) (bs out : List ℕ) where
   passed :
-      k ≡ Check.Passed →
+      Ok tt ≡ text_checks bs →
       {a : Answer ℕ} {out' : List ℕ} →
-      mask_after a out' ≡ after_writing (mask_in usage bs (length out)) out [] →
-      mask_after a out' ≡ mask_call usage bs out
-  unfolding picture_mask ◌>>=◌
-  passed y q = let same = rw y at e in rw (← same) q
+      left a out' [] ≡ after_writing (mask_in usage bs (length out)) out [] →
+      left a out' [] ≡ mask_call usage bs out
+  unfolding picture_mask and_then
+  passed e q = rw (← e) q
 
-  refused : {x : Refusal} → k ≡ Check.Refused x → mask_after (refuse x) out ≡ mask_call usage bs out
-  unfolding picture_mask ◌>>=◌
-  refused y = let same = rw y at e in rw (← same)
+  refused : {x : Refusal} → Err x ≡ text_checks bs → left (Err x) out [] ≡ mask_call usage bs out
+  unfolding picture_mask and_then
+  refused e = rw (← e)
 
-pub returns-in-Passed : goal.returns-in-Passed
-returns-in-Passed c = search passed
+pub returns-in_err-text_checks : goal.returns-in_err-text_checks
+returns-in_err-text_checks c =
+    let p = err_from_is_err_and c.from_residual.result c.from_residual.ensures.1 in
+    rw (p.1, p.2) (refused c.args.usage c.args.pic.now c.args.out.now c.in_err-text_checks.ensures)
 
-pub returns-in-Refused : goal.returns-in-Refused
-returns-in-Refused c = search refused
+pub returns : goal.returns
+returns c = passed c.args.usage c.args.pic.now c.args.out.now c.in_ok-text_checks.ensures c.mask_of.ensures

@@ -1,60 +1,43 @@
 -- `picture::read_shape` meets its contract: the checks of the shape are those of the symbols.
-use Prim.Native.Nat.{ℕ, ◌≤◌}
-use mathlib.Core.Path.{◌≡◌, refl, sym, ap, ◌∙◌}
-use mathlib.Core.List.{List}
+use Prim.Native.Nat.{◌≤◌}
+use mathlib.Core.Path.{◌≡◌, ap, ◌∙◌}
 use native.Mathlib.Omega.{arith}
-use Rattle.definition.specs.declared.Refusal.{Refusal}
-use Rattle.definition.specs.declared.Usage.{Usage}
-use Rattle.definition.specs.Basic.{◌>>=◌, refuse, give}
-use Rattle.definition.specs.Picture.{trim, expand}
+use Rattle.std.proofs.lemmas.Result.{err_from_is_err_and}
 use Rattle.symbols.specs.declared.Tallies.{Tallies}
-use Rattle.symbols.specs.declared.Half.{Half}
-use Rattle.symbols.specs.declared.Counted.{Counted}
+use Rattle.symbols.specs.Shape.{counts}
 use Rattle.picture.specs.declared.PicShape.{PicShape}
-use Rattle.picture.specs.declared.Shaped.{Shaped}
-use Rattle.symbols.specs.Shape.{Small, counted_of, counts, Counts}
-use Rattle.picture.specs.Kinds.{shape_of, Judged, Reads}
-use Rattle.picture.proofs.Shapes.{symbols-shape, counts-refused, counts-given}
+use Rattle.picture.specs.Kinds.{shape_of}
+use Rattle.picture.proofs.Shapes.{counts-refused, checks-refused, checks-passed, not-long}
 use Rattle.picture.proofs.read_shape.Goals as goal
 
-small : {at : ℕ} {w : List ℕ} {r : Counted} → Counts at w r → {t : Tallies} {half : Half} → r ≡ Counted.Symbols t half → Small t
-small k e = rw e at k.small
+part : (t : Tallies) {s : PicShape} → s ≡ shape_of t → s.scale ≤ s.digits
+part t e = rw e (omega arith)
 
-parts : (t : Tallies) {s : PicShape} → s ≡ shape_of t → (s.scale ≤ s.digits) × (s.stored ≤ s.digits)
-parts t e = rw e (omega arith, omega arith)
+held : (t : Tallies) {s : PicShape} → s ≡ shape_of t → s.stored ≤ s.digits
+held t e = rw e (omega arith)
 
-module _ (at : ℕ) (usage : Usage) (bs : List ℕ) {w : List ℕ} (trimmed : w ≡ trim bs) {r : Counted} (k : Counts at w r) where
-  counted : counted_of r ≡ counts at (trim bs)
-  counted = k.same ∙ ap (counts at) trimmed
+pub returns-in_err-tallies-clause-same : goal.returns-in_err-tallies-clause-same
+returns-in_err-tallies-clause-same c =
+    let p = err_from_is_err_and c.from_residual.result c.from_residual.ensures.1 in
+    rw (p.1, p.2)
+    (counts-refused c.args.at c.args.usage c.args.picture.now (c.in_err-tallies.ensures.same ∙ ap (counts c.args.at) c.trim.ensures))
 
-  refused : {x : Refusal} → r ≡ Counted.Refused x → Reads at usage bs (Shaped.Refused x)
-  unfolding ◌>>=◌
-  refused {x} e =
-      let same : refuse x ≡ counts at (trim bs) = rw e at counted in
-      let stops = counts-refused at (trim bs) same in
-      record { same = sym (symbols-shape at usage bs (refuse x) stops); fits = tt }
+pub returns-in_err-check-clause-same : goal.returns-in_err-check-clause-same
+returns-in_err-check-clause-same c =
+    let p = err_from_is_err_and c.from_residual-in_err-check.result c.from_residual-in_err-check.ensures.1 in
+    rw (p.1, p.2)
+    (checks-refused c.args.at c.args.usage c.args.picture.now (c.in_ok-tallies.ensures.same ∙ ap (counts c.args.at) c.trim.ensures)
+    c.of-shape.ensures c.in_err-check.ensures)
 
-  accepted :
-      {t : Tallies} {half : Half} →
-      r ≡ Counted.Symbols t half →
-      {s : PicShape} →
-      s ≡ shape_of t →
-      {a : Shaped} →
-      Judged at usage s half a →
-      Reads at usage bs a
-  accepted {t} {half} e p j =
-      let same : give (t, half) ≡ counts at (trim bs) = rw e at counted in
-      let goes = counts-given at (trim bs) usage (expand at 0 0 (trim bs)) refl same in
-      record { same = rw p at j.same ∙ goes ∙ sym (symbols-shape at usage bs (expand at 0 0 (trim bs)) refl); fits = j.fits }
+pub returns-clause-same : goal.returns-clause-same
+returns-clause-same c =
+    checks-passed c.args.at c.args.usage c.args.picture.now (c.in_ok-tallies.ensures.same ∙ ap (counts c.args.at) c.trim.ensures)
+    c.of-shape.ensures c.in_ok-check.ensures
 
-pub shape_of-s-requires-in-Symbols : goal.shape_of-s-requires-in-Symbols
-shape_of-s-requires-in-Symbols c = small c.count_symbols.ensures c.in-Symbols.is
-
-pub check_shape-requires : goal.check_shape-requires
-check_shape-requires c = parts c.in-Symbols.tallies c.shape_of-s.ensures
-
-pub returns-in-Symbols : goal.returns-in-Symbols
-returns-in-Symbols c = search accepted
-
-pub returns-in-Refused : goal.returns-in-Refused
-returns-in-Refused c = search refused
+pub returns-clause-fits : goal.returns-clause-fits
+returns-clause-fits c =
+    record {
+      short = not-long c.args.at c.args.usage c.of-shape.result c.in_ok-tallies.half c.in_ok-check.ensures;
+      part = part c.in_ok-tallies.tallies c.of-shape.ensures;
+      held = held c.in_ok-tallies.tallies c.of-shape.ensures;
+    }

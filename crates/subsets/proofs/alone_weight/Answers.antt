@@ -1,29 +1,56 @@
+-- `subsets::alone_weight` meets its contract.
+use Prim.Native.Nat.{min}
+use mathlib.Core.Path.{◌≡◌, ap, ◌∙◌}
 use native.Mathlib.Omega.{arith}
-use Rattle.subsets.proofs.SearchLaws.{summing-starts, sums-not, sums-too, summing-ends}
-use Rattle.subsets.proofs.SearchLaws.{weight-there, sum_fits}
+use lib.ListN.{length, length-append}
+use Rattle.std.specs.Slice.Iter.{iter_rest}
+use Rattle.std.specs.Iterator.Adapters.{zip_first, zip_second}
+use Rattle.std.proofs.lemmas.Slice.Zip.{zip_turn, zip_end}
+use Rattle.subsets.proofs.SumLaws.{Turn}
+use Rattle.subsets.proofs.SearchLaws.{sums-not, sums-too, summing-ends, sum_fits}
+use Rattle.subsets.proofs.alone_weight.Goals.{In-Some, In-None}
 use Rattle.subsets.proofs.alone_weight.Goals as goal
 
-pub loop-i-init : goal.loop-i-init
-loop-i-init c = search summing-starts
+-- the pair at hand is the item at the number of those before it
+turn : (c : In-Some) → Turn c.args.widths.now c.args.weights.now (length c.loop-width.yielded) c.in-Some.width.now c.in-Some.weight.now
+turn c =
+    let t =
+    zip_turn c.args.widths.now c.args.weights.now c.loop-width.yielded c.into_iter-width-iterator.result
+    c.loop-width.width-iterator c.next.new.self c.next.result
+    (ap (λ z. iter_rest (zip_first z)) c.into_iter-width-iterator.ensures.into_iter_gives
+    ∙ ap iter_rest c.zip-width-items.ensures.first
+    ∙ c.iter.ensures.rest)
+    (ap (λ z. iter_rest (zip_second z)) c.into_iter-width-iterator.ensures.into_iter_gives
+    ∙ c.zip-width-items.ensures.second.0)
+    c.loop-width.yielded_by (c.in-Some.width, c.in-Some.weight) c.in-Some.is c.next.ensures.steps in
+    record { width-there = t.0; weight-there = t.1; width = t.2 0; weight = t.3 0 }
 
-pub overflow_cast-widths : goal.overflow_cast-widths
-overflow_cast-widths c = omega (arith, c.shared_slice_known-1.given c.loop-i.i)
-
-pub loop-i-preserved-then-limit-widths : goal.loop-i-preserved-then-limit-widths
-loop-i-preserved-then-limit-widths c = search sums-not
-
-pub bounds-weights-i : goal.bounds-weights-i
-bounds-weights-i c = search weight-there
-
-pub overflow_cast-sum : goal.overflow_cast-sum
-overflow_cast-sum c = omega (arith, c.shared_slice_known-else-limit-widths-1.given c.loop-i.i)
+-- after the last pair all items were seen
+ended : (c : In-None) → length c.loop-width.yielded ≡ min (length c.args.widths.now) (length c.args.weights.now)
+ended c =
+    zip_end c.args.widths.now c.args.weights.now c.loop-width.yielded c.into_iter-width-iterator.result
+    c.loop-width.width-iterator c.next.new.self c.next.result
+    (ap (λ z. iter_rest (zip_first z)) c.into_iter-width-iterator.ensures.into_iter_gives
+    ∙ ap iter_rest c.zip-width-items.ensures.first
+    ∙ c.iter.ensures.rest)
+    (ap (λ z. iter_rest (zip_second z)) c.into_iter-width-iterator.ensures.into_iter_gives
+    ∙ c.zip-width-items.ensures.second.0)
+    c.loop-width.yielded_by c.in-None.is c.next.ensures.steps
 
 pub overflow_add-sum : goal.overflow_add-sum
-overflow_add-sum c = let l = c.loop-i in
-    omega (arith, c.shared_slice_known-else-limit-widths-1.given l.i, sum_fits l.invariant)
+overflow_add-sum c =
+    let t = turn (goal.at.overflow_add-sum c).In-Some in
+    omega (arith, t.weight, c.type_inv.weights (length c.loop-width.yielded), sum_fits c.loop-width.invariant)
 
-pub loop-i-preserved : goal.loop-i-preserved
-loop-i-preserved c = search sums-too
+pub loop-width-preserved-then-width-limit : goal.loop-width-preserved-then-width-limit
+loop-width-preserved-then-width-limit c =
+    sums-too c.loop-width.invariant (turn (goal.at.loop-width-preserved-then-width-limit c).In-Some)
+    (length-append c.loop-width.yielded _) c.if-width-limit.true
+
+pub loop-width-preserved : goal.loop-width-preserved
+loop-width-preserved c =
+    sums-not c.loop-width.invariant (turn (goal.at.loop-width-preserved c).In-Some)
+    (length-append c.loop-width.yielded _) c.if-width-limit.false
 
 pub returns : goal.returns
-returns c = search summing-ends
+returns c = summing-ends c.loop-width.invariant (omega (arith, ended (goal.at.returns c).In-None, c.requires.paired))

@@ -1,21 +1,23 @@
-use Rattle.subsets.proofs.SearchLaws.{looking-starts, has-next, passes-wide, passes-light, takes-heavy}
-use Rattle.subsets.proofs.SearchLaws.{looking-ends}
+-- `subsets::best_of` meets its contract.
+use Rattle.subsets.proofs.SearchLaws.{looking-starts, passes-wide, passes-light, takes-heavy, looking-ends}
+use Rattle.subsets.proofs.best_of.Goals.{then-sums-limit+then-best-sums, else-sums-limit}
+use Rattle.subsets.proofs.best_of.Goals.{else-sums-limit-via-then-sums-limit+else-best-sums, else-sums-limit-via-else-sums-limit}
 use Rattle.subsets.proofs.best_of.Goals as goal
 
-pub loop-looked-init : goal.loop-looked-init
-loop-looked-init c = search looking-starts
+pub loop-number-init : goal.loop-number-init
+loop-number-init c = search looking-starts
 
-pub next_sums-sums-requires : goal.next_sums-sums-requires
-next_sums-sums-requires c = search has-next
-
-pub loop-looked-preserved-then-limit-width : goal.loop-looked-preserved-then-limit-width
-loop-looked-preserved-then-limit-width c = search passes-wide
-
-pub loop-looked-preserved-then-weight-heaviest : goal.loop-looked-preserved-then-weight-heaviest
-loop-looked-preserved-then-weight-heaviest c = search passes-light
-
-pub loop-looked-preserved : goal.loop-looked-preserved
-loop-looked-preserved c = search takes-heavy
+pub loop-number-preserved : goal.loop-number-preserved
+loop-number-preserved c =
+    elim c.if-sums-limit.branch [
+      | then-sums-limit+then-best-sums w ↦ rw w.best-is (search takes-heavy)
+      | else-sums-limit w ↦
+          rw w.best-is
+          (elim w.else-sums-limit.branch [
+            | else-sums-limit-via-then-sums-limit+else-best-sums w' ↦ search passes-light
+            | else-sums-limit-via-else-sums-limit w' ↦ search passes-wide
+          ])
+    ]
 
 pub returns : goal.returns
-returns c = search looking-ends
+returns c = looking-ends c.loop-number.invariant c.loop-number-test.false

@@ -1,10 +1,6 @@
--- `subsets::best_of` meets its contract: what is left to look at, after the best so far, gives the answer.
-use Prim.Native.Nat.{◌-◌}
+-- The loop's invariant: what is left to look at, after the best so far, gives the answer.
 use Rattle.subsets.proofs.SearchLaws.{Looking}
 use Rattle.subsets.proofs.best_of.Given as goal
 
-abbrev pub invariant-loop-looked : goal.invariant-loop-looked
-invariant-loop-looked l = Looking l.widths l.weights l.limit l.count l.best l.heaviest l.width l.weight l.looked
-
-abbrev pub decreases-loop-looked : goal.decreases-loop-looked
-decreases-loop-looked l = l.count - l.looked
+abbrev pub invariant-loop-number : goal.invariant-loop-number
+invariant-loop-number l = Looking l.widths l.weights l.limit l.count l.best.subset l.best.weight l.sums.width l.sums.weight l.number

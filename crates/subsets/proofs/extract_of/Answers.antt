@@ -5,11 +5,11 @@ use Rattle.subsets.proofs.extract_of.Goals as goal
 pub best_of-found-requires : goal.best_of-found-requires
 best_of-found-requires c = search some-to-see
 
-pub overflow_sub-result : goal.overflow_sub-result
-overflow_sub-result c = search not-below
+pub overflow_sub-off : goal.overflow_sub-off
+overflow_sub-off c = search not-below
 
-pub returns-then-found-all : goal.returns-then-found-all
-returns-then-found-all c = search some-seen
+pub returns-then-examined-all : goal.returns-then-examined-all
+returns-then-examined-all c = search some-seen
 
-pub returns : goal.returns
-returns c = search all_seen
+pub returns-else-examined-all : goal.returns-else-examined-all
+returns-else-examined-all c = search all_seen

@@ -1,11 +1,7 @@
--- `subsets::is_misweighed` meets its contract: the weights so far are in their range.
-use Prim.Native.Nat.{◌-◌}
-use lib.ListN.{length}
-use Rattle.subsets.proofs.SearchLaws.{Ranged}
+-- The loop's invariant: the weights so far are in their range.
+use Rattle.std.proofs.Common.{◌≡◌, drop}
+use Rattle.definition.specs.Extract.{misweighed}
 use Rattle.subsets.proofs.is_misweighed.Given as goal
 
-abbrev pub invariant-loop-i : goal.invariant-loop-i
-invariant-loop-i l = Ranged l.weights l.i
-
-abbrev pub decreases-loop-i : goal.decreases-loop-i
-decreases-loop-i l = length l.weights - l.i
+abbrev pub invariant-loop-weight : goal.invariant-loop-weight
+invariant-loop-weight l = misweighed l.weights ≡ misweighed (drop l.weight-index l.weights)

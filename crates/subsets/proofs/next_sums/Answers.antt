@@ -1,51 +1,69 @@
+-- `subsets::next_sums` meets its contract.
+use Prim.Native.Nat.{min}
+use mathlib.Core.Path.{◌≡◌, ap, ◌∙◌}
 use native.Mathlib.Omega.{arith}
-use Rattle.subsets.proofs.SumLaws.{leaving-starts, leaving-goes-on, leaving-ends}
-use Rattle.subsets.proofs.SumLaws.{width-here, weight-here, width-falls, weight-falls, width_fits, weight-fits}
+use lib.ListN.{length, length-append}
+use Rattle.std.specs.Slice.Iter.{iter_rest}
+use Rattle.std.specs.Iterator.Adapters.{zip_first, zip_second}
+use Rattle.std.proofs.lemmas.Slice.Zip.{zip_turn, zip_end}
+use Rattle.subsets.proofs.SumLaws.{Turn, leaving-goes-on, leaving-ends, none_left}
+use Rattle.subsets.proofs.SumLaws.{width-falls, weight-falls, width_fits, weight-fits}
+use Rattle.subsets.proofs.next_sums.Goals.{In-Some, In-None}
 use Rattle.subsets.proofs.next_sums.Goals as goal
 
-pub loop-rest-init : goal.loop-rest-init
-loop-rest-init c = search leaving-starts
+-- the pair at hand is the item at the number of those before it
+turn : (c : In-Some) → Turn c.args.widths.now c.args.weights.now (length c.loop-width.yielded) c.in-Some.width.now c.in-Some.weight.now
+turn c =
+    let t =
+    zip_turn c.args.widths.now c.args.weights.now c.loop-width.yielded c.into_iter-width-iterator.result
+    c.loop-width.width-iterator c.next.new.self c.next.result
+    (ap (λ z. iter_rest (zip_first z)) c.into_iter-width-iterator.ensures.into_iter_gives
+    ∙ ap iter_rest c.zip-width-items.ensures.first
+    ∙ c.iter.ensures.rest)
+    (ap (λ z. iter_rest (zip_second z)) c.into_iter-width-iterator.ensures.into_iter_gives
+    ∙ c.zip-width-items.ensures.second.0)
+    c.loop-width.yielded_by (c.in-Some.width, c.in-Some.weight) c.in-Some.is c.next.ensures.steps in
+    record { width-there = t.0; weight-there = t.1; width = t.2 0; weight = t.3 0 }
 
-pub bounds-widths-i : goal.bounds-widths-i
-bounds-widths-i c = search width-here
-
-pub overflow_cast-width : goal.overflow_cast-width
-overflow_cast-width c = omega (arith, c.shared_slice_known-1.given c.loop-rest.i)
-
-pub overflow_sub-width : goal.overflow_sub-width
-overflow_sub-width c = search width-falls
-
-pub bounds-weights-i : goal.bounds-weights-i
-bounds-weights-i c = search weight-here
-
-pub overflow_cast-weight : goal.overflow_cast-weight
-overflow_cast-weight c = omega (arith, c.shared_slice_known-in-loop-rest-1.given c.loop-rest.i)
-
-pub overflow_sub-weight : goal.overflow_sub-weight
-overflow_sub-weight c = search weight-falls
-
-pub loop-rest-preserved : goal.loop-rest-preserved
-loop-rest-preserved c = search leaving-goes-on
-
-pub bounds-widths-i-2 : goal.bounds-widths-i-2
-bounds-widths-i-2 c = search width-here
-
-pub overflow_cast-result : goal.overflow_cast-result
-overflow_cast-result c = omega (arith, c.shared_slice_known-2-1.given c.loop-rest.i)
+-- after the last pair all items were seen
+ended : (c : In-None) → length c.loop-width.yielded ≡ min (length c.args.widths.now) (length c.args.weights.now)
+ended c =
+    zip_end c.args.widths.now c.args.weights.now c.loop-width.yielded c.into_iter-width-iterator.result
+    c.loop-width.width-iterator c.next.new.self c.next.result
+    (ap (λ z. iter_rest (zip_first z)) c.into_iter-width-iterator.ensures.into_iter_gives
+    ∙ ap iter_rest c.zip-width-items.ensures.first
+    ∙ c.iter.ensures.rest)
+    (ap (λ z. iter_rest (zip_second z)) c.into_iter-width-iterator.ensures.into_iter_gives
+    ∙ c.zip-width-items.ensures.second.0)
+    c.loop-width.yielded_by c.in-None.is c.next.ensures.steps
 
 pub overflow_add-result : goal.overflow_add-result
-overflow_add-result c = let l = c.loop-rest in
-    omega (arith, c.shared_slice_known-2-1.given l.i, width_fits l.invariant)
+overflow_add-result c =
+    let t = turn (goal.at.overflow_add-result c).In-Some in
+    omega (arith, t.width, c.type_inv.widths (length c.loop-width.yielded), width_fits c.loop-width.invariant)
 
-pub bounds-weights-i-2 : goal.bounds-weights-i-2
-bounds-weights-i-2 c = search weight-here
+pub overflow_add-result-then-rest-eq0 : goal.overflow_add-result-then-rest-eq0
+overflow_add-result-then-rest-eq0 c =
+    let t = turn (goal.at.overflow_add-result-then-rest-eq0 c).In-Some in
+    omega (arith, t.weight, c.type_inv.weights (length c.loop-width.yielded), weight-fits c.loop-width.invariant)
 
-pub overflow_cast-result-2 : goal.overflow_cast-result-2
-overflow_cast-result-2 c = omega (arith, c.shared_slice_known-3-1.given c.loop-rest.i)
+pub returns-then-rest-eq0 : goal.returns-then-rest-eq0
+returns-then-rest-eq0 c =
+    leaving-ends c.loop-width.invariant (turn (goal.at.returns-then-rest-eq0 c).In-Some) c.if-rest-eq0.true
 
-pub overflow_add-result-2 : goal.overflow_add-result-2
-overflow_add-result-2 c = let l = c.loop-rest in
-    omega (arith, c.shared_slice_known-3-1.given l.i, weight-fits l.invariant)
+pub overflow_sub-sums : goal.overflow_sub-sums
+overflow_sub-sums c =
+    width-falls c.loop-width.invariant (turn (goal.at.overflow_sub-sums c).In-Some) c.if-rest-eq0.false
+
+pub overflow_sub-sums-in-loop-width : goal.overflow_sub-sums-in-loop-width
+overflow_sub-sums-in-loop-width c =
+    weight-falls c.loop-width.invariant (turn (goal.at.overflow_sub-sums-in-loop-width c).In-Some) c.if-rest-eq0.false
+
+pub loop-width-preserved : goal.loop-width-preserved
+loop-width-preserved c =
+    leaving-goes-on c.loop-width.invariant (turn (goal.at.loop-width-preserved c).In-Some) c.if-rest-eq0.false
+    (length-append c.loop-width.yielded _)
 
 pub returns : goal.returns
-returns c = search leaving-ends
+returns c =
+    absurd (none_left c.loop-width.invariant (omega (arith, ended (goal.at.returns c).In-None, c.requires.items-are.paired)))

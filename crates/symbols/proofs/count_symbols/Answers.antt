@@ -1,73 +1,61 @@
+-- `symbols::count_symbols` meets its contract.
 use Prim.Native.Nat.{ℕ, ◌+◌, ◌-◌, ◌≤◌, ◌<◌}
 use mathlib.Core.Path.{◌≡◌, refl, sym, ap, ◌∙◌}
-use mathlib.Core.List.{List, [], ◌++◌, append-nil}
+use mathlib.Core.List.{List, [], ◌∷◌, ◌++◌, append-nil}
 use native.Mathlib.Omega.{arith}
-use lib.ListN.{length, get_or, drop, replicate}
+use lib.ListN.{length, get_or, take, drop, replicate}
+use Rattle.std.proofs.lemmas.Result.{err_from_is_err_and}
 use Rattle.definition.specs.declared.Refusal.{Refusal}
 use Rattle.definition.specs.Limits.{most_symbols}
-use Rattle.definition.specs.Basic.{upper, ◌>>=◌}
-use Rattle.definition.specs.Picture.{expand}
-use Rattle.definition.proofs.PictureLaws.{onto, onto-nil, onto-onto, expand-end}
+use Rattle.definition.specs.Basic.{upper, Err, Ok, and_then}
+use Rattle.definition.specs.Picture.{expand, tally, before_point}
+use Rattle.definition.proofs.Lists.{drop-next, rest_part}
+use Rattle.definition.proofs.PictureLaws.{onto, onto-nil, onto-onto}
 use Rattle.symbols.specs.declared.Tallies.{Tallies}
 use Rattle.symbols.specs.declared.Half.{Half}
-use Rattle.symbols.specs.declared.Repeat.{Repeat}
-use Rattle.symbols.specs.declared.Counted.{Counted}
-use Rattle.symbols.specs.Shape.{tallies, run_of, joined, Small, Adds, halves, Counts}
-use Rattle.symbols.specs.Repeats.{Run}
+use Rattle.symbols.specs.Repeats.{Runs, Stops}
+use Rattle.symbols.specs.Shape.{tallies, run_of, joined, halves, counts, Small, Adds}
+use Rattle.symbols.proofs.Counting.{small, tallies-more}
 use Rattle.symbols.proofs.Halves.{halves-append}
-use Rattle.symbols.proofs.Counting.{tallies-more, small}
-use Rattle.symbols.proofs.count_symbols.Invariants.{Left}
+use Rattle.symbols.proofs.count_symbols.Invariants.{Seen}
 use Rattle.symbols.proofs.count_symbols.Goals as goal
 
-start : (t : List ℕ) (at : ℕ) {s : Tallies} → s ≡ tallies [] → Left t at s Half.Nothing 0
-unfolding halves
-start t at {s} e =
-    let none : s.symbols ≡ 0 = ap (λ (x : Tallies). x.symbols) e in
-    record {
-      within = omega arith;
-      few = omega arith;
-      seen = [];
-      counted = e;
-      halved = refl;
-      same = sym (onto-nil (expand at 0 0 t)) ∙ ap (λ (k : ℕ). onto [] (expand at k 0 t)) (sym none);
-    }
+-- no symbol was seen
+start : (t : List ℕ) (at : ℕ) → Seen t at (tallies []) Half.Nothing t
+unfolding halves tally before_point
+start t at = record { few = omega arith; seen = []; counted = refl; halved = refl; same = sym (onto-nil (expand at 0 0 t)) }
 
-module _ {t : List ℕ} {at : ℕ} {s : Tallies} {half : Half} {i : ℕ} (inv : Left t at s half i) where
+module _ {t : List ℕ} {at : ℕ} {s : Tallies} {half : Half} {left : List ℕ} (inv : Seen t at s half left) where
   small-s : Small s
   small-s = rw inv.counted (small inv.seen (omega (arith, ap (λ (x : Tallies). x.symbols) inv.counted)))
 
-  done : length t ≤ i → Counts at t (Counted.Symbols s half)
-  unfolding ◌>>=◌
-  done h =
-      record {
-        same = rw (inv.same, expand-end at s.symbols t i h, append-nil, inv.counted, inv.halved);
-        small = small-s;
-      }
+  done : length left < 1 → Ok (s, half) ≡ counts at t
+  unfolding and_then expand
+  done h = go left h inv.same
+    where
+      go : (l : List ℕ) → length l < 1 → expand at 0 0 t ≡ onto inv.seen (expand at s.symbols 0 l) → Ok (s, half) ≡ counts at t
+      go [] h e = rw (e, append-nil, ← inv.counted, ← inv.halved)
+      go (x ∷ xs) h e = absurd (omega arith)
 
-  module _ {r : Repeat} (read : Run at t i r) where
-    refused : {x : Refusal} → r ≡ Repeat.Refused x → Counts at t (Counted.Refused x)
-    unfolding ◌>>=◌
-    refused {x} e =
-        let run : Run at t i (Repeat.Refused x) = rw e at read in
-        record { same = rw (inv.same, run.is s.symbols); small = tt }
+  -- what a pattern binds after the first
+  abbrev rest : List ℕ
+  rest = take (length left - 1) (drop 1 left)
 
-    module _ {n skip : ℕ} (e : r ≡ Repeat.Times n skip) where
-      run : Run at t i (Repeat.Times n skip)
-      run = rw e at read
+  module _ (h : 1 ≤ length left) where
+    whole : left ≡ get_or left 0 0 ∷ rest
+    whole = drop-next left 0 (omega arith) ∙ ap (λ l. get_or left 0 0 ∷ l) (sym (rest_part left 1))
 
-      step : i + 1 + skip ≤ length t
-      step = run.within
+    same : expand at 0 0 t ≡ onto inv.seen (expand at s.symbols 0 (get_or left 0 0 ∷ rest))
+    same = inv.same ∙ ap (λ l. onto inv.seen (expand at s.symbols 0 l)) whole
 
-      many : most_symbols - s.symbols < n → Counts at t (Counted.Refused (record { number = 24; position = at; needed = 0 }))
-      unfolding ◌>>=◌
-      many m =
-          record {
-            same = rw (inv.same, run.is.many s.symbols inv.few (omega (arith, inv.few)));
-            small = tt;
-          }
+    refused : {x : Refusal} → Stops at (get_or left 0 0 ∷ rest) x → Err x ≡ counts at t
+    unfolding and_then
+    refused {x} stops = rw (same, stops s.symbols)
 
-      less : length t - (i + 1 + skip) < length t - i
-      less = omega (arith, step)
+    module _ {n : ℕ} (skip : ℕ) (run : Runs at (get_or left 0 0 ∷ rest) n (get_or left 0 0) (drop skip rest)) where
+      many : most_symbols - s.symbols < n → Err (Refusal.TooManySymbols at) ≡ counts at t
+      unfolding and_then
+      many m = rw (same, run.many s.symbols inv.few (omega (arith, inv.few)))
 
       module _ (m : n ≤ most_symbols - s.symbols) where
         adds : Adds s n
@@ -75,46 +63,49 @@ module _ {t : List ℕ} {at : ℕ} {s : Tallies} {half : Half} {i : ℕ} (inv : 
 
         go_on :
             {b : ℕ} →
-            b ≡ upper (get_or t i 0) →
+            b ≡ upper (get_or left 0 0) →
             {half' : Half} →
             half' ≡ halves half (replicate n b) →
             {s' : Tallies} →
             s' ≡ joined s (run_of b n) →
-            Left t at s' half' (i + 1 + skip)
+            Seen t at s' half' (take (length rest - skip) (drop skip rest))
         go_on {b} p {half'} hs {s'} grown =
             let many : s'.symbols ≡ s.symbols + n = ap (λ (x : Tallies). x.symbols) grown in
-            record {
-              within = omega (arith, step);
+            rw (rest_part rest skip)
+            (record {
               few = omega (arith, inv.few);
               seen = inv.seen ++ replicate n b;
               counted = grown ∙ ap (λ (x : Tallies). joined x (run_of b n)) inv.counted ∙ sym (tallies-more inv.seen b n);
               halved = hs ∙ ap (λ (x : Half). halves x (replicate n b)) inv.halved ∙ sym (halves-append Half.Nothing inv.seen (replicate n b));
               same =
-                  inv.same ∙
-                  ap (onto inv.seen) (run.is.more s.symbols (omega (arith, inv.few))) ∙
-                  rw (← p, many) (onto-onto inv.seen (replicate n b) (expand at (s.symbols + n) 0 (drop (i + 1 + skip) t)));
-            }
+                  same ∙
+                  ap (onto inv.seen) (run.more s.symbols (omega (arith, inv.few))) ∙
+                  rw (← p, many) (onto-onto inv.seen (replicate n b) (expand at (s.symbols + n) 0 (drop skip rest)));
+            })
 
-pub loop-i-init : goal.loop-i-init
-loop-i-init c = search start
+pub loop-left-init : goal.loop-left-init
+unfolding tally before_point
+loop-left-init c = start c.args.picture.now c.args.at
 
-pub returns-then-left-n : goal.returns-then-left-n
-returns-then-left-n c = search many
+pub returns-in_err-n-clause-same : goal.returns-in_err-n-clause-same
+returns-in_err-n-clause-same c =
+    let p = err_from_is_err_and c.from_residual.result c.from_residual.ensures.1 in
+    rw (p.1, p.2) (refused c.loop-left.invariant c.in-len1-up.len_at_least c.in_err-n.ensures.run)
 
-pub overflow_add-i : goal.overflow_add-i
-overflow_add-i c = omega (arith, step c.loop-i.invariant c.run_at.ensures c.in-Times.is)
+pub returns-then-room-n-clause-same : goal.returns-then-room-n-clause-same
+returns-then-room-n-clause-same c =
+    many c.loop-left.invariant c.in-len1-up.len_at_least _ c.in_ok-n.ensures.run c.if-room-n.true
 
-pub add_run-s-requires : goal.add_run-s-requires
-add_run-s-requires c = adds c.loop-i.invariant c.run_at.ensures c.in-Times.is c.if-left-n.false
+pub add-requires : goal.add-requires
+add-requires c = adds c.loop-left.invariant c.in-len1-up.len_at_least _ c.in_ok-n.ensures.run c.if-room-n.false
 
-pub loop-i-smaller : goal.loop-i-smaller
-loop-i-smaller c = less c.loop-i.invariant c.run_at.ensures c.in-Times.is
+pub loop-left-preserved : goal.loop-left-preserved
+loop-left-preserved c =
+    go_on c.loop-left.invariant c.in-len1-up.len_at_least _ c.in_ok-n.ensures.run c.if-room-n.false
+    c.upper-b.ensures c.after-half.ensures c.add.ensures
 
-pub loop-i-preserved : goal.loop-i-preserved
-loop-i-preserved c = search (go_on c.loop-i.invariant c.run_at.ensures c.in-Times.is)
+pub returns-clause-same : goal.returns-clause-same
+returns-clause-same c = done c.loop-left.invariant c.in_default.len_below
 
-pub returns-in-Refused : goal.returns-in-Refused
-returns-in-Refused c = search refused
-
-pub returns : goal.returns
-returns c = search done
+pub returns-clause-small : goal.returns-clause-small
+returns-clause-small c = small-s c.loop-left.invariant

@@ -1,18 +1,23 @@
--- `symbols::run_at` meets its contract: a law for each exit.
-use Rattle.symbols.proofs.Running.{by-repeat, but-the-last, all_plain, all_end}
+-- `symbols::run_at` meets its contract.
+use Prim.Native.Nat.{ℕ, ◌-◌}
+use mathlib.Core.Path.{◌≡◌, sym, ap, ◌∙◌}
+use mathlib.Core.Bool.{Bool, false}
+use mathlib.Core.List.{List}
+use lib.ListN.{length, take, drop}
+use Rattle.definition.proofs.Lists.{rest_part}
+use Rattle.symbols.specs.Repeats.{opens}
+use Rattle.symbols.proofs.Running.{run-repeat, all-of-them}
 use Rattle.symbols.proofs.run_at.Goals as goal
 
-pub returns-then-picture-i-eq40 : goal.returns-then-picture-i-eq40
-returns-then-picture-i-eq40 c = search by-repeat
+-- what is passed on is what is left
+shut : (l : List ℕ) (n : ℕ) {r : Bool} → r ≡ opens (take (length l - n) (drop n l)) → r ≡ false → opens (drop n l) ≡ false
+shut l n e f = ap opens (sym (rest_part l n)) ∙ sym e ∙ f
 
-pub returns-then-d-gt0 : goal.returns-then-d-gt0
-returns-then-d-gt0 c = search but-the-last
+pub returns-then-more-eq0-clause-run : goal.returns-then-more-eq0-clause-run
+returns-then-more-eq0-clause-run c =
+    run-repeat c.args.at c.args.b c.args.rest.now c.repeat_at.result c.repeat_at.ensures.same
 
-pub returns-then-picture-next-eq40 : goal.returns-then-picture-next-eq40
-returns-then-picture-next-eq40 c = search by-repeat
-
-pub returns-then-next-picture : goal.returns-then-next-picture
-returns-then-next-picture c = search all_plain
-
-pub returns : goal.returns
-returns c = search all_end
+pub returns-clause-run : goal.returns-clause-run
+returns-clause-run c =
+    all-of-them c.args.at c.args.b c.args.rest.now _ c.alike-more.ensures.value c.if-b-eq40.false
+    (shut c.args.rest.now _ c.opens.ensures c.if-opens.false)

@@ -11,14 +11,13 @@ use borrow.Author.Tests.{ltb-false}
 use Rattle.definition.specs.declared.Usage.{Usage}
 use Rattle.definition.specs.declared.ItemUsage.{ItemUsage}
 use Rattle.definition.specs.declared.SignKind.{SignKind}
-use Rattle.definition.specs.declared.SignClause.{SignClause}
 use Rattle.definition.specs.declared.NumRepr.{NumRepr}
 use Rattle.definition.specs.declared.FieldKind.{FieldKind}
 use Rattle.definition.specs.declared.Pictured.{Pictured}
 use Rattle.definition.specs.declared.Statement.{Statement}
 use Rattle.definition.specs.Limits.{most_bytes, most_digits, longest_mask}
-use Rattle.std.specs.Prelude.{if◌then◌else◌}
-use Rattle.definition.specs.Basic.{upper, give}
+use Rattle.std.specs.Prelude.{if◌then◌else◌, Option}
+use Rattle.definition.specs.Basic.{upper, Ok}
 use Rattle.definition.specs.Tree.{Forest, leaf, item}
 use Rattle.definition.specs.Picture.{expand, all_digits, stored_digits, fraction, is_text, is_masked, mask, pictured}
 use Rattle.definition.specs.Picture.{is_embedded, sign_bytes, storage_width, display, numeric, kinded, too_long, symbols}
@@ -31,7 +30,7 @@ use Rattle.kinds.specs.Kinds.{Bytes}
 -- ---------------------------------------------------------------- symbols
 
 -- no more than 65,535 symbols stand
-few : (bs : List ℕ) (at n skip : ℕ) {l : List ℕ} → n ≤ most_bytes → expand at n skip bs ≡ give l → n + length l ≤ most_bytes
+few : (bs : List ℕ) (at n skip : ℕ) {l : List ℕ} → n ≤ most_bytes → expand at n skip bs ≡ Ok l → n + length l ≤ most_bytes
 unfolding expand
 few [] at n skip h e = let same : [] ≡ _ = given-same e in rw (← same) (omega arith)
 few (b ∷ bs) at n (suc skip) h e = few bs at n skip h e
@@ -39,7 +38,7 @@ few (b ∷ bs) at n zero h e =
     through _ _ e λ r e₁ h₁.
     through _ _ h₁ λ u e₂ h₂.
     through _ _ h₂ λ m e₃ h₃.
-    let ok : n + r.0 ≤ most_bytes = ltb-false most_bytes (n + r.0) (not-refused (ltb most_bytes (n + r.0)) 24 at e₂) in
+    let ok : n + r.0 ≤ most_bytes = ltb-false most_bytes (n + r.0) (not-refused (ltb most_bytes (n + r.0)) _ e₂) in
     let ih = few bs at (n + r.0) r.1 ok e₃ in
     let same : replicate r.0 (upper b) ++ m ≡ _ = given-same h₃ in
     rw (← same, length-append, length-replicate) (omega arith)
@@ -81,7 +80,7 @@ module _ (precision scale digits : ℕ) (h : precision ≤ most_digits) (l : sca
   numeric-bounded Usage.Comp3 = record { width = omega arith; bytes = (omega arith, omega arith) }
   numeric-bounded Usage.Comp = record { width = omega (arith, eight (leb digits 4) (leb digits 9)); bytes = tt }
 
-module _ (u : Usage) (g : SignClause) (l : List ℕ) (h : length l ≤ most_bytes) (n : too_long u l ≡ false) where
+module _ (u : Usage) (g : Option SignKind) (l : List ℕ) (h : length l ≤ most_bytes) (n : too_long u l ≡ false) where
   short : is_text l ≡ false → all_digits l ≤ most_digits
   short e =
       let q : (ltb most_digits (all_digits l) || is_masked u l && ltb longest_mask (length (mask l))) ≡ false = ap (λ (b : Bool). not b && (ltb most_digits (all_digits l) || is_masked u l && ltb longest_mask (length (mask l)))) (sym e) ∙ n in
@@ -100,7 +99,7 @@ module _ (u : Usage) (g : SignClause) (l : List ℕ) (h : length l ≤ most_byte
 
 -- ---------------------------------------------------------------- an item
 
-picture-bounded : (at : ℕ) (u : Usage) (g : SignClause) (bs : List ℕ) {c : Pictured} → picture at u g bs ≡ give c → Bounded c
+picture-bounded : (at : ℕ) (u : Usage) (g : Option SignKind) (bs : List ℕ) {c : Pictured} → picture at u g bs ≡ Ok c → Bounded c
 unfolding picture symbols
 picture-bounded at u g bs e =
     through _ _ e λ l e₁ h₁.
@@ -109,11 +108,11 @@ picture-bounded at u g bs e =
     through _ _ h₃ λ y e₄ h₄.
     through _ _ h₄ λ z e₅ h₅.
     let same : m ≡ l = given-same h₅ in
-    let n = not-refused (too_long u m) 27 at e₅ in
+    let n = not-refused (too_long u m) _ e₅ in
     let fits = few _ at 0 0 (omega arith) e₂ in
     subst Bounded (given-same h₁) (subst (λ (x : List ℕ). Bounded (kinded u g x)) same (kinded-bounded u g m (omega arith) n))
 
-under-bounded : (text : List ℕ) (s : Statement) (u : ItemUsage) {c : Pictured} → under_usage text s u ≡ give c → Bounded c
+under-bounded : (text : List ℕ) (s : Statement) (u : ItemUsage) {c : Pictured} → under_usage text s u ≡ Ok c → Bounded c
 under-bounded text s (ItemUsage.Picture u) e = through _ _ e λ x e₁ h₁. picture-bounded s.at _ _ _ h₁
 under-bounded text s ItemUsage.Comp1 e =
     through _ _ e λ x e₁ h₁. subst Bounded (given-same h₁) (record { width = omega arith; bytes = omega arith })
@@ -121,10 +120,10 @@ under-bounded text s ItemUsage.Comp2 e =
     through _ _ e λ x e₁ h₁. subst Bounded (given-same h₁) (record { width = omega arith; bytes = omega arith })
 
 -- an item without children
-pub leaf-bounded : (text : List ℕ) (s : Statement) (w : ℕ) {c : Pictured} → content text s leaf w ≡ give c → Bounded c
+pub leaf-bounded : (text : List ℕ) (s : Statement) (w : ℕ) {c : Pictured} → content text s leaf w ≡ Ok c → Bounded c
 leaf-bounded text s w e = under-bounded text s s.usage e
 
 -- the kind of any item
-pub content-bytes : (text : List ℕ) (s : Statement) (kids : Forest) (w : ℕ) {c : Pictured} → content text s kids w ≡ give c → Bytes c.kind
+pub content-bytes : (text : List ℕ) (s : Statement) (kids : Forest) (w : ℕ) {c : Pictured} → content text s kids w ≡ Ok c → Bytes c.kind
 content-bytes text s leaf w e = (leaf-bounded text s w e).bytes
 content-bytes text s (item t kids later) w e = subst (λ (x : Pictured). Bytes x.kind) (given-same e) tt

@@ -16,7 +16,7 @@ use Rattle.definition.specs.declared.Statement.{Statement}
 use Rattle.definition.specs.declared.Entry.{Entry}
 use Rattle.definition.specs.Limits.{largest}
 use Rattle.std.specs.Prelude.{if◌then◌else◌}
-use Rattle.definition.specs.Basic.{given, Answer, refuse, give, ◌>>=◌}
+use Rattle.definition.specs.Basic.{given, Answer, Err, Ok, ◌>>=◌, and_then}
 use Rattle.definition.specs.Tree.{Forest, leaf, item, forest}
 use Rattle.definition.specs.Picture.{pictured}
 use Rattle.definition.specs.Fold.{Entries, end, entry, entry_end, Place, place_of, fold_check}
@@ -35,6 +35,9 @@ use Rattle.places.proofs.RowLaws.{forest-empty, forest-split, children-end}
 use Rattle.places.proofs.EntriesLaws.{size-stretch, rows-forest, Held, places-held, next_row, of_size, counted_step}
 use Rattle.places.proofs.EntriesLaws.{counted-kept}
 use Rattle.limits.proofs.EndLaws.{within}
+use Rattle.definition.proofs.Answers.{given-same}
+use Rattle.layout.specs.declared.LaidItem.{LaidItem}
+use Rattle.layout.specs.declared.LaidList.{LaidList}
 use Rattle.layout.specs.Bare.{ItemLaid, placed_entry, bare_item}
 use Rattle.layout.specs.Outcomes.{stopped, ready, after, lay_rest, lay_table, halted, placing, after_item, lay_item}
 use Rattle.layout.specs.Outcomes.{after_own, place_row, Room}
@@ -46,43 +49,53 @@ use Rattle.layout.proofs.ListLaws.{rest_after, bare-split, item-is, bare-is}
 -- a list that is ready was given
 record Readied (text w : List ℕ) (k last : ℕ) (a : Answer Laid) (width : ℕ) (w' : List ℕ) : Type 0 where
   laid : Laid
-  is : a ≡ give laid
+  is : a ≡ Ok laid
   wide : laid.width ≡ width
   put : put_places text w k last laid.entries ≡ w'
 
 readied : (text w : List ℕ) (k last : ℕ) (a : Answer Laid) {width l : ℕ} {w' : List ℕ} → after text w k last a ≡ ready width l w' → Readied text w k last a width w'
-readied text w k last (refuse r) h = absurd (let z : ◌≡◌ {A = ℕ} 0 1 = cc in omega arith)
-readied text w k last (give x) h = record { laid = x; is = refl; wide = cc; put = cc }
+readied text w k last (Err r) h = absurd (let z : ◌≡◌ {A = ℕ} 0 1 = cc in omega arith)
+readied text w k last (Ok x) h =
+    let same = given-same h in
+    record { laid = x; is = refl; wide = ap (λ (p : LaidList × List ℕ). p.0.width) same; put = ap (λ (p : LaidList × List ℕ). p.1) same }
 
-pub stopped-was : (text w : List ℕ) (k last : ℕ) (a : Answer Laid) {r : Refusal} → after text w k last a ≡ stopped r → a ≡ refuse r
-stopped-was text w k last (refuse q) h = cc
-stopped-was text w k last (give x) h = absurd (let z : ◌≡◌ {A = ℕ} 0 1 = cc in omega arith)
+pub stopped-was : (text w : List ℕ) (k last : ℕ) (a : Answer Laid) {r : Refusal} → after text w k last a ≡ stopped r → a ≡ Err r
+stopped-was text w k last (Err q) h = cc
+stopped-was text w k last (Ok x) h = absurd (let z : ◌≡◌ {A = ℕ} 0 1 = cc in omega arith)
 
 -- an item that is placed was given
 record Given (text w : List ℕ) (i last cursor : ℕ) (a : Answer ItemLaid) (c e : ℕ) (w' : List ℕ) : Type 0 where
   laid : ItemLaid
-  is : a ≡ give laid
+  is : a ≡ Ok laid
   moves : advance cursor laid.own ≡ c
   ends : entry_end laid.own ≡ e
   put : put_places text w i last (entry laid.own laid.members end) ≡ w'
 
 item-given : (text w : List ℕ) (i last cursor : ℕ) (a : Answer ItemLaid) {c e : ℕ} {w' : List ℕ} → after_item text w i last cursor a ≡ placing c e w' → Given text w i last cursor a c e w'
-item-given text w i last cursor (refuse r) h = absurd (let z : ◌≡◌ {A = ℕ} 0 1 = cc in omega arith)
-item-given text w i last cursor (give x) h = record { laid = x; is = refl; moves = cc; ends = cc; put = cc }
+item-given text w i last cursor (Err r) h = absurd (let z : ◌≡◌ {A = ℕ} 0 1 = cc in omega arith)
+item-given text w i last cursor (Ok x) h =
+    let same = given-same h in
+    record {
+      laid = x;
+      is = refl;
+      moves = ap (λ (p : LaidItem × List ℕ). p.0.cursor) same;
+      ends = ap (λ (p : LaidItem × List ℕ). p.0.end) same;
+      put = ap (λ (p : LaidItem × List ℕ). p.1) same;
+    }
 
-halted-was : (text w : List ℕ) (i last cursor : ℕ) (a : Answer ItemLaid) {r : Refusal} → after_item text w i last cursor a ≡ halted r → a ≡ refuse r
-halted-was text w i last cursor (refuse q) h = cc
-halted-was text w i last cursor (give x) h = absurd (let z : ◌≡◌ {A = ℕ} 0 1 = cc in omega arith)
+halted-was : (text w : List ℕ) (i last cursor : ℕ) (a : Answer ItemLaid) {r : Refusal} → after_item text w i last cursor a ≡ halted r → a ≡ Err r
+halted-was text w i last cursor (Err q) h = cc
+halted-was text w i last cursor (Ok x) h = absurd (let z : ◌≡◌ {A = ℕ} 0 1 = cc in omega arith)
 
 -- ---------------------------------------------------------------- the first item of a list, and the rest
 
 after_then :
     (text w : List ℕ) (i last : ℕ) (x : ItemLaid) (a : Answer Laid) →
-    after text w i last (a >>= λ l. give (record { entries = entry x.own x.members l.entries; width = l.width }))
+    after text w i last (a >>= λ l. Ok (record { entries = entry x.own x.members l.entries; width = l.width }))
     ≡ after text (put_places text w i last (entry x.own x.members end)) (suc i + entries# x.members) (suc i) a
-unfolding put_places last_of ◌>>=◌
-after_then text w i last x (refuse r) = refl
-after_then text w i last x (give l) = refl
+unfolding put_places last_of and_then
+after_then text w i last x (Err r) = refl
+after_then text w i last x (Ok l) = refl
 
 -- the earlier siblings after an item
 seen_step :
@@ -112,7 +125,7 @@ module _ (text w : List ℕ) (i to j depth last cursor reach : ℕ) (h : Childre
       ∙ ap (after text w i last) (bare-split text depth (seen_at w last) cursor reach (statement_at w i) (rows_forest w (suc i) j) (rows_forest w j to))
 
   pub list-stop : {r : Refusal} → lay_item text w i j depth last cursor ≡ halted r → lay_rest text w i to depth last cursor reach ≡ stopped r
-  unfolding ◌>>=◌
+  unfolding and_then
   list-stop e =
       list-split
       ∙ ap (λ (a : Answer ItemLaid). after text w i last (a >>= rest_after text depth (seen_at w last) cursor reach (statement_at w i) (rows_forest w (suc i) j) (rows_forest w j to)))
@@ -124,7 +137,7 @@ module _ (text w : List ℕ) (i to j depth last cursor reach : ℕ) (h : Childre
       last ≤ i →
       lay_item text w i j depth last cursor ≡ placing c e w' →
       lay_rest text w i to depth last cursor reach ≡ lay_rest text w' j to depth (suc i) c (max reach e)
-  unfolding ◌>>=◌
+  unfolding and_then
   list-step {c} {e} {w'} fits l q =
       let K = rows_forest w (suc i) j in
       let L = rows_forest w j to in
@@ -197,33 +210,33 @@ item_room text w i to j depth last cursor h q l r =
 -- its own place after its members'
 own-then :
     (text w : List ℕ) (i last cursor : ℕ) (members : Entries) (a : Answer Entry) →
-    after_own text (put_places text w (suc i) 0 members) i last cursor a ≡ after_item text w i last cursor (a >>= λ e. give (record { own = e; members = members }))
-unfolding put_places ◌>>=◌
-own-then text w i last cursor members (refuse r) = refl
-own-then text w i last cursor members (give e) = refl
+    after_own text (put_places text w (suc i) 0 members) i last cursor a ≡ after_item text w i last cursor (a >>= λ e. Ok (record { own = e; members = members }))
+unfolding put_places and_then
+own-then text w i last cursor members (Err r) = refl
+own-then text w i last cursor members (Ok e) = refl
 
 -- without children
 module _ (text w : List ℕ) (i j depth last cursor : ℕ) (h : j ≤ suc i) where
-  leaf-item : bare_item text depth (seen_at w last) cursor (statement_at w i) (rows_forest w (suc i) j) ≡ (content text (statement_at w i) leaf 0 >>= λ c. placed_entry text (statement_at w i) c (seen_at w last) cursor >>= λ e. give (record { own = e; members = end }))
-  unfolding bare_item lay fold_check ◌>>=◌
+  leaf-item : bare_item text depth (seen_at w last) cursor (statement_at w i) (rows_forest w (suc i) j) ≡ (content text (statement_at w i) leaf 0 >>= λ c. placed_entry text (statement_at w i) c (seen_at w last) cursor >>= λ e. Ok (record { own = e; members = end }))
+  unfolding bare_item lay fold_check and_then
   leaf-item = ap (bare_item text depth (seen_at w last) cursor (statement_at w i)) (forest-empty w (suc i) j h)
 
-  pub leaf-stop : {r : Refusal} → refuse r ≡ content text (statement_at w i) leaf 0 → halted r ≡ lay_item text w i j depth last cursor
-  unfolding ◌>>=◌
+  pub leaf-stop : {r : Refusal} → Err r ≡ content text (statement_at w i) leaf 0 → halted r ≡ lay_item text w i j depth last cursor
+  unfolding and_then
   leaf-stop e =
       sym
       (ap (after_item text w i last cursor) leaf-item
-      ∙ ap (λ (a : Answer Pictured). after_item text w i last cursor (a >>= λ c. placed_entry text (statement_at w i) c (seen_at w last) cursor >>= λ d. give (record { own = d; members = end }))) (sym e))
+      ∙ ap (λ (a : Answer Pictured). after_item text w i last cursor (a >>= λ c. placed_entry text (statement_at w i) c (seen_at w last) cursor >>= λ d. Ok (record { own = d; members = end }))) (sym e))
 
-  pub leaf-place : {c : Pictured} → give c ≡ content text (statement_at w i) leaf 0 → place_row text w i last cursor c ≡ lay_item text w i j depth last cursor
-  unfolding put_places ◌>>=◌
+  pub leaf-place : {c : Pictured} → Ok c ≡ content text (statement_at w i) leaf 0 → place_row text w i last cursor c ≡ lay_item text w i j depth last cursor
+  unfolding put_places and_then
   leaf-place {c} e =
       own-then text w i last cursor end (placed_entry text (statement_at w i) c (seen_at w last) cursor)
       ∙ sym
       (ap (after_item text w i last cursor) leaf-item
-      ∙ ap (λ (a : Answer Pictured). after_item text w i last cursor (a >>= λ d. placed_entry text (statement_at w i) d (seen_at w last) cursor >>= λ o. give (record { own = o; members = end }))) (sym e))
+      ∙ ap (λ (a : Answer Pictured). after_item text w i last cursor (a >>= λ d. placed_entry text (statement_at w i) d (seen_at w last) cursor >>= λ o. Ok (record { own = o; members = end }))) (sym e))
 
-pub leaf-narrow : (text : List ℕ) (s : Statement) {c : Pictured} → give c ≡ content text s leaf 0 → c.width ≤ largest
+pub leaf-narrow : (text : List ℕ) (s : Statement) {c : Pictured} → Ok c ≡ content text s leaf 0 → c.width ≤ largest
 leaf-narrow text s e = omega (arith, (leaf-bounded text s 0 (sym e)).width)
 
 -- ---------------------------------------------------------------- a list that is ready
@@ -231,7 +244,7 @@ leaf-narrow text s e = omega (arith, (leaf-bounded text s 0 (sym e)).width)
 -- what was laid, and what the rows hold of it
 pub record LaidRows (text w : List ℕ) (a b depth width : ℕ) (w₁ : List ℕ) : Type 0 where
   pub laid : Laid
-  pub is : lay text depth [] 0 0 (rows_forest w a b) ≡ give laid
+  pub is : lay text depth [] 0 0 (rows_forest w a b) ≡ Ok laid
   pub wide : laid.width ≡ width
   pub narrow : width ≤ largest
   pub put : put_places text w a 0 laid.entries ≡ w₁
@@ -270,7 +283,7 @@ module _ (text w : List ℕ) (a b depth : ℕ) where
         held = subst (λ (x : List ℕ). Held text x a 0 (rows_forest x a b) es) r.put held';
       }
 
-  inner-refused : {r : Refusal} → lay_table text w a b depth ≡ stopped r → lay text depth [] 0 0 (rows_forest w a b) ≡ refuse r
+  inner-refused : {r : Refusal} → lay_table text w a b depth ≡ stopped r → lay text depth [] 0 0 (rows_forest w a b) ≡ Err r
   inner-refused e = stopped-was text w a 0 (lay text depth [] 0 0 (rows_forest w a b)) (sym list-begins ∙ e)
 
 -- ---------------------------------------------------------------- with children
@@ -282,22 +295,22 @@ module _ (text w : List ℕ) (i j depth last cursor : ℕ) (h : suc i < j) where
       let k = children-end w (suc i) j h in
       ap f (forest-split w (suc i) j _ k) ∙ g (statement_at w (suc i)) _ _ refl
 
-  pub too-deep : 64 ≤ depth → halted (record { number = 20; position = cell w (suc i) AT; needed = 0 }) ≡ lay_item text w i j depth last cursor
-  unfolding bare_item ◌>>=◌
+  pub too-deep : 64 ≤ depth → halted (Refusal.TooDeep (cell w (suc i) AT)) ≡ lay_item text w i j depth last cursor
+  unfolding bare_item and_then
   too-deep d =
       sym
       (some-kids (λ f. after_item text w i last cursor (bare_item text depth (seen_at w last) cursor (statement_at w i) f))
       (λ s kids later e. rw (lt-ltb 64 (suc depth) (omega arith), e)))
 
   module _ (d : depth < 64) where
-    not-deep : shallow (suc depth) (rows_forest w (suc i) j) ≡ give tt
+    not-deep : shallow (suc depth) (rows_forest w (suc i) j) ≡ Ok tt
     not-deep = some-kids (shallow (suc depth)) (λ s kids later e. rw (le-ltb 64 (suc depth) (omega arith)))
 
-    group-content : (width : ℕ) → content text (statement_at w i) (rows_forest w (suc i) j) width ≡ give (pictured FieldKind.Group width)
+    group-content : (width : ℕ) → content text (statement_at w i) (rows_forest w (suc i) j) width ≡ Ok (pictured FieldKind.Group width)
     group-content width = some-kids (λ f. content text (statement_at w i) f width) (λ s kids later e. refl)
 
     pub inner-stop : {r : Refusal} → lay_table text w (suc i) j (suc depth) ≡ stopped r → halted r ≡ lay_item text w i j depth last cursor
-    unfolding bare_item ◌>>=◌
+    unfolding bare_item and_then
     inner-stop e = rw (not-deep, inner-refused text w (suc i) j (suc depth) e)
 
     module _ {width : ℕ} {w₁ : List ℕ} (n : LaidRows text w (suc i) j (suc depth) width w₁) where
@@ -305,19 +318,19 @@ module _ (text w : List ℕ) (i j depth last cursor : ℕ) (h : suc i < j) where
       checked : {a : Answer (Unit {0})} → a ≡ fold_check text [] (entries_in w₁ (suc i) (rows_forest w₁ (suc i) j)) → fold_check text [] n.laid.entries ≡ a
       checked e = sym (e ∙ ap (fold_check text []) n.held.entries)
 
-      pub fold-stop : {r : Refusal} → refuse r ≡ fold_check text [] (entries_in w₁ (suc i) (rows_forest w₁ (suc i) j)) → halted r ≡ lay_item text w i j depth last cursor
-      unfolding bare_item ◌>>=◌
+      pub fold-stop : {r : Refusal} → Err r ≡ fold_check text [] (entries_in w₁ (suc i) (rows_forest w₁ (suc i) j)) → halted r ≡ lay_item text w i j depth last cursor
+      unfolding bare_item and_then
       fold-stop e = rw (not-deep, n.is, checked e)
 
       group-item :
-          give tt ≡ fold_check text [] (entries_in w₁ (suc i) (rows_forest w₁ (suc i) j)) →
+          Ok tt ≡ fold_check text [] (entries_in w₁ (suc i) (rows_forest w₁ (suc i) j)) →
           bare_item text depth (seen_at w last) cursor (statement_at w i) (rows_forest w (suc i) j)
-          ≡ (placed_entry text (statement_at w i) (pictured FieldKind.Group width) (seen_at w last) cursor >>= λ e. give (record { own = e; members = n.laid.entries }))
-      unfolding bare_item ◌>>=◌
+          ≡ (placed_entry text (statement_at w i) (pictured FieldKind.Group width) (seen_at w last) cursor >>= λ e. Ok (record { own = e; members = n.laid.entries }))
+      unfolding bare_item and_then
       group-item e = rw (not-deep, n.is, checked e, group-content n.laid.width, n.wide)
 
       pub group-place :
-          give tt ≡ fold_check text [] (entries_in w₁ (suc i) (rows_forest w₁ (suc i) j)) →
+          Ok tt ≡ fold_check text [] (entries_in w₁ (suc i) (rows_forest w₁ (suc i) j)) →
           last ≤ i →
           place_row text w₁ i last cursor (pictured FieldKind.Group width) ≡ lay_item text w i j depth last cursor
       group-place e l =

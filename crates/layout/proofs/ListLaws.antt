@@ -8,8 +8,9 @@ use native.Mathlib.Omega.{arith}
 use Rattle.definition.specs.declared.Statement.{Statement}
 use Rattle.definition.specs.declared.Entry.{Entry}
 use Rattle.definition.specs.declared.Pictured.{Pictured}
+use Rattle.definition.specs.declared.Refusal.{Refusal}
 use Rattle.definition.specs.Limits.{largest}
-use Rattle.definition.specs.Basic.{Answer, refuse, give, ◌>>=◌, refuse_if}
+use Rattle.definition.specs.Basic.{Answer, Err, Ok, ◌>>=◌, and_then, refuse_if}
 use Rattle.definition.specs.Tree.{Forest, leaf, item}
 use Rattle.definition.specs.Fold.{entry, entry_end, Place, place_of, fold_check}
 use Rattle.definition.specs.Layout.{shallow, content, start, slack_from, entry_of, too_large, advance, Laid, lay}
@@ -26,48 +27,48 @@ bind-along :
     {A B C : Type 0} (a : Answer A) (f : A → Answer C) (g : A → Answer B) (fin : B → Answer C) →
     ((x : A) → f x ≡ (g x >>= fin)) →
     (a >>= f) ≡ ((a >>= g) >>= fin)
-unfolding ◌>>=◌
-bind-along (refuse r) f g fin h = refl
-bind-along (give x) f g fin h = h x
+unfolding and_then
+bind-along (Err r) f g fin h = refl
+bind-along (Ok x) f g fin h = h x
 
 -- a place, its check, and what comes next
 place-along :
     {B C : Type 0} (a : Answer ℕ) (check : ℕ → Answer (Unit {0})) (v : ℕ → Entry) (g : Entry → Answer B) (fin : B → Answer C) (next : ℕ → Answer C) →
     ((o : ℕ) → next o ≡ (g (v o) >>= fin)) →
-    (a >>= λ o. check o >>= λ _. next o) ≡ (((a >>= λ o. check o >>= λ _. give (v o)) >>= g) >>= fin)
-unfolding ◌>>=◌
-place-along (refuse r) check v g fin next h = refl
-place-along (give o) check v g fin next h = go (check o)
+    (a >>= λ o. check o >>= λ _. next o) ≡ (((a >>= λ o. check o >>= λ _. Ok (v o)) >>= g) >>= fin)
+unfolding and_then
+place-along (Err r) check v g fin next h = refl
+place-along (Ok o) check v g fin next h = go (check o)
   where
-    go : (u : Answer (Unit {0})) → (u >>= λ _. next o) ≡ (((u >>= λ _. give (v o)) >>= g) >>= fin)
-    go (refuse r) = refl
-    go (give x) = h o
+    go : (u : Answer (Unit {0})) → (u >>= λ _. next o) ≡ (((u >>= λ _. Ok (v o)) >>= g) >>= fin)
+    go (Err r) = refl
+    go (Ok x) = h o
 
 module _ (text : List ℕ) (depth : ℕ) (seen : List Place) (cursor reach : ℕ) (s : Statement) (kids later : Forest) where
   -- what comes after the first item
   abbrev pub rest_after : ItemLaid → Answer Laid
   rest_after x =
       lay text depth (place_of x.own ∷ seen) (advance cursor x.own) (max reach (entry_end x.own)) later >>= λ l.
-      give (record { entries = entry x.own x.members l.entries; width = l.width })
+      Ok (record { entries = entry x.own x.members l.entries; width = l.width })
 
   pub bare-split : lay text depth seen cursor reach (item s kids later) ≡ (bare_item text depth seen cursor s kids >>= rest_after)
-  unfolding lay bare_item placed_entry ◌>>=◌
+  unfolding lay bare_item placed_entry and_then
   bare-split =
       bind-along (shallow (suc depth) kids) _ _ rest_after λ _.
       bind-along (lay text (suc depth) [] 0 0 kids) _ _ rest_after λ inner.
       bind-along (fold_check text [] inner.entries) _ _ rest_after λ _.
       bind-along (content text s kids inner.width) _ _ rest_after λ c.
-      place-along (start text s c seen cursor) (λ o. refuse_if (too_large (entry_of s c o (slack_from cursor s o))) 29 s.at) (λ o. entry_of s c o (slack_from cursor s o)) (λ e. give (record { own = e; members = inner.entries })) rest_after _ (λ o. refl)
+      place-along (start text s c seen cursor) (λ o. refuse_if (too_large (entry_of s c o (slack_from cursor s o))) (Refusal.TooLarge s.at)) (λ o. entry_of s c o (slack_from cursor s o)) (λ e. Ok (record { own = e; members = inner.entries })) rest_after _ (λ o. refl)
 
 -- ---------------------------------------------------------------- an item that was laid
 
 -- its inner list, kind and width, and its place
 pub record ItemIs (text : List ℕ) (depth : ℕ) (s : Statement) (kids : Forest) (x : ItemLaid) : Type 0 where
   pub inner : Laid
-  pub inner-laid : lay text (suc depth) [] 0 0 kids ≡ give inner
+  pub inner-laid : lay text (suc depth) [] 0 0 kids ≡ Ok inner
   pub members : inner.entries ≡ x.members
   pub contents : Pictured
-  pub contents-are : content text s kids inner.width ≡ give contents
+  pub contents-are : content text s kids inner.width ≡ Ok contents
   pub offset : ℕ
   pub slack : ℕ
   pub own : entry_of s contents offset slack ≡ x.own
@@ -75,7 +76,7 @@ pub record ItemIs (text : List ℕ) (depth : ℕ) (s : Statement) (kids : Forest
 
 pub item-is :
     (text : List ℕ) (depth : ℕ) (seen : List Place) (cursor : ℕ) (s : Statement) (kids : Forest) {x : ItemLaid} →
-    bare_item text depth seen cursor s kids ≡ give x →
+    bare_item text depth seen cursor s kids ≡ Ok x →
     ItemIs text depth s kids x
 unfolding bare_item placed_entry
 item-is text depth seen cursor s kids h =
@@ -96,7 +97,7 @@ item-is text depth seen cursor s kids h =
       offset = o;
       slack = slack_from cursor s o;
       own = given-same h₇ ∙ ap (λ (y : ItemLaid). y.own) same;
-      fits = not-refused (too_large (entry_of s c o (slack_from cursor s o))) 29 s.at e₇;
+      fits = not-refused (too_large (entry_of s c o (slack_from cursor s o))) _ e₇;
     }
 
 -- ---------------------------------------------------------------- a laid list
@@ -110,7 +111,7 @@ module _ (text : List ℕ) where
   pub bare-is :
       (f : Forest) (depth : ℕ) (seen : List Place) (cursor reach : ℕ) {l : Laid} →
       reach ≤ largest →
-      lay text depth seen cursor reach f ≡ give l →
+      lay text depth seen cursor reach f ≡ Ok l →
       BareIs f l
   unfolding lay
   bare-is leaf depth seen cursor reach h e = subst (BareIs leaf) (given-same e) (record { of = tt; width = h })

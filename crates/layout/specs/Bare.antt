@@ -4,7 +4,8 @@ use Rattle.std.specs.Prelude.{ℕ, suc, List, []}
 use Rattle.definition.specs.declared.Statement.{Statement}
 use Rattle.definition.specs.declared.Entry.{Entry}
 use Rattle.definition.specs.declared.Pictured.{Pictured}
-use Rattle.definition.specs.Basic.{Answer, give, ◌>>=◌, refuse_if}
+use Rattle.definition.specs.declared.Refusal.{Refusal}
+use Rattle.definition.specs.Basic.{Answer, Ok, ◌>>=◌, refuse_if}
 use Rattle.definition.specs.Tree.{Forest}
 use Rattle.definition.specs.Fold.{Entries, Place, fold_check}
 use Rattle.definition.specs.Layout.{shallow, content, start, slack_from, entry_of, too_large, lay}
@@ -19,8 +20,8 @@ unfoldable pub placed_entry : List ℕ → Statement → Pictured → List Place
 placed_entry text s c seen cursor = do
   offset ← start text s c seen cursor
   let e = entry_of s c offset (slack_from cursor s offset)
-  _ ← refuse_if (too_large e) 29 s.at
-  give e
+  _ ← refuse_if (too_large e) (Refusal.TooLarge s.at)
+  Ok e
 
 -- one item: its inner list, its kind and width, and its place (a list is its first item and the rest: `ListLaws`)
 unfoldable pub bare_item : List ℕ → ℕ → List Place → ℕ → Statement → Forest → Answer ItemLaid
@@ -30,4 +31,4 @@ bare_item text depth seen cursor s kids = do
   _ ← fold_check text [] inner.entries
   c ← content text s kids inner.width
   e ← placed_entry text s c seen cursor
-  give (record { own = e; members = inner.entries })
+  Ok (record { own = e; members = inner.entries })

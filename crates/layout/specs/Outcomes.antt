@@ -4,7 +4,7 @@ use Rattle.std.specs.Prelude.{ℕ, suc, ◌*◌, ◌≤◌, ◌<◌, List, lengt
 use Rattle.definition.specs.declared.Refusal.{Refusal}
 use Rattle.definition.specs.declared.Entry.{Entry}
 use Rattle.definition.specs.declared.Pictured.{Pictured}
-use Rattle.definition.specs.Basic.{Answer, refuse, give}
+use Rattle.definition.specs.Basic.{Answer, Err, Ok}
 use Rattle.definition.specs.Fold.{end, entry, entry_end}
 use Rattle.definition.specs.Layout.{advance, Laid, lay}
 use Rattle.rows.specs.Columns.{ROW}
@@ -13,73 +13,81 @@ use Rattle.places.specs.Places.{put_place, put_places, last_of, rows_forest}
 use Rattle.places.specs.Children.{BelowCounted}
 use Rattle.redefines.specs.Targets.{seen_at, base_after, placers_after}
 use Rattle.redefines.specs.Prints.{Printed}
-use Rattle.layout.specs.declared.ItemAnswer.{ItemAnswer}
+use Rattle.layout.specs.declared.LaidItem.{LaidItem}
 use Rattle.layout.specs.declared.LaidList.{LaidList}
 use Rattle.layout.specs.Bare.{ItemLaid, placed_entry, bare_item}
 
 -- ---------------------------------------------------------------- a list laid in the table
 
--- a refusal, or the width of the list, its last sibling and the table
-pub data ListOutcome : Type 0 where
-  stopped : Refusal → ListOutcome
-  ready : ℕ → ℕ → List ℕ → ListOutcome
+-- a refusal, or what was laid and the table
+abbrev pub Outcome : Type 0 → Type 0
+Outcome A = Answer (A × List ℕ)
+
+-- for a list: a refusal, or the width of the list, its last sibling and the table
+abbrev pub stopped : Refusal → Outcome LaidList
+stopped r = Err r
+
+abbrev pub ready : ℕ → ℕ → List ℕ → Outcome LaidList
+ready width last w = Ok (record { width = width; last = last }, w)
 
 -- what a list's answer leads to, in the rows from k on, after the sibling `last`
-abbrev pub after : List ℕ → List ℕ → ℕ → ℕ → Answer Laid → ListOutcome
-after text w k last (refuse r) = stopped r
-after text w k last (give l) = ready l.width (last_of k last l.entries) (put_places text w k last l.entries)
+abbrev pub after : List ℕ → List ℕ → ℕ → ℕ → Answer Laid → Outcome LaidList
+after text w k last (Err r) = stopped r
+after text w k last (Ok l) = ready l.width (last_of k last l.entries) (put_places text w k last l.entries)
 
 -- the rest of a list, rows i to before `to`, laid after the sibling `last`
-abbrev pub lay_rest : List ℕ → List ℕ → ℕ → ℕ → ℕ → ℕ → ℕ → ℕ → ListOutcome
+abbrev pub lay_rest : List ℕ → List ℕ → ℕ → ℕ → ℕ → ℕ → ℕ → ℕ → Outcome LaidList
 lay_rest text w i to depth last cursor reach =
     after text w i last (lay text depth (seen_at w last) cursor reach (rows_forest w i to))
 
 -- a whole list
-abbrev pub lay_table : List ℕ → List ℕ → ℕ → ℕ → ℕ → ListOutcome
+abbrev pub lay_table : List ℕ → List ℕ → ℕ → ℕ → ℕ → Outcome LaidList
 lay_table text w from to depth = lay_rest text w from to depth 0 0 0
 
 -- ---------------------------------------------------------------- an item laid in the table
 
 -- a refusal, or the cursor after the item, where it ends and the table
-pub data ItemOutcome : Type 0 where
-  halted : Refusal → ItemOutcome
-  placing : ℕ → ℕ → List ℕ → ItemOutcome
+abbrev pub halted : Refusal → Outcome LaidItem
+halted r = Err r
+
+abbrev pub placing : ℕ → ℕ → List ℕ → Outcome LaidItem
+placing cursor reach w = Ok (record { cursor = cursor; end = reach }, w)
 
 -- the item of row i with its members' places
-abbrev pub after_item : List ℕ → List ℕ → ℕ → ℕ → ℕ → Answer ItemLaid → ItemOutcome
-after_item text w i last cursor (refuse r) = halted r
-after_item text w i last cursor (give x) =
+abbrev pub after_item : List ℕ → List ℕ → ℕ → ℕ → ℕ → Answer ItemLaid → Outcome LaidItem
+after_item text w i last cursor (Err r) = halted r
+after_item text w i last cursor (Ok x) =
     placing (advance cursor x.own) (entry_end x.own) (put_places text w i last (entry x.own x.members end))
 
 -- row i, whose children are the rows up to j, laid after the sibling `last`
-abbrev pub lay_item : List ℕ → List ℕ → ℕ → ℕ → ℕ → ℕ → ℕ → ItemOutcome
+abbrev pub lay_item : List ℕ → List ℕ → ℕ → ℕ → ℕ → ℕ → ℕ → Outcome LaidItem
 lay_item text w i j depth last cursor =
     after_item text w i last cursor
     (bare_item text depth (seen_at w last) cursor (statement_at w i) (rows_forest w (suc i) j))
 
 -- the item of row i alone
-abbrev pub after_own : List ℕ → List ℕ → ℕ → ℕ → ℕ → Answer Entry → ItemOutcome
-after_own text w i last cursor (refuse r) = halted r
-after_own text w i last cursor (give e) =
+abbrev pub after_own : List ℕ → List ℕ → ℕ → ℕ → ℕ → Answer Entry → Outcome LaidItem
+after_own text w i last cursor (Err r) = halted r
+after_own text w i last cursor (Ok e) =
     placing (advance cursor e) (entry_end e)
     (put_place w i last (base_after text w i last) (placers_after text w i last) e)
 
 -- row i, its kind and width known and the rows below it laid, placed after the sibling `last`
-abbrev pub place_row : List ℕ → List ℕ → ℕ → ℕ → ℕ → Pictured → ItemOutcome
+abbrev pub place_row : List ℕ → List ℕ → ℕ → ℕ → ℕ → Pictured → Outcome LaidItem
 place_row text w i last cursor c =
     after_own text w i last cursor (placed_entry text (statement_at w i) c (seen_at w last) cursor)
 
 -- ---------------------------------------------------------------- what the code answers
 
 -- what an answer says, with the table as the call leaves it; after a refusal its contents are left open
-abbrev pub item_of : ItemAnswer → List ℕ → ItemOutcome
-item_of (ItemAnswer.Done cursor reach) w = placing cursor reach w
-item_of (ItemAnswer.Refused r) w = halted r
+abbrev pub item_of : Answer LaidItem → List ℕ → Outcome LaidItem
+item_of (Ok a) w = placing a.cursor a.end w
+item_of (Err r) w = halted r
 
 -- the same for a list
-abbrev pub list_of : LaidList → List ℕ → ListOutcome
-list_of (LaidList.Done width last) w = ready width last w
-list_of (LaidList.Refused r) w = stopped r
+abbrev pub list_of : Answer LaidList → List ℕ → Outcome LaidList
+list_of (Ok a) w = ready a.width a.last w
+list_of (Err r) w = stopped r
 
 -- the table has rows up to `to`, with the fingerprints of their names, and those of the list from `from` on count the
 -- rows below them

@@ -2,7 +2,7 @@
 -- finds, and looks at as many siblings as that compares names; and the search for a base.
 -- Assumes nothing.
 use Prim.Native.Nat.{ℕ, zero, suc, ◌+◌, ◌*◌, ◌/◌, ◌≤◌, ◌<◌}
-use mathlib.Core.Path.{◌≡◌, refl, sym, ap, ap₂, subst, ◌∙◌}
+use mathlib.Core.Path.{◌≡◌, refl, sym, ap, ap₂, ◌∙◌}
 use mathlib.Core.Bool.{Bool, true, false}
 use mathlib.Core.List.{List, ◌∷◌}
 use mathlib.Core.Logic.{⊎_elim}
@@ -10,16 +10,17 @@ use native.Mathlib.Omega.{arith}
 use lib.Dec.{lit<, eqb}
 use borrow.Author.Tests.{eq-eqb, ne_eqb}
 use Rattle.definition.specs.declared.Span.{Span}
-use Rattle.std.specs.Prelude.{if◌then◌else◌}
+use Rattle.std.specs.Prelude.{if◌then◌else◌, Option}
 use Rattle.definition.specs.Basic.{given}
 use Rattle.definition.specs.Fold.{Place, Search, search_back, find, same_name}
 use Rattle.definition.proofs.LayoutLaws.{search-none, search-hit, search-miss, find_none, find-hit, find-miss}
 use Rattle.definition.proofs.Lists.{order}
 use Rattle.rows.specs.Columns.{ROW, NAME, REDEFINES, BEFORE, PLACERS}
-use Rattle.rows.specs.Table.{cell, span_at}
+use Rattle.rows.specs.Table.{cell, span_at, row_code}
+use Rattle.rows.proofs.TableLaws.{code-back}
 use Rattle.redefines.specs.declared.SearchEnd.{SearchEnd}
 use Rattle.redefines.specs.Targets.{place_at, left_out, seen_from, seen_at, is_target, row_from, looked_from, offset_of}
-use Rattle.redefines.specs.Targets.{search_of, target_from, Named, base_from, base_after, plain_after, placers_after}
+use Rattle.redefines.specs.Targets.{Ended, search_of, target_from, Named, base_from, base_after, plain_after, placers_after}
 
 pub if-most : (b : Bool) {x y n : ℕ} → x ≤ n → y ≤ n → (if b then x else y) ≤ n
 if-most true p q = p
@@ -153,15 +154,14 @@ module _ (t w : List ℕ) (target : Span) where
 
   -- where the search ends and what it compares is what the definition says
   pub searched :
-      (last : ℕ) →
-      {r : SearchEnd} →
-      r.row ≡ row_from t target false w last last →
-      r.compared ≡ looked_from t target false w last last →
-      search_of w r ≡ search_back t target (seen_at w last)
+      (last : ℕ) → {r : SearchEnd} → Ended t target false w last r → search_of w r ≡ search_back t target (seen_at w last)
   unfolding find
-  searched last p q =
-      let found = ap (offset_of w) p ∙ sym (row-found t w target false last last) in
-      let compared = q ∙ sym (looked-compared last last) in
+  searched last e =
+      let n = row_from t target false w last last in
+      let found = ap (λ (x : Option ℕ). offset_of w (row_code x)) e.row
+      ∙ ap (offset_of w) (code-back n)
+      ∙ sym (row-found t w target false last last) in
+      let compared = e.looked ∙ sym (looked-compared last last) in
       λ i. record { found = found i; compared = compared i }
 
   -- it ends at a row of that name
@@ -188,8 +188,8 @@ module _ (t w : List ℕ) (target : Span) where
       go true false q p x = p
       go false b q p x = x
 
-  pub target-named : (last : ℕ) {k : ℕ} → k ≡ target_from t target w last → Named t target w k
-  target-named last e = subst (Named t target w) (sym e) (go (given target))
+  pub target-named : (last : ℕ) → Named t target w (target_from t target w last)
+  target-named last = go (given target)
     where
       go : (g : Bool) → Named t target w (if g then row_from t target false w last last else 0)
       go true = row_named last last

@@ -2,13 +2,13 @@
 -- latest earlier sibling of that name, with the count of names compared; and for its base, the latest of that name that
 -- is no redefiner itself. And what places an item.
 -- Assumes nothing.
-use Rattle.std.specs.Prelude.{ℕ, zero, suc, ◌+◌, ◌*◌, ◌/◌, ◌≤◌, ◌≡◌, Bool, true, false, ◌&&◌, List, [], ◌∷◌, eqb, if◌then◌else◌}
-use Rattle.std.proofs.Math.Option.{Option, none, some}
+use Rattle.std.specs.Prelude.{ℕ, zero, suc, ◌+◌, ◌*◌, ◌/◌, ◌≡◌, Bool, true, false, ◌&&◌, List, [], ◌∷◌, eqb, if◌then◌else◌}
+use Rattle.std.specs.Prelude.{Option, None, Some}
 use Rattle.definition.specs.declared.Span.{Span}
-use Rattle.definition.specs.Basic.{given, Answer, refuse, give}
+use Rattle.definition.specs.Basic.{given, Answer, Err, Ok}
 use Rattle.definition.specs.Fold.{same_name, Place, Search, search_back}
 use Rattle.rows.specs.Columns.{NAME, REDEFINES, OFFSET, BEFORE, PLACERS}
-use Rattle.rows.specs.Table.{span_at, cell}
+use Rattle.rows.specs.Table.{span_at, row_of, row_code, cell}
 use Rattle.redefines.specs.declared.SearchEnd.{SearchEnd}
 use Rattle.redefines.specs.declared.Start.{Start}
 
@@ -59,8 +59,8 @@ looked_from text target bases w (suc k) last =
 
 -- the offset of the row that a search found, if it found one
 abbrev pub offset_of : List ℕ → ℕ → Option ℕ
-offset_of w zero = none
-offset_of w (suc k) = some (cell w k OFFSET)
+offset_of w zero = None
+offset_of w (suc k) = Some (cell w k OFFSET)
 
 -- the sibling that a REDEFINES names, from the sibling `last` back: its row and 1, or 0 for none
 abbrev pub target_from : List ℕ → Span → List ℕ → ℕ → ℕ
@@ -68,30 +68,29 @@ target_from text redefines w last = if given redefines then row_from text redefi
 
 -- a search from the sibling `last` back ended there, after looking at so many
 pub record Ended (text : List ℕ) (target : Span) (bases : Bool) (w : List ℕ) (last : ℕ) (r : SearchEnd) : Type 0 where
-  pub row : r.row ≡ row_from text target bases w last last
+  pub row : r.row ≡ row_of (row_from text target bases w last last)
   pub looked : r.compared ≡ looked_from text target bases w last last
-  pub low : r.row ≤ last
 
 -- where a search ended and how many names it compared, as the definition says it
 abbrev pub search_of : List ℕ → SearchEnd → Search
-search_of w r = record { found = offset_of w r.row; compared = r.compared }
+search_of w r = record { found = offset_of w (row_code r.row); compared = r.compared }
 
 -- no search
 abbrev pub no_search : Search
-no_search = record { found = none; compared = 0 }
+no_search = record { found = None; compared = 0 }
 
 -- the definition's search for the target of a REDEFINES, if there is one
 abbrev pub target_search : List ℕ → Span → List Place → Search
 target_search text redefines seen = if given redefines then search_back text redefines seen else no_search
 
--- a start as the definition's answer, and the row that the item redefines: its row and 1, or 0 for none
-abbrev pub start_of : Start → Answer ℕ
-start_of (Start.At target offset) = give offset
-start_of (Start.Refused r) = refuse r
+-- a start as the definition's answer, and the row that the item redefines, if any
+abbrev pub start_of : Answer Start → Answer ℕ
+start_of (Err r) = Err r
+start_of (Ok s) = Ok s.offset
 
-abbrev pub target_in : Start → ℕ
-target_in (Start.At target offset) = target
-target_in (Start.Refused r) = 0
+abbrev pub target_in : Answer Start → Option ℕ
+target_in (Err r) = None
+target_in (Ok s) = s.target
 
 -- the row that a search for a name ended at, if any, has that name
 abbrev pub Named : List ℕ → Span → List ℕ → ℕ → Type 0

@@ -1,206 +1,214 @@
 // The search that a REDEFINES makes among the earlier siblings in the rows, backward from the item: for its target (28
 // where none has the name), with the count of names compared, and for its base; and the siblings that may place it.
-// Fingerprints of the names are put into the rows first: where they differ, the names do.
+// Fingerprints of the names are put into the rows first: where they differ, the names do. Leans on `definition`,
+// `names` and `rows`.
 #![tactic(auto)]
 
 ghost use Rattle.std.specs.Prelude.{◌≡◌, ◌+◌, ◌*◌, ◌≤◌, ◌<◌, length};
+ghost use Rattle.definition.specs.declared.Refusal.{Refusal};
 ghost use Rattle.definition.specs.Basic.{or_refuse};
 ghost use Rattle.redefines.specs.Targets.{left_out, is_target, Ended, seen_at, search_of, target_search, target_from};
 ghost use Rattle.redefines.specs.Targets.{start_of, target_in, Named, base_from, plain_after};
-ghost use Rattle.redefines.specs.Prints.{Printed, PrintedRow, PrintsPut, PassedBack};
+ghost use Rattle.redefines.specs.Prints.{Printed, PrintsPut, PassedBack};
 ghost use Rattle.names.specs.Prints.{name_print};
 ghost use Rattle.rows.specs.Columns.{ROW};
+ghost use Rattle.rows.specs.Table.{row_of, row_code};
 
 use definition::{Refusal, Span};
-use rows::{BEFORE, NAME, OFFSET, PLACERS, PRINT, REDEFINES, ROW};
+use rows::{PRINT, Rows};
 
-// The fingerprints of their names into the first n rows.
+// Kept: work memory and how many rows – no plainer: a struct over a `&mut` asks three clauses a method.
+/// The fingerprints of their names into the first n rows.
 pub fn put_prints(text: &[u8], work: &mut [u32], n: usize)
     requires { ROW * n ≤ length work.old }
     ensures { PrintsPut text.now work.old n work.new }
 {
-    let mut k = 0;
-    while k < n {
-        let name = rows::span_at(work[ROW * k + NAME]);
-        work[ROW * k + PRINT] = names::print_of(text, name);
-        k += 1;
+    for k in 0..n {
+        let name = Rows::new(work, n).name(k);
+        rows::put_cell(work, k, PRINT, names::print_of(text, name));
     }
 }
 
-// Whether the search passes over row k: one for bases passes over a redefiner.
-fn passed_over(work: &[u32], k: usize, bases: bool) -> bool
-    requires { ROW * k + ROW ≤ length work.now }
-    ensures { result ≡ left_out bases work.now k }
-{
-    if bases {
-        let redefines = rows::span_at(work[ROW * k + REDEFINES]);
-        return 0 < redefines.len;
-    }
-    false
-}
-
-// Whether row k is what a search for this name, with this fingerprint, ends at.
-fn is_target(text: &[u8], work: &[u32], target: Span, print: u32, k: usize, bases: bool) -> bool
-    requires { (ROW * k + ROW ≤ length work.now) × PrintedRow text.now work.now k
-        × (print ≡ name_print text.now target) }
-    ensures { result ≡ is_target text.now target bases work.now k }
-{
-    if passed_over(work, k, bases) {
-        return false;
-    }
-    if work[ROW * k + PRINT] == print {
-        let name = rows::span_at(work[ROW * k + NAME]);
-        return names::same_names(text, target, name);
-    }
-    false
-}
-
-// From `last` back over siblings with other fingerprints, as long as each is the row after the one before it.
-fn pass_back(work: &[u32], last: usize, print: u32) -> usize
-    requires { ROW * last ≤ length work.now }
-    ensures { PassedBack work.now print last result }
-{
-    let mut at = last;
-    while 0 < at {
-        let row = at - 1;
-        if work[ROW * row + PRINT] == print {
-            return at;
-        }
-        if rows::wide(work[ROW * row + BEFORE]) == row {
-            at = row;
-        } else {
-            return at;
-        }
-    }
-    at
-}
-
-// Where a search ended, as the row and 1, or 0 where nothing has the name; and how many names it compared.
+/// Where a search ended, if a sibling has the name; and how many names it compared.
 #[derive(Clone, Copy)]
 pub struct SearchEnd {
-    pub row: usize,
+    pub row: Option<usize>,
     pub compared: usize,
 }
 
-// The latest sibling of that name from `last` back, or the latest base of that name.
-fn search_back(text: &[u8], work: &[u32], target: Span, last: usize, bases: bool) -> SearchEnd
-    requires { (ROW * last ≤ length work.now) × Printed text.now work.now last }
-    ensures { Ended text.now target bases work.now last result }
-{
-    let print = names::print_of(text, target);
-    let mut k = pass_back(work, last, print);
-    // rows passed that are no siblings
-    let mut gaps = 0;
-    while 0 < k {
-        let row = k - 1;
-        let compared = last - row - gaps;
-        if is_target(text, work, target, print, row, bases) {
-            return SearchEnd { row: k, compared };
-        }
-        let before = rows::wide(work[ROW * row + BEFORE]);
-        if row < before {
-            return SearchEnd { row: 0, compared };
-        }
-        gaps += row - before;
-        k = pass_back(work, before, print);
-    }
-    SearchEnd {
-        row: 0,
-        compared: last - gaps,
-    }
-}
-
-// The sibling that a REDEFINES names, from `last` back; without one nothing is searched for.
-pub fn target_of(text: &[u8], work: &[u32], redefines: Span, last: usize) -> SearchEnd
-    requires { (ROW * last ≤ length work.now) × Printed text.now work.now last }
-    ensures { (search_of work.now result
-        ≡ target_search text.now redefines (seen_at work.now last))
-        × (result.row ≡ target_from text.now redefines work.now last)
-        × (result.row ≤ last) }
-{
-    if 0 < redefines.len {
-        return search_back(text, work, redefines, last, false);
-    }
-    SearchEnd {
-        row: 0,
-        compared: 0,
-    }
-}
-
-// Where an item starts, and the row that it redefines (a row and 1, or 0 for none); or why it cannot be placed.
+/// Where an item starts, and the row that it redefines, if any.
 #[derive(Clone, Copy)]
-pub enum Start {
-    At { target: usize, offset: usize },
-    Refused(Refusal),
+pub struct Start {
+    pub target: Option<usize>,
+    pub offset: usize,
 }
 
-// Where an item with this REDEFINES starts: where its target does, or 28, at the item's position, where it has none.
-pub fn start_over(text: &[u8], work: &[u32], redefines: Span, at: usize, last: usize) -> Start
-    requires { (ROW * last ≤ length work.now) × Printed text.now work.now last }
-    ensures { (start_of result
-        ≡ or_refuse 28 at (target_search text.now redefines (seen_at work.now last)).found)
-        × (target_in result ≡ target_from text.now redefines work.now last)
-        × (target_in result ≤ last) }
-{
-    let found = target_of(text, work, redefines, last);
-    let target = found.row;
-    if 0 < target {
-        let row = target - 1;
-        return Start::At {
-            target,
-            offset: rows::wide(work[ROW * row + OFFSET]),
+/// Rows that have the fingerprints of their names, and the text that the names stand in: what is searched.
+#[derive(Clone, Copy)]
+pub struct PrintedRows<'a> {
+    pub text: &'a [u8],
+    pub rows: Rows<'a>,
+    ghost printed: { Printed text.now rows.work.now rows.count },
+}
+
+// Kept: `last ≤ self.rows.count` in each method – no plainer: it is an index's bound, as of a slice's part.
+impl<'a> PrintedRows<'a> {
+    /// These rows, whose names stand in this text.
+    pub fn new(text: &'a [u8], rows: Rows<'a>) -> Self
+        requires { Printed text.now rows.work.now rows.count }
+        ensures { (result.text.now ≡ text.now) × (result.rows.work.now ≡ rows.entry.work.now)
+            × (result.rows.count ≡ rows.entry.count) }
+    {
+        PrintedRows { text, rows }
+    }
+
+    // Kept: a flag – no plainer: both searches differ in one test.
+    // Whether the search passes over row k: one for bases passes over a redefiner.
+    fn passed_over(self, k: usize, bases: bool) -> bool
+        requires { k < self.rows.count }
+        ensures { result ≡ left_out bases self.entry.rows.work.now k }
+    {
+        bases && self.rows.redefines(k).is_given()
+    }
+
+    // Kept: a flag – no plainer: both searches differ in one test.
+    // Whether row k is what a search for this name, with this fingerprint, ends at.
+    fn is_target(self, target: Span, print: u32, k: usize, bases: bool) -> bool
+        requires { (k < self.rows.count) × (print ≡ name_print self.text.now target) }
+        ensures { result ≡ is_target self.entry.text.now target bases self.entry.rows.work.now k }
+    {
+        if self.rows.print(k) != print {
+            return false;
+        }
+        !self.passed_over(k, bases) && names::same_names(self.text, target, self.rows.name(k))
+    }
+
+    // From `last` back over siblings with other fingerprints, as long as each is the row after the one before it.
+    fn pass_back(self, last: usize, print: u32) -> usize
+        requires { last ≤ self.rows.count }
+        ensures { PassedBack self.entry.rows.work.now print last result }
+    {
+        for row in (0..last).rev() {
+            if self.rows.print(row) == print || self.rows.siblings_end(row) != row {
+                return row + 1;
+            }
+        }
+        0
+    }
+
+    // Kept: a flag – no plainer: both searches differ in one test.
+    // The latest sibling of that name from `last` back, or the latest base of that name.
+    fn search_back(self, target: Span, last: usize, bases: bool) -> SearchEnd
+        requires { last ≤ self.rows.count }
+        ensures { Ended self.entry.text.now target bases self.entry.rows.work.now last result }
+    {
+        let print = names::print_of(self.text, target);
+        let mut k = self.pass_back(last, print);
+        // rows passed that are no siblings
+        let mut gaps = 0;
+        // Kept: a `while` – no plainer: it goes from sibling to sibling, and no range says where the next one stands.
+        while 0 < k {
+            let row = k - 1;
+            let compared = last - row - gaps;
+            if self.is_target(target, print, row, bases) {
+                return SearchEnd {
+                    row: Some(row),
+                    compared,
+                };
+            }
+            let before = self.rows.siblings_end(row);
+            if row < before {
+                return SearchEnd {
+                    row: None,
+                    compared,
+                };
+            }
+            gaps += row - before;
+            k = self.pass_back(before, print);
+        }
+        SearchEnd {
+            row: None,
+            compared: last - gaps,
+        }
+    }
+
+    /// The sibling that a REDEFINES names, from the siblings before `last` back; without one nothing is searched for.
+    pub fn target_of(self, redefines: Span, last: usize) -> SearchEnd
+        requires { last ≤ self.rows.count }
+        ensures { (search_of self.entry.rows.work.now result
+            ≡ target_search self.entry.text.now redefines (seen_at self.entry.rows.work.now last))
+            × (result.row ≡ row_of (target_from self.entry.text.now redefines self.entry.rows.work.now last))
+            × (target_from self.entry.text.now redefines self.entry.rows.work.now last ≤ last) }
+    {
+        if redefines.is_given() {
+            return self.search_back(redefines, last, false);
+        }
+        SearchEnd {
+            row: None,
+            compared: 0,
+        }
+    }
+
+    /// Where an item with this REDEFINES starts: where its target does, or 28, at the item's position, where it has
+    /// none.
+    pub fn start_over(self, redefines: Span, at: usize, last: usize) -> Result<Start, Refusal>
+        requires { last ≤ self.rows.count }
+        ensures { (start_of result
+            ≡ or_refuse (Refusal.NoTarget at)
+            (target_search self.entry.text.now redefines (seen_at self.entry.rows.work.now last)).found)
+            × (target_in result ≡ row_of (target_from self.entry.text.now redefines self.entry.rows.work.now last))
+            × (target_from self.entry.text.now redefines self.entry.rows.work.now last ≤ last) }
+    {
+        match self.target_of(redefines, last).row {
+            None => Err(Refusal::NoTarget { position: at }),
+            Some(row) => Ok(Start {
+                target: Some(row),
+                offset: self.rows.offset(row),
+            }),
+        }
+    }
+
+    /// The base of that name, where the search for the target ended at the row `target`: that row itself, or where it
+    /// is a redefiner, what a second search finds from there back.
+    pub fn base_of(self, redefines: Span, target: Option<usize>) -> Option<usize>
+        requires { (row_code target ≤ self.rows.count)
+            × Named self.text.now redefines self.rows.work.now (row_code target) }
+        ensures { (result
+            ≡ row_of
+            (base_from self.entry.text.now redefines self.entry.rows.work.now (row_code target) (row_code target)))
+            × (base_from self.entry.text.now redefines self.entry.rows.work.now (row_code target) (row_code target)
+            ≤ row_code target) }
+    {
+        let Some(row) = target else {
+            return None;
         };
-    }
-    Start::Refused(Refusal {
-        number: 28,
-        position: at,
-        needed: 0,
-    })
-}
-
-// The base of that name, where the search for the target ended at the row `target`: that row itself, or where it is a
-// redefiner, what a second search finds from there back. A row and 1, or 0 for none.
-pub fn base_of(text: &[u8], work: &[u32], redefines: Span, target: usize) -> usize
-    requires { (ROW * target ≤ length work.now)
-        × Printed text.now work.now target
-        × Named text.now redefines work.now target }
-    ensures { (result ≡ base_from text.now redefines work.now target target) × (result ≤ target) }
-{
-    if target == 0 {
-        return 0;
-    }
-    let row = target - 1;
-    if passed_over(work, row, true) {
-        let before = rows::wide(work[ROW * row + BEFORE]);
-        if row < before {
-            return 0;
+        if self.passed_over(row, true) {
+            let before = self.rows.siblings_end(row);
+            if row < before {
+                return None;
+            }
+            return self.search_back(redefines, before, true).row;
         }
-        let found = search_back(text, work, redefines, before, true);
-        return found.row;
+        target
     }
-    target
 }
 
-// The latest sibling without REDEFINES from `last` back: that one, or the one that it names.
-fn plain_after(work: &[u32], last: usize) -> usize
-    requires { (ROW * last ≤ length work.now) × (last < 65536) }
-    ensures { (result ≡ plain_after work.now last) × (result < 65536) }
+// The latest sibling without REDEFINES from `last` back: that one, or the one that it names. The row and 1, or 0.
+// Kept: a row and 1, and its cast – no plainer: it is one half of the number that `placers_of` makes.
+fn plain_after(rows: Rows, last: usize) -> u32
+    requires { (last ≤ rows.count) × (last < 65536) }
+    ensures { (result ≡ plain_after rows.entry.work.now last) × (result < 65536) }
 {
-    if 0 < last {
-        let row = last - 1;
-        let redefines = rows::span_at(work[ROW * row + REDEFINES]);
-        if 0 < redefines.len {
-            return rows::wide(work[ROW * row + PLACERS]) / 65536;
-        }
-        return last;
+    if 0 < last && rows.redefines(last - 1).is_given() {
+        return rows::row_code(rows.plain(last - 1));
     }
-    0
+    last as u32
 }
 
-// The siblings that may place an item, in one number.
-pub fn placers_of(work: &[u32], last: usize, target: usize) -> u32
-    requires { (ROW * last ≤ length work.now) × (last < 65536) × (target < 65536) }
-    ensures { result ≡ plain_after work.now last * 65536 + target }
+/// The siblings that may place an item, in one number.
+pub fn placers_of(rows: Rows, last: usize, target: Option<usize>) -> u32
+    requires { (last ≤ rows.count) × (last < 65536) × (row_code target < 65536) }
+    ensures { result ≡ plain_after rows.entry.work.now last * 65536 + row_code target }
 {
-    (plain_after(work, last) * 65536 + target) as u32
+    plain_after(rows, last) * 65536 + rows::row_code(target)
 }

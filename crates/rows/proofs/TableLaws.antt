@@ -1,17 +1,18 @@
 -- Laws of the table: each part of a statement is read back from its number, a statement from its row, and the
 -- statements from their rows; what a row leaves alone; lengths are kept.
 -- Assumes nothing.
+use Rattle.std.specs.Prelude.{Option, None, Some}
 use Prim.Native.Nat.{ℕ, zero, suc, ◌+◌, ◌*◌, ◌/◌, ◌%◌, ◌≤◌, ◌<◌}
-use mathlib.Core.Path.{◌≡◌, refl, ap, ap₂, ◌∙◌}
+use mathlib.Core.Path.{◌≡◌, refl, sym, ap, ap₂, ◌∙◌}
 use mathlib.Core.List.{List, [], ◌∷◌}
 use mathlib.Core.Logic.{⊎_elim}
 use native.Mathlib.Nat.{div-add-mod', mod-eq_of_lt}
 use native.Mathlib.Omega.{arith}
 use lib.Dec.{eqb, lit<}
+use Rattle.std.proofs.lemmas.Bool.Decides.{nat_tests}
 use lib.ListN.{length, get_or, set, length-set}
 use lib.Seq.{sets, length-sets, get_or-set_other, get_or-set_same}
 use Rattle.definition.specs.declared.Span.{Span}
-use Rattle.definition.specs.declared.Occurs.{Occurs}
 use Rattle.definition.specs.declared.ItemUsage.{ItemUsage}
 use Rattle.definition.specs.declared.Clauses.{Clauses}
 use Rattle.definition.specs.declared.Statement.{Statement}
@@ -24,7 +25,7 @@ use Rattle.kinds.proofs.Back.{flag-back, flag-few, usage-back, usage-few, usage-
 use Rattle.kinds.proofs.Back.{sign-words-back, sign-words-few}
 use Rattle.rows.specs.Columns.{ROW, LEVEL, PARENT, AT, NAME, PICTURE, DEPENDING, REDEFINES, SAID, LOW, HIGH}
 use Rattle.rows.specs.Columns.{BELOW}
-use Rattle.rows.specs.Table.{span_code, span_at, mark_of, count_of, occurs_at, level_code, said_code}
+use Rattle.rows.specs.Table.{span_code, span_at, mark_of, count_of, occurs_at, level_code, said_code, row_of, row_code}
 use Rattle.rows.specs.Table.{Short, Storable, Storables, cells, put_row, put_rows, cell, parent_at, usage_in}
 use Rattle.rows.specs.Table.{clauses_at, statement_at, statements_from, parents_from}
 
@@ -36,13 +37,27 @@ span-back w h =
     let len : span_code w % 65536 ≡ w.len = omega arith in
     ap₂ span start len
 
-occurs-back : (o : Occurs) → occurs_at (mark_of o) (count_of o % 4294967296) (count_of o / 4294967296) ≡ o
-occurs-back Occurs.Once = refl
-occurs-back (Occurs.Times n) = ap Occurs.Times (div-add-mod' n 4294967296)
+occurs-back : (o : Option ℕ) → occurs_at (mark_of o) (count_of o % 4294967296) (count_of o / 4294967296) ≡ o
+occurs-back None = refl
+occurs-back (Some n) = ap Some (div-add-mod' n 4294967296)
 
-mark-few : (o : Occurs) → mark_of o < 2
-mark-few Occurs.Once = omega arith
-mark-few (Occurs.Times n) = omega arith
+-- a row and its number
+pub row-back : (k : ℕ) → row_of (suc k) ≡ Some k
+row-back k = grind (arith, nat_tests)
+
+pub code-back : (n : ℕ) → row_code (row_of n) ≡ n
+code-back zero = refl
+code-back (suc k) = ap row_code (row-back k)
+
+pub row-none : {n : ℕ} → row_of n ≡ None → n ≡ 0
+row-none {n} e = sym (code-back n) ∙ ap row_code e
+
+pub row-some : {n k : ℕ} → row_of n ≡ Some k → n ≡ suc k
+row-some {n} e = sym (code-back n) ∙ ap row_code e
+
+mark-few : (o : Option ℕ) → mark_of o < 2
+mark-few None = omega arith
+mark-few (Some n) = omega arith
 
 -- a level that is a byte, and a usage
 module _ (level : ℕ) (u : ItemUsage) (h : level < 256) where

@@ -2,10 +2,10 @@
 -- (`Columns` names what stands where). A statement is stored in its columns, and read back from them.
 -- A span is one number, for a text has at most 65,535 bytes; a count takes two.
 -- Assumes nothing.
-use Rattle.std.specs.Prelude.{ℕ, zero, suc, ◌+◌, ◌*◌, ◌/◌, ◌%◌, ◌≤◌, ◌<◌, List, [], ◌∷◌, eqb, get_or, if◌then◌else◌}
+use Rattle.std.specs.Prelude.{ℕ, zero, suc, ◌+◌, ◌-◌, ◌*◌, ◌/◌, ◌%◌, ◌≤◌, ◌<◌, List, [], ◌∷◌, eqb, get_or}
+use Rattle.std.specs.Prelude.{if◌then◌else◌, Option, None, Some}
 use Rattle.std.proofs.lemmas.List.Edits.{sets}
 use Rattle.definition.specs.declared.Span.{Span}
-use Rattle.definition.specs.declared.Occurs.{Occurs}
 use Rattle.definition.specs.declared.ItemUsage.{ItemUsage}
 use Rattle.definition.specs.declared.Clauses.{Clauses}
 use Rattle.definition.specs.declared.Statement.{Statement}
@@ -26,17 +26,26 @@ abbrev pub span_at : ℕ → Span
 span_at n = span (n / 65536) (n % 65536)
 
 -- whether OCCURS is said, and its count
-abbrev pub mark_of : Occurs → ℕ
-mark_of Occurs.Once = 0
-mark_of (Occurs.Times n) = 1
+abbrev pub mark_of : Option ℕ → ℕ
+mark_of None = 0
+mark_of (Some n) = 1
 
-abbrev pub count_of : Occurs → ℕ
-count_of Occurs.Once = 0
-count_of (Occurs.Times n) = n
+abbrev pub count_of : Option ℕ → ℕ
+count_of None = 0
+count_of (Some n) = n
 
 -- and back, from the mark and the count's two parts
-abbrev pub occurs_at : ℕ → ℕ → ℕ → Occurs
-occurs_at mark low high = if eqb mark 0 then Occurs.Once else Occurs.Times (high * 4294967296 + low)
+abbrev pub occurs_at : ℕ → ℕ → ℕ → Option ℕ
+occurs_at mark low high = if eqb mark 0 then None else Some (high * 4294967296 + low)
+
+-- the row that a number names: the row and 1, or 0 for none
+abbrev pub row_of : ℕ → Option ℕ
+row_of n = if eqb n 0 then None else Some (n - 1)
+
+-- and back
+abbrev pub row_code : Option ℕ → ℕ
+row_code None = 0
+row_code (Some k) = suc k
 
 -- a level, and the usage that holds, as one number
 abbrev pub level_code : ℕ → ItemUsage → ℕ
@@ -113,7 +122,7 @@ abbrev pub usage_in : List ℕ → ℕ → ItemUsage
 usage_in w k = item_usage_at (cell w k LEVEL / 256 % 8)
 
 -- the OCCURS of the statement in row k
-abbrev pub occurs_in : List ℕ → ℕ → Occurs
+abbrev pub occurs_in : List ℕ → ℕ → Option ℕ
 occurs_in w k = occurs_at (cell w k SAID / 128) (cell w k LOW) (cell w k HIGH)
 
 -- the clauses of the statement in row k

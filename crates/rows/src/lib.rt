@@ -1,78 +1,74 @@
-// Kept statements as rows in lent work memory: a row written, and read back.
+// Kept statements as rows in lent work memory: a statement written into its row, and a row read back, column by column.
+// Leans on `definition` and `kinds`.
 #![tactic(auto)]
 
-ghost use Rattle.std.specs.Prelude.{◌≡◌, ◌+◌, ◌*◌, ◌≤◌, ◌<◌, [], ◌∷◌, length};
+ghost use Rattle.std.specs.Prelude.{◌≡◌, ◌+◌, ◌*◌, ◌/◌, ◌%◌, ◌≤◌, ◌<◌, length, set};
 ghost use Rattle.std.proofs.lemmas.List.Edits.{sets};
 ghost use Rattle.definition.specs.Calls.{cleared};
-ghost use Rattle.rows.specs.Columns.{ROW};
-ghost use Rattle.rows.specs.Table.{span_code, span_at, mark_of, count_of, occurs_at, level_code, said_code};
-ghost use Rattle.rows.specs.Table.{usage_in, occurs_in};
-ghost use Rattle.rows.specs.Table.{Short, Brief, Placed, clause_cells, put_row, clauses_at, statement_at};
+ghost use Rattle.kinds.specs.Kinds.{kind_at};
+ghost use Rattle.rows.specs.Columns.{ROW, LEVEL, PARENT, AT, NAME, PICTURE, DEPENDING, REDEFINES, BELOW, OFFSET};
+ghost use Rattle.rows.specs.Columns.{WIDTH, KIND, BEFORE, SLACK, BASE, PLACERS, NEXT, PRINT};
+ghost use Rattle.rows.specs.Table.{span_code, span_at, level_code, said_code};
+ghost use Rattle.rows.specs.Table.{row_of, row_code, cell, put_row, clauses_at, statement_at};
+ghost use Rattle.rows.specs.Table.{usage_in, occurs_in, Short, Placed};
 
-use definition::{Clauses, ItemUsage, Occurs, Span, Statement};
+use definition::{Clauses, FieldKind, ItemUsage, Span, Statement};
+use kinds::Coded;
 
 // The columns of a row, as `specs/Columns` has them.
 pub const ROW: usize = 20;
 
-pub const LEVEL: usize = 0;
+const LEVEL: usize = 0;
 
-pub const PARENT: usize = 1;
+const PARENT: usize = 1;
 
-pub const AT: usize = 2;
+const AT: usize = 2;
 
-pub const NAME: usize = 3;
+const NAME: usize = 3;
 
-pub const PICTURE: usize = 4;
+const PICTURE: usize = 4;
 
-pub const DEPENDING: usize = 5;
+const DEPENDING: usize = 5;
 
-pub const REDEFINES: usize = 6;
+const REDEFINES: usize = 6;
 
-pub const SAID: usize = 7;
+const SAID: usize = 7;
 
-pub const LOW: usize = 8;
+const LOW: usize = 8;
 
-pub const HIGH: usize = 9;
+const HIGH: usize = 9;
 
 pub const BELOW: usize = 10;
 
 pub const OFFSET: usize = 11;
 
-pub const WIDTH: usize = 12;
+const WIDTH: usize = 12;
 
-pub const KIND: usize = 13;
+const KIND: usize = 13;
 
-pub const BEFORE: usize = 14;
+const BEFORE: usize = 14;
 
-pub const SLACK: usize = 15;
+const SLACK: usize = 15;
 
-pub const BASE: usize = 16;
+const BASE: usize = 16;
 
-pub const PLACERS: usize = 17;
+const PLACERS: usize = 17;
 
 pub const NEXT: usize = 18;
 
 pub const PRINT: usize = 19;
 
-// Work memory to zero.
+/// Work memory to zero.
 pub fn clear(work: &mut [u32])
     ensures { work.new ≡ cleared work.old }
 {
-    let mut i = 0;
-    while i < work.len() {
-        work[i] = 0;
-        i += 1;
-    }
+    work.fill(0);
 }
 
-// A number of 32 bits as a place.
-pub fn wide(n: u32) -> usize
-    ensures { (result ≡ n) × (result < 4294967296) }
-{
-    n as usize
-}
+// ---------------------------------------------------------------- the parts of a statement as numbers
 
 // A span as one number.
+// Kept: a function and its cast – no plainer: a From may ask nothing, and a span past 65,535 has no such number.
 fn span_code(w: Span) -> u32
     requires { Short w }
     ensures { result ≡ span_code w }
@@ -81,7 +77,8 @@ fn span_code(w: Span) -> u32
 }
 
 // The span that a number holds.
-pub fn span_at(n: u32) -> Span
+// Kept: a function – no plainer: the number is a u32 and the span another crate's, so a From needs a type between them.
+fn span_at(n: u32) -> Span
     ensures { result ≡ span_at n }
 {
     Span {
@@ -90,154 +87,320 @@ pub fn span_at(n: u32) -> Span
     }
 }
 
-// Whether OCCURS is said, as a number.
-fn occurs_mark(o: Occurs) -> u8
-    ensures { result ≡ mark_of o }
+// The row that a number names: the row and 1, or 0 for none.
+// Kept: a function – no plainer: both types are the library's, so that no From can be written here.
+fn row_of(n: u32) -> Option<usize>
+    ensures { result ≡ row_of n }
 {
-    match o {
-        Occurs::Once => 0,
-        Occurs::Times(n) => 1,
+    match n {
+        0 => None,
+        _ => Some((n - 1) as usize),
     }
 }
 
-// The count of OCCURS, 0 without.
-fn occurs_count(o: Occurs) -> u64
-    ensures { (result ≡ count_of o) × (count_of o < 18446744073709551616) }
+/// The number that names a row: the row and 1, or 0 for none.
+// Kept: a function – no plainer: both types are the library's, and a From may ask nothing.
+pub fn row_code(row: Option<usize>) -> u32
+    requires { row_code row < 4294967296 }
+    ensures { result ≡ row_code row }
 {
-    match o {
-        Occurs::Once => 0,
-        Occurs::Times(n) => n,
+    match row {
+        None => 0,
+        Some(k) => (k + 1) as u32,
     }
-}
-
-// OCCURS, from its mark and the count's two parts.
-fn occurs_at(mark: u32, low: u32, high: u32) -> Occurs
-    ensures { result ≡ occurs_at mark low high }
-{
-    if mark == 0 {
-        return Occurs::Once;
-    }
-    Occurs::Times(high as u64 * 4294967296 + low as u64)
-}
-
-// Four numbers stored from a place on.
-fn put_four(work: &mut [u32], at: usize, a: u32, b: u32, c: u32, d: u32)
-    requires { at + 4 ≤ length work.old }
-    ensures { work.new ≡ sets work.old at (a ∷ b ∷ c ∷ d ∷ []) }
-{
-    work[at] = a;
-    work[at + 1] = b;
-    work[at + 2] = c;
-    work[at + 3] = d;
 }
 
 // A level, and the usage that holds, as one number.
+// Kept: a function – no plainer: the number is made of two values, and is a row's alone.
 fn level_code(level: u8, u: ItemUsage) -> u32
     ensures { result ≡ level_code level u }
 {
-    kinds::wide(level) + 256 * kinds::wide(kinds::item_usage_byte(u))
+    u32::from(level) + 256 * u32::from(u.code())
 }
 
 // The usage that is named, sign, SYNC and whether OCCURS is said, as one number.
+// Kept: a function – no plainer: the number is made of four of the clauses, and does not give all of them back.
 fn said_code(c: Clauses) -> u32
     ensures { result ≡ said_code c }
 {
-    let usage = c.usage;
-    let sign = c.sign;
-    let occurs = c.occurs;
-    let marks = kinds::wide(kinds::flag_byte(c.sync)) + 2 * kinds::wide(occurs_mark(occurs));
-    kinds::wide(kinds::usage_code(usage)) + 8 * (kinds::wide(kinds::sign_code(sign)) + 8 * marks)
+    let marks = u32::from(c.sync) + 2 * u32::from(c.occurs.is_some());
+    u32::from(kinds::clause_code(c.usage)) + 8 * (u32::from(kinds::sign_code(c.sign)) + 8 * marks)
 }
 
-// The columns of the clauses, from a place on.
-fn put_clauses(work: &mut [u32], at: usize, c: Clauses)
-    requires { (at + 6 ≤ length work.old) × Brief c }
-    ensures { work.new ≡ sets work.old at (clause_cells c) }
+// ---------------------------------------------------------------- a row written
+
+/// A number into a column of row k.
+// Kept: work memory and a row – no plainer: a struct over a `&mut` asks three clauses of each method that writes.
+pub fn put_cell(work: &mut [u32], k: usize, c: usize, n: u32)
+    requires { (ROW * k + ROW ≤ length work.old) × (c < ROW) }
+    ensures { work.new ≡ set work.old (ROW * k + c) n }
 {
-    let picture = c.picture;
-    let depending = c.depending;
-    let redefines = c.redefines;
-    let occurs = c.occurs;
-    let count = occurs_count(occurs);
-    put_four(
-        work,
-        at,
-        span_code(picture),
-        span_code(depending),
-        span_code(redefines),
-        said_code(c),
-    );
-    work[at + 4] = (count % 4294967296) as u32;
-    work[at + 5] = (count / 4294967296) as u32;
+    work[ROW * k + c] = n;
 }
 
-// A statement and its parent, the row and 1, or 0 for none, into row k.
+/// Numbers stored from a place on.
+pub fn put_cells(work: &mut [u32], at: usize, cells: &[u32])
+    requires { at + length cells.now ≤ length work.old }
+    ensures { work.new ≡ sets work.old at cells.now }
+{
+    work[at..at + cells.len()].copy_from_slice(cells);
+}
+
+/// A statement and its parent, the row and 1, or 0 for none, into row k.
+// Kept: work memory and a row, and casts – no plainer: the contract bounds the numbers, so that no TryFrom can fail.
+#[tactic(auto, unfolding(crate::specs::Table::put_row))]
 pub fn put_row(work: &mut [u32], k: usize, parent: u32, s: Statement)
     requires { (ROW * k + ROW ≤ length work.old) × Placed s }
     ensures { work.new ≡ put_row work.old k parent s }
 {
-    let base = ROW * k;
-    let name = s.name;
-    let clauses = s.clauses;
-    let usage = s.usage;
-    put_four(
+    let c = s.clauses;
+    let count = c.occurs.unwrap_or(0);
+    put_cells(
         work,
-        base,
-        level_code(s.level, usage),
-        parent,
-        s.at as u32,
-        span_code(name),
+        ROW * k,
+        &[
+            level_code(s.level, s.usage),
+            parent,
+            s.at as u32,
+            span_code(s.name),
+            span_code(c.picture),
+            span_code(c.depending),
+            span_code(c.redefines),
+            said_code(c),
+            (count % 4294967296) as u32,
+            (count / 4294967296) as u32,
+        ],
     );
-    put_clauses(work, base + 4, clauses);
 }
 
-// The usage that holds for the statement in row k.
-pub fn usage_in(work: &[u32], k: usize) -> ItemUsage
-    requires { ROW * k + ROW ≤ length work.now }
-    ensures { result ≡ usage_in work.now k }
-{
-    kinds::item_usage_at((work[ROW * k + LEVEL] / 256 % 8) as u8)
+// ---------------------------------------------------------------- rows read
+
+/// The first `count` rows of work memory.
+#[derive(Clone, Copy)]
+pub struct Rows<'a> {
+    pub work: &'a [u32],
+    pub count: usize,
+    ghost fits: { ROW * count ≤ length work.now },
 }
 
-// The OCCURS of the statement in row k.
-pub fn occurs_in(work: &[u32], k: usize) -> Occurs
-    requires { ROW * k + ROW ≤ length work.now }
-    ensures { result ≡ occurs_in work.now k }
-{
-    occurs_at(
-        work[ROW * k + SAID] / 128,
-        work[ROW * k + LOW],
-        work[ROW * k + HIGH],
-    )
-}
-
-// The clauses of the statement in row k.
-fn clauses_at(work: &[u32], k: usize) -> Clauses
-    requires { ROW * k + ROW ≤ length work.now }
-    ensures { result ≡ clauses_at work.now k }
-{
-    let said = work[ROW * k + SAID];
-    Clauses {
-        picture: span_at(work[ROW * k + PICTURE]),
-        usage: kinds::usage_clause_at((said % 8) as u8),
-        sign: kinds::sign_words_at((said / 8 % 8) as u8),
-        sync: said / 64 % 2 == 1,
-        occurs: occurs_in(work, k),
-        depending: span_at(work[ROW * k + DEPENDING]),
-        redefines: span_at(work[ROW * k + REDEFINES]),
+// Kept: `k < self.count` in each method – no plainer: a row's number is an index, as into a slice.
+impl<'a> Rows<'a> {
+    /// The first `count` rows of this work memory.
+    pub fn new(work: &'a [u32], count: usize) -> Self
+        requires { ROW * count ≤ length work.now }
+        ensures { (result.work.now ≡ work.now) × (result.count ≡ count) }
+    {
+        Rows { work, count }
     }
-}
 
-// The statement in row k.
-pub fn statement_at(work: &[u32], k: usize) -> Statement
-    requires { ROW * k + ROW ≤ length work.now }
-    ensures { result ≡ statement_at work.now k }
-{
-    Statement {
-        level: (work[ROW * k + LEVEL] % 256) as u8,
-        at: work[ROW * k + AT] as usize,
-        name: span_at(work[ROW * k + NAME]),
-        clauses: clauses_at(work, k),
-        usage: usage_in(work, k),
+    // A column of row k.
+    fn cell(self, k: usize, c: usize) -> u32
+        requires { (k < self.count) × (c < ROW) }
+        ensures { result ≡ cell self.entry.work.now k c }
+    {
+        self.work[ROW * k + c]
+    }
+
+    // The same, as a count or a place.
+    // Kept: a cast – no plainer: no From leads from u32 to usize.
+    fn number(self, k: usize, c: usize) -> usize
+        requires { (k < self.count) × (c < ROW) }
+        ensures { (result ≡ cell self.entry.work.now k c) × (result < 4294967296) }
+    {
+        self.cell(k, c) as usize
+    }
+
+    /// The level of row k.
+    pub fn level(self, k: usize) -> u8
+        requires { k < self.count }
+        ensures { result ≡ cell self.entry.work.now k LEVEL % 256 }
+    {
+        (self.cell(k, LEVEL) % 256) as u8
+    }
+
+    /// The usage that holds for row k.
+    pub fn usage(self, k: usize) -> ItemUsage
+        requires { k < self.count }
+        ensures { result ≡ usage_in self.entry.work.now k }
+    {
+        ItemUsage::at((self.cell(k, LEVEL) / 256 % 8) as u8)
+    }
+
+    /// The row that row k stands under, if any.
+    pub fn parent(self, k: usize) -> Option<usize>
+        requires { k < self.count }
+        ensures { (result ≡ row_of (cell self.entry.work.now k PARENT)) × (row_code result < 4294967296) }
+    {
+        row_of(self.cell(k, PARENT))
+    }
+
+    /// The byte of the text that row k's statement begins at.
+    pub fn at(self, k: usize) -> usize
+        requires { k < self.count }
+        ensures { (result ≡ cell self.entry.work.now k AT) × (result < 4294967296) }
+    {
+        self.number(k, AT)
+    }
+
+    /// The name of row k.
+    pub fn name(self, k: usize) -> Span
+        requires { k < self.count }
+        ensures { result ≡ span_at (cell self.entry.work.now k NAME) }
+    {
+        span_at(self.cell(k, NAME))
+    }
+
+    /// The picture of row k.
+    pub fn picture(self, k: usize) -> Span
+        requires { k < self.count }
+        ensures { result ≡ span_at (cell self.entry.work.now k PICTURE) }
+    {
+        span_at(self.cell(k, PICTURE))
+    }
+
+    /// The name after DEPENDING ON of row k.
+    pub fn depending(self, k: usize) -> Span
+        requires { k < self.count }
+        ensures { result ≡ span_at (cell self.entry.work.now k DEPENDING) }
+    {
+        span_at(self.cell(k, DEPENDING))
+    }
+
+    /// The name after REDEFINES of row k.
+    pub fn redefines(self, k: usize) -> Span
+        requires { k < self.count }
+        ensures { result ≡ span_at (cell self.entry.work.now k REDEFINES) }
+    {
+        span_at(self.cell(k, REDEFINES))
+    }
+
+    /// The OCCURS of row k.
+    pub fn occurs(self, k: usize) -> Option<u64>
+        requires { k < self.count }
+        ensures { result ≡ occurs_in self.entry.work.now k }
+    {
+        if self.cell(k, SAID) / 128 == 0 {
+            return None;
+        }
+        Some(u64::from(self.cell(k, HIGH)) * 4294967296 + u64::from(self.cell(k, LOW)))
+    }
+
+    /// The clauses of row k.
+    pub fn clauses(self, k: usize) -> Clauses
+        requires { k < self.count }
+        ensures { result ≡ clauses_at self.entry.work.now k }
+    {
+        let said = self.cell(k, SAID);
+        Clauses {
+            picture: self.picture(k),
+            usage: kinds::clause_at((said % 8) as u8),
+            sign: kinds::sign_words_at((said / 8 % 8) as u8),
+            sync: said / 64 % 2 == 1,
+            occurs: self.occurs(k),
+            depending: self.depending(k),
+            redefines: self.redefines(k),
+        }
+    }
+
+    /// The statement in row k.
+    pub fn statement(self, k: usize) -> Statement
+        requires { k < self.count }
+        ensures { result ≡ statement_at self.entry.work.now k }
+    {
+        Statement {
+            level: self.level(k),
+            at: self.at(k),
+            name: self.name(k),
+            clauses: self.clauses(k),
+            usage: self.usage(k),
+        }
+    }
+
+    /// How many rows stand below row k.
+    pub fn below(self, k: usize) -> usize
+        requires { k < self.count }
+        ensures { (result ≡ cell self.entry.work.now k BELOW) × (result < 4294967296) }
+    {
+        self.number(k, BELOW)
+    }
+
+    /// Where row k starts in its list, in bytes.
+    pub fn offset(self, k: usize) -> usize
+        requires { k < self.count }
+        ensures { (result ≡ cell self.entry.work.now k OFFSET) × (result < 4294967296) }
+    {
+        self.number(k, OFFSET)
+    }
+
+    /// How many bytes one occurrence of row k has.
+    pub fn width(self, k: usize) -> usize
+        requires { k < self.count }
+        ensures { (result ≡ cell self.entry.work.now k WIDTH) × (result < 4294967296) }
+    {
+        self.number(k, WIDTH)
+    }
+
+    /// The kind of row k.
+    pub fn kind(self, k: usize) -> FieldKind
+        requires { k < self.count }
+        ensures { result ≡ kind_at (cell self.entry.work.now k KIND) }
+    {
+        kinds::kind_at(self.cell(k, KIND))
+    }
+
+    /// Up to where the siblings before row k stand: the row after the latest of them, or 0 where there is none.
+    pub fn siblings_end(self, k: usize) -> usize
+        requires { k < self.count }
+        ensures { (result ≡ cell self.entry.work.now k BEFORE) × (result < 4294967296) }
+    {
+        self.number(k, BEFORE)
+    }
+
+    /// How many slack bytes stand directly before row k.
+    pub fn slack(self, k: usize) -> usize
+        requires { k < self.count }
+        ensures { (result ≡ cell self.entry.work.now k SLACK) × (result < 4294967296) }
+    {
+        self.number(k, SLACK)
+    }
+
+    /// The base that row k redefines, if any.
+    pub fn base(self, k: usize) -> Option<usize>
+        requires { k < self.count }
+        ensures { (result ≡ row_of (cell self.entry.work.now k BASE)) × (row_code result < 4294967296) }
+    {
+        row_of(self.cell(k, BASE))
+    }
+
+    /// The latest sibling before row k without REDEFINES, if any: it may place row k.
+    pub fn plain(self, k: usize) -> Option<usize>
+        requires { k < self.count }
+        ensures { (result ≡ row_of (cell self.entry.work.now k PLACERS / 65536)) × (row_code result < 65536) }
+    {
+        row_of(self.cell(k, PLACERS) / 65536)
+    }
+
+    /// The sibling that the REDEFINES of row k names, if any: it may place row k.
+    pub fn target(self, k: usize) -> Option<usize>
+        requires { k < self.count }
+        ensures { (result ≡ row_of (cell self.entry.work.now k PLACERS % 65536)) × (row_code result < 65536) }
+    {
+        row_of(self.cell(k, PLACERS) % 65536)
+    }
+
+    /// The next row of the union that row k stands in, if any.
+    pub fn next(self, k: usize) -> Option<usize>
+        requires { k < self.count }
+        ensures { (result ≡ row_of (cell self.entry.work.now k NEXT)) × (row_code result < 4294967296) }
+    {
+        row_of(self.cell(k, NEXT))
+    }
+
+    /// The fingerprint of row k's name.
+    pub fn print(self, k: usize) -> u32
+        requires { k < self.count }
+        ensures { result ≡ cell self.entry.work.now k PRINT }
+    {
+        self.cell(k, PRINT)
     }
 }

@@ -5,7 +5,7 @@ use Prim.Native.Nat.{ℕ, ◌+◌, max}
 use mathlib.Core.Path.{◌≡◌, refl, ap, ◌∙◌}
 use mathlib.Core.Bool.{Bool, true, false}
 use mathlib.Core.List.{List, ◌∷◌}
-use mathlib.Core.Option.{Option, none, some}
+use Rattle.std.specs.Prelude.{Option, None, Some}
 use native.Mathlib.Omega.{arith}
 use Rattle.definition.specs.declared.Span.{Span}
 use Rattle.definition.specs.declared.Entry.{Entry}
@@ -74,14 +74,14 @@ module _ (text : List ℕ) where
 
     module _ (g : given e.redefines ≡ true) where
       pub list-alone :
-          find text e.redefines bases ≡ none →
+          find text e.redefines bases ≡ None →
           folded_list text bases (entry e members later) ≡ entry e members (folded_list text bases later)
       unfolding folded_list
       list-alone h = rw (g, h, folded_list)
 
       pub list-under :
           {base : ℕ} →
-          find text e.redefines bases ≡ some base →
+          find text e.redefines bases ≡ Some base →
           folded_list text bases (entry e members later) ≡ folded_list text bases later
       unfolding folded_list
       list-under h = rw (g, h, folded_list)
@@ -93,8 +93,8 @@ module _ (text : List ℕ) where
         folded_list text bases (entry e members later)
         ≡ append (shown_as text (standing text bases e) e members later) (folded_list text (bases_after e bases) later)
     unfolding append
-    list-found g none h = list-alone g h ∙ rw (g, h)
-    list-found g (some base) h = list-under g h ∙ rw (g, h)
+    list-found g None h = list-alone g h ∙ rw (g, h)
+    list-found g (Some base) h = list-under g h ∙ rw (g, h)
 
     list-given :
         (b : Bool) →

@@ -1,9 +1,10 @@
 -- Refusal 30: the check of one entry of a list, and of the row that holds it.
 -- Assumes nothing.
 use Rattle.std.specs.Prelude.{ℕ, List, ltb, if◌then◌else◌}
-use Rattle.std.proofs.Math.Option.{Option, none, some}
+use Rattle.std.specs.Prelude.{Option, None, Some}
 use Rattle.definition.specs.declared.Entry.{Entry}
-use Rattle.definition.specs.Basic.{given, Answer, give, refuse_if}
+use Rattle.definition.specs.declared.Refusal.{Refusal}
+use Rattle.definition.specs.Basic.{given, Answer, Ok, refuse_if}
 use Rattle.definition.specs.Fold.{Place, find}
 use Rattle.rows.specs.Columns.{AT, OFFSET, BASE}
 use Rattle.rows.specs.Table.{cell}
@@ -11,13 +12,13 @@ use Rattle.redefines.specs.Targets.{offset_of}
 
 -- 30 for one entry: a redefiner that starts before its base
 abbrev pub check_base : ℕ → ℕ → Option ℕ → Answer (Unit {0})
-check_base at offset none = give tt
-check_base at offset (some base) = refuse_if (ltb offset base) 30 at
+check_base at offset None = Ok tt
+check_base at offset (Some base) = refuse_if (ltb offset base) (Refusal.StartsBeforeBase at)
 
 -- the same, where these are the earlier bases; an entry without REDEFINES passes
 abbrev pub check_entry : List ℕ → List Place → Entry → Answer (Unit {0})
 check_entry text bases e =
-    if given e.redefines then check_base e.at e.offset (find text e.redefines bases) else give tt
+    if given e.redefines then check_base e.at e.offset (find text e.redefines bases) else Ok tt
 
 -- the same for row i, by the base that it names
 abbrev pub check_row : List ℕ → ℕ → Answer (Unit {0})

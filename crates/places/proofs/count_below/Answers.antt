@@ -78,19 +78,29 @@ module _ {w₀ w : List ℕ} {n k : ℕ} (inv : Counting w₀ n k w) where
   room : ROW * n ≤ length w
   room = omega (arith, inv.fits, inv.long)
 
-  behind : 0 < k → (k - 1 < n) × (ROW * n ≤ length w) × BelowCounted w (k - 1 + 1) (rows_forest w (k - 1 + 1) n)
-  behind l = (
+  behind :
+      0 < k →
+      {v : List ℕ} {count : ℕ} →
+      (v ≡ w) × (count ≡ n) →
+      (k - 1 < n) × (n ≤ count) × BelowCounted v (k - 1 + 1) (rows_forest v (k - 1 + 1) n)
+  behind l e = (
     omega (arith, inv.within),
-    room,
-    subst (λ (m : ℕ). BelowCounted w m (rows_forest w m n)) (let e : k ≡ k - 1 + 1 = omega arith in e) inv.counted,
+    omega arith,
+    rw (e.0) (subst (λ (m : ℕ). BelowCounted w m (rows_forest w m n)) (let q : k ≡ k - 1 + 1 = omega arith in q) inv.counted),
   )
 
-  next : 0 < k → {e : ℕ} → ChildrenEnd w (k - 1) n e → Counting w₀ n (k - 1) (set w (ROW * (k - 1) + BELOW) (e - k))
-  next l {e} c =
+  next :
+      0 < k →
+      {v : List ℕ} {e : ℕ} →
+      v ≡ w →
+      ChildrenEnd v (k - 1) n e →
+      Counting w₀ n (k - 1) (set w (ROW * (k - 1) + BELOW) (e - (k - 1) - 1))
+  next l {v} {e} q x =
       let m = k - 1 in
       let at : suc m ≡ k = omega arith in
-      let put : set w (ROW * m + BELOW) (e - suc m) ≡ set w (ROW * m + BELOW) (e - k) =
-      ap (λ (x : ℕ). set w (ROW * m + BELOW) (e - x)) at in
+      let c = rw q at x in
+      let put : set w (ROW * m + BELOW) (e - suc m) ≡ set w (ROW * m + BELOW) (e - m - 1) =
+      ap (set w (ROW * m + BELOW)) (let z : e - suc m ≡ e - m - 1 = omega arith in z) in
       subst (Counting w₀ n m) put
       (record {
         fits = inv.fits;
@@ -110,17 +120,14 @@ module _ {w₀ w : List ℕ} {n k : ℕ} (inv : Counting w₀ n k w) where
             subst (λ (m : ℕ). BelowCounted w m (rows_forest w m n)) (let e : k ≡ 0 = omega arith in e) inv.counted;
       }
 
-pub loop-k-init : goal.loop-k-init
-loop-k-init c = search start
+pub loop-row-init : goal.loop-row-init
+loop-row-init c = start _ _ c.requires
 
 pub end_of-end-requires : goal.end_of-end-requires
-end_of-end-requires c = behind c.loop-k.invariant c.loop-k-test.true
+end_of-end-requires c = behind c.loop-row.invariant c.loop-row-test.true c.new.ensures
 
-pub loop-k-preserved : goal.loop-k-preserved
-loop-k-preserved c = search next
-
-pub shape_of-work : goal.shape_of-work
-shape_of-work c = c.loop-k.invariant.long
+pub loop-row-preserved : goal.loop-row-preserved
+loop-row-preserved c = rw (c.put_cell.ensures) (next c.loop-row.invariant c.loop-row-test.true c.new.ensures.0 c.end_of-end.ensures)
 
 pub returns : goal.returns
 returns c = search done

@@ -18,8 +18,8 @@ pub record Counting (w₀ : List ℕ) (n k : ℕ) (w : List ℕ) : Type 0 where
   pub same : (j c : ℕ) → c < BELOW → cell w j c ≡ cell w₀ j c
   pub counted : BelowCounted w k (rows_forest w k n)
 
-abbrev pub invariant-loop-k : goal.invariant-loop-k
-invariant-loop-k l = Counting l.initial.work l.n l.k l.work
+abbrev pub invariant-loop-row : goal.invariant-loop-row
+invariant-loop-row l = Counting l.initial.work l.n l.row l.work
 
-abbrev pub decreases-loop-k : goal.decreases-loop-k
-decreases-loop-k l = l.k
+abbrev pub decreases-loop-row : goal.decreases-loop-row
+decreases-loop-row l = l.row

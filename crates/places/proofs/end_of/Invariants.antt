@@ -1,10 +1,8 @@
 -- `places::end_of` meets its contract: the run of higher levels from j on is what is left of the run from i + 1 on.
-use Prim.Native.Nat.{ℕ, suc, ◌+◌, ◌-◌, ◌*◌, ◌≤◌, ◌<◌}
+use Prim.Native.Nat.{ℕ, suc, ◌+◌, ◌-◌, ◌≤◌, ◌<◌}
 use mathlib.Core.Path.{◌≡◌}
 use mathlib.Core.List.{List}
-use lib.ListN.{length}
 use Rattle.definition.specs.Tree.{higher}
-use Rattle.rows.specs.Columns.{ROW}
 use Rattle.rows.specs.Table.{statement_at, statements_from}
 use Rattle.places.specs.Places.{rows_forest}
 use Rattle.places.specs.Children.{BelowCounted}
@@ -15,12 +13,11 @@ pub record Left (w : List ℕ) (i to level j : ℕ) : Type 0 where
   pub same-level : level ≡ (statement_at w i).level
   pub low : i < j
   pub high : j ≤ to
-  pub fits : ROW * to ≤ length w
   pub counted : BelowCounted w j (rows_forest w j to)
   pub is : j + higher level (statements_from w j (to - j)) ≡ suc i + higher level (statements_from w (suc i) (to - suc i))
 
 abbrev pub invariant-loop-j : goal.invariant-loop-j
-invariant-loop-j l = Left l.work l.i l.to l.level l.j
+invariant-loop-j l = Left l.rows.work.now l.i l.to l.level l.j
 
 abbrev pub decreases-loop-j : goal.decreases-loop-j
 decreases-loop-j l = l.to - l.j

@@ -65,13 +65,14 @@ pub loop-i-init : goal.loop-i-init
 loop-i-init c = search start
 
 pub shown_named-requires : goal.shown_named-requires
-shown_named-requires c = along-known c.loop-i.invariant.along c.loop-i-test.true
+shown_named-requires c =
+    (omega arith, along-known c.loop-i.invariant.along c.loop-i-test.true)
 
 pub returns-then-shown_named : goal.returns-then-shown_named
 returns-then-shown_named c = search hit
 
 pub next_of-i-requires : goal.next_of-i-requires
-next_of-i-requires c = numbered c.loop-i.invariant c.loop-i-test.true
+next_of-i-requires c = (c.requires.0, numbered c.loop-i.invariant c.loop-i-test.true)
 
 pub loop-i-preserved : goal.loop-i-preserved
 loop-i-preserved c = search next

@@ -19,7 +19,7 @@ pub record Left (t w : List ℕ) (from to : ℕ) (name : Span) (i last : ℕ) : 
   pub is : has_member t name done ≡ false
 
 abbrev pub invariant-loop-i : goal.invariant-loop-i
-invariant-loop-i l = Left l.text l.work l.from l.to l.name l.i l.last
+invariant-loop-i l = Left l.text l.rows.work.now l.from l.to l.name l.i l.last
 
 abbrev pub decreases-loop-i : goal.decreases-loop-i
 decreases-loop-i l = l.to - l.i

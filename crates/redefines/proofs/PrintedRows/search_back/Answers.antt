@@ -1,0 +1,148 @@
+use Prim.Native.Nat.{ℕ, suc, ◌+◌, ◌-◌, ◌≤◌, ◌<◌}
+use mathlib.Core.Path.{◌≡◌, sym, ap, ◌∙◌}
+use mathlib.Core.Bool.{Bool, true, false}
+use mathlib.Core.List.{List}
+use native.Mathlib.Omega.{arith}
+use Rattle.definition.specs.declared.Span.{Span}
+use Rattle.std.specs.Prelude.{if◌then◌else◌, None, Some}
+use Rattle.names.specs.Prints.{name_print}
+use Rattle.rows.specs.Columns.{BEFORE}
+use Rattle.rows.specs.Table.{cell, row_of}
+use Rattle.rows.proofs.TableLaws.{row-back}
+use Rattle.redefines.specs.Targets.{is_target, row_from, looked_from, Ended}
+use Rattle.redefines.specs.Prints.{Printed, PassedBack}
+use Rattle.redefines.proofs.SearchLaws.{row_low, row-over, row_here, looked-low, looked-over, looked-here}
+use Rattle.redefines.proofs.PrintLaws.{printed-less, passed}
+use Rattle.redefines.proofs.PrintedRows.search_back.Invariants.{Left}
+use Rattle.redefines.proofs.PrintedRows.search_back.Goals as goal
+
+start :
+    {t w : List ℕ} {target : Span} {bases : Bool} {last print k : ℕ} →
+    Printed t w last →
+    print ≡ name_print t target →
+    PassedBack w print last k →
+    Left t w target bases last k 0
+start {t} {w} {target} {bases} p e b =
+    let x = passed t w target bases e p b in
+    record { printed = p; less = omega (arith, b.low); row = x.row; looked = omega (arith, x.looked) }
+
+module _ {t w : List ℕ} {target : Span} {bases : Bool} {last k gaps : ℕ} (inv : Left t w target bases last k gaps) where
+  abbrev here : ℕ
+  here = k - 1
+
+  -- what is found and looked at from the sibling before that row back
+  abbrev row_back : ℕ
+  row_back = row_from t target bases w here (cell w here BEFORE)
+
+  abbrev looked_back : ℕ
+  looked_back = looked_from t target bases w here (cell w here BEFORE)
+
+  ready :
+      0 < k →
+      {print : ℕ} →
+      print ≡ name_print t target →
+      {count : ℕ} →
+      last ≤ count →
+      (k - 1 < count) × (print ≡ name_print t target)
+  ready h e fits = (omega (arith, inv.less), e)
+
+  module _ (h : 0 < k) where
+    row-there :
+        {b : Bool} →
+        is_target t target bases w here ≡ b →
+        row_from t target bases w last last ≡ (if b then suc here else row_back)
+    row-there e =
+        inv.row
+        ∙ ap (λ (x : ℕ). row_from t target bases w x x) (let z : k ≡ suc here = omega arith in z)
+        ∙ row_here t w target bases here
+        ∙ ap (λ (b : Bool). if b then suc here else row_back) e
+
+    looked-there :
+        {b : Bool} →
+        is_target t target bases w here ≡ b →
+        looked_from t target bases w last last + gaps + k ≡ last + (if b then 1 else suc looked_back)
+    looked-there e =
+        inv.looked
+        ∙ ap (λ (x : ℕ). last + looked_from t target bases w x x) (let z : k ≡ suc here = omega arith in z)
+        ∙ ap (λ (n : ℕ). last + n)
+        (looked-here t w target bases here ∙ ap (λ (b : Bool). if b then 1 else suc looked_back) e)
+
+    module _ {o : Bool} (p : o ≡ is_target t target bases w (k - 1)) where
+      found : o ≡ true → Ended t target bases w last (record { row = Some (k - 1); compared = last - (k - 1) - gaps })
+      found e =
+          record {
+            row = sym (ap row_of (row-there (sym p ∙ e)) ∙ row-back here);
+            looked = omega (arith, inv.less, looked-there (sym p ∙ e));
+          }
+
+      module _ (e : o ≡ false) {n : ℕ} (q : n ≡ cell w (k - 1) BEFORE) where
+        broken : k - 1 < n → Ended t target bases w last (record { row = None; compared = last - (k - 1) - gaps })
+        broken l =
+            record {
+              row =
+                  sym (
+                  ap row_of (row-there (sym p ∙ e) ∙ row-over t w target bases here (cell w here BEFORE) (omega arith)));
+              looked =
+                  omega (
+                    arith,
+                    inv.less,
+                    looked-there (sym p ∙ e),
+                    looked-over t w target bases here (cell w here BEFORE) (omega arith),
+                  );
+            }
+
+        next :
+            n ≤ k - 1 →
+            {print r : ℕ} →
+            print ≡ name_print t target →
+            PassedBack w print n r →
+            Left t w target bases last r (gaps + (k - 1 - n))
+        next l z b =
+            let x = passed t w target bases z (printed-less inv.printed (omega (arith, inv.less))) b in
+            record {
+              printed = inv.printed;
+              less = omega (arith, inv.less, b.low);
+              row =
+                  row-there (sym p ∙ e)
+                  ∙ ap (row_from t target bases w here) (sym q)
+                  ∙ row_low t w target bases here n l
+                  ∙ x.row;
+              looked =
+                  omega (
+                    arith,
+                    inv.less,
+                    b.low,
+                    looked-there (sym p ∙ e),
+                    ap (looked_from t target bases w here) q,
+                    looked-low t w target bases here n l,
+                    x.looked,
+                  );
+            }
+
+  done : k ≤ 0 → Ended t target bases w last (record { row = None; compared = last - gaps })
+  unfolding row_from looked_from
+  done h =
+      let e : k ≡ 0 = omega arith in
+      record {
+        row = sym (ap row_of (inv.row ∙ ap (λ (x : ℕ). row_from t target bases w x x) e));
+        looked = omega (arith, inv.less, inv.looked, ap (λ (x : ℕ). looked_from t target bases w x x) e);
+      }
+
+pub loop-k-init : goal.loop-k-init
+loop-k-init c =
+    start (printed-less c.args.self.printed c.requires) c.print_of-print.ensures c.pass_back-k.ensures
+
+pub is_target-requires : goal.is_target-requires
+is_target-requires c = ready c.loop-k.invariant c.loop-k-test.true c.print_of-print.ensures c.requires
+
+pub returns-then-is_target : goal.returns-then-is_target
+returns-then-is_target c = search found
+
+pub returns-then-row-before : goal.returns-then-row-before
+returns-then-row-before c = search broken
+
+pub loop-k-preserved : goal.loop-k-preserved
+loop-k-preserved c = search next
+
+pub returns : goal.returns
+returns c = search done

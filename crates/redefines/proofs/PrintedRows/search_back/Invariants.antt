@@ -1,0 +1,23 @@
+-- `redefines::PrintedRows::search_back` meets its contract: what is found from k back is what is found from the last
+-- sibling back, and so many siblings were looked at before.
+use Prim.Native.Nat.{ℕ, ◌+◌, ◌≤◌}
+use mathlib.Core.Path.{◌≡◌}
+use mathlib.Core.Bool.{Bool}
+use mathlib.Core.List.{List}
+use Rattle.definition.specs.declared.Span.{Span}
+use Rattle.redefines.specs.Targets.{row_from, looked_from}
+use Rattle.redefines.specs.Prints.{Printed}
+use Rattle.redefines.proofs.PrintedRows.search_back.Given as goal
+
+-- the search goes on from k back, and passed so many rows that are no siblings
+pub record Left (t w : List ℕ) (target : Span) (bases : Bool) (last k gaps : ℕ) : Type 0 where
+  pub printed : Printed t w last
+  pub less : gaps + k ≤ last
+  pub row : row_from t target bases w last last ≡ row_from t target bases w k k
+  pub looked : looked_from t target bases w last last + gaps + k ≡ last + looked_from t target bases w k k
+
+abbrev pub invariant-loop-k : goal.invariant-loop-k
+invariant-loop-k l = Left l.self.text.now l.self.rows.work.now l.target l.bases l.last l.k l.gaps
+
+abbrev pub decreases-loop-k : goal.decreases-loop-k
+decreases-loop-k l = l.k

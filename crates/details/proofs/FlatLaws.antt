@@ -1,7 +1,7 @@
 -- The details of the listing's entries one after the other are the definition's; how deep those entries stand; what the
 -- table says of a record.
 -- Assumes nothing.
-use Prim.Native.Nat.{ℕ, zero, suc, ◌+◌, ◌*◌, ◌≤◌, ◌<◌}
+use Prim.Native.Nat.{ℕ, suc, ◌+◌, ◌*◌, ◌≤◌, ◌<◌}
 use mathlib.Core.Path.{◌≡◌, refl, sym, ap, ap₂, subst, ◌∙◌}
 use mathlib.Core.List.{List, [], ◌∷◌, ◌++◌, append_assoc, append-nil}
 use native.Mathlib.Omega.{arith}
@@ -14,8 +14,8 @@ use Rattle.definition.specs.Search.{entries#}
 use Rattle.definition.specs.Details.{Detail, detail, details_in, detail_bytes, details_bytes, entries_details, height}
 use Rattle.definition.proofs.DetailLaws.{bytes-both, details-length}
 use Rattle.unions.specs.Shown.{list_in}
-use Rattle.listing.specs.Puts.{Put}
-use Rattle.table.specs.Items.{items_from}
+use Rattle.table.specs.declared.Item.{Item}
+use Rattle.table.proofs.ListedLaws.{table-sound}
 use Rattle.table.specs.Entered.{Shown, flat_in, shown_all}
 use Rattle.table.proofs.FlatLaws.{flat-length}
 use Rattle.details.specs.Detailed.{standing_bytes, clause_places, flat_details, Within, AllThere, details_of}
@@ -98,33 +98,29 @@ flat-details es h =
 
 -- ---------------------------------------------------------------- the table of a record
 
-all-length : (w t : List ℕ) (k n : ℕ) → length (shown_all w (items_from t k n)) ≡ n
-unfolding items_from shown_all
-all-length w t k zero = refl
-all-length w t k (suc n) = ap suc (all-length w t (suc k) n)
+all_length : (w : List ℕ) (t : List Item) → length (shown_all w t) ≡ length t
+unfolding shown_all
+all_length w [] = refl
+all_length w (x ∷ t) = ap suc (all_length w t)
 
-module _ {text w t : List ℕ} {from to n : ℕ} (h : RecordTabled text w t from to n) where
+module _ {text w : List ℕ} {t : List Item} {from to : ℕ} (h : RecordTabled text w t from to) where
   abbrev es : Entries
   es = folded_all text (list_in w from to)
 
-  pub table-listed : AllThere w t n
-  table-listed =
+  pub table_there : {n : ℕ} → to ≤ n → AllThere w n t
+  table_there m =
       record {
-        fits = h.table.fits;
-        rows = h.table.rows;
+        rows = table-sound h.table m;
         deep = subst Within (sym h.table.is) (within-flat es 0 (omega (arith, h.deep)));
         few = omega (arith, h.table.few, h.few);
       }
 
-  table-details : flat_details (replicate 131 0) (shown_all w (items_from t 0 n)) ≡ details_of text w from to
-  table-details = ap (flat_details (replicate 131 0)) h.table.is ∙ flat-details es h.deep
+  pub table_details : flat_details (replicate 131 0) (shown_all w t) ≡ details_of text w from to
+  table_details = ap (flat_details (replicate 131 0)) h.table.is ∙ flat-details es h.deep
 
   -- the table has as many entries as the listing
-  table-count : n ≡ entries# es
-  table-count = sym (all-length w t 0 n) ∙ ap length h.table.is ∙ flat-length es 0
+  table_count : length t ≡ entries# es
+  table_count = sym (all_length w t) ∙ ap length h.table.is ∙ flat-length es 0
 
-  pub table-needs : 47 * n ≡ length (details_of text w from to)
-  table-needs = omega (arith, table-count, details-length es)
-
-  pub table-put : {out : List ℕ} {r : ℕ} {after : List ℕ} → Put out 0 (flat_details (replicate 131 0) (shown_all w (items_from t 0 n))) r after → Put out 0 (details_of text w from to) r after
-  table-put {out} {r} {after} p = subst (λ (bs : List ℕ). Put out 0 bs r after) table-details p
+  pub table_needs : 47 * length t ≡ length (details_of text w from to)
+  table_needs = omega (arith, table_count, details-length es)

@@ -8,51 +8,17 @@ use mathlib.Core.List.{List, [], ◌∷◌, ◌++◌, append_assoc, append-nil}
 use native.Mathlib.Omega.{arith}
 use lib.ListN.{length, get_or, set, replicate, length-set, length-append, length-replicate}
 use lib.Seq.{get_or-set_same, get_or-set_other}
-use Rattle.definition.specs.declared.Entry.{Entry}
-use Rattle.definition.specs.Details.{detail, detail_bytes}
+use Rattle.definition.specs.Details.{detail_bytes}
 use Rattle.definition.proofs.DetailLaws.{detail-length}
 use Rattle.definition.proofs.Lists.{order}
-use Rattle.listing.specs.Puts.{Put}
-use Rattle.listing.proofs.PutLaws.{put-none, ◌and◌}
+use Rattle.listing.specs.declared.Sink.{Sink}
+use Rattle.listing.specs.Puts.{Puts}
+use Rattle.listing.proofs.PutLaws.{puts-none, ◌and◌}
 use Rattle.table.specs.declared.Item.{Item}
-use Rattle.table.specs.Items.{item_at}
-use Rattle.table.specs.Entered.{Shown, own_of, shown_of, Sound}
-use Rattle.table.proofs.OwnLaws.{sound-read}
-use Rattle.table.proofs.LoopLaws.{all, rest, rest_all, At, at-starts, none_left, rest-next, at-fits, at-sound, at_next}
-use Rattle.details.specs.Detailed.{first_byte_in, detail_in, flat_details, Within, farthest, FirstByte, There, AllThere}
-
--- ---------------------------------------------------------------- one entry
-
--- what is known of the item that was read
-module _ (w t : List ℕ) (k : ℕ) {x : Item} (e : (x ≡ item_at t k) × (x.offset < 4294967296)) (h : There w t k) where
-  pub sound-there : Sound w x
-  sound-there = sound-read w t k e h.sound
-
-  pub deep-there : x.depth < 130
-  deep-there = subst (λ (y : Item). y.depth < 130) (sym e.0) h.deep
-
-  module _ (lists : List ℕ) {o : ℕ} (p : (o ≡ (own_of w x).offset) × (o < 4294967296)) where
-    pub first_fits : get_or lists (item_at t k).depth 0 ≤ farthest → get_or lists x.depth 0 + o < 18446744073709551616
-    first_fits l = omega (arith, p.1, subst (λ (y : Item). get_or lists y.depth 0 ≤ farthest) (sym e.0) l)
-
-    pub first-there : FirstByte lists (shown_of w (item_at t k)) (get_or lists x.depth 0 + o)
-    first-there =
-        record {
-          is = ap (λ (n : ℕ). get_or lists x.depth 0 + n) p.0 ∙ ap (λ (y : Item). first_byte_in lists (shown_of w y)) e.0;
-          small = omega (arith, p.0, p.1, ap (λ (y : Item). (own_of w y).offset) e.0);
-        }
-
-  pub put-there :
-      {o : Entry} →
-      o ≡ own_of w x →
-      (first : ℕ) {out : List ℕ} {at r : ℕ} {after : List ℕ} →
-      Put out at (detail_bytes (detail o x.depth x.below first)) r after →
-      Put out at (detail_bytes (detail_in first (shown_of w (item_at t k)))) r after
-  put-there p first {out} {at} {r} {after} q =
-      subst (λ (y : Item). Put out at (detail_bytes (detail_in first (shown_of w y))) r after) e.0
-      (subst (λ (o : Entry). Put out at (detail_bytes (detail o x.depth x.below first)) r after) p q)
-
--- ---------------------------------------------------------------- all of them
+use Rattle.table.specs.declared.Mark.{Mark}
+use Rattle.table.specs.Entered.{Shown, shown_of, shown_all}
+use Rattle.table.proofs.LoopLaws.{rest, none_left, rest-next}
+use Rattle.details.specs.Detailed.{detail_in, flat_details, Within, farthest, FirstByte, There, AllThere}
 
 -- no list starts farther on than n
 abbrev Low : List ℕ → ℕ → Type 0
@@ -74,79 +40,77 @@ low-set starts j v n m h l k fits i =
     (order j i))
     (order i j)
 
--- the loop is at k
-pub record Detailing (w t out₀ out starts : List ℕ) (n k place : ℕ) : Type 0 where
-  pub here : At w t n k
-  pub few : n ≤ 1200
-  pub deep : Within (rest w t n k)
+-- an item that is read past the table's end
+abbrev pub no_item : Item
+no_item = record { row = 0; mark = Mark.Own; offset = 0; width = 0; members = 0; below = 0; depth = 0 }
+
+-- the loop is at item k
+pub record Detailing (w : List ℕ) (t : List Item) (s : Sink) (starts : List ℕ) (k : ℕ) (s' : Sink) : Type 0 where
+  pub deep : Within (rest w t k)
   pub long : length starts ≡ 131
   pub low : (i : ℕ) → get_or starts i 0 ≤ k * 4294967296
   pub done : List ℕ
   pub many : length done ≡ 47 * k
-  pub put : Put out₀ 0 done place out
-  pub same : flat_details (replicate 131 0) (all w t n) ≡ done ++ flat_details starts (rest w t n k)
+  pub put : Puts s done s'
+  pub same : flat_details (replicate 131 0) (shown_all w t) ≡ done ++ flat_details starts (rest w t k)
 
-pub starts : (w t out : List ℕ) (n : ℕ) → AllThere w t n → Detailing w t out out (replicate 131 0) n 0 0
-starts w t out n h =
+pub starts : (w : List ℕ) (t : List Item) (s : Sink) → Within (shown_all w t) → Detailing w t s (replicate 131 0) 0 s
+starts w t s h =
     record {
-      here = at-starts w t n h.fits h.rows;
-      few = h.few;
-      deep = subst Within (rest_all w t n) h.deep;
+      deep = h;
       long = length-replicate {A = ℕ} 131 0;
       low = λ i. omega (arith, low_zeros 131 i);
       done = [];
       many = refl;
-      put = put-none out 0;
-      same = ap (flat_details (replicate 131 0)) (rest_all w t n);
+      put = puts-none s;
+      same = refl;
     }
 
-module _ {w t out₀ out lists : List ℕ} {n k place : ℕ} (inv : Detailing w t out₀ out lists n k place) where
-  pub ends : n ≤ k → Put out₀ 0 (flat_details (replicate 131 0) (all w t n)) place out
+module _ {w : List ℕ} {t : List Item} {s : Sink} {lists : List ℕ} {k : ℕ} {s' : Sink} (inv : Detailing w t s lists k s') where
+  pub ends : length t ≤ k → Puts s (flat_details (replicate 131 0) (shown_all w t)) s'
   unfolding flat_details
   ends h =
-      let whole : flat_details (replicate 131 0) (all w t n) ≡ inv.done =
-      inv.same ∙ ap (λ (l : List Shown). inv.done ++ flat_details lists l) (none_left inv.here h) ∙ append-nil inv.done in
-      subst (λ (bs : List ℕ). Put out₀ 0 bs place out) (sym whole) inv.put
+      let whole : flat_details (replicate 131 0) (shown_all w t) ≡ inv.done =
+      inv.same ∙ ap (λ (l : List Shown). inv.done ++ flat_details lists l) (none_left w t k h) ∙ append-nil inv.done in
+      subst (λ (bs : List ℕ). Puts s bs s') (sym whole) inv.put
 
-  module _ (h : k < n) where
-    deep-next : ((item_at t k).depth < 130) × Within (rest w t n (k + 1))
-    deep-next = subst Within (rest-next inv.here h) inv.deep
+  pub place_small : {n : ℕ} → AllThere w n t → k < length t → s.at ≡ 0 → s'.at ≤ 4294967295
+  place_small all h z = omega (arith, inv.put.put.next, inv.many, all.few)
 
-    pub there : There w t k
-    there = record { fits = at-fits inv.here h; sound = at-sound inv.here h; deep = deep-next.0 }
+  module _ {n : ℕ} (all : AllThere w n t) (d : Item) (h : k < length t) where
+    deep-next : ((get_or t k d).depth < 130) × Within (rest w t (k + 1))
+    deep-next = subst Within (rest-next w t k d h) inv.deep
 
-    pub near : get_or lists (item_at t k).depth 0 ≤ farthest
-    near = omega (arith, inv.low (item_at t k).depth, inv.few)
+    pub there : There w n (get_or t k d)
+    there = record { sound = all.rows k d h; deep = deep-next.0 }
 
-    pub place-small : place ≤ 4294967295
-    place-small = omega (arith, inv.put.next, inv.many, inv.few)
+    pub near : get_or lists (get_or t k d).depth 0 ≤ farthest
+    near = omega (arith, inv.low (get_or t k d).depth, all.few)
 
     pub on :
         {first : ℕ} →
-        FirstByte lists (shown_of w (item_at t k)) first →
-        {r : ℕ} {after : List ℕ} →
-        Put out place (detail_bytes (detail_in first (shown_of w (item_at t k)))) r after →
-        {d : ℕ} →
-        d ≡ (item_at t k).depth →
-        Detailing w t out₀ after (set lists (d + 1) first) n (k + 1) r
+        FirstByte lists (shown_of w (get_or t k d)) first →
+        {s'' : Sink} →
+        Puts s' (detail_bytes (detail_in first (shown_of w (get_or t k d)))) s'' →
+        Detailing w t s (set lists ((get_or t k d).depth + 1) first) (k + 1) s''
     unfolding flat_details
-    on {first} f p {d} q =
-        let x = shown_of w (item_at t k) in
+    on {first} f p =
+        let x = shown_of w (get_or t k d) in
         let bs = detail_bytes (detail_in first x) in
-        let step : flat_details lists (x ∷ rest w t n (k + 1)) ≡ bs ++ flat_details (set lists (d + 1) first) (rest w t n (k + 1)) =
-        (λ i. detail_bytes (detail_in (sym f.is i) x) ++ flat_details (set lists (sym q i + 1) (sym f.is i)) (rest w t n (k + 1))) in
+        let next = (get_or t k d).depth + 1 in
+        let step : flat_details lists (x ∷ rest w t (k + 1)) ≡ bs ++ flat_details (set lists next first) (rest w t (k + 1)) =
+        (λ i. detail_bytes (detail_in (sym f.is i) x) ++ flat_details (set lists next (sym f.is i)) (rest w t (k + 1))) in
         record {
-          here = at_next inv.here h;
-          few = inv.few;
           deep = deep-next.1;
-          long = length-set lists (d + 1) first ∙ inv.long;
-          low = low-set lists (d + 1) first (k * 4294967296) ((k + 1) * 4294967296) inv.low (omega arith) (omega (arith, f.is, f.small, inv.low (item_at t k).depth)) (omega (arith, inv.long, q, deep-next.0));
+          long = length-set lists next first ∙ inv.long;
+          low = low-set lists next first (k * 4294967296) ((k + 1) * 4294967296) inv.low (omega arith)
+              (omega (arith, f.is, f.small, inv.low (get_or t k d).depth)) (omega (arith, inv.long, deep-next.0));
           done = inv.done ++ bs;
           many = omega (arith, length-append inv.done bs, inv.many, detail-length (detail_in first x));
           put = inv.put and p;
           same =
               inv.same
-              ∙ ap (λ (l : List Shown). inv.done ++ flat_details lists l) (rest-next inv.here h)
+              ∙ ap (λ (l : List Shown). inv.done ++ flat_details lists l) (rest-next w t k d h)
               ∙ ap (λ (l : List ℕ). inv.done ++ l) step
-              ∙ sym (append_assoc inv.done bs (flat_details (set lists (d + 1) first) (rest w t n (k + 1))));
+              ∙ sym (append_assoc inv.done bs (flat_details (set lists next first) (rest w t (k + 1))));
         }

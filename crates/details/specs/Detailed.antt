@@ -1,6 +1,6 @@
 -- The details of a table of entries, one after the other.
 -- Assumes nothing.
-use Rattle.std.specs.Prelude.{ℕ, ◌+◌, ◌*◌, ◌≤◌, ◌<◌, ◌≡◌, List, [], ◌∷◌, ◌++◌, length, get_or, set}
+use Rattle.std.specs.Prelude.{ℕ, ◌+◌, ◌≤◌, ◌<◌, ◌≡◌, List, [], ◌∷◌, ◌++◌, length, get_or, set, All}
 use Rattle.definition.specs.declared.Entry.{Entry}
 use Rattle.definition.specs.Limits.{most_statements}
 use Rattle.definition.specs.Basic.{le4}
@@ -8,8 +8,8 @@ use Rattle.definition.specs.Fold.{folded_all}
 use Rattle.definition.specs.Listing.{flag, span_bytes}
 use Rattle.definition.specs.Details.{Detail, detail, detail_bytes, entries_details, height}
 use Rattle.unions.specs.Shown.{list_in}
-use Rattle.table.specs.Items.{item_at, items_from}
-use Rattle.table.specs.Entered.{Shown, shown_all, Sound, Rows, Entered}
+use Rattle.table.specs.declared.Item.{Item}
+use Rattle.table.specs.Entered.{Shown, shown_all, Sound, Entered}
 
 -- ---------------------------------------------------------------- the parts of an entry's details
 
@@ -50,18 +50,16 @@ pub record FirstByte (starts : List ℕ) (x : Shown) (r : ℕ) : Type 0 where
   pub is : r ≡ first_byte_in starts x
   pub small : x.own.offset < 4294967296
 
--- entry k is there, with its row, and not too deep
-pub record There (w t : List ℕ) (k : ℕ) : Type 0 where
-  pub fits : 7 * k + 7 ≤ length t
-  pub sound : Sound w (item_at t k)
-  pub deep : (item_at t k).depth < 130
+-- an entry names one of the first n rows, and doesn't stand too deep
+pub record There (w : List ℕ) (n : ℕ) (x : Item) : Type 0 where
+  pub sound : Sound w n x
+  pub deep : x.depth < 130
 
--- the first n entries are
-pub record AllThere (w t : List ℕ) (n : ℕ) : Type 0 where
-  pub fits : 7 * n ≤ length t
-  pub rows : Rows w (items_from t 0 n)
-  pub deep : Within (shown_all w (items_from t 0 n))
-  pub few : n ≤ 1200
+-- all of them do
+pub record AllThere (w : List ℕ) (n : ℕ) (t : List Item) : Type 0 where
+  pub rows : All (Sound w n) t
+  pub deep : Within (shown_all w t)
+  pub few : length t ≤ 1200
 
 -- ---------------------------------------------------------------- a record
 
@@ -70,7 +68,7 @@ abbrev pub details_of : List ℕ → List ℕ → ℕ → ℕ → List ℕ
 details_of text w from to = entries_details (folded_all text (list_in w from to))
 
 -- the table of a record, which was laid
-pub record RecordTabled (text w t : List ℕ) (from to n : ℕ) : Type 0 where
+pub record RecordTabled (text w : List ℕ) (t : List Item) (from to : ℕ) : Type 0 where
   pub few : to ≤ most_statements
-  pub table : Entered text w from to t n
+  pub table : Entered text w from to t
   pub deep : height (folded_all text (list_in w from to)) ≤ 130

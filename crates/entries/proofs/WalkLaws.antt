@@ -1,9 +1,10 @@
 -- What the functions that build the table need and learn, over plain variables: what a row comes to, the members of a
 -- union, the loop along the rows of a list and the loop along the redefiners of a row.
 -- Assumes nothing.
-use Prim.Native.Nat.{ℕ, zero, suc, ◌+◌, ◌-◌, ◌≤◌, ◌<◌}
+use Prim.Native.Nat.{ℕ, suc, ◌+◌, ◌-◌, ◌≤◌, ◌<◌}
 use mathlib.Core.Path.{◌≡◌, refl, sym, ap, subst, ◌∙◌}
 use mathlib.Core.Bool.{Bool, true, false}
+use Rattle.std.specs.Prelude.{Option, None, Some}
 use mathlib.Core.List.{List}
 use native.Mathlib.Numerals.{add-one}
 use native.Mathlib.Omega.{arith}
@@ -13,7 +14,8 @@ use Rattle.definition.specs.Fold.{Entries, end, entry, append, rebased, redefine
 use Rattle.definition.specs.Fold.{with_redefiners, folded_below, folded_all}
 use Rattle.definition.specs.Search.{entries#}
 use Rattle.rows.specs.Columns.{OFFSET, NEXT}
-use Rattle.rows.specs.Table.{cell}
+use Rattle.rows.specs.Table.{cell, row_of, row_code}
+use Rattle.rows.proofs.TableLaws.{row-none, row-some, code-back}
 use Rattle.redefines.specs.Targets.{bases_at, place_at}
 use Rattle.places.specs.Places.{entry_in}
 use Rattle.places.specs.Children.{ChildrenEnd, Numbered}
@@ -26,6 +28,7 @@ use Rattle.unions.proofs.WidthLaws.{Along, along-starts, along-on, Next, Onward,
 use Rattle.unions.proofs.WidthLaws.{following-none, following-next, next-numbered, next-sized, next-tree, next-is}
 use Rattle.unions.proofs.WidthLaws.{next-on}
 use Rattle.entries.specs.declared.Block.{Block}
+use Rattle.table.specs.declared.Item.{Item}
 use Rattle.table.specs.Entered.{listed}
 use Rattle.entries.specs.Building.{item_in, redefined, union_in, own_member, TableRoom, Built}
 use Rattle.table.proofs.FlatLaws.{size-append}
@@ -56,23 +59,23 @@ module _ (t w : List ℕ) (i j to : ℕ) where
     pub shown-under : s ≡ Standing.Under → shown_at t w i j to last ≡ end
     shown-under e = shown-is Standing.Under e
 
-    pub shown-alone : s ≡ Standing.Alone → shown_at t w i j to last ≡ item_in t w i j false 0
+    pub shown-alone : s ≡ Standing.Alone → shown_at t w i j to last ≡ item_in t w i j None
     shown-alone e = shown-is Standing.Alone e ∙ at_next (entry_in w i) end
 
     module _ (e : s ≡ Standing.Base) (b : Base t w i j to) where
-      pub shown-base : cell w i NEXT ≤ 0 → shown_at t w i j to last ≡ item_in t w i j false 0
+      pub shown-base : row_of (cell w i NEXT) ≡ None → shown_at t w i j to last ≡ item_in t w i j None
       unfolding folded_below
       shown-base h =
           shown-is Standing.Base e
           ∙ ap (λ (rs : Entries). with_redefiners t (entry_in w i) (folded_all t (list_in w (suc i) j)) rs end)
-          (later-redefiners ∙ ap (folded_below t) (following-none (following-starts b refl) h))
+          (later-redefiners ∙ ap (folded_below t) (following-none (following-starts b refl) (omega (arith, row-none h))))
           ∙ at_next (entry_in w i) end
 
-      pub shown-union : 0 < cell w i NEXT → shown_at t w i j to last ≡ entry (union (entry_in w i) (widest (union_in t w i j to))) (union_in t w i j to) end
+      pub shown-union : {row : ℕ} → row_of (cell w i NEXT) ≡ Some row → shown_at t w i j to last ≡ entry (union (entry_in w i) (widest (union_in t w i j to))) (union_in t w i j to) end
       unfolding folded_below
       shown-union h =
           let f = following-starts b refl in
-          let x = following-next f h in
+          let x = following-next f (omega (arith, row-some h)) in
           shown-is Standing.Base e
           ∙ with-union t (entry_in w i) (folded_all t (list_in w (suc i) j)) (redefiners t (place_at w i) (folded_below t (list_in w j to)))
           (later-redefiners ∙ ap (folded_below t) (next-is f x (children-end w (cell w i NEXT - 1) to x.high)))
@@ -94,7 +97,7 @@ module _ (t w : List ℕ) (i j to : ℕ) where
     pub members-folded : o ≡ true → union_in t w i j to ≡ append (listed t w (i + 1) j) (redefined t w i j to)
     members-folded e = union-is true e ∙ ap (λ (n : ℕ). append (listed t w n j) (redefined t w i j to)) (sym (add-one i))
 
-    pub members-based : o ≡ false → {start : ℕ} → start ≡ cell w i OFFSET → union_in t w i j to ≡ append (item_in t w i j true start) (redefined t w i j to)
+    pub members-based : o ≡ false → {start : ℕ} → start ≡ cell w i OFFSET → union_in t w i j to ≡ append (item_in t w i j (Some start)) (redefined t w i j to)
     unfolding append
     members-based e {start} q =
         union-is false e
@@ -103,38 +106,38 @@ module _ (t w : List ℕ) (i j to : ℕ) where
 
 -- ---------------------------------------------------------------- two parts, one after the other
 
-module _ {es : Entries} (xs ys : Entries) (e : es ≡ append xs ys) {out : List ℕ} {b : Block} {d to : ℕ} (h : TableRoom out b d (entries# es) to) where
+module _ {es : Entries} (xs ys : Entries) (e : es ≡ append xs ys) {out : List Item} {b : Block} {d to : ℕ} (h : TableRoom out b d (entries# es) to) where
   sizes : entries# es ≡ entries# xs + entries# ys
   sizes = ap entries# e ∙ size-append xs ys
 
   pub first-room : TableRoom out b d (entries# xs) to
   first-room = room-first (entries# xs) (entries# ys) sizes h
 
-  module _ {low high : ℕ} {w : List ℕ} {r : Block} {after : List ℕ} (p : Built low high w out b d xs r after) where
+  module _ {low high : ℕ} {w : List ℕ} {r : Block} {after : List Item} (p : Built low high w out b d xs r after) where
     pub second-room : TableRoom after r d (entries# ys) to
     second-room = room-rest p (entries# ys) sizes h
 
     pub both-built :
-        {r' : Block} {after' : List ℕ} → Built low high w after r d ys r' after' → Built low high w out b d es r' after'
+        {r' : Block} {after' : List Item} → Built low high w after r d ys r' after' → Built low high w out b d es r' after'
     both-built q = built-as e (p then q)
 
-pub room_as : {es fs : Entries} → es ≡ fs → {out : List ℕ} {b : Block} {d to : ℕ} → TableRoom out b d (entries# es) to → TableRoom out b d (entries# fs) to
+pub room_as : {es fs : Entries} → es ≡ fs → {out : List Item} {b : Block} {d to : ℕ} → TableRoom out b d (entries# es) to → TableRoom out b d (entries# fs) to
 room_as e {out} {b} {d} {to} h = subst (λ (x : Entries). TableRoom out b d (entries# x) to) e h
 
 -- ---------------------------------------------------------------- the list
 
 -- what the loop keeps: what is done is built
-pub record Listing (t w out₀ out : List ℕ) (from to : ℕ) (b₀ : Block) (d i last : ℕ) (b : Block) : Type 0 where
+pub record Listing (t w : List ℕ) (out₀ out : List Item) (from to : ℕ) (b₀ : Block) (d i last : ℕ) (b : Block) : Type 0 where
   pub done : Entries
   pub along : Along t w from to i last done
   pub room : TableRoom out₀ b₀ d (entries# (listed t w from to)) to
   pub built : Built from to w out₀ b₀ d done b out
 
 pub listing-starts :
-    (t w out : List ℕ) (from to : ℕ) (b : Block) (d : ℕ) → Tree t w from to → TableRoom out b d (entries# (listed t w from to)) to → Listing t w out out from to b d from 0 b
+    (t w : List ℕ) (out : List Item) (from to : ℕ) (b : Block) (d : ℕ) → Tree t w from to → TableRoom out b d (entries# (listed t w from to)) to → Listing t w out out from to b d from 0 b
 listing-starts t w out from to b d h f = record { done = end; along = along-starts t w from to h; room = f; built = built-none w out b d f.narrow }
 
-module _ {t w out₀ out : List ℕ} {from to : ℕ} {b₀ : Block} {d i last : ℕ} {b : Block} (inv : Listing t w out₀ out from to b₀ d i last b) where
+module _ {t w : List ℕ} {out₀ out : List Item} {from to : ℕ} {b₀ : Block} {d i last : ℕ} {b : Block} (inv : Listing t w out₀ out from to b₀ d i last b) where
   pub listing-ends : to ≤ i → Built from to w out₀ b₀ d (listed t w from to) b out
   listing-ends h = built-as (walking-ends inv.along.walk h) inv.built
 
@@ -146,7 +149,7 @@ module _ {t w out₀ out : List ℕ} {from to : ℕ} {b₀ : Block} {d i last : 
         first-room shown rest refl (second-room inv.done (append shown rest) (walking_here inv.along.walk h) inv.room inv.built)
 
     pub listing-on :
-        {r : Block} {after : List ℕ} →
+        {r : Block} {after : List Item} →
         Built i to w out b d (shown_at t w i j to last) r after →
         Listing t w out₀ after from to b₀ d j (i + 1) r
     listing-on p =
@@ -159,90 +162,108 @@ module _ {t w out₀ out : List ℕ} {from to : ℕ} {b₀ : Block} {d i last : 
 
 -- ---------------------------------------------------------------- the redefiners
 
--- what the loop keeps: what is done is built, and those of the rows from `at` on, of which k names the first, are the
+-- what the loop keeps: what is done is built, and those of the rows from `at` on, of which `next` is the first, are the
 -- rest
-pub record Redefining (t w out₀ out : List ℕ) (i j to : ℕ) (b₀ : Block) (d : ℕ) (b : Block) (k : ℕ) : Type 0 where
+pub record Redefining
+    (t w : List ℕ) (out₀ out : List Item) (i j to : ℕ) (b₀ : Block) (d : ℕ) (b : Block) (next : Option ℕ) : Type 0 where
   pub at : ℕ
-  pub following : Following t w i j to at k
+  pub following : Following t w i j to at (row_code next)
   pub room : TableRoom out₀ b₀ d (entries# (redefined t w i j to)) to
   pub done : Entries
   pub built : Built i to w out₀ b₀ d done b out
   pub same : redefined t w i j to ≡ append done (redefined t w i at to)
 
+code-of : (w : List ℕ) (row : ℕ) {next : Option ℕ} → next ≡ row_of (cell w row NEXT) → row_code next ≡ cell w row NEXT
+code-of w row e = ap row_code e ∙ code-back (cell w row NEXT)
+
 pub redefining-starts :
-    (t w out : List ℕ) (i j to : ℕ) (b : Block) (d : ℕ) {k : ℕ} →
+    (t w : List ℕ) (out : List Item) (i j to : ℕ) (b : Block) (d : ℕ) {next : Option ℕ} →
     Base t w i j to →
-    k ≡ cell w i NEXT →
+    next ≡ row_of (cell w i NEXT) →
     TableRoom out b d (entries# (redefined t w i j to)) to →
-    Redefining t w out out i j to b d b k
+    Redefining t w out out i j to b d b next
 unfolding append
 redefining-starts t w out i j to b d h e f =
-    record { at = j; following = following-starts h e; room = f; done = end; built = built-none w out b d f.narrow; same = refl }
+    record {
+      at = j;
+      following = following-starts h (code-of w i e);
+      room = f;
+      done = end;
+      built = built-none w out b d f.narrow;
+      same = refl;
+    }
 
 -- how far the chain can still go
-abbrev pub chain_left : ℕ → ℕ → ℕ
-chain_left to zero = 0
-chain_left to (suc row) = to - row
+abbrev pub chain_left : ℕ → Option ℕ → ℕ
+chain_left to None = 0
+chain_left to (Some row) = to - row
 
-module _ {t w out₀ out : List ℕ} {i j to : ℕ} {b₀ : Block} {d : ℕ} {b : Block} {k : ℕ} (inv : Redefining t w out₀ out i j to b₀ d b k) where
-  pub redefining-ends : k ≤ 0 → Built i to w out₀ b₀ d (redefined t w i j to) b out
+module _ {t w : List ℕ} {out₀ out : List Item} {i j to : ℕ} {b₀ : Block} {d : ℕ} {b : Block} {next : Option ℕ} (inv : Redefining t w out₀ out i j to b₀ d b next) where
+  pub redefining-ends : next ≡ None → Built i to w out₀ b₀ d (redefined t w i j to) b out
   unfolding folded_below
   redefining-ends h =
       built-as
-      (inv.same ∙ ap (λ (es : Entries). append inv.done (folded_below t es)) (following-none inv.following h) ∙ append-end inv.done)
+      (inv.same
+      ∙ ap (λ (es : Entries). append inv.done (folded_below t es)) (following-none inv.following (omega (arith, ap row_code h)))
+      ∙ append-end inv.done)
       inv.built
 
-  module _ (l : 0 < k) where
+  module _ {row : ℕ} (l : next ≡ Some row) where
     -- the next of them
-    pub redefining-next : Next t w i inv.at to (redefiners_in t w i inv.at to) (k - 1)
-    redefining-next = following-next inv.following l
+    pub redefining-next : Next t w i inv.at to (redefiners_in t w i inv.at to) row
+    redefining-next =
+        let here : row_code next - 1 ≡ row = omega (arith, ap row_code l) in
+        subst (Next t w i inv.at to (redefiners_in t w i inv.at to)) here (following-next inv.following (omega (arith, ap row_code l)))
 
-    pub redefining-numbered : Numbered w (k - 1) to
+    pub redefining-numbered : Numbered w row to
     redefining-numbered = next-numbered inv.following redefining-next
 
-    pub redefining-row : SizedRow w (k - 1)
+    pub redefining-row : SizedRow w row
     redefining-row = next-sized inv.following redefining-next
 
-    module _ {m : ℕ} (h : ChildrenEnd w (k - 1) to m) where
-      pub redefining-tree : Tree t w (k - 1 + 1) m
+    module _ {m : ℕ} (h : ChildrenEnd w row to m) where
+      pub redefining-tree : Tree t w (row + 1) m
       redefining-tree = next-tree inv.following redefining-next h
 
       module _ {start : ℕ} (z : start ≡ cell w i OFFSET) where
-        next_built : redefined t w i inv.at to ≡ append (item_in t w (k - 1) m true start) (redefined t w i m to)
+        next_built : redefined t w i inv.at to ≡ append (item_in t w row m (Some start)) (redefined t w i m to)
         unfolding folded_below append
         next_built =
             ap (folded_below t) (next-is inv.following redefining-next h)
-            ∙ at_next t w (k - 1) m to (rebased (cell w i OFFSET) (entry_in w (k - 1))) (redefined t w i m to)
-            ∙ ap (λ (n : ℕ). entry (rebased n (entry_in w (k - 1))) (listed t w (k - 1 + 1) m) (redefined t w i m to)) (sym z)
+            ∙ at_next t w row m to (rebased (cell w i OFFSET) (entry_in w row)) (redefined t w i m to)
+            ∙ ap (λ (n : ℕ). entry (rebased n (entry_in w row)) (listed t w (row + 1) m) (redefined t w i m to)) (sym z)
 
-        pub redefining-room : TableRoom out b d (entries# (item_in t w (k - 1) m true start)) m
+        pub redefining-room : TableRoom out b d (entries# (item_in t w row m (Some start))) m
         redefining-room =
-            let item = item_in t w (k - 1) m true start in
+            let item = item_in t w row m (Some start) in
             let rest = redefined t w i m to in
             let all = inv.same ∙ ap (append inv.done) next_built in
             room-part m h.high (first-room item rest refl (second-room inv.done (append item rest) all inv.room inv.built))
 
         pub redefining-on :
-            {b' : Block} {after : List ℕ} {k' : ℕ} →
-            Built (k - 1) m w out b d (item_in t w (k - 1) m true start) b' after →
-            k' ≡ cell w (k - 1) NEXT →
-            Redefining t w out₀ after i j to b₀ d b' k'
+            {b' : Block} {after : List Item} {next' : Option ℕ} →
+            Built row m w out b d (item_in t w row m (Some start)) b' after →
+            next' ≡ row_of (cell w row NEXT) →
+            Redefining t w out₀ after i j to b₀ d b' next'
         redefining-on q e =
-            let item = item_in t w (k - 1) m true start in
-            let later : i ≤ k - 1 = omega (arith, inv.following.base.low, inv.following.low, redefining-next.low) in
+            let item = item_in t w row m (Some start) in
+            let later : i ≤ row = omega (arith, inv.following.base.low, inv.following.low, redefining-next.low) in
             record {
               at = m;
-              following = next-on inv.following redefining-next h e;
+              following = next-on inv.following redefining-next h (code-of w row e);
               room = inv.room;
               done = append inv.done item;
               built = inv.built then built-wider i to later h.high q;
               same = inv.same ∙ ap (append inv.done) next_built ∙ sym (append-append inv.done item (redefined t w i m to));
             }
 
-      pub redefining-falls : {k' : ℕ} → k' ≡ cell w (k - 1) NEXT → chain_left to k' < chain_left to k
-      redefining-falls {k'} e = falls k' k l h.low h.high (next-on inv.following redefining-next h e).rest
+      pub redefining-falls : {next' : Option ℕ} → next' ≡ row_of (cell w row NEXT) → chain_left to next' < chain_left to next
+      redefining-falls {next'} e =
+          subst
+          (λ (n : Option ℕ). chain_left to next' < chain_left to n)
+          (sym l)
+          (falls next' (next-on inv.following redefining-next h (code-of w row e)).rest)
         where
-          falls : (k' k : ℕ) → 0 < k → k - 1 < m → m ≤ to → Onward t w i m to (redefiners_in t w i m to) k' → chain_left to k' < chain_left to k
-          falls k' zero p q r x = absurd (omega arith)
-          falls zero (suc row) p q r x = omega arith
-          falls (suc next) (suc row) p q r x = omega (arith, x.low, x.high)
+          falls : (n : Option ℕ) → Onward t w i m to (redefiners_in t w i m to) (row_code n) → chain_left to n < to - row
+          falls None x = omega (arith, h.low, h.high)
+          falls (Some after) x = omega (arith, x.low, x.high, h.low, h.high)

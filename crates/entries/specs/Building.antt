@@ -1,12 +1,12 @@
 -- What the functions that build the table need and leave.
 -- Assumes nothing.
-use Rattle.std.specs.Prelude.{ℕ, suc, ◌+◌, ◌*◌, ◌-◌, max, ◌≤◌, ◌<◌, ◌≡◌, Bool, true, false, List, length}
+use Rattle.std.specs.Prelude.{ℕ, suc, ◌+◌, ◌*◌, ◌-◌, max, ◌≤◌, ◌<◌, ◌≡◌, Bool, Option, None, Some, List, length, set, All}
 use Rattle.std.proofs.lemmas.List.Edits.{sets}
 use Rattle.definition.specs.declared.Entry.{Entry}
 use Rattle.definition.specs.Limits.{most_statements, largest}
 use Rattle.definition.specs.Fold.{Entries, end, entry, has_member, rebased, redefiners, union_members, widest}
 use Rattle.definition.specs.Fold.{folded_below, folded_all}
-use Rattle.definition.specs.Listing.{flag, members#}
+use Rattle.definition.specs.Listing.{members#}
 use Rattle.definition.specs.Search.{entries#}
 use Rattle.rows.specs.Columns.{NAME, OFFSET, WIDTH}
 use Rattle.rows.specs.Table.{cell, span_at}
@@ -15,19 +15,29 @@ use Rattle.places.specs.Places.{entry_in}
 use Rattle.unions.specs.Shown.{list_in, redefiners_in}
 use Rattle.table.specs.declared.Item.{Item}
 use Rattle.entries.specs.declared.Block.{Block}
-use Rattle.table.specs.Items.{ITEM, UNION, item_cells, all_cells}
-use Rattle.table.specs.Entered.{listed, flat_in, shown_all, Rows, RowsWithin}
+use Rattle.table.specs.declared.Mark.{Mark}
+use Rattle.table.specs.declared.Mark.TheVariants.{Own, Member, Union}
+use Rattle.table.specs.Entered.{listed, flat_in, shown_all, Sound, From}
 
 -- ---------------------------------------------------------------- what is built
 
 -- an entry by itself, or as a member of the union that starts there
-abbrev pub stands_as : Bool → ℕ → Entry → Entry
-stands_as false start e = e
-stands_as true start e = rebased start e
+abbrev pub stands_as : Option ℕ → Entry → Entry
+stands_as None e = e
+stands_as (Some start) e = rebased start e
+
+-- its mark, and what its offset is counted from
+abbrev pub mark_of : Option ℕ → Mark
+mark_of None = Own
+mark_of (Some start) = Member
+
+abbrev pub start_of : Option ℕ → ℕ
+start_of None = 0
+start_of (Some start) = start
 
 -- row i so, with its members, which end at j
-abbrev pub item_in : List ℕ → List ℕ → ℕ → ℕ → Bool → ℕ → Entries
-item_in text w i j member start = entry (stands_as member start (entry_in w i)) (listed text w (i + 1) j) end
+abbrev pub item_in : List ℕ → List ℕ → ℕ → ℕ → Option ℕ → Entries
+item_in text w i j union = entry (stands_as union (entry_in w i)) (listed text w (i + 1) j) end
 
 -- the redefiners of row i among the rows from j up to `to`
 abbrev pub redefined : List ℕ → List ℕ → ℕ → ℕ → ℕ → Entries
@@ -53,8 +63,8 @@ abbrev pub within : Block → Block
 within b = block (b.next + 1) 0 0
 
 -- there is room for n more entries at that depth, of rows before `to`
-pub record TableRoom (out : List ℕ) (b : Block) (depth n to : ℕ) : Type 0 where
-  pub fits : ITEM * (b.next + n) ≤ length out
+pub record TableRoom (out : List Item) (b : Block) (depth n to : ℕ) : Type 0 where
+  pub fits : b.next + n ≤ length out
   pub small : b.next + n < 4294967296
   pub deep : depth ≤ b.next
   pub few : b.count ≤ b.next
@@ -63,12 +73,12 @@ pub record TableRoom (out : List ℕ) (b : Block) (depth n to : ℕ) : Type 0 wh
 
 -- the entries of the list es, of rows from `from` up to `to`, were put behind the block b
 pub record Built
-    (from to : ℕ) (w out : List ℕ) (b : Block) (depth : ℕ) (es : Entries) (r : Block) (after : List ℕ) : Type 0 where
+    (from to : ℕ) (w : List ℕ) (out : List Item) (b : Block) (depth : ℕ) (es : Entries) (r : Block) (after : List Item) : Type 0 where
   pub items : List Item
-  pub rows : Rows w items
-  pub inside : RowsWithin from to items
+  pub rows : All (Sound w to) items
+  pub inside : All (From from) items
   pub is : shown_all w items ≡ flat_in depth es
-  pub put : after ≡ sets out (ITEM * b.next) (all_cells items)
+  pub put : after ≡ sets out b.next items
   pub next : r.next ≡ b.next + entries# es
   pub count : r.count ≡ b.count + members# es
   pub most : r.widest ≡ max b.widest (widest es)
@@ -77,12 +87,12 @@ pub record Built
 -- ---------------------------------------------------------------- one entry, once its members are there
 
 -- row i by itself or as a member of the union that starts there
-abbrev pub own_item : List ℕ → ℕ → Bool → ℕ → Block → Block → ℕ → Item
-own_item w i member start b inner depth =
+abbrev pub own_item : List ℕ → ℕ → Option ℕ → Block → Block → ℕ → Item
+own_item w i union b inner depth =
     record {
       row = i;
-      mark = flag member;
-      offset = cell w i OFFSET - start;
+      mark = mark_of union;
+      offset = cell w i OFFSET - start_of union;
       width = cell w i WIDTH;
       members = inner.count;
       below = inner.next - b.next - 1;
@@ -94,7 +104,7 @@ abbrev pub union_item : List ℕ → ℕ → Block → Block → ℕ → Item
 union_item w i b inner depth =
     record {
       row = i;
-      mark = UNION;
+      mark = Union;
       offset = cell w i OFFSET;
       width = inner.widest;
       members = inner.count;
@@ -103,8 +113,8 @@ union_item w i b inner depth =
     }
 
 -- what is needed to close it
-pub record ItemOpen (out : List ℕ) (b inner : Block) (depth i : ℕ) : Type 0 where
-  pub fits : ITEM * b.next + ITEM ≤ length out
+pub record ItemOpen (out : List Item) (b inner : Block) (depth i : ℕ) : Type 0 where
+  pub fits : b.next < length out
   pub above : b.next + 1 ≤ inner.next
   pub small : inner.next < 4294967296
   pub members : inner.count ≤ inner.next
@@ -115,8 +125,8 @@ pub record ItemOpen (out : List ℕ) (b inner : Block) (depth i : ℕ) : Type 0 
 
 -- the item x of that width stands before its members
 pub record ItemClosed
-    (out : List ℕ) (b inner : Block) (x : Item) (width : ℕ) (r : Block) (after : List ℕ) : Type 0 where
-  pub put : after ≡ sets out (ITEM * b.next) (item_cells x)
+    (out : List Item) (b inner : Block) (x : Item) (width : ℕ) (r : Block) (after : List Item) : Type 0 where
+  pub put : after ≡ set out b.next x
   pub next : r.next ≡ inner.next
   pub count : r.count ≡ b.count + 1
   pub most : r.widest ≡ max b.widest width
@@ -125,5 +135,5 @@ pub record ItemClosed
 -- ---------------------------------------------------------------- the whole table
 
 -- the table has room for the entries of so many rows: there are at most three for two rows
-abbrev pub Roomy : List ℕ → ℕ → Type 0
-Roomy t rows = 3 * ITEM * rows ≤ 2 * length t
+abbrev pub Roomy : List Item → ℕ → Type 0
+Roomy t rows = 3 * rows ≤ 2 * length t

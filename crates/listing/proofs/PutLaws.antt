@@ -1,51 +1,54 @@
--- Laws of bytes that were put: some after others, what stands in the output then, and how long it is; the parts of an
--- entry and of the listing.
+-- Laws of bytes that were put: some after others, and what stands in the output then; the parts of an entry and of the
+-- listing.
 -- Assumes nothing.
-use Prim.Native.Nat.{ℕ, suc, ◌+◌, ◌≤◌, ◌<◌}
-use mathlib.Core.Path.{◌≡◌, refl, ap, ◌∙◌}
-use mathlib.Core.List.{List, [], ◌∷◌, ◌++◌}
+use Prim.Native.Nat.{ℕ, ◌+◌, ◌-◌, ◌≤◌, ◌<◌}
+use mathlib.Core.Path.{◌≡◌, refl, sym, ap, ◌∙◌}
+use mathlib.Core.List.{List, [], ◌++◌}
 use native.Mathlib.Nat.{zero-add}
 use native.Mathlib.Omega.{arith}
 use lib.ListN.{length, drop, length-append}
-use lib.Seq.{sets, sets-eq, length-sets}
+use lib.Seq.{sets, sets-eq, take_all}
+use borrow.Rule.Slice.PartMut.{put_mid}
 use borrow.Author.Tests.{lt-ltb, le-ltb}
 use Rattle.definition.specs.declared.Entry.{Entry}
-use Rattle.definition.specs.declared.Writing.{Writing}
-use Rattle.definition.specs.Calls.{fitting, left, after_writing, writing_of}
+use Rattle.definition.specs.declared.Refusal.{Refusal}
+use Rattle.definition.specs.Basic.{Ok, Err}
+use Rattle.definition.specs.Calls.{fitting, left, after_writing}
 use Rattle.definition.specs.declared.FieldKind.{FieldKind}
 use Rattle.definition.specs.Fold.{Entries}
 use Rattle.definition.specs.Record.{record_length, variable}
 use Rattle.definition.specs.Listing.{members#, span_bytes, occurs_bytes, details, entry_bytes, entries_bytes, listing}
+use Rattle.std.proofs.lemmas.Slice.{put_mid-paste}
 use Rattle.definition.proofs.Lists.{sets-append}
 use Rattle.definition.proofs.ListingLaws.{details#, entry_length}
-use Rattle.listing.specs.Puts.{Countable, Put, head_bytes, place_bytes, line_of, line_bytes}
+use Rattle.listing.specs.Puts.{Countable, Put, Puts, head_bytes, place_bytes, line_of, line_bytes}
 use Rattle.listing.specs.declared.Line.{Line}
+use Rattle.listing.specs.declared.Sink.{Sink}
 
 -- nothing is put
-pub put-none : (out : List ℕ) (at : ℕ) → Put out at [] at out
-put-none out at = record { next = omega arith; same = refl }
+pub puts-none : (s : Sink) → Puts s [] s
+puts-none s = record { name = refl; put = record { next = omega arith; same = refl } }
 
 infixl 5 ◌and◌
-module _ {out : List ℕ} {at : ℕ} {xs : List ℕ} {r : ℕ} {after : List ℕ} (p : Put out at xs r after) where
+module _ {s s' : Sink} {xs : List ℕ} (p : Puts s xs s') where
   -- bytes, then others
-  pub ◌and◌ : {ys : List ℕ} {r' : ℕ} {after' : List ℕ} → Put after r ys r' after' → Put out at (xs ++ ys) r' after'
+  pub ◌and◌ : {ys : List ℕ} {s'' : Sink} → Puts s' ys s'' → Puts s (xs ++ ys) s''
   ◌and◌ {ys} q =
       record {
-        next = rw (length-append xs ys) (omega (arith, p.next, q.next));
-        same = rw (sets-append xs ys out at, ← p.same, ← p.next) q.same;
+        name = q.name ∙ p.name;
+        put = record {
+          next = rw (length-append xs ys) (omega (arith, p.put.next, q.put.next));
+          same = rw (sets-append xs ys s.out.now s.at, ← p.put.same, ← p.put.next) q.put.same;
+        };
       }
 
-  -- the output is as long as before
-  pub put-length : length after ≡ length out
-  put-length = rw p.same (length-sets out at xs)
-
--- into an output of no bytes nothing is written
-pub put-empty : {at : ℕ} {bs : List ℕ} {r : ℕ} {after : List ℕ} → Put [] at bs r after → after ≡ []
-put-empty {at} {bs} p = p.same ∙ none bs at
-  where
-    none : (vs : List ℕ) (k : ℕ) → ◌≡◌ {A = List ℕ} (sets [] k vs) []
-    none [] k = refl
-    none (v ∷ vs) k = none vs (suc k)
+-- a part of an output that was written over
+pub put-part :
+    (out bs : List ℕ) (at n : ℕ) {ys : List ℕ} →
+    ys ≡ bs → n ≡ length bs → at + n ≤ length out → put_mid at (at + n - at) out ys ≡ sets out at bs
+put-part out bs at n {ys} f e h =
+    put_mid-paste at (at + n - at) out ys bs n f (omega arith) e
+    ∙ rw e (rw (take_all (length bs) bs (omega arith)) (sym (sets-eq bs out at (omega arith))))
 
 -- where they fit, the output begins with the bytes, and the rest is as before
 pub put_first : {out bs : List ℕ} {r : ℕ} {after : List ℕ} → Put out 0 bs r after → length bs ≤ length out → after ≡ bs ++ drop (length bs) out
@@ -57,11 +60,11 @@ module _ (bs out : List ℕ) {n : ℕ} (e : n ≡ length bs) where
   -- 31 where the bytes are more than the output has
   pub no_room :
       length out < n →
-      left (writing_of (Writing.Refused (record { number = 31; position = 0; needed = n }))) out [] ≡ after_writing (fitting (length out) bs) out []
+      left (Err (Refusal.OutputTooShort n)) out [] ≡ after_writing (fitting (length out) bs) out []
   no_room h = rw (lt-ltb (length out) (length bs) (omega arith), e)
 
   -- else they stand in front of what was there
-  pub room : n ≤ length out → {m : ℕ} {o : List ℕ} → Put out 0 bs m o → left (writing_of (Writing.Written n)) o [] ≡ after_writing (fitting (length out) bs) out []
+  pub room : n ≤ length out → {m : ℕ} {o : List ℕ} → Put out 0 bs m o → left (Ok n) o [] ≡ after_writing (fitting (length out) bs) out []
   room h p = rw (le-ltb (length out) (length bs) (omega arith), e, put_first p (omega arith))
 
 -- ---------------------------------------------------------------- the listing's parts
@@ -86,9 +89,9 @@ module _ (l : Line) (n : ℕ) where
   line-parts = refl
 
   -- how many bytes the parts have
-  pub line-sizes :
+  pub line_sizes :
       length (line_bytes l n) ≡ 33 + length (occurs_bytes l.occurs) + length (details l.kind l.picture n)
-  line-sizes = rw line-parts (simp length-append (omega arith))
+  line_sizes = rw line-parts (simp length-append (omega arith))
 
 module _ (e : Entry) (n : ℕ) where
   -- an entry is what is said of it

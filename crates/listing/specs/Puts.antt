@@ -7,6 +7,7 @@ use Rattle.definition.specs.declared.Entry.{Entry}
 use Rattle.definition.specs.Basic.{le4}
 use Rattle.definition.specs.Listing.{flag, span_bytes, kind_byte, occurs_bytes, details}
 use Rattle.listing.specs.declared.Line.{Line}
+use Rattle.listing.specs.declared.Sink.{Sink}
 
 -- the place after the bytes is a `usize`
 abbrev pub Countable : ℕ → List ℕ → Type 0
@@ -16,6 +17,11 @@ Countable at bs = at + length bs < 18446744073709551616
 pub record Put (out : List ℕ) (at : ℕ) (bs : List ℕ) (r : ℕ) (after : List ℕ) : Type 0 where
   pub next : r ≡ at + length bs
   pub same : after ≡ sets out at bs
+
+-- they were put into the same output
+pub record Puts (s : Sink) (bs : List ℕ) (s' : Sink) : Type 0 where
+  pub name : s'.out.ghost_name ≡ s.out.ghost_name
+  pub put : Put s.out.now s.at bs s'.at s'.out.now
 
 -- the record's head: kind 0, the record's length, whether that varies, how many entries stand at the top
 abbrev pub head_bytes : ℕ → Bool → ℕ → List ℕ

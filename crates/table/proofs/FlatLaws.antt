@@ -1,6 +1,7 @@
 -- Laws of the listing's entries one after the other: two lists, how many there are; what is asked of the folded listing
 -- is asked of them.
 -- Assumes nothing.
+use Rattle.definition.specs.declared.Refusal.{Refusal}
 use Prim.Native.Nat.{ℕ, ◌+◌, max, ◌≤◌}
 use mathlib.Core.Path.{◌≡◌, refl, sym, ap, ◌∙◌}
 use mathlib.Core.Bool.{Bool, true, false, ◌||◌}
@@ -10,7 +11,7 @@ use lib.Dec.{eqb, ltb}
 use lib.ListN.{length, length-append}
 use borrow.Author.Tests.{ne_eqb}
 use Rattle.definition.specs.Limits.{largest}
-use Rattle.definition.specs.Basic.{given, Answer, refuse, give, ◌>>=◌, refuse_if}
+use Rattle.definition.specs.Basic.{given, Answer, Err, Ok, ◌>>=◌, and_then, refuse_if}
 use Rattle.definition.specs.Fold.{Entries, end, entry, append, entry_end}
 use Rattle.definition.specs.Record.{record_length, variable, ends_fit}
 use Rattle.definition.specs.Listing.{members#, entries_bytes}
@@ -87,19 +88,19 @@ flat-long end = refl
 flat-long (entry e ms later) = omega (arith, length_both (flat_in 1 ms) (flat_in 0 later), length_none ms 0, flat-long later)
 
 fits_both : (a b : List Shown) → flat_fits (a ++ b) ≡ (flat_fits a >>= λ _. flat_fits b)
-unfolding flat_fits ◌>>=◌
+unfolding flat_fits and_then
 fits_both [] b = refl
-fits_both (x ∷ a) b = go (refuse_if (ltb largest (top_end x)) 29 x.own.at) (fits_both a b)
+fits_both (x ∷ a) b = go (refuse_if (ltb largest (top_end x)) (Refusal.TooLarge x.own.at)) (fits_both a b)
   where
     go :
         (here : Answer (Unit {0})) →
         flat_fits (a ++ b) ≡ (flat_fits a >>= λ _. flat_fits b) →
         (here >>= λ _. flat_fits (a ++ b)) ≡ ((here >>= λ _. flat_fits a) >>= λ _. flat_fits b)
-    go (refuse r) ih = refl
-    go (give u) ih = ih
+    go (Err r) ih = refl
+    go (Ok u) ih = ih
 
-fits-none : (es : Entries) (d : ℕ) → flat_fits (flat_in (d + 1) es) ≡ give tt
-unfolding flat_in flat_fits ◌>>=◌
+fits-none : (es : Entries) (d : ℕ) → flat_fits (flat_in (d + 1) es) ≡ Ok tt
+unfolding flat_in flat_fits and_then
 fits-none end d = refl
 fits-none (entry e ms later) d =
     let deep : eqb (d + 1) 0 ≡ false = ne_eqb (d + 1) 0 (λ z. omega arith) in
@@ -107,9 +108,9 @@ fits-none (entry e ms later) d =
 
 -- 29 for an end at the top
 pub flat-fits : (es : Entries) → flat_fits (flat_in 0 es) ≡ ends_fit es
-unfolding flat_in flat_fits ends_fit ◌>>=◌
+unfolding flat_in flat_fits ends_fit and_then
 flat-fits end = refl
 flat-fits (entry e ms later) =
-    let here = refuse_if (ltb largest (entry_end e)) 29 e.at in
+    let here = refuse_if (ltb largest (entry_end e)) (Refusal.TooLarge e.at) in
     ap (λ (z : Answer (Unit {0})). here >>= λ _. z)
     (fits_both (flat_in 1 ms) (flat_in 0 later) ∙ ap (λ (z : Answer (Unit {0})). z >>= λ _. flat_fits (flat_in 0 later)) (fits-none ms 0) ∙ flat-fits later)

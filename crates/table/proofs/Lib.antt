@@ -1,5 +1,4 @@
 pub mod SizeLaws
 pub mod FlatLaws
-pub mod OwnLaws
 pub mod LoopLaws
 pub mod ListedLaws

@@ -6,7 +6,7 @@ use Prim.Native.Nat.{ℕ, suc, ◌+◌, ◌*◌, ◌≤◌}
 use mathlib.Core.Path.{◌≡◌, refl, sym, ◌∙◌, ap}
 use mathlib.Core.Bool.{Bool, true, false}
 use mathlib.Core.List.{List, [], ◌∷◌, ◌++◌}
-use mathlib.Core.Option.{Option, none, some}
+use Rattle.std.specs.Prelude.{Option, None, Some}
 use native.Mathlib.Omega.{arith}
 use lib.ListN.{length, length-append}
 use Rattle.definition.specs.declared.Span.{Span}
@@ -59,7 +59,7 @@ module _ (text : List ℕ) where
       by_name false h ih = (h, ih)
 
   -- a search for a name that no place has finds none
-  absent_none : (w v : Span) (ps : List Place) → same_name text w v ≡ true → Absent w ps → find text v ps ≡ none
+  absent_none : (w v : Span) (ps : List Place) → same_name text w v ≡ true → Absent w ps → find text v ps ≡ None
   absent_none w v [] h a = find_none text v
   absent_none w v (p ∷ ps) h a = find-miss text v p ps (sym (same_first text w v p.name h) ∙ a.0) ∙ absent_none w v ps h a.1
 
@@ -78,10 +78,10 @@ module _ (text : List ℕ) where
     unfolding under
     under-redefiner g = rw (g, under)
 
-    under-found : given y.redefines ≡ true → {b : ℕ} → find text y.redefines vs ≡ some b → under vs (entry y m later) ≡ 2 * suc (entries# m) + 1 + under vs later
+    under-found : given y.redefines ≡ true → {b : ℕ} → find text y.redefines vs ≡ Some b → under vs (entry y m later) ≡ 2 * suc (entries# m) + 1 + under vs later
     under-found g h = under-redefiner g ∙ rw h
 
-    under_none : given y.redefines ≡ true → find text y.redefines vs ≡ none → under vs (entry y m later) ≡ under vs later
+    under_none : given y.redefines ≡ true → find text y.redefines vs ≡ None → under vs (entry y m later) ≡ under vs later
     under_none g h = under-redefiner g ∙ rw h (omega arith)
 
     under-base : given y.redefines ≡ false → under vs (entry y m later) ≡ under (others y.name vs) later
@@ -97,7 +97,7 @@ module _ (text : List ℕ) where
         same_name text x.name y.redefines ≡ t →
         weight (redefiners text x (entry y m later)) + under ws (entry y m later) ≡ under (x ∷ ws) (entry y m later)
     split-redefiner g ih true h =
-        let hit : find text y.redefines (x ∷ ws) ≡ some x.offset = find-hit text y.redefines x ws (swapped text y.redefines x.name ∙ h) in
+        let hit : find text y.redefines (x ∷ ws) ≡ Some x.offset = find-hit text y.redefines x ws (swapped text y.redefines x.name ∙ h) in
         omega (
           arith,
           ap weight (redefiners-hit text x y m later g h),
@@ -157,7 +157,7 @@ module _ (text : List ℕ) where
 
   -- what is found among the ones is found among the others
   abbrev Among : List Place → List Place → Type 0
-  Among vs bases = (w : Span) → find text w bases ≡ none → find text w vs ≡ none
+  Among vs bases = (w : Span) → find text w bases ≡ None → find text w vs ≡ None
 
   append-size : (a b : Entries) → entries# (append a b) ≡ entries# a + entries# b
   append-size end b = omega (arith, ap entries# (append-none b))
@@ -173,18 +173,18 @@ module _ (text : List ℕ) where
   union-size e m (entry r ms rs) later = omega (arith, member-size (has_member text e.name m) (rebased e.offset e) m (entry r ms rs))
 
   -- where a search finds none, no place has the name, nor has any of fewer places
-  none_first : (w : Span) (p : Place) (ps : List Place) → find text w (p ∷ ps) ≡ none → (same_name text w p.name ≡ false) × (find text w ps ≡ none)
+  none_first : (w : Span) (p : Place) (ps : List Place) → find text w (p ∷ ps) ≡ None → (same_name text w p.name ≡ false) × (find text w ps ≡ None)
   none_first w p ps h = by_name (same_name text w p.name) refl
     where
-      by_name : (b : Bool) → same_name text w p.name ≡ b → (same_name text w p.name ≡ false) × (find text w ps ≡ none)
+      by_name : (b : Bool) → same_name text w p.name ≡ b → (same_name text w p.name ≡ false) × (find text w ps ≡ None)
       by_name true e = absurd (let hit = find-hit text w p ps e in let z : ◌≡◌ {A = ℕ} 0 1 = cc in omega arith)
       by_name false e = (e, sym (find-miss text w p ps e) ∙ h)
 
-  none-others : (w v : Span) (ps : List Place) → find text w ps ≡ none → find text w (others v ps) ≡ none
+  none-others : (w v : Span) (ps : List Place) → find text w ps ≡ None → find text w (others v ps) ≡ None
   none-others w v [] h = h
   none-others w v (p ∷ ps) h = let f = none_first w p ps h in by_name (same_name text v p.name) f.0 (none-others w v ps f.1)
     where
-      by_name : (b : Bool) → same_name text w p.name ≡ false → find text w (others v ps) ≡ none → find text w (if b then others v ps else p ∷ others v ps) ≡ none
+      by_name : (b : Bool) → same_name text w p.name ≡ false → find text w (others v ps) ≡ None → find text w (if b then others v ps else p ∷ others v ps) ≡ None
       by_name true e ih = ih
       by_name false e ih = find-miss text w p (others v ps) e ∙ ih
 
@@ -200,13 +200,13 @@ module _ (text : List ℕ) where
     Fits = 2 * entries# (folded_list text bases (entry y m later)) + under vs (entry y m later) ≤ weight (entry y m later)
 
     module _ (g : given y.redefines ≡ true) (ih : 2 * entries# (folded_list text bases later) + under vs later ≤ weight later) where
-      fits_under : {b : ℕ} → find text y.redefines bases ≡ some b → (o : Option ℕ) → find text y.redefines vs ≡ o → Fits
-      fits_under h none e = omega (arith, ap entries# (list-under text bases y m later g h), under_none vs y m later g e)
-      fits_under h (some c) e = omega (arith, ap entries# (list-under text bases y m later g h), under-found vs y m later g e)
+      fits_under : {b : ℕ} → find text y.redefines bases ≡ Some b → (o : Option ℕ) → find text y.redefines vs ≡ o → Fits
+      fits_under h None e = omega (arith, ap entries# (list-under text bases y m later g h), under_none vs y m later g e)
+      fits_under h (Some c) e = omega (arith, ap entries# (list-under text bases y m later g h), under-found vs y m later g e)
 
       fits-redefiner : (o : Option ℕ) → find text y.redefines bases ≡ o → Fits
-      fits-redefiner none h = omega (arith, ap entries# (list-alone text bases y m later g h), under_none vs y m later g (a y.redefines h))
-      fits-redefiner (some b) h = fits_under h (find text y.redefines vs) refl
+      fits-redefiner None h = omega (arith, ap entries# (list-alone text bases y m later g h), under_none vs y m later g (a y.redefines h))
+      fits-redefiner (Some b) h = fits_under h (find text y.redefines vs) refl
 
     fits-base :
         given y.redefines ≡ false →

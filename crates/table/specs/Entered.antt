@@ -1,21 +1,19 @@
 -- What a table of entries says, by the rows that it names: the folded listing, one entry after the other. `own_of` reads
 -- an entry back.
 -- Assumes nothing.
-use Rattle.std.specs.Prelude.{ℕ, ◌+◌, ◌*◌, max, ◌≤◌, ◌<◌, ◌≡◌, Bool, false, ◌||◌, List, [], ◌∷◌, ◌++◌, eqb, ltb, length, if◌then◌else◌}
+use Rattle.std.specs.Prelude.{ℕ, ◌+◌, ◌*◌, max, ◌≤◌, ◌<◌, ◌≡◌, Bool, false, ◌||◌, List, [], ◌∷◌, ◌++◌, eqb, ltb, length, if◌then◌else◌, All}
 use Rattle.definition.specs.declared.Entry.{Entry}
-use Rattle.definition.specs.declared.FieldKind.{FieldKind}
-use Rattle.definition.specs.declared.Occurs.{Occurs}
-use Rattle.listing.specs.declared.Line.{Line}
+use Rattle.definition.specs.declared.Refusal.{Refusal}
 use Rattle.definition.specs.Limits.{largest}
-use Rattle.definition.specs.Basic.{absent, given, Answer, give, ◌>>=◌, refuse_if}
+use Rattle.definition.specs.Basic.{absent, given, Answer, Ok, ◌>>=◌, refuse_if}
 use Rattle.definition.specs.Fold.{Entries, end, entry, total, entry_end, union, folded_all}
 use Rattle.definition.specs.Listing.{members#, entry_bytes}
 use Rattle.definition.specs.Search.{entries#}
 use Rattle.places.specs.Places.{entry_in}
 use Rattle.unions.specs.Shown.{list_in}
-use Rattle.rows.specs.Columns.{ROW}
 use Rattle.table.specs.declared.Item.{Item}
-use Rattle.table.specs.Items.{ITEM, OWN, MEMBER, items_from}
+use Rattle.table.specs.declared.Mark.{Mark}
+use Rattle.table.specs.declared.Mark.TheVariants.{Own, Member, Union}
 
 -- ---------------------------------------------------------------- the listing's entries, one after the other
 
@@ -53,9 +51,9 @@ flat_length (x ∷ xs) = max (top_end x) (flat_length xs)
 
 -- 29 for the first at the top that ends above the largest number
 unfoldable pub flat_fits : List Shown → Answer (Unit {0})
-flat_fits [] = give tt
+flat_fits [] = Ok tt
 flat_fits (x ∷ xs) = do
-  _ ← refuse_if (ltb largest (top_end x)) 29 x.own.at
+  _ ← refuse_if (ltb largest (top_end x)) (Refusal.TooLarge x.own.at)
   flat_fits xs
 
 -- ---------------------------------------------------------------- what an item says, by the rows
@@ -79,39 +77,14 @@ moved offset e =
       folded = e.folded;
     }
 
--- the same of what the listing says of it, and of the union of an entry
-abbrev pub member_line : Line → ℕ → Line
-member_line l offset =
-    record {
-      kind = l.kind;
-      name = l.name;
-      offset = offset;
-      width = l.width;
-      occurs = l.occurs;
-      depending = l.depending;
-      redefines = absent;
-      picture = l.picture;
-    }
+-- the entry that an item stands for, from its row's
+abbrev pub marked : Mark → Item → Entry → Entry
+marked Own x e = e
+marked Member x e = moved x.offset e
+marked Union x e = union e x.width
 
-abbrev pub union_line : Line → ℕ → Line
-union_line l width =
-    record {
-      kind = FieldKind.Group;
-      name = l.name;
-      offset = l.offset;
-      width = width;
-      occurs = Occurs.Once;
-      depending = absent;
-      redefines = absent;
-      picture = absent;
-    }
-
--- the entry that an item stands for
 abbrev pub own_of : List ℕ → Item → Entry
-own_of w x =
-    if eqb x.mark OWN then entry_in w x.row
-    else if eqb x.mark MEMBER then moved x.offset (entry_in w x.row)
-    else union (entry_in w x.row) x.width
+own_of w x = marked x.mark x (entry_in w x.row)
 
 abbrev pub shown_of : List ℕ → Item → Shown
 shown_of w x = record { own = own_of w x; members = x.members; below = x.below; depth = x.depth }
@@ -120,28 +93,22 @@ unfoldable pub shown_all : List ℕ → List Item → List Shown
 shown_all w [] = []
 shown_all w (x ∷ xs) = shown_of w x ∷ shown_all w xs
 
--- an item names a row that is there, and is not too large
-pub record Sound (w : List ℕ) (x : Item) : Type 0 where
-  pub there : ROW * x.row + ROW ≤ length w
+-- an item names one of the first n rows, and is not too large
+pub record Sound (w : List ℕ) (n : ℕ) (x : Item) : Type 0 where
+  pub there : x.row < n
   pub small : total (own_of w x) ≤ largest
 
-abbrev pub Rows : List ℕ → List Item → Type 0
-Rows w [] = Unit {0}
-Rows w (x ∷ xs) = Sound w x × Rows w xs
-
--- they name rows from `from` up to `to`
-abbrev pub RowsWithin : ℕ → ℕ → List Item → Type 0
-RowsWithin from to [] = Unit {0}
-RowsWithin from to (x ∷ xs) = (from ≤ x.row) × (x.row < to) × RowsWithin from to xs
+-- it names a row from `from` on
+abbrev pub From : ℕ → Item → Type 0
+From from x = from ≤ x.row
 
 -- the folded list of the rows from `from` up to `to`
 abbrev pub listed : List ℕ → List ℕ → ℕ → ℕ → Entries
 listed text w from to = folded_all text (list_in w from to)
 
--- the first n items of the table are the folded listing of the rows from `from` up to `to`
-pub record Entered (text w : List ℕ) (from to : ℕ) (t : List ℕ) (n : ℕ) : Type 0 where
-  pub fits : ITEM * n ≤ length t
-  pub rows : Rows w (items_from t 0 n)
-  pub inside : RowsWithin from to (items_from t 0 n)
-  pub few : 2 * n ≤ 3 * to
-  pub is : shown_all w (items_from t 0 n) ≡ flat_in 0 (listed text w from to)
+-- the items are the folded listing of the rows from `from` up to `to`
+pub record Entered (text w : List ℕ) (from to : ℕ) (t : List Item) : Type 0 where
+  pub rows : All (Sound w to) t
+  pub inside : All (From from) t
+  pub few : 2 * length t ≤ 3 * to
+  pub is : shown_all w t ≡ flat_in 0 (listed text w from to)

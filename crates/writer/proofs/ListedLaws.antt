@@ -1,25 +1,23 @@
 -- Laws of the listing of a record in the table: how many bytes it has, its parts, and what the output holds after it.
 -- Assumes nothing.
 use Prim.Native.Nat.{ℕ, ◌+◌, ◌*◌, ◌≤◌}
-use mathlib.Core.Path.{◌≡◌, ap}
-use mathlib.Core.List.{List, []}
+use mathlib.Core.Path.{ap}
+use mathlib.Core.List.{List}
 use native.Mathlib.Omega.{arith}
 use lib.ListN.{length, length-append}
-use Rattle.definition.specs.declared.Writing.{Writing}
-use Rattle.definition.specs.Calls.{fitting, left, after_writing, writing_of}
 use Rattle.definition.specs.Listing.{members#, entries_bytes}
 use Rattle.definition.specs.Record.{record_length, variable}
 use Rattle.places.specs.Places.{rows_forest}
 use Rattle.places.proofs.EntriesLaws.{size-stretch}
 use Rattle.table.proofs.SizeLaws.{listing-few}
-use Rattle.listing.specs.Puts.{Put, head_bytes}
-use Rattle.listing.proofs.PutLaws.{room, listing-parts}
+use Rattle.listing.specs.Puts.{head_bytes}
+use Rattle.listing.proofs.PutLaws.{listing-parts}
 use Rattle.unions.specs.Shown.{list_in}
 use Rattle.unions.proofs.ShownLaws.{entries-size}
 use Rattle.writer.specs.Listed.{entries_of, listing_of}
 
 -- a listing has at most 98 bytes for each row, and its head
-listing-most : (text w : List ℕ) (from to : ℕ) → length (listing_of text w from to) ≤ 98 * to + 10
+pub listing-most : (text w : List ℕ) (from to : ℕ) → length (listing_of text w from to) ≤ 98 * to + 10
 listing-most text w from to =
     let es = entries_of text w from to in
     omega (
@@ -30,14 +28,3 @@ listing-most text w from to =
       entries-size w (rows_forest w from to) from,
       size-stretch w from to,
     )
-
--- an output with room for so many has room
-pub ample :
-    (text w out : List ℕ) (from to : ℕ) →
-    98 * to + 10 ≤ length out →
-    {m : ℕ} {o : List ℕ} →
-    Put out 0 (listing_of text w from to) m o →
-    left (writing_of (Writing.Written m)) o [] ≡ after_writing (fitting (length out) (listing_of text w from to)) out []
-ample text w out from to h {m} p =
-    let e : m ≡ length (listing_of text w from to) = omega (arith, p.next) in
-    room (listing_of text w from to) out e (omega (arith, e, listing-most text w from to)) p

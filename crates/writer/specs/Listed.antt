@@ -5,6 +5,7 @@ use Rattle.definition.specs.Limits.{most_statements}
 use Rattle.definition.specs.Fold.{Entries, folded_all}
 use Rattle.definition.specs.Listing.{listing, members#}
 use Rattle.definition.specs.Record.{record_length}
+use Rattle.table.specs.declared.Item.{Item}
 use Rattle.table.specs.Entered.{Entered}
 use Rattle.unions.specs.Shown.{list_in}
 
@@ -17,8 +18,8 @@ abbrev pub listing_of : List ℕ → List ℕ → ℕ → ℕ → List ℕ
 listing_of text w from to = listing (entries_of text w from to)
 
 -- the record in the rows from `from` up to `to`, its length, and its table of entries
-pub record Tabled (text w t : List ℕ) (from to long count top : ℕ) : Type 0 where
+pub record Tabled (text w : List ℕ) (t : List Item) (from to long top : ℕ) : Type 0 where
   pub few : to ≤ most_statements
-  pub table : Entered text w from to t count
+  pub table : Entered text w from to t
   pub tops : top ≡ members# (entries_of text w from to)
   pub length : long ≡ record_length (entries_of text w from to)

@@ -1,105 +1,99 @@
-// The listing of a record, written from its table of entries. A byte past the output's end is counted and not written,
-// so that the same loop measures; nothing is written unless all of it has room.
+//! The listing of a record, written from its table of entries. A byte past the output's end is counted and not written,
+//! so that the same walk measures; nothing is written unless all of it has room. Leans on `listing` and `table`.
 #![tactic(auto)]
 
 ghost use Rattle.std.specs.Prelude.{◌≡◌, [], ◌≤◌, length};
-ghost use Rattle.definition.specs.Calls.{after_writing, fitting, left, writing_of};
+ghost use Rattle.definition.specs.Calls.{after_writing, fitting, left};
 ghost use Rattle.listing.specs.Puts.{Put};
 ghost use Rattle.writer.specs.Listed.{listing_of, Tabled};
 
-use definition::{Refusal, Writing};
+use definition::Refusal;
+use listing::Sink;
+use rows::Rows;
+use table::Item;
 
-// Puts the listing of the record in the rows from `from` up to `to`, whose table has `count` entries, `top` of them at
-// the top, into the output, where it fits, and answers its length.
-fn put_listing(
-    text: &[u8],
-    work: &[u32],
-    entries: &[u32],
+// A record in the rows from `from` up to `to`: its table of entries, its length in bytes, and how many entries stand at
+// the top.
+#[derive(Clone, Copy)]
+struct Table<'a> {
+    text: &'a [u8],
+    rows: Rows<'a>,
+    entries: &'a [Item],
     from: usize,
     to: usize,
-    long: usize,
-    count: usize,
+    length: usize,
     top: usize,
-    out: &mut [u8],
-) -> usize
-    requires { Tabled text.now work.now entries.now from to long count top }
-    ensures { Put out.old 0 (listing_of text.now work.now from to) result
-        out.new }
-{
-    let variable = table::varies(work, entries, count);
-    let at = listing::put_head(out, 0, long, variable, top);
-    table::put_entries(work, entries, count, out, at)
+    ghost there: { to ≤ rows.count },
+    ghost tabled: { Tabled text.now rows.work.now entries.now from to length top },
 }
 
-// How long that listing is.
-fn measure(
-    text: &[u8],
-    work: &[u32],
-    entries: &[u32],
-    from: usize,
-    to: usize,
-    long: usize,
-    count: usize,
-    top: usize,
-) -> usize
-    requires { Tabled text.now work.now entries.now from to long count top }
-    ensures { result ≡ length (listing_of text.now work.now from to) }
-{
-    let mut spare = [0u8; 1];
-    put_listing(text, work, entries, from, to, long, count, top, &mut spare)
-}
-
-// Writes that listing if the output has room for it; 31, with its length, if not. It is measured first.
-fn write_measured(
-    text: &[u8],
-    work: &[u32],
-    entries: &[u32],
-    from: usize,
-    to: usize,
-    long: usize,
-    count: usize,
-    top: usize,
-    out: &mut [u8],
-) -> Writing
-    requires { Tabled text.now work.now entries.now from to long count top }
-    ensures { left (writing_of result) out.new []
-        ≡ after_writing
-        (fitting (length out.old) (listing_of text.now work.now from to))
-        out.old [] }
-{
-    let needed = measure(text, work, entries, from, to, long, count, top);
-    let lacks = out.len() < needed;
-    if lacks {
-        return Writing::Refused(Refusal {
-            number: 31,
-            position: 0,
-            needed,
-        });
+impl<'a> Table<'a> {
+    // Puts its listing into the output, where it fits, and answers its length.
+    fn put(self, out: &mut [u8]) -> usize
+        ensures { Put out.old 0 (listing_of self.entry.text.now self.entry.rows.work.now self.entry.from self.entry.to)
+            result out.new }
+    {
+        let mut sink = Sink::new(out);
+        let variable = table::varies(self.rows, self.entries);
+        sink.head(self.length, variable, self.top);
+        table::put_entries(self.rows, self.entries, &mut sink);
+        sink.at
     }
-    put_listing(text, work, entries, from, to, long, count, top, out);
-    Writing::Written(needed)
+
+    // How long its listing is.
+    fn measure(self) -> usize
+        ensures { result
+            ≡ length (listing_of self.entry.text.now self.entry.rows.work.now self.entry.from self.entry.to) }
+    {
+        self.put(&mut [])
+    }
+
+    // Writes its listing if the output has room for it; 31, with its length, if not. An output with 98 bytes for each
+    // row has room for every listing; for another it is measured first.
+    fn write(self, out: &mut [u8]) -> Result<usize, Refusal>
+        ensures { left result out.new []
+            ≡ after_writing
+            (fitting (length out.old)
+            (listing_of self.entry.text.now self.entry.rows.work.now self.entry.from self.entry.to))
+            out.old [] }
+    {
+        if out.len() < 98 * self.to + 10 {
+            let needed = self.measure();
+            if out.len() < needed {
+                return Err(Refusal::OutputTooShort { needed });
+            }
+        }
+        Ok(self.put(out))
+    }
 }
 
-// The same. An output with 98 bytes for each row has room for every listing, and nothing is measured then.
+/// Writes the listing of the record in the rows from `from` up to `to` if the output has room for it, and answers its
+/// length; 31, with its length, if not. `long` is the record's length, and `top` how many of its entries stand at the
+/// top.
 pub fn write_listing(
     text: &[u8],
-    work: &[u32],
-    entries: &[u32],
+    rows: Rows,
+    entries: &[Item],
     from: usize,
     to: usize,
     long: usize,
-    count: usize,
     top: usize,
     out: &mut [u8],
-) -> Writing
-    requires { Tabled text.now work.now entries.now from to long count top }
-    ensures { left (writing_of result) out.new []
+) -> Result<usize, Refusal>
+    requires { (to ≤ rows.count) × Tabled text.now rows.work.now entries.now from to long top }
+    ensures { left result out.new []
         ≡ after_writing
-        (fitting (length out.old) (listing_of text.now work.now from to))
+        (fitting (length out.old) (listing_of text.now rows.entry.work.now from to))
         out.old [] }
 {
-    if out.len() < 98 * to + 10 {
-        return write_measured(text, work, entries, from, to, long, count, top, out);
-    }
-    Writing::Written(put_listing(text, work, entries, from, to, long, count, top, out))
+    let table = Table {
+        text,
+        rows,
+        entries,
+        from,
+        to,
+        length: long,
+        top,
+    };
+    table.write(out)
 }

@@ -22,14 +22,14 @@ decreases-build_shown l = 8 * (l.to - l.i) + 6
 
 abbrev pub invariant-build_list-loop-i : goal.invariant-build_list-loop-i
 invariant-build_list-loop-i l =
-    Listing l.text l.work l.initial.entries l.entries l.from l.to l.initial.r l.depth l.i l.last l.r
+    Listing l.text l.rows.work.now l.initial.entries l.entries l.from l.to l.initial.r l.depth l.i l.last l.r
 
 abbrev pub decreases-build_list-loop-i : goal.decreases-build_list-loop-i
 decreases-build_list-loop-i l = l.to - l.i
 
-abbrev pub invariant-build_redefiners-loop-k : goal.invariant-build_redefiners-loop-k
-invariant-build_redefiners-loop-k l =
-    Redefining l.text l.work l.initial.entries l.entries l.i l.j l.to l.initial.r l.depth l.r l.k
+abbrev pub invariant-build_redefiners-loop-next : goal.invariant-build_redefiners-loop-next
+invariant-build_redefiners-loop-next l =
+    Redefining l.text l.rows.work.now l.initial.entries l.entries l.i l.j l.to l.initial.r l.depth l.r l.next
 
-abbrev pub decreases-build_redefiners-loop-k : goal.decreases-build_redefiners-loop-k
-decreases-build_redefiners-loop-k l = chain_left l.to l.k
+abbrev pub decreases-build_redefiners-loop-next : goal.decreases-build_redefiners-loop-next
+decreases-build_redefiners-loop-next l = chain_left l.to l.next

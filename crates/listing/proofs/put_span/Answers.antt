@@ -1,6 +1,0 @@
--- `listing::put_span` meets its contract.
-use Rattle.listing.proofs.PutLaws.{◌and◌}
-use Rattle.listing.proofs.put_span.Goals as goal
-
-pub returns : goal.returns
-returns c = c.put4-next.ensures and c.put4.ensures

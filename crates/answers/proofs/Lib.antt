@@ -1,2 +1,2 @@
-pub mod CallLaws
-pub mod CardLaws
+pub mod AskedLaws
+pub mod Same

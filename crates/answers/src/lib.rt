@@ -1,259 +1,164 @@
-// What a call answers of a copybook's record, free text or cards: a report of its entries written to the output, the
-// owner of a byte, or an extract of its items. Every answer is made so: the text read into rows, a table for the
-// entries of as many, the record laid out, the answer, and work memory cleared. `copybook` has the public entries over
-// these.
-// Leans on `record` for the reading and the laying, and on one crate for each answer.
+//! What a call answers of a copybook's record, free text or cards: a report of its entries written to the output, the
+//! owner of a byte, or an extract of its items. Each is a question, which `asking` asks of the record that it reads and
+//! lays out. `copybook` has the public entries over these. Leans on one crate for each question.
 #![tactic(auto)]
 
-ghost use Rattle.std.specs.Prelude.{ℕ, ◌≡◌, [], length};
+ghost use Rattle.std.specs.Prelude.{◌≡◌, []};
 ghost use Rattle.definition.specs.Cards.{Form.free_text, Form.card_text};
-ghost use Rattle.definition.specs.Calls.{left, after_writing, report as report_of, byte_owner, report_call_in, owner_call_in};
-ghost use Rattle.definition.specs.Calls.{extract_answer, extract_call};
-ghost use Rattle.definition.specs.Calls.{owner_answer_of, extract_answer_of, writing_of};
-ghost use Rattle.entries.specs.Building.{Roomy};
-ghost use Rattle.record.specs.Laying.{Read};
+ghost use Rattle.definition.specs.Calls.{left, report_call_in, owner_call_in, extract_call};
+ghost use Rattle.answers.specs.Questions.{report_given, owner_given, extract_given};
 
-use definition::{Check, ExtractAnswer, MOST_BYTES, OwnerAnswer, Report, Writing};
-use record::{ENTRIES, FEW_ENTRIES, FEW_ROWS, RecordLaid};
-use tree::RowsRead;
+use asking::Question;
+use definition::{Extract, Owner, Refusal, Report};
+use record::Record;
+use rows::Rows;
+use table::Item;
 
-// ---------------------------------------------------------------- reports
+// ---------------------------------------------------------------- the three questions
 
-// A report of the record that was read into n rows, with a table for its entries.
-fn report_in(
-    text: &[u8],
-    work: &mut [u32],
-    n: usize,
-    entries: &mut [u32],
-    what: Report,
-    out: &mut [u8],
-) -> Writing
-    requires { Read text.now work.old n × Roomy entries.old n }
-    ensures { left (writing_of result) out.new []
-        ≡ after_writing (report_of what text.now (length work.old) (length out.old))
-        out.old [] }
-{
-    match record::lay_record(text, work, n, entries) {
-        RecordLaid::Record {
+/// This report of the record: how many bytes were written.
+#[derive(Clone, Copy)]
+pub struct ReportOf {
+    pub what: Report,
+}
+
+impl Question for ReportOf {
+    type Reply = usize;
+
+    ghost answers = { report_given };
+
+    fn answer(
+        self,
+        text: &[u8],
+        work: &[u32],
+        entries: &[Item],
+        laid: Record,
+        out: &mut [u8],
+    ) -> Result<usize, Refusal> {
+        let Record {
             from,
             to,
             length,
-            count,
             top,
-        } => match what {
+            ..
+        } = laid;
+        let rows = Rows::new(work, to);
+        match self.what {
             Report::Listing => {
-                return writer::write_listing(
-                    text, work, entries, from, to, length, count, top, out,
-                );
+                writer::write_listing(text, rows, entries, from, to, length, top, out)
             }
-            Report::Details => {
-                return details::write_details(text, work, entries, from, to, count, out);
-            }
+            Report::Details => details::write_details(text, rows, entries, from, to, out),
             Report::Reasons(number) => {
-                return reasons::write_reasons(text, work, entries, from, to, count, number, out);
+                reasons::write_reasons(text, work, entries, laid, number, out)
             }
-        },
-        RecordLaid::Refused(r) => {
-            return Writing::Refused(r);
         }
     }
 }
 
-// The same of a text, with work memory left as it comes.
-fn report_of(text: &[u8], work: &mut [u32], what: Report, out: &mut [u8]) -> Writing
-    ensures { left (writing_of result) out.new []
-        ≡ after_writing (report_of what text.now (length work.old) (length out.old))
-        out.old [] }
-{
-    match record::read_rows(text, work) {
-        RowsRead::Rows(n) => {
-            if n <= FEW_ROWS {
-                let mut few = [0u32; FEW_ENTRIES];
-                return report_in(text, work, n, &mut few, what, out);
-            }
-            let mut all = [0u32; ENTRIES];
-            return report_in(text, work, n, &mut all, what, out);
-        }
-        RowsRead::Refused(r) => {
-            return Writing::Refused(r);
-        }
+/// The owner of the byte at this position.
+#[derive(Clone, Copy)]
+pub struct OwnerAt {
+    pub position: usize,
+}
+
+impl Question for OwnerAt {
+    type Reply = Owner;
+
+    ghost answers = { owner_given };
+
+    #[tactic(auto, unfolding(crate::specs::Questions::owner_asked, definition::specs::Calls::owner_in, definition::specs::Record::layout, definition::specs::Basic::and_then))]
+    fn answer(
+        self,
+        text: &[u8],
+        work: &[u32],
+        _entries: &[Item],
+        laid: Record,
+        _out: &mut [u8],
+    ) -> Result<Owner, Refusal> {
+        owner::owner_of(text, work, laid, self.position)
     }
 }
 
-// A report of free text: how many bytes were written.
-pub fn report(text: &[u8], work: &mut [u32], what: Report, out: &mut [u8]) -> Writing
-    ensures { left (writing_of result) out.new work.new
+/// The heaviest of the first subsets that fits, as many as the budget says.
+#[derive(Clone, Copy)]
+pub struct ExtractBy<'a> {
+    pub weights: &'a [u32],
+    pub limit: usize,
+    pub budget: usize,
+}
+
+impl<'a> Question for ExtractBy<'a> {
+    type Reply = Extract;
+
+    ghost answers = { extract_given };
+
+    #[tactic(auto, unfolding(crate::specs::Questions::extract_asked, definition::specs::Calls::extract_in, definition::specs::Record::layout, definition::specs::Basic::and_then))]
+    fn answer(
+        self,
+        text: &[u8],
+        work: &[u32],
+        _entries: &[Item],
+        laid: Record,
+        _out: &mut [u8],
+    ) -> Result<Extract, Refusal> {
+        extract::extract_of(text, work, laid, self.weights, self.limit, self.budget)
+    }
+}
+
+// ---------------------------------------------------------------- the calls
+
+/// A report of free text: how many bytes were written.
+pub fn report(text: &[u8], work: &mut [u32], what: Report, out: &mut [u8]) -> Result<usize, Refusal>
+    ensures { left result out.new work.new
         ≡ report_call_in free_text what text.now out.old work.old }
 {
-    let answer = report_of(text, work, what, out);
-    rows::clear(work);
-    answer
+    asking::answer(ReportOf { what }, text, work, out)
 }
 
-// A report of cards: that of what the reader sees of them.
-pub fn report_cards(cards: &[u8], work: &mut [u32], what: Report, out: &mut [u8]) -> Writing
-    ensures { left (writing_of result) out.new work.new
+/// A report of cards: that of what the reader sees of them.
+pub fn report_cards(
+    cards: &[u8],
+    work: &mut [u32],
+    what: Report,
+    out: &mut [u8],
+) -> Result<usize, Refusal>
+    ensures { left result out.new work.new
         ≡ report_call_in card_text what cards.now out.old work.old }
 {
-    let mut view = [32u8; MOST_BYTES];
-    match cards::read_cards(cards, work.len(), &mut view) {
-        Check::Passed => {
-            let n = cards.len();
-            return report(&view[0..n], work, what, out);
-        }
-        Check::Refused(r) => {
-            rows::clear(work);
-            return Writing::Refused(r);
-        }
-    }
+    asking::answer_cards(ReportOf { what }, cards, work, out)
 }
 
-// ---------------------------------------------------------------- owners
-
-// The owner of a byte in the record that was read into n rows, with a table for its entries.
-fn owner_in(
-    text: &[u8],
-    position: usize,
-    work: &mut [u32],
-    n: usize,
-    entries: &mut [u32],
-) -> OwnerAnswer
-    requires { Read text.now work.old n × Roomy entries.old n }
-    ensures { owner_answer_of result ≡ byte_owner text.now (length work.old) position }
-{
-    match record::lay_record(text, work, n, entries) {
-        RecordLaid::Record {
-            from,
-            to,
-            length,
-            count,
-            top,
-        } => {
-            return owner::owner_of(text, work, from, to, length, position);
-        }
-        RecordLaid::Refused(r) => {
-            return OwnerAnswer::Refused(r);
-        }
-    }
-}
-
-// The same of a text, with work memory left as it comes.
-fn owner_of(text: &[u8], position: usize, work: &mut [u32]) -> OwnerAnswer
-    ensures { owner_answer_of result ≡ byte_owner text.now (length work.old) position }
-{
-    match record::read_rows(text, work) {
-        RowsRead::Rows(n) => {
-            if n <= FEW_ROWS {
-                let mut few = [0u32; FEW_ENTRIES];
-                return owner_in(text, position, work, n, &mut few);
-            }
-            let mut all = [0u32; ENTRIES];
-            return owner_in(text, position, work, n, &mut all);
-        }
-        RowsRead::Refused(r) => {
-            return OwnerAnswer::Refused(r);
-        }
-    }
-}
-
-// The owner of a byte of the record that free text describes.
-pub fn owner(text: &[u8], position: usize, work: &mut [u32]) -> OwnerAnswer
-    ensures { left (owner_answer_of result) [] work.new
+/// The owner of a byte of the record that free text describes.
+pub fn owner(text: &[u8], position: usize, work: &mut [u32]) -> Result<Owner, Refusal>
+    ensures { left result [] work.new
         ≡ owner_call_in free_text text.now position work.old }
 {
-    let found = owner_of(text, position, work);
-    rows::clear(work);
-    found
+    asking::answer(OwnerAt { position }, text, work, &mut [])
 }
 
-// The owner of a byte of the record that cards describe.
-pub fn owner_cards(cards: &[u8], position: usize, work: &mut [u32]) -> OwnerAnswer
-    ensures { left (owner_answer_of result) [] work.new
+/// The owner of a byte of the record that cards describe.
+pub fn owner_cards(cards: &[u8], position: usize, work: &mut [u32]) -> Result<Owner, Refusal>
+    ensures { left result [] work.new
         ≡ owner_call_in card_text cards.now position work.old }
 {
-    let mut view = [32u8; MOST_BYTES];
-    match cards::read_cards(cards, work.len(), &mut view) {
-        Check::Passed => {
-            let n = cards.len();
-            return owner(&view[0..n], position, work);
-        }
-        Check::Refused(r) => {
-            rows::clear(work);
-            return OwnerAnswer::Refused(r);
-        }
-    }
+    asking::answer_cards(OwnerAt { position }, cards, work, &mut [])
 }
 
-// ---------------------------------------------------------------- extracts
-
-// The extract of the record that was read into n rows, with a table for its entries.
-fn extract_in(
-    text: &[u8],
-    weights: &[u32],
-    limit: usize,
-    budget: usize,
-    work: &mut [u32],
-    n: usize,
-    entries: &mut [u32],
-) -> ExtractAnswer
-    requires { Read text.now work.old n × Roomy entries.old n }
-    ensures { extract_answer_of result
-        ≡ extract_answer text.now (length work.old) weights.now limit budget }
-{
-    match record::lay_record(text, work, n, entries) {
-        RecordLaid::Record {
-            from,
-            to,
-            length,
-            count,
-            top,
-        } => {
-            return extract::extract_of(text, work, from, to, length, top, weights, limit, budget);
-        }
-        RecordLaid::Refused(r) => {
-            return ExtractAnswer::Refused(r);
-        }
-    }
-}
-
-// The same of a text, with work memory left as it comes.
-fn extract_of(
-    text: &[u8],
-    weights: &[u32],
-    limit: usize,
-    budget: usize,
-    work: &mut [u32],
-) -> ExtractAnswer
-    ensures { extract_answer_of result
-        ≡ extract_answer text.now (length work.old) weights.now limit budget }
-{
-    match record::read_rows(text, work) {
-        RowsRead::Rows(n) => {
-            if n <= FEW_ROWS {
-                let mut few = [0u32; FEW_ENTRIES];
-                return extract_in(text, weights, limit, budget, work, n, &mut few);
-            }
-            let mut all = [0u32; ENTRIES];
-            return extract_in(text, weights, limit, budget, work, n, &mut all);
-        }
-        RowsRead::Refused(r) => {
-            return ExtractAnswer::Refused(r);
-        }
-    }
-}
-
-// The extract of the record that free text describes.
+/// The extract of the record that free text describes.
 pub fn extract(
     text: &[u8],
     weights: &[u32],
     limit: usize,
     budget: usize,
     work: &mut [u32],
-) -> ExtractAnswer
-    ensures { left (extract_answer_of result) [] work.new
+) -> Result<Extract, Refusal>
+    ensures { left result [] work.new
         ≡ extract_call text.now weights.now limit budget work.old }
 {
-    let chosen = extract_of(text, weights, limit, budget, work);
-    rows::clear(work);
-    chosen
+    let chosen = ExtractBy {
+        weights,
+        limit,
+        budget,
+    };
+    asking::answer(chosen, text, work, &mut [])
 }

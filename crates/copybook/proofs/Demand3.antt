@@ -13,12 +13,11 @@ use lib.Seq.{take-append_seam, drop-append_seam}
 use borrow.Author.Tests.{le-ltb, ltb-true}
 use Rattle.definition.specs.declared.Owner.{Owner}
 use Rattle.definition.specs.declared.Refusal.{Refusal}
-use Rattle.definition.specs.declared.Writing.{Writing}
 use Rattle.definition.specs.Limits.{least_work}
-use Rattle.definition.specs.Basic.{Answer, refuse, give, ◌>>=◌, refuse_if}
+use Rattle.definition.specs.Basic.{Answer, Err, Ok, ◌>>=◌, and_then, refuse_if}
 use Rattle.definition.specs.Cards.{view, Form, free_text, card_text, view_in}
 use Rattle.definition.specs.Calls.{After, entry_checks, kept_statements, record_fields, entries, fitting, layout_listing}
-use Rattle.definition.specs.Calls.{owner_in, byte_owner, indicator_check, card_checks, on_cards, called, written, writing_of}
+use Rattle.definition.specs.Calls.{owner_in, byte_owner, indicator_check, card_checks, on_cards, called, written}
 use Rattle.definition.specs.Calls.{output_after}
 use Rattle.definition.specs.Fold.{Entries}
 use Rattle.definition.specs.Listing.{listing}
@@ -33,15 +32,15 @@ use Rattle.copybook.specs.Answered.{Listing, Owns, Accepted, Answered}
 -- ---------------------------------------------------------------- the byte owner
 
 -- checks that were passed are passed with any work memory that is enough
-checked : (text : List ℕ) (n m : ℕ) → entry_checks text n ≡ give tt → least_work ≤ m → entry_checks text m ≡ give tt
+checked : (text : List ℕ) (n m : ℕ) → entry_checks text n ≡ Ok tt → least_work ≤ m → entry_checks text m ≡ Ok tt
 unfolding entry_checks
 checked text n m h room =
     through _ _ h λ _ t _.
-    ap (λ (a : Answer (Unit {0})). a >>= λ _. refuse_if (ltb m least_work) 3 0) t
+    ap (λ (a : Answer (Unit {0})). a >>= λ _. refuse_if (ltb m least_work) Refusal.WorkTooShort) t
     ∙ give-next tt _
     ∙ rw (le-ltb m least_work room)
 
-cards-checked : (text : List ℕ) (n m : ℕ) → card_checks text n ≡ give tt → least_work ≤ m → card_checks text m ≡ give tt
+cards-checked : (text : List ℕ) (n m : ℕ) → card_checks text n ≡ Ok tt → least_work ≤ m → card_checks text m ≡ Ok tt
 unfolding card_checks
 cards-checked text n m h room =
     through _ _ h λ _ e q.
@@ -51,7 +50,7 @@ cards-checked text n m h room =
 called-enough :
     {A B : Type 0} (call : List ℕ → Answer A) (other : List ℕ → Answer B) →
     (form : Form) (text : List ℕ) (n m : ℕ) {a : A} →
-    called form call text n ≡ give a →
+    called form call text n ≡ Ok a →
     least_work ≤ m →
     called form other text m ≡ other (view_in form text)
 unfolding on_cards
@@ -62,12 +61,12 @@ called-enough call other card_text text n m h room =
 
 -- and the same fields are read
 enough :
-    (text : List ℕ) (n m : ℕ) (f : Forest) → record_fields text n ≡ give f → least_work ≤ m → record_fields text m ≡ give f
+    (text : List ℕ) (n m : ℕ) (f : Forest) → record_fields text n ≡ Ok f → least_work ≤ m → record_fields text m ≡ Ok f
 unfolding record_fields
 enough text n m f h room =
     through _ _ h λ _ e q.
     ap
-    (λ (a : Answer (Unit {0})). a >>= λ _. (kept_statements text >>= λ ss. give (record_of ss)))
+    (λ (a : Answer (Unit {0})). a >>= λ _. (kept_statements text >>= λ ss. Ok (record_of ss)))
     (checked text n m e room)
     ∙ give-next tt _
     ∙ q
@@ -78,9 +77,9 @@ module _
     (text : List ℕ)
     (n : ℕ)
     (es : Entries)
-    (accepted : called form (λ t. entries t n) text n ≡ give es)
+    (accepted : called form (λ t. entries t n) text n ≡ Ok es)
     (f : Forest)
-    (read : record_fields (view_in form text) n ≡ give f)
+    (read : record_fields (view_in form text) n ≡ Ok f)
   where
     owns : (q : ℕ) {a : Answer Owner} → owner_in (view_in form text) f q ≡ a → Owns form text q a
     owns q e work r work' room h =
@@ -93,7 +92,7 @@ module _
 -- ---------------------------------------------------------------- the demand
 
 -- the refusal is the same where the answers are
-refusal-same : {A : Type 0} {r q : Refusal} → ◌≡◌ {A = Answer A} (refuse r) (refuse q) → r ≡ q
+refusal-same : {A : Type 0} {r q : Refusal} → ◌≡◌ {A = Answer A} (Err r) (Err q) → r ≡ q
 refusal-same h = cc
 
 -- an accepted copybook
@@ -101,7 +100,7 @@ module _
     (form : Form)
     (text out work : List ℕ)
     (es : Entries)
-    (read : called form (λ t. entries t (length work)) text (length work) ≡ give es)
+    (read : called form (λ t. entries t (length work)) text (length work) ≡ Ok es)
   where
     is-accepted : Accepted form text work es
     is-accepted =
@@ -124,12 +123,12 @@ module _
     answered :
         (b : Bool) →
         ltb (length out) (length (listing es)) ≡ b →
-        (r : Writing) {out' : List ℕ} →
-        writing_of r ≡ written (fitting (length out) (listing es)) →
+        (r : Answer ℕ) {out' : List ℕ} →
+        r ≡ written (fitting (length out) (listing es)) →
         out' ≡ output_after (fitting (length out) (listing es)) out →
         Answered form text out work r out'
-    answered true e (Writing.Written n) h o = absurd (let z : ◌≡◌ {A = ℕ} 0 1 = cc in omega arith)
-    answered true e (Writing.Refused r) h o = (
+    answered true e (Ok n) h o = absurd (let z : ◌≡◌ {A = ℕ} 0 1 = cc in omega arith)
+    answered true e (Err r) h o = (
       rw e at o,
       inl (record {
         shown = es;
@@ -138,8 +137,8 @@ module _
         accepted = is-accepted;
       }),
     )
-    answered false e (Writing.Refused r) h o = absurd (let z : ◌≡◌ {A = ℕ} 0 1 = cc in omega arith)
-    answered false e (Writing.Written n) h o =
+    answered false e (Err r) h o = absurd (let z : ◌≡◌ {A = ℕ} 0 1 = cc in omega arith)
+    answered false e (Ok n) h o =
         let bs = listing es in
         let long : n ≡ length bs = given-same (rw e at h) in
         let after : _ ≡ bs ++ drop (length bs) out = rw e at o in
@@ -154,32 +153,32 @@ module _
 -- a copybook that the reader refuses
 not-read :
     (form : Form) (text out work : List ℕ) (q : Refusal) →
-    called form (λ t. entries t (length work)) text (length work) ≡ refuse q →
-    (r : Writing) {out' : List ℕ} →
-    writing_of r ≡ refuse q →
+    called form (λ t. entries t (length work)) text (length work) ≡ Err q →
+    (r : Answer ℕ) {out' : List ℕ} →
+    r ≡ Err q →
     out' ≡ out →
     Answered form text out work r out'
-not-read form text out work q e (Writing.Written n) h o = absurd (let z : ◌≡◌ {A = ℕ} 0 1 = cc in omega arith)
-not-read form text out work q e (Writing.Refused r) h o = (o, inr (e ∙ ap refuse (sym (refusal-same h))))
+not-read form text out work q e (Ok n) h o = absurd (let z : ◌≡◌ {A = ℕ} 0 1 = cc in omega arith)
+not-read form text out work q e (Err r) h o = (o, inr (e ∙ ap Err (sym (refusal-same h))))
 
 -- a call in two lines
 called-then :
     {A B : Type 0} (form : Form) (call : List ℕ → Answer A) (f : A → Answer B) (text : List ℕ) (n : ℕ) →
     called form (λ t. call t >>= f) text n ≡ (called form call text n >>= f)
-unfolding on_cards ◌>>=◌
+unfolding on_cards and_then
 called-then free_text call f text n = refl
 called-then card_text call f text n = go (card_checks text n)
   where
     go : (a : Answer (Unit {0})) → (a >>= λ _. call (view text) >>= f) ≡ ((a >>= λ _. call (view text)) >>= f)
-    go (refuse r) = refl
-    go (give u) = refl
+    go (Err r) = refl
+    go (Ok u) = refl
 
 -- Every call for the layout listing keeps demand 3.
 pub demand3 :
-    (form : Form) (text out work : List ℕ) (r : Writing) (out' work' : List ℕ) →
+    (form : Form) (text out work : List ℕ) (r : Answer ℕ) (out' work' : List ℕ) →
     Listing form text out work r out' work' →
     Answered form text out work r out'
-unfolding layout_listing ◌>>=◌
+unfolding layout_listing and_then
 demand3 form text out work r out' work' h = by-reading (called form (λ t. entries t n) text n) refl
   where
     n : ℕ
@@ -190,14 +189,14 @@ demand3 form text out work r out' work' h = by-reading (called form (λ t. entri
         ≡ (called form (λ t. entries t n) text n >>= λ es. fitting (length out) (listing es))
     same = called-then form (λ t. entries t n) (λ es. fitting (length out) (listing es)) text n
 
-    answer : writing_of r ≡ written (called form (λ t. entries t n) text n >>= λ es. fitting (length out) (listing es))
+    answer : r ≡ written (called form (λ t. entries t n) text n >>= λ es. fitting (length out) (listing es))
     answer = ap (λ (x : After ℕ). x.answer) h ∙ ap written same
 
     output : out' ≡ output_after (called form (λ t. entries t n) text n >>= λ es. fitting (length out) (listing es)) out
     output = ap (λ (x : After ℕ). x.output) h ∙ ap (λ (a : Answer (List ℕ)). output_after a out) same
 
     by-reading : (a : Answer Entries) → called form (λ t. entries t n) text n ≡ a → Answered form text out work r out'
-    by-reading (give es) e =
+    by-reading (Ok es) e =
         let is_short = ltb (length out) (length (listing es)) in
         answered form text out work es e is_short refl r (rw e at answer) (rw e at output)
-    by-reading (refuse q) e = not-read form text out work q e r (rw e at answer) (rw e at output)
+    by-reading (Err q) e = not-read form text out work q e r (rw e at answer) (rw e at output)

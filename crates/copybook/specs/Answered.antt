@@ -7,13 +7,11 @@
 -- Assumes nothing.
 use Rattle.std.specs.Prelude.{ℕ, ◌≤◌, ◌<◌, ◌≡◌, true, false, ◌⊎◌, List, [], length, take, drop}
 use Rattle.definition.specs.declared.Owner.{Owner}
-use Rattle.definition.specs.declared.OwnerAnswer.{OwnerAnswer}
 use Rattle.definition.specs.declared.Refusal.{Refusal}
-use Rattle.definition.specs.declared.Writing.{Writing}
 use Rattle.definition.specs.Limits.{least_work}
-use Rattle.definition.specs.Basic.{Answer, refuse, give, refused}
+use Rattle.definition.specs.Basic.{Answer, Err, Ok}
 use Rattle.definition.specs.Cards.{Form}
-use Rattle.definition.specs.Calls.{left, entries, called, layout_call_in, owner_call_in, owner_answer_of, writing_of}
+use Rattle.definition.specs.Calls.{left, entries, called, layout_call_in, owner_call_in}
 use Rattle.definition.specs.Demand.{naming, Kept}
 use Rattle.definition.specs.Fold.{Entries}
 use Rattle.definition.specs.Listing.{listing}
@@ -22,20 +20,20 @@ use Rattle.definition.specs.Record.{record_length}
 
 -- what the contract of `layout_listing`, or of `layout_cards`, says of a call: its answer, and the output and work
 -- memory after it
-abbrev pub Listing : Form → List ℕ → List ℕ → List ℕ → Writing → List ℕ → List ℕ → Type 0
-Listing form text out work r out' work' = left (writing_of r) out' work' ≡ layout_call_in form text out work
+abbrev pub Listing : Form → List ℕ → List ℕ → List ℕ → Answer ℕ → List ℕ → List ℕ → Type 0
+Listing form text out work r out' work' = left r out' work' ≡ layout_call_in form text out work
 
 -- what the contract of `byte_owner`, or of `byte_owner_cards`, says of a call
-abbrev pub Owning : Form → List ℕ → ℕ → List ℕ → OwnerAnswer → List ℕ → Type 0
-Owning form text position work r work' = left (owner_answer_of r) [] work' ≡ owner_call_in form text position work
+abbrev pub Owning : Form → List ℕ → ℕ → List ℕ → Answer Owner → List ℕ → Type 0
+Owning form text position work r work' = left r [] work' ≡ owner_call_in form text position work
 
 -- every call for the owner of position q answers so, whatever work memory of at least 16,384 numbers it is lent
 abbrev pub Owns : Form → List ℕ → ℕ → Answer Owner → Type 0
 Owns form text q a =
-    (work : List ℕ) (r : OwnerAnswer) (work' : List ℕ) →
+    (work : List ℕ) (r : Answer Owner) (work' : List ℕ) →
     least_work ≤ length work →
     Owning form text q work r work' →
-    owner_answer_of r ≡ a
+    r ≡ a
 
 -- what holds of an accepted copybook, whose listing shows these entries
 pub record Accepted (form : Form) (text work : List ℕ) (shown : Entries) : Type 0 where
@@ -46,11 +44,11 @@ pub record Accepted (form : Form) (text work : List ℕ) (shown : Entries) : Typ
   pub names :
       (free : overlaid kept.of ≡ false) (q : ℕ) (l : q < record_length shown) →
       let x = ((kept.demand free).one-owner q l).owner in
-      Owns form text q (give (naming x.holder x.first q))
+      Owns form text q (Ok (naming x.holder x.first q))
   -- there is no byte behind them, and it says so;
-  pub ends : overlaid kept.of ≡ false → (q : ℕ) → record_length shown ≤ q → Owns form text q (refused 41 0)
+  pub ends : overlaid kept.of ≡ false → (q : ℕ) → record_length shown ≤ q → Owns form text q (Err Refusal.OutsideRecord)
   -- with one, it refuses every position
-  pub refuses : overlaid kept.of ≡ true → (q : ℕ) → Owns form text q (refused 40 0)
+  pub refuses : overlaid kept.of ≡ true → (q : ℕ) → Owns form text q (Err Refusal.Overlaid)
 
 -- after a call that wrote n bytes, they are the listing of these entries, and the bytes behind them are as they were
 pub record ListingWritten (form : Form) (text out work : List ℕ) (n : ℕ) (out' : List ℕ) : Type 0 where
@@ -63,12 +61,12 @@ pub record ListingWritten (form : Form) (text out work : List ℕ) (n : ℕ) (ou
 pub record TooShort (form : Form) (text out work : List ℕ) (r : Refusal) : Type 0 where
   pub shown : Entries
   pub short : length out < length (listing shown)
-  pub told : r ≡ record { number = 31; position = 0; needed = length (listing shown) }
+  pub told : r ≡ Refusal.OutputTooShort (length (listing shown))
   pub accepted : Accepted form text work shown
 
 -- what holds after a call for the listing: a refusal changes no byte of the output, and is that 31 or the reader's
-abbrev pub Answered : Form → List ℕ → List ℕ → List ℕ → Writing → List ℕ → Type 0
-Answered form text out work (Writing.Written n) out' = ListingWritten form text out work n out'
-Answered form text out work (Writing.Refused r) out' =
+abbrev pub Answered : Form → List ℕ → List ℕ → List ℕ → Answer ℕ → List ℕ → Type 0
+Answered form text out work (Ok n) out' = ListingWritten form text out work n out'
+Answered form text out work (Err r) out' =
     (out' ≡ out)
-    × (TooShort form text out work r ⊎ (called form (λ t. entries t (length work)) text (length work) ≡ refuse r))
+    × (TooShort form text out work r ⊎ (called form (λ t. entries t (length work)) text (length work) ≡ Err r))

@@ -1,193 +1,206 @@
-// The public entries: what a copybook's columns are, and which of them has a byte, in free text and on cards; and which
-// of them fit into a short record. Each answers in full or with one refusal of document 01's table; a refusal changes
-// no byte of the output, and work memory is zero after every call. `proofs/Demand3` says what the answers of the
-// listing and of the byte owner have to do with each other.
+//! The public entries: what a copybook's columns are, and which of them has a byte, in free text and on cards; and
+//! which of them fit into a short record. Each answers in full or with one refusal of document 01's table; a refusal
+//! changes no byte of the output, and work memory is zero after every call. `proofs/Demand3` says what the answers of
+//! the listing and of the byte owner have to do with each other.
 #![tactic(auto)]
 
-ghost use Rattle.std.specs.Prelude.{◌≡◌, []};
+// Kept: an entry for text and one for cards – the C interface: each call of C has its own.
+
+ghost use Rattle.std.specs.Prelude.{◌≡◌, ◌≢◌, [], Ok};
+ghost use Rattle.definition.specs.declared.Owner.{Owner};
 ghost use Rattle.definition.specs.Calls.{left, layout_call, details_call, reasons_call, owner_call};
 ghost use Rattle.definition.specs.Calls.{layout_cards_call, details_cards_call, reasons_cards_call, owner_cards_call};
 ghost use Rattle.definition.specs.Calls.{extract_call, mask_call, picture_answer, record_check};
-ghost use Rattle.definition.specs.Calls.{check_of, owner_answer_of, extract_answer_of, picture_of, writing_of};
-ghost use Rattle.definition.specs.Key.{key_call, key_answer_of};
+ghost use Rattle.definition.specs.Key.{key_call};
 
-use definition::{
-    Check, ExtractAnswer, KeyAnswer, OwnerAnswer, PicAnswer, Report, SignClause, Usage, Writing,
-};
+use definition::{Extract, KeyColumn, Owner, Pictured, Refusal, Report, SignKind, Usage};
 
-// The layout listing of a copybook: how many bytes were written. Refusals, in this order: 1 text over 65,535 bytes; 2 a
-// byte over 127, at the first one; 3 work memory under 16,384 numbers; 50 a literal that its line does not close, at
-// the opening mark of the first one; each statement's 10 to 14; each sibling list's, item's and fold's 20 to 30, a
-// float's 52 in the place of 21; 29 for a top-level end; 31, with the length of the listing, if the output is shorter.
-// A refusal changes no byte of the output, bytes past the listing keep their values, and work memory is zero after
-// every call. The contract rules out a program that starts every item at its list's beginning, and one that refuses
-// every copybook.
-pub fn layout_listing(text: &[u8], work: &mut [u32], out: &mut [u8]) -> Writing
-    ensures { left (writing_of result) out.new work.new
+/// The layout listing of a copybook: how many bytes were written. Refusals, in this order: 1 text over 65,535 bytes; 2
+/// a byte over 127, at the first one; 3 work memory under 16,384 numbers; 50 a literal that its line does not close, at
+/// the opening mark of the first one; each statement's 10 to 14; each sibling list's, item's and fold's 20 to 30, a
+/// float's 52 in the place of 21; 29 for a top-level end; 31, with the length of the listing, if the output is shorter.
+/// A refusal changes no byte of the output, bytes past the listing keep their values, and work memory is zero after
+/// every call. The contract rules out a program that starts every item at its list's beginning, and one that refuses
+/// every copybook.
+pub fn layout_listing(text: &[u8], work: &mut [u32], out: &mut [u8]) -> Result<usize, Refusal>
+    ensures { left result out.new work.new
         ≡ layout_call text.now out.old work.old }
 {
     answers::report(text, work, Report::Listing, out)
 }
 
-// The details of the listing's entries: 47 bytes for each, in the order of the listing, numbers little-endian. The
-// position of the statement (4), its level (1), the entry's depth (1), 1 for a group made by folding (1), the number of
-// entries below it (4), its first byte in the record (8), the slack bytes directly before it (4), and start and length
-// of its picture, its REDEFINES and its DEPENDING ON as the statement has them (8 each, 0 where absent). A group made
-// by folding has its base's position and level, and 0 for slack and the three places.
-// Answer, output and work memory are as in `layout_listing`, and so are the refusals: 31 has the length of the details.
-// The contract rules out a program that takes an entry's offset for its first byte, and one that gives a fold its
-// base's slack.
-pub fn layout_details(text: &[u8], work: &mut [u32], out: &mut [u8]) -> Writing
-    ensures { left (writing_of result) out.new work.new
+/// The details of the listing's entries: 47 bytes for each, in the order of the listing, numbers little-endian. The
+/// position of the statement (4), its level (1), the entry's depth (1), 1 for a group made by folding (1), the number
+/// of entries below it (4), its first byte in the record (8), the slack bytes directly before it (4), and start and
+/// length of its picture, its REDEFINES and its DEPENDING ON as the statement has them (8 each, 0 where absent). A
+/// group made by folding has its base's position and level, and 0 for slack and the three places. Answer, output and
+/// work memory are as in `layout_listing`, and so are the refusals: 31 has the length of the details. The contract
+/// rules out a program that takes an entry's offset for its first byte, and one that gives a fold its base's slack.
+pub fn layout_details(text: &[u8], work: &mut [u32], out: &mut [u8]) -> Result<usize, Refusal>
+    ensures { left result out.new work.new
         ≡ details_call text.now out.old work.old }
 {
     answers::report(text, work, Report::Details, out)
 }
 
-// The owner of the byte at a position of the record: an occurrence of an elementary item, with its entry's number in
-// the listing, its first byte in the record and the place inside it, or slack, with the number of the entry it stands
-// before. Refusals: those of the layout listing but 31, then 40 for a REDEFINES or DEPENDING ON, a dropped root's own
-// aside, and 41 for a position that is not below the record length. Work memory is zero after every call.
-// The contract rules out a program that answers with the next occurrence, and one that measures slack from the record's
-// start.
-pub fn byte_owner(text: &[u8], position: usize, work: &mut [u32]) -> OwnerAnswer
-    ensures { left (owner_answer_of result) [] work.new
+/// The owner of the byte at a position of the record: an occurrence of an elementary item, with its entry's number in
+/// the listing, its first byte in the record and the place inside it, or slack, with the number of the entry it stands
+/// before. Refusals: those of the layout listing but 31, then 40 for a REDEFINES or DEPENDING ON, a dropped root's own
+/// aside, and 41 for a position that is not below the record length. Work memory is zero after every call. The contract
+/// rules out a program that answers with the next occurrence, and one that measures slack from the record's start.
+pub fn byte_owner(text: &[u8], position: usize, work: &mut [u32]) -> Result<Owner, Refusal>
+    ensures after { left result [] work.new
         ≡ owner_call text.now position work.old }
+    ensures owned { result ≢ Ok Owner.Unowned }
 {
     answers::owner(text, position, work)
 }
 
-// The reasons of an entry's place, by its number in the listing, from 0: 13 bytes for each, numbers little-endian. Its
-// kind (1): 1 first in its list, 2 directly after the sibling named, 3 slack, 4 laid over the item named, 5 inside the
-// group named; start and length of that item's name (4 each, 0 if none or without a name); the bytes that it adds (4).
-// The item's placing reason comes first, then its slack, then for each group outward kind 5 and the group's own
-// reasons; a dropped root gives none, and a group made by folding has its base's reasons. Added up they are the entry's
-// first byte in the record. Refusals: those of the layout listing but 31, then 53 for a number past the listing, then
-// 31, with the length of the reasons. Answer, output and work memory are as in `layout_listing`.
-// The contract rules out a program that names the sibling directly before although it is a redefiner, and one that
-// stops at the first group.
-pub fn entry_reasons(text: &[u8], number: usize, work: &mut [u32], out: &mut [u8]) -> Writing
-    ensures { left (writing_of result) out.new work.new
+/// The reasons of an entry's place, by its number in the listing, from 0: 13 bytes for each, numbers little-endian. Its
+/// kind (1): 1 first in its list, 2 directly after the sibling named, 3 slack, 4 laid over the item named, 5 inside the
+/// group named; start and length of that item's name (4 each, 0 if none or without a name); the bytes that it adds (4).
+/// The item's placing reason comes first, then its slack, then for each group outward kind 5 and the group's own
+/// reasons; a dropped root gives none, and a group made by folding has its base's reasons. Added up they are the
+/// entry's first byte in the record. Refusals: those of the layout listing but 31, then 53 for a number past the
+/// listing, then 31, with the length of the reasons. Answer, output and work memory are as in `layout_listing`. The
+/// contract rules out a program that names the sibling directly before although it is a redefiner, and one that stops
+/// at the first group.
+pub fn entry_reasons(
+    text: &[u8],
+    number: usize,
+    work: &mut [u32],
+    out: &mut [u8],
+) -> Result<usize, Refusal>
+    ensures { left result out.new work.new
         ≡ reasons_call text.now number out.old work.old }
 {
     answers::report(text, work, Report::Reasons(number), out)
 }
 
-// The layout listing of cards, a copybook in COBOL reference format: `layout_listing` of what the reader sees of them.
-// Columns 1 to 6 and those after 72 are ignored, and so are lines with `*`, `/` or `D` in column 7; a carriage return
-// that ends a line is no column. Refusals: 1, 2 and 3, of the whole text; 51, at the first byte in column 7 that is
-// none of those and no blank; then as `layout_listing`. Positions and places are those in the card text.
-// The contract rules out a program that reads column 73, and one whose positions count columns of code alone.
-pub fn layout_cards(cards: &[u8], work: &mut [u32], out: &mut [u8]) -> Writing
-    ensures { left (writing_of result) out.new work.new
+/// The layout listing of cards, a copybook in COBOL reference format: `layout_listing` of what the reader sees of them.
+/// Columns 1 to 6 and those after 72 are ignored, and so are lines with `*`, `/` or `D` in column 7; a carriage return
+/// that ends a line is no column. Refusals: 1, 2 and 3, of the whole text; 51, at the first byte in column 7 that is
+/// none of those and no blank; then as `layout_listing`. Positions and places are those in the card text.
+/// The contract rules out a program that reads column 73, and one whose positions count columns of code alone.
+pub fn layout_cards(cards: &[u8], work: &mut [u32], out: &mut [u8]) -> Result<usize, Refusal>
+    ensures { left result out.new work.new
         ≡ layout_cards_call cards.now out.old work.old }
 {
     answers::report_cards(cards, work, Report::Listing, out)
 }
 
-// The details of the entries of cards: `layout_details` of what the reader sees. Refusals as `layout_cards`; 31 has the
-// length of the details.
-// The contract rules out a program that gives a position in the code alone, and one that takes column 7 for code.
-pub fn layout_details_cards(cards: &[u8], work: &mut [u32], out: &mut [u8]) -> Writing
-    ensures { left (writing_of result) out.new work.new
+/// The details of the entries of cards: `layout_details` of what the reader sees. Refusals as `layout_cards`; 31 has
+/// the length of the details. The contract rules out a program that gives a position in the code alone, and one that
+/// takes column 7 for code.
+pub fn layout_details_cards(
+    cards: &[u8],
+    work: &mut [u32],
+    out: &mut [u8],
+) -> Result<usize, Refusal>
+    ensures { left result out.new work.new
         ≡ details_cards_call cards.now out.old work.old }
 {
     answers::report_cards(cards, work, Report::Details, out)
 }
 
-// The reasons of an entry of cards: `entry_reasons` of what the reader sees. Refusals: those of `layout_cards` but 31,
-// then 53, then 31.
-// The contract rules out a program that gives a name's place in the code alone, and one that takes column 7 for code.
-pub fn entry_reasons_cards(cards: &[u8], number: usize, work: &mut [u32], out: &mut [u8]) -> Writing
-    ensures { left (writing_of result) out.new work.new
+/// The reasons of an entry of cards: `entry_reasons` of what the reader sees. Refusals: those of `layout_cards` but 31,
+/// then 53, then 31.
+/// The contract rules out a program that gives a name's place in the code alone, and one that takes column 7 for code.
+pub fn entry_reasons_cards(
+    cards: &[u8],
+    number: usize,
+    work: &mut [u32],
+    out: &mut [u8],
+) -> Result<usize, Refusal>
+    ensures { left result out.new work.new
         ≡ reasons_cards_call cards.now number out.old work.old }
 {
     answers::report_cards(cards, work, Report::Reasons(number), out)
 }
 
-// The owner of a byte of the record that cards describe: `byte_owner` of what the reader sees. Refusals: those of
-// `layout_cards` but 31, then 40 and 41.
-// The contract rules out a program that takes a hyphen line for code, and one that reads column 73.
-pub fn byte_owner_cards(cards: &[u8], position: usize, work: &mut [u32]) -> OwnerAnswer
-    ensures { left (owner_answer_of result) [] work.new
+/// The owner of a byte of the record that cards describe: `byte_owner` of what the reader sees. Refusals: those of
+/// `layout_cards` but 31, then 40 and 41.
+/// The contract rules out a program that takes a hyphen line for code, and one that reads column 73.
+pub fn byte_owner_cards(cards: &[u8], position: usize, work: &mut [u32]) -> Result<Owner, Refusal>
+    ensures after { left result [] work.new
         ≡ owner_cards_call cards.now position work.old }
+    ensures owned { result ≢ Ok Owner.Unowned }
 {
     answers::owner_cards(cards, position, work)
 }
 
-// An extract that fits: of the record's top-level items, each with a weight from 1 to 1,000 in the listing's order,
-// the heaviest choice whose reserved widths sum to at most the limit, among the first subsets, as many as the budget
-// says. Subsets are numbered in binary, the first item being the lowest bit. The answer is the number of the heaviest
-// fitting one, the earliest if equal, its weight, how many were looked at, and how far off it is at most: 0 if all
-// were, else what all items that fit alone weigh more; no choice there is outweighs it by more (`extracted` of
-// `definition`). Refusals: those of the layout listing but 31; 40 for a REDEFINES or DEPENDING ON, a dropped root's own
-// aside; 58 for more than 16 items, or another number of weights than of items; 59 for a weight outside its range; 60
-// for a budget of 0. Work memory is zero after every call.
-// The contract rules out a program that answers with the latest of equals, and one that looks at a subset too many.
+/// An extract that fits: of the record's top-level items, each with a weight from 1 to 1,000 in the listing's order,
+/// the heaviest choice whose reserved widths sum to at most the limit, among the first subsets, as many as the budget
+/// says. Subsets are numbered in binary, the first item being the lowest bit. The answer is the number of the heaviest
+/// fitting one, the earliest if equal, its weight, how many were looked at, and how far off it is at most: 0 if all
+/// were, else what all items that fit alone weigh more; no choice there is outweighs it by more (`extracted` of
+/// `definition`). Refusals: those of the layout listing but 31; 40 for a REDEFINES or DEPENDING ON, a dropped root's
+/// own aside; 58 for more than 16 items, or another number of weights than of items; 59 for a weight outside its range;
+/// 60 for a budget of 0. Work memory is zero after every call. The contract rules out a program that answers with the
+/// latest of equals, and one that looks at a subset too many.
 pub fn extract(
     text: &[u8],
     weights: &[u32],
     limit: usize,
     budget: usize,
     work: &mut [u32],
-) -> ExtractAnswer
-    ensures { left (extract_answer_of result) [] work.new
+) -> Result<Extract, Refusal>
+    ensures { left result [] work.new
         ≡ extract_call text.now weights.now limit budget work.old }
 {
     answers::extract(text, weights, limit, budget, work)
 }
 
-// One key for a family of records: the offset and width of the column of that name in a set of 2 to 16 copybooks, free
-// text each, whose bytes stand one after the other in `texts`; `lengths` says how many each has. Each copybook has
-// exactly one entry of the name at the top of its folded listing, case aside, an absent name being FILLER; it is no
-// group and has neither OCCURS nor REDEFINES, no DEPENDING ON stands before it in the listing, at any depth, and all
-// agree in offset, width, kind and kind details, an edited one in its mask. Refusals: 56, before any reading, for a set
-// of another size, or whose lengths, added up, are not those bytes; then the reader's (1 to 3, 50, 10 to 14, 20 to 30,
-// 52) of the first copybook that is refused, its position counted in that copybook; then 57 where there is no such key.
-// 56 and 57 are at 0. The name is only compared. Work memory is zero after every call.
-// The contract rules out a program that takes the last of two entries of the name, and one that adds the lengths up
-// modulo 2^64.
-pub fn set_key(texts: &[u8], lengths: &[u64], name: &[u8], work: &mut [u32]) -> KeyAnswer
-    ensures { left (key_answer_of result) [] work.new
+/// One key for a family of records: the offset and width of the column of that name in a set of 2 to 16 copybooks, free
+/// text each, whose bytes stand one after the other in `texts`; `lengths` says how many each has. Each copybook has
+/// exactly one entry of the name at the top of its folded listing, case aside, an absent name being FILLER; it is no
+/// group and has neither OCCURS nor REDEFINES, no DEPENDING ON stands before it in the listing, at any depth, and all
+/// agree in offset, width, kind and kind details, an edited one in its mask. Refusals: 56, before any reading, for a
+/// set of another size, or whose lengths, added up, are not those bytes; then the reader's (1 to 3, 50, 10 to 14, 20 to
+/// 30, 52) of the first copybook that is refused, its position counted in that copybook; then 57 where there is no such
+/// key. 56 and 57 are at 0. The name is only compared. Work memory is zero after every call. The contract rules out a
+/// program that takes the last of two entries of the name, and one that adds the lengths up modulo 2^64.
+pub fn set_key(
+    texts: &[u8],
+    lengths: &[u64],
+    name: &[u8],
+    work: &mut [u32],
+) -> Result<KeyColumn, Refusal>
+    ensures { left result [] work.new
         ≡ key_call texts.now lengths.now name.now work.old }
 {
     family::set_key(texts, lengths, name, work)
 }
 
-// Kind, its details and width of one picture with a usage and a sign. Refusals, in this order: 1 over 65,535 bytes; 2 a
-// byte over 127, at the first one; then symbol by symbol 22 no `)`, 23 no repeat count, 24 over 65,535 symbols; then 25
-// no symbol, 26 text mixed with a digit or editing, 27 over 31 digits, P included, or an edited DISPLAY mask over 255;
-// at 0 except 2. The contract rules out a program that counts `$$$9` as four digits, and one that gives a P a byte
-// under some usage.
-pub fn parse_pic(pic: &[u8], usage: Usage, sign: SignClause) -> PicAnswer
-    ensures { picture_of result ≡ picture_answer usage sign pic.now }
+/// Kind, its details and width of one picture with a usage and a sign. Refusals, in this order: 1 over 65,535 bytes; 2
+/// a byte over 127, at the first one; then symbol by symbol 22 no `)`, 23 no repeat count, 24 over 65,535 symbols; then
+/// 25 no symbol, 26 text mixed with a digit or editing, 27 over 31 digits, P included, or an edited DISPLAY mask over
+/// 255; at 0 except 2. The contract rules out a program that counts `$$$9` as four digits, and one that gives a P a
+/// byte under some usage.
+#[tactic(auto, unfolding(definition::specs::Calls::picture_answer, definition::specs::Basic::and_then))]
+pub fn parse_pic(pic: &[u8], usage: Usage, sign: Option<SignKind>) -> Result<Pictured, Refusal>
+    ensures { result ≡ picture_answer usage sign pic.now }
 {
-    match text::text_checks(pic) {
-        Check::Passed => {
-            return picture::picture_at(pic, 0, usage, sign);
-        }
-        Check::Refused(r) => {
-            return PicAnswer::Refused(r);
-        }
-    }
+    text::text_checks(pic)?;
+    picture::picture_at(pic, 0, usage, sign)
 }
 
-// Writes the mask of a picture that is edited under the usage, and answers its length; 0 of any other picture.
-// Refusals: those of `parse_pic`, in its order; then 31, with the length of the mask, if it is longer than the output.
-// A refusal changes no byte of the output, and bytes past the mask keep their values.
-// The contract rules out a program that writes before it knows that the mask has room, and one that writes S or V, or
-// leaves P out.
-pub fn mask(pic: &[u8], usage: Usage, out: &mut [u8]) -> Writing
-    ensures { left (writing_of result) out.new [] ≡ mask_call usage pic.now out.old }
+/// Writes the mask of a picture that is edited under the usage, and answers its length; 0 of any other picture.
+/// Refusals: those of `parse_pic`, in its order; then 31, with the length of the mask, if it is longer than the output.
+/// A refusal changes no byte of the output, and bytes past the mask keep their values.
+/// The contract rules out a program that writes before it knows that the mask has room, and one that writes S or V, or
+/// leaves P out.
+pub fn mask(pic: &[u8], usage: Usage, out: &mut [u8]) -> Result<usize, Refusal>
+    ensures { left result out.new [] ≡ mask_call usage pic.now out.old }
 {
     mask::picture_mask(pic, usage, out)
 }
 
-// Whether a record of `len` bytes is long enough for a layout of `record_len` bytes: 42, at 0, where it is shorter and
-// the record is not variable.
-// The contract rules out a program that refuses a record of just the length, and one that checks a variable record.
-pub fn check_record_len(record_len: usize, variable: bool, len: usize) -> Check
-    ensures { check_of result ≡ record_check record_len variable len }
+/// Whether a record of `len` bytes is long enough for a layout of `record_len` bytes: 42, at 0, where it is shorter and
+/// the record is not variable.
+/// The contract rules out a program that refuses a record of just the length, and one that checks a variable record.
+pub fn check_record_len(record_len: usize, variable: bool, len: usize) -> Result<(), Refusal>
+    ensures { result ≡ record_check record_len variable len }
 {
     limits::check_record_len(record_len, variable, len)
 }

@@ -1,7 +1,7 @@
 -- What the extract finds in the table: the bytes of the top-level items, one after the other.
 -- Assumes nothing.
-use Rattle.std.specs.Prelude.{ℕ, ◌≤◌, ◌≡◌, List, [], ◌∷◌, length}
-use Rattle.definition.specs.Basic.{give}
+use Rattle.std.specs.Prelude.{ℕ, ◌≡◌, List, [], ◌∷◌, length}
+use Rattle.definition.specs.Basic.{Ok}
 use Rattle.definition.specs.Fold.{Entries, end, entry, total, folded_all}
 use Rattle.definition.specs.Listing.{members#}
 use Rattle.places.specs.Places.{rows_forest}
@@ -13,13 +13,13 @@ unfoldable pub totals : Entries → List ℕ
 totals end = []
 totals (entry e members later) = total e ∷ totals later
 
--- the rows from `from` up to `to` are there, and so is room for the bytes of their items
+-- the rows from `from` up to `to` are there, and a place for the bytes of each of their items
 pub record Gatherable (w : List ℕ) (from to : ℕ) (out : List ℕ) : Type 0 where
   pub text : List ℕ
   pub tree : Tree text w from to
-  pub room : length (totals (list_in w from to)) ≤ length out
+  pub room : length (totals (list_in w from to)) ≡ length out
 
 -- the rows from `from` up to `to` hold a record, of so many items at the top
 pub record Itemed (text w : List ℕ) (from to long top : ℕ) : Type 0 where
-  pub listed : Listed text (give (rows_forest w from to)) w from to long
+  pub listed : Listed text (Ok (rows_forest w from to)) w from to long
   pub counted : top ≡ members# (folded_all text (list_in w from to))

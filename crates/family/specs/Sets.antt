@@ -1,48 +1,40 @@
 -- What reading a set of copybooks says: what was found in each, whether the later ones agree with the first, and the
 -- answer of the set.
 -- Assumes nothing.
-use Rattle.std.specs.Prelude.{ℕ, ◌≤◌, ◌≡◌, Bool, true, ◌&&◌, List, [], ◌∷◌, length, get_or, take, drop}
-use Rattle.std.proofs.Math.Option.{Option}
-use Rattle.definition.specs.Basic.{sum, Answer, refuse, give, ◌>>=◌, refused, or_refuse}
+use Rattle.std.specs.Prelude.{ℕ, ◌≤◌, ◌≡◌, Bool, false, ◌&&◌, List, [], ◌∷◌, length}
+use Rattle.std.specs.Prelude.{Option}
+use Rattle.definition.specs.declared.KeyColumn.{KeyColumn}
+use Rattle.definition.specs.declared.Refusal.{Refusal}
+use Rattle.definition.specs.Basic.{sum, Answer, Err, Ok, ◌>>=◌, or_refuse}
+use Rattle.definition.specs.Tree.{Forest}
+use Rattle.definition.specs.Fold.{Entries, folded_all}
+use Rattle.table.specs.Entered.{flat_in}
 use Rattle.definition.specs.Key.{Key, key_in, keys_in, agree, common, copybooks}
 use Rattle.key.specs.declared.Sought.{Sought}
-use Rattle.key.specs.Sought.{found_key}
-use Rattle.family.specs.declared.KeyRead.{KeyRead}
-use Rattle.family.specs.declared.Agreed.{Agreed}
+use Rattle.key.specs.Sought.{found_key, sought_in}
+use Rattle.asking.specs.Asking.{Given}
+use Rattle.family.specs.declared.KeyNamed.{KeyNamed}
 
 -- ---------------------------------------------------------------- one copybook
 
-abbrev pub read_key : List ℕ → KeyRead → Answer (Option Key)
-read_key text (KeyRead.Read found) = give (found_key text found)
-read_key text (KeyRead.Refused r) = refuse r
+-- what is found among the entries at the top
+abbrev pub key_given : KeyNamed → List ℕ → Forest → Entries → ℕ → Answer (Given Sought)
+key_given k text f es room =
+    Ok (record { value = sought_in text k.name.now false Sought.Nothing (flat_in 0 (folded_all text es)); bytes = [] })
+
+-- the key of what was found
+abbrev pub read_key : List ℕ → Answer Sought → Answer (Option Key)
+read_key text (Err r) = Err r
+read_key text (Ok found) = Ok (found_key text found)
 
 -- ---------------------------------------------------------------- the later ones
 
-abbrev pub agreed_of : Agreed → Answer Bool
-agreed_of (Agreed.So b) = give b
-agreed_of (Agreed.Refused r) = refuse r
-
--- with one more copybook
-abbrev pub next_agrees : ℕ → List ℕ → Option Key → Bool → List ℕ → Answer Bool
-next_agrees work name a agreed text = key_in work name text >>= λ k. give (agreed && agree a k)
-
--- with all of them
+-- whether all of them have the key a too
 unfoldable pub all_agreed : ℕ → List ℕ → Option Key → Bool → List (List ℕ) → Answer Bool
-all_agreed work name a agreed [] = give agreed
-all_agreed work name a agreed (text ∷ texts) =
-    next_agrees work name a agreed text >>= λ so. all_agreed work name a so texts
-
--- those after the first, in which this was found
-abbrev pub later_of : ℕ → List ℕ → Sought → List ℕ → List ℕ → Answer Bool
-later_of work name first lengths texts =
-    let n = get_or lengths 0 0 in
-    all_agreed work name (found_key (take n texts) first) true (copybooks (drop 1 lengths) (drop n texts))
-
--- a part of the texts, after the first copybook
-pub record Part (texts : List ℕ) (first at end : ℕ) : Type 0 where
-  pub first-in : first ≤ length texts
-  pub low : at ≤ end
-  pub high : end ≤ length texts
+all_agreed work name a agreed [] = Ok agreed
+all_agreed work name a agreed (text ∷ texts) = do
+  k ← key_in work name text
+  all_agreed work name a (agreed && agree a k) texts
 
 -- ---------------------------------------------------------------- a set
 
@@ -51,15 +43,10 @@ pub record Lent (texts lengths : List ℕ) : Type 0 where
   pub some-there : 1 ≤ length lengths
   pub all_there : sum lengths ≡ length texts
 
--- the place of what was found, or 57
-abbrev pub placed : Sought → Answer (ℕ × ℕ)
-placed Sought.Nothing = refused 57 0
-placed (Sought.One c) = give (c.offset, c.width)
-placed Sought.Spoilt = refused 57 0
+-- the place of a key, or 57
+abbrev pub place_of : Option Key → Answer KeyColumn
+place_of k = or_refuse Refusal.NoCommonKey k >>= λ k. Ok (record { offset = k.offset; width = k.width })
 
 -- the place of the key that all copybooks have
-abbrev pub key_place : List (Option Key) → Answer (ℕ × ℕ)
-key_place ks = or_refuse 57 0 (common ks) >>= λ k. give (k.offset, k.width)
-
-abbrev pub keys_given : ℕ → List ℕ → List ℕ → List ℕ → Answer (ℕ × ℕ)
-keys_given work name lengths texts = keys_in work name (copybooks lengths texts) >>= λ ks. key_place ks
+abbrev pub keys_given : ℕ → List ℕ → List ℕ → List ℕ → Answer KeyColumn
+keys_given work name lengths texts = keys_in work name (copybooks lengths texts) >>= λ ks. place_of (common ks)

@@ -1,18 +1,37 @@
 -- Two kinds by their numbers: they are the same where the details in the listing are.
 -- Assumes nothing.
-use mathlib.Core.Path.{◌≡◌, refl, ap}
+use mathlib.Core.Path.{◌≡◌, refl}
 use mathlib.Core.Bool.{Bool, true, false, ◌&&◌}
 use lib.Dec.{eqb}
 use Rattle.definition.specs.declared.FieldKind.{FieldKind}
 use Rattle.definition.specs.Basic.{same}
 use Rattle.definition.specs.Listing.{flag, sign_byte, storage_byte}
 use Rattle.definition.specs.Key.{kind_details}
+use Rattle.kinds.specs.declared.KindNumbers.{KindNumbers}
 use Rattle.kinds.specs.Kinds.{numbers_of}
-use Rattle.key.specs.Sought.{same_numbers}
 
-and-true : (b : Bool) → b ≡ (b && true)
-and-true true = refl
-and-true false = refl
+-- all numbers of two kinds are the same, as the derived test has it
+abbrev same_numbers : KindNumbers → KindNumbers → Bool
+same_numbers m n =
+    eqb m.kind n.kind
+    && (eqb m.signed n.signed
+    && (eqb m.sign n.sign && (eqb m.precision n.precision && (eqb m.scale n.scale && eqb m.storage n.storage))))
+
+last : (a b c : Bool) → (a && (b && (c && true))) ≡ (b && (c && (a && true)))
+last true true true = refl
+last true true false = refl
+last true false c = refl
+last false true true = refl
+last false true false = refl
+last false false c = refl
+
+last-of : (a b c d : Bool) → (a && (b && (c && d))) ≡ (b && (c && (d && (a && true))))
+last-of true b c true = refl
+last-of true b c false = refl
+last-of false true true true = refl
+last-of false true true false = refl
+last-of false true false d = refl
+last-of false false c d = refl
 
 pub kinds-same : (a b : FieldKind) → same_numbers (numbers_of a) (numbers_of b) ≡ same (kind_details a) (kind_details b)
 unfolding same
@@ -24,7 +43,7 @@ kinds-same FieldKind.Text (FieldKind.Edited p' c' s') = refl
 kinds-same FieldKind.Text FieldKind.Group = refl
 kinds-same FieldKind.Text (FieldKind.Float b') = refl
 kinds-same (FieldKind.Int s g) FieldKind.Text = refl
-kinds-same (FieldKind.Int s g) (FieldKind.Int s' g') = ap (λ (t : Bool). eqb (flag s) (flag s') && t) (and-true (eqb (sign_byte g) (sign_byte g')))
+kinds-same (FieldKind.Int s g) (FieldKind.Int s' g') = refl
 kinds-same (FieldKind.Int s g) (FieldKind.Binary s') = refl
 kinds-same (FieldKind.Int s g) (FieldKind.Decimal p' c' r' g') = refl
 kinds-same (FieldKind.Int s g) (FieldKind.Edited p' c' s') = refl
@@ -41,9 +60,7 @@ kinds-same (FieldKind.Decimal p c r g) FieldKind.Text = refl
 kinds-same (FieldKind.Decimal p c r g) (FieldKind.Int s' g') = refl
 kinds-same (FieldKind.Decimal p c r g) (FieldKind.Binary s') = refl
 kinds-same (FieldKind.Decimal p c r g) (FieldKind.Decimal p' c' r' g') =
-    ap
-    (λ (t : Bool). eqb p p' && (eqb c c' && (eqb (storage_byte r) (storage_byte r') && t)))
-    (and-true (eqb (sign_byte g) (sign_byte g')))
+    last-of (eqb (sign_byte g) (sign_byte g')) (eqb p p') (eqb c c') (eqb (storage_byte r) (storage_byte r'))
 kinds-same (FieldKind.Decimal p c r g) (FieldKind.Edited p' c' s') = refl
 kinds-same (FieldKind.Decimal p c r g) FieldKind.Group = refl
 kinds-same (FieldKind.Decimal p c r g) (FieldKind.Float b') = refl
@@ -51,7 +68,7 @@ kinds-same (FieldKind.Edited p c s) FieldKind.Text = refl
 kinds-same (FieldKind.Edited p c s) (FieldKind.Int s' g') = refl
 kinds-same (FieldKind.Edited p c s) (FieldKind.Binary s') = refl
 kinds-same (FieldKind.Edited p c s) (FieldKind.Decimal p' c' r' g') = refl
-kinds-same (FieldKind.Edited p c s) (FieldKind.Edited p' c' s') = refl
+kinds-same (FieldKind.Edited p c s) (FieldKind.Edited p' c' s') = last (eqb (flag s) (flag s')) (eqb p p') (eqb c c')
 kinds-same (FieldKind.Edited p c s) FieldKind.Group = refl
 kinds-same (FieldKind.Edited p c s) (FieldKind.Float b') = refl
 kinds-same FieldKind.Group FieldKind.Text = refl

@@ -1,23 +1,23 @@
 -- The search of a table finds the definition's key: the entries at the top of the folded listing are those of depth 0,
 -- and what stands below an entry stands before the later ones.
 -- Assumes nothing.
-use Prim.Native.Nat.{ℕ, ◌+◌, ◌*◌, ◌≤◌, ◌<◌}
+use Prim.Native.Nat.{ℕ, ◌+◌, ◌≤◌, ◌<◌}
 use mathlib.Core.Path.{◌≡◌, refl, sym, ◌∙◌, ap, ap₂}
 use mathlib.Core.Bool.{Bool, true, false, ◌||◌}
 use mathlib.Core.List.{List, [], ◌∷◌, ◌++◌, append_assoc}
-use mathlib.Core.Option.{none, some}
+use Rattle.std.specs.Prelude.{None, Some}
 use native.Mathlib.Omega.{arith}
 use lib.Dec.{eqb}
-use lib.ListN.{length}
+use lib.ListN.{length, drop, get_or}
+use Rattle.std.proofs.lemmas.List.{at_drop_more, at_drop_all}
 use borrow.Author.Tests.{ne_eqb}
 use Rattle.std.specs.Prelude.{if◌then◌else◌}
 use Rattle.definition.specs.Basic.{given}
 use Rattle.definition.specs.Fold.{Entries, end, entry}
 use Rattle.definition.specs.Record.{variable}
 use Rattle.definition.specs.Key.{is_named, Named, named, named_in, may_be_key, key_of, one_key, key_among}
-use Rattle.table.specs.Items.{item_at, items_from}
-use Rattle.table.specs.Entered.{Shown, flat_in, own_of, shown_of, shown_all, Rows}
-use Rattle.table.proofs.LoopLaws.{At, all, rest, rest_all, at-starts, at_next, none_left, rest-next}
+use Rattle.table.specs.declared.Item.{Item}
+use Rattle.table.specs.Entered.{Shown, flat_in, own_of, shown_of, shown_all}
 use Rattle.key.specs.declared.Sought.{Sought}
 use Rattle.key.specs.Sought.{column_of, found_key, met, sought_at, sought_in}
 
@@ -41,14 +41,14 @@ found-one text (x ∷ []) = by-test (may_be_key x)
     by-test :
         (b : Bool) →
         found_key text (if b then Sought.One (column_of x.own) else Sought.Spoilt)
-        ≡ (if b then some (key_of text x.own) else none)
+        ≡ (if b then Some (key_of text x.own) else None)
     by-test true = refl
     by-test false = refl
 found-one text (x ∷ y ∷ more) = by-test (may_be_key x)
   where
     by-test :
         (b : Bool) →
-        found_key text (met_all (met (if b then Sought.One (column_of x.own) else Sought.Spoilt) y) more) ≡ none
+        found_key text (met_all (met (if b then Sought.One (column_of x.own) else Sought.Spoilt) y) more) ≡ None
     by-test true = ap (found_key text) (spoilt more)
     by-test false = ap (found_key text) (spoilt more)
 
@@ -126,42 +126,21 @@ module _ (text name : List ℕ) where
 
 -- ---------------------------------------------------------------- the loop
 
--- what was found so far, and what is found in the rest
-pub record Seeking (text name w t : List ℕ) (n k : ℕ) (behind : Bool) (found : Sought) : Type 0 where
-  pub here : At w t n k
-  pub same :
-      sought_in text name false Sought.Nothing (all w t n) ≡ sought_in text name behind found (rest w t n k)
+module _ (text name w : List ℕ) (t : List Item) (k : ℕ) (b : Bool) (f : Sought) where
+  -- no item is left
+  pub seek-none : length t ≤ k → sought_in text name b f (shown_all w (drop k t)) ≡ f
+  unfolding sought_in shown_all
+  seek-none h = at_drop_all (λ xs. sought_in text name b f (shown_all w xs)) t k h
 
-pub seeking-starts :
-    (text name w t : List ℕ) (n : ℕ) →
-    7 * n ≤ length t →
-    Rows w (items_from t 0 n) →
-    Seeking text name w t n 0 false Sought.Nothing
-seeking-starts text name w t n f h =
-    record {
-      here = at-starts w t n f h;
-      same = ap (sought_in text name false Sought.Nothing) (rest_all w t n);
-    }
-
-module _ {text name w t : List ℕ} {n k : ℕ} {behind : Bool} {found : Sought}
-    (inv : Seeking text name w t n k behind found) where
-  pub seeking-ends :
-      n ≤ k → found ≡ sought_in text name false Sought.Nothing (shown_all w (items_from t 0 n))
-  unfolding sought_in
-  seeking-ends h = sym (inv.same ∙ ap (sought_in text name behind found) (none_left inv.here h))
-
-  pub seeking-on :
-      k < n →
-      {s : Sought} {b : Bool} →
-      s ≡ sought_at text name behind found (shown_of w (item_at t k)) →
-      b ≡ (behind || given (own_of w (item_at t k)).depending) →
-      Seeking text name w t n (k + 1) b s
-  unfolding sought_in
-  seeking-on h {s} {b} p q =
-      record {
-        here = at_next inv.here h;
-        same =
-            inv.same
-            ∙ ap (sought_in text name behind found) (rest-next inv.here h)
-            ∙ ap₂ (λ (x : Bool) (y : Sought). sought_in text name x y (rest w t n (k + 1))) (sym q) (sym p);
-      }
+  -- one more is looked at
+  pub seek-next :
+      (x : Item) →
+      k < length t →
+      {s : Sought} {b' : Bool} →
+      s ≡ sought_at text name b f (shown_of w (get_or t k x)) →
+      b' ≡ (b || given (own_of w (get_or t k x)).depending) →
+      sought_in text name b f (shown_all w (drop k t)) ≡ sought_in text name b' s (shown_all w (drop (k + 1) t))
+  unfolding sought_in shown_all
+  seek-next x h p q =
+      at_drop_more (λ xs. sought_in text name b f (shown_all w xs)) t k x h
+      ∙ ap₂ (λ (y : Bool) (z : Sought). sought_in text name y z (shown_all w (drop (k + 1) t))) (sym q) (sym p)

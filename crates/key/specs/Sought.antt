@@ -1,22 +1,21 @@
 -- What the search of a table for a key comes to: the entries of the name one by one, and the key that was found.
 -- Assumes nothing.
-use Rattle.std.specs.Prelude.{ℕ, ◌≤◌, ◌≡◌, Bool, ◌&&◌, ◌||◌, List, [], ◌∷◌, eqb, length, take, if◌then◌else◌}
-use Rattle.std.proofs.Math.Option.{Option, none, some}
+use Rattle.std.specs.Prelude.{ℕ, ◌≤◌, ◌≡◌, Bool, ◌||◌, List, [], ◌∷◌, eqb, length, take, if◌then◌else◌}
+use Rattle.std.specs.Prelude.{Option, None, Some}
 use Rattle.definition.specs.declared.Entry.{Entry}
 use Rattle.definition.specs.Basic.{given}
 use Rattle.definition.specs.Key.{is_named, Named, named, may_be_key, key_mask, Key}
-use Rattle.kinds.specs.declared.KindNumbers.{KindNumbers}
 use Rattle.table.specs.Entered.{Shown}
-use Rattle.key.specs.declared.KeyColumn.{KeyColumn}
+use Rattle.key.specs.declared.Candidate.{Candidate}
 use Rattle.key.specs.declared.Sought.{Sought}
 
 -- ---------------------------------------------------------------- a column
 
 -- an entry as a column, and the key that a column of a text is
-abbrev pub column_of : Entry → KeyColumn
+abbrev pub column_of : Entry → Candidate
 column_of e = record { offset = e.offset; width = e.width; kind = e.kind; picture = e.picture }
 
-abbrev pub key_at : List ℕ → KeyColumn → Key
+abbrev pub key_at : List ℕ → Candidate → Key
 key_at text c =
     record { offset = c.offset; width = c.width; kind = c.kind; mask = key_mask text c.kind c.picture }
 
@@ -24,9 +23,9 @@ key_at text c =
 
 -- the key that was found
 abbrev pub found_key : List ℕ → Sought → Option Key
-found_key text Sought.Nothing = none
-found_key text (Sought.One c) = some (key_at text c)
-found_key text Sought.Spoilt = none
+found_key text Sought.Nothing = None
+found_key text (Sought.One c) = Some (key_at text c)
+found_key text Sought.Spoilt = None
 
 -- what is found with one more entry of the name
 abbrev pub met : Sought → Named → Sought
@@ -47,14 +46,6 @@ sought_in text name behind found (x ∷ xs) =
     sought_in text name (behind || given x.own.depending) (sought_at text name behind found x) xs
 
 -- ---------------------------------------------------------------- two keys
-
--- the numbers of two kinds are the same
-abbrev pub same_numbers : KindNumbers → KindNumbers → Bool
-same_numbers m n =
-    eqb m.kind n.kind
-    && (eqb m.precision n.precision
-    && (eqb m.scale n.scale
-    && (eqb m.storage n.storage && (eqb m.signed n.signed && eqb m.sign n.sign))))
 
 -- the first r bytes of an output are the mask
 pub record Masked (out mask : List ℕ) (r : ℕ) : Type 0 where

@@ -10,12 +10,12 @@ use native.Mathlib.Numerals.{add-one}
 use native.Mathlib.Nat.{zero-add, add-zero, suc-add, div-add-mod', div-mul-le_self}
 use native.Mathlib.Omega.{arith}
 use lib.ListN.{length}
+use Rattle.std.specs.List.{list_any, range_with_len}
 use Rattle.definition.specs.declared.Owner.{Owner}
-use Rattle.definition.specs.declared.OwnerAnswer.{OwnerAnswer}
 use Rattle.definition.specs.declared.Refusal.{Refusal}
 use Rattle.definition.specs.declared.Statement.{Statement}
-use Rattle.definition.specs.Basic.{given, Answer, refuse, give, ◌>>=◌}
-use Rattle.definition.specs.Calls.{record_fields, owner_in, byte_owner, owner_answer_of}
+use Rattle.definition.specs.Basic.{given, Answer, Err, Ok, ◌>>=◌, and_then}
+use Rattle.definition.specs.Calls.{record_fields, owner_in, byte_owner}
 use Rattle.definition.specs.Fold.{Entries, entry, times, total, folded_list, folded_below, folded_all}
 use Rattle.definition.specs.Owner.{size, overlaid}
 use Rattle.definition.specs.Record.{record_length, layout, unfolded}
@@ -32,7 +32,6 @@ use Rattle.rows.specs.Table.{cell, statement_at, statements_from}
 use Rattle.places.specs.Places.{entry_in, entries_in, rows_forest}
 use Rattle.record.proofs.LaidLaws.{layout_is}
 use Rattle.places.proofs.EntriesLaws.{size-stretch, Rows, rows-forest, linked-counted}
-use Rattle.places.proofs.RowLaws.{stretch-cons, stretch-none}
 use Rattle.unions.proofs.ShownLaws.{entries-size, marked-linked}
 use Rattle.record.specs.Laying.{laid_of, Listed}
 use Rattle.unions.specs.Shown.{list_in, SizedRow, Measured}
@@ -58,7 +57,8 @@ overlaid-sides n (item s kids later) =
     let ih = overlaid-sides n later in
     let own = given s.clauses.redefines || given s.clauses.depending || overlaid kids in
     tested n s.level
-    (λ p _. simp p (or_assoc own (overlaid (above n later)) (overlaid (not_above n later)) ∙ ap (λ (b : Bool). own || b) ih))
+    (λ p _. simp p (or_assoc own (overlaid (above n later)) (overlaid (not_above n later))
+    ∙ ap (λ (b : Bool). own || b) ih))
     (λ p _. simp p)
 
 -- a forest has one where its list of statements has
@@ -68,31 +68,22 @@ overlaid-forest [] = refl
 overlaid-forest (s ∷ ss) =
     let f = forest ss in
     let n = s.level in
-    or_assoc (overlays s) (overlaid (above n f)) (overlaid (not_above n f)) ∙ ap (λ (b : Bool). overlays s || b) (overlaid-sides n f ∙ overlaid-forest ss)
+    or_assoc (overlays s) (overlaid (above n f)) (overlaid (not_above n f))
+    ∙ ap (λ (b : Bool). overlays s || b) (overlaid-sides n f ∙ overlaid-forest ss)
 
--- the search from row k on finds what the whole search finds
-pub record Searched (w : List ℕ) (from to k : ℕ) : Type 0 where
-  pub same : overlaid (rows_forest w from to) ≡ any_overlays (statements_from w k (to - k))
+-- and a list of statements where one of its rows has
+rows-overlay : (w : List ℕ) (n k : ℕ) →
+    list_any (λ j. overlays (statement_at w j)) (range_with_len k n) ≡ any_overlays (statements_from w k n)
+unfolding any_overlays statements_from
+rows-overlay w zero k = refl
+rows-overlay w (suc n) k =
+    ap (λ (b : Bool). overlays (statement_at w k) || b)
+    (ap (λ (i : ℕ). list_any (λ j. overlays (statement_at w j)) (range_with_len i n)) (add-one k)
+    ∙ rows-overlay w n (suc k))
 
-pub search-starts : (w : List ℕ) (from to : ℕ) → Searched w from to from
-search-starts w from to = record { same = overlaid-forest (statements_from w from (to - from)) }
-
-module _ {w : List ℕ} {from to k : ℕ} (inv : Searched w from to k) where
-  module _ (h : k < to) {b : Bool} (p : b ≡ overlays (statement_at w k)) where
-    here : overlaid (rows_forest w from to) ≡ (b || any_overlays (statements_from w (suc k) (to - suc k)))
-    unfolding any_overlays
-    here = inv.same ∙ ap any_overlays (stretch-cons w k to h) ∙ ap (λ (x : Bool). x || any_overlays (statements_from w (suc k) (to - suc k))) (sym p)
-
-    pub search-hits : b ≡ true → true ≡ overlaid (rows_forest w from to)
-    search-hits e = sym (here ∙ ap (λ (x : Bool). x || any_overlays (statements_from w (suc k) (to - suc k))) e)
-
-    pub search-goes-on : b ≡ false → Searched w from to (k + 1)
-    search-goes-on e =
-        record { same = rw (add-one k) (here ∙ ap (λ (x : Bool). x || any_overlays (statements_from w (suc k) (to - suc k))) e) }
-
-  pub search-ends : to ≤ k → false ≡ overlaid (rows_forest w from to)
-  unfolding any_overlays
-  search-ends h = sym (inv.same ∙ ap any_overlays (stretch-none w k to h))
+pub rows-overlaid : (w : List ℕ) (from to : ℕ) →
+    list_any (λ j. overlays (statement_at w j)) (range_with_len from (to - from)) ≡ overlaid (rows_forest w from to)
+rows-overlaid w from to = rows-overlay w (to - from) from ∙ sym (overlaid-forest (statements_from w from (to - from)))
 
 -- ---------------------------------------------------------------- the rows of the table
 
@@ -102,7 +93,8 @@ unfolding table_rows
 table-append w zero n k = rw (zero-add, add-zero)
 table-append w (suc m) n k =
     let e : suc k + m ≡ k + suc m = omega arith in
-    rw suc-add (ap (λ (l : List Row). row_at w k ∷ l) (table-append w m n (suc k) ∙ ap (λ (j : ℕ). table_rows w (suc k) m ++ table_rows w j n) e))
+    rw suc-add (ap (λ (l : List Row). row_at w k ∷ l) (table-append w m n (suc k)
+    ∙ ap (λ (j : ℕ). table_rows w (suc k) m ++ table_rows w j n) e))
 
 table-length : (w : List ℕ) (m k : ℕ) → length (table_rows w k m) ≡ m
 unfolding table_rows
@@ -123,13 +115,16 @@ rows-table : (w : List ℕ) (f : Forest) (k : ℕ) → BelowCounted w k f → ro
 unfolding rows entries_in table_rows
 rows-table w leaf k c = refl
 rows-table w (item s kids later) k c =
-    let own : row_of (entry_in w k) (entries# (entries_in w (suc k) kids)) ≡ row_at w k = ap (row_of (entry_in w k)) (entries-size w kids (suc k) ∙ sym c.0) in
+    let own : row_of (entry_in w k) (entries# (entries_in w (suc k) kids))
+    ≡ row_at w k = ap (row_of (entry_in w k)) (entries-size w kids (suc k) ∙ sym c.0) in
     let inner = rows-table w kids (suc k) c.1 in
     let rest = rows-table w later (suc k + size kids) c.2 in
-    (λ i. own i ∷ (inner i ++ rest i)) ∙ ap (λ (l : List Row). row_at w k ∷ l) (sym (table-append w (size kids) (size later) (suc k)))
+    (λ i. own i ∷ (inner i ++ rest i))
+    ∙ ap (λ (l : List Row). row_at w k ∷ l) (sym (table-append w (size kids) (size later) (suc k)))
 
 -- the rows below a row end where its list ends, or before
-rows-nested : (w : List ℕ) (f : Forest) (k : ℕ) → BelowCounted w k f → (m : ℕ) → k ≤ m → m < k + size f → suc m + cell w m BELOW ≤ k + size f
+rows-nested : (w : List ℕ) (f : Forest) (k : ℕ) → BelowCounted w k f → (m : ℕ) → k ≤ m → m < k + size f →
+    suc m + cell w m BELOW ≤ k + size f
 rows-nested w leaf k c m l u = absurd (omega arith)
 rows-nested w (item s kids later) k c m l u =
     let inner = rows-nested w kids (suc k) c.1 m in
@@ -140,13 +135,17 @@ rows-nested w (item s kids later) k c m l u =
     (λ (q : m < suc k + size kids). let n = inner (omega arith) q in omega arith)
     (λ (q : suc k + size kids ≤ m). let n = rest q (omega arith) in omega arith)
     (order m (suc k + size kids)))
-    (λ (p : m ≤ k). let e : k ≡ m = omega arith in let n = subst (λ (x : ℕ). cell w x BELOW ≡ size kids) e c.0 in omega arith)
+    (λ (p : m ≤ k).
+    let e : k ≡ m = omega arith in
+    let n = subst (λ (x : ℕ). cell w x BELOW ≡ size kids) e c.0 in
+    omega arith)
     (order k m)
 
 -- ---------------------------------------------------------------- the walk
 
 -- m rows passed over
-walk-past : (w : List ℕ) (m k n number first q : ℕ) → walk m number first (table_rows w k (m + n)) q ≡ walk 0 (number + m) first (table_rows w (k + m) n) q
+walk-past : (w : List ℕ) (m k n number first q : ℕ) →
+    walk m number first (table_rows w k (m + n)) q ≡ walk 0 (number + m) first (table_rows w (k + m) n) q
 walk-past w m k n number first q =
     let ss = table_rows w k m in
     let rs = table_rows w (k + m) n in
@@ -171,7 +170,8 @@ walk-starts {w} {from} {to} {position} h =
       held = h;
       fits = h.fits;
       low = omega arith;
-      same = ap (λ (l : List Row). walk 0 0 0 l position) all ∙ ap (λ (n : ℕ). walk 0 n 0 (table_rows w from (to - from)) position) e;
+      same = ap (λ (l : List Row). walk 0 0 0 l position) all
+          ∙ ap (λ (n : ℕ). walk 0 n 0 (table_rows w from (to - from)) position) e;
       whole = omega arith;
     }
 
@@ -186,96 +186,103 @@ module _ {w : List ℕ} {from to position k first q : ℕ} (a : At w from to pos
       let many = size-stretch w from to in
       omega (arith, many, rows-nested w (rows_forest w from to) from a.held.counted k a.low (omega (arith, many)))
 
-  at_row : k < to → walk 0 0 0 (rows (list_in w from to)) position ≡ walk 0 (k - from) first (row_at w k ∷ table_rows w (suc k) (to - suc k)) q
+  at_row : k < to →
+      walk 0 0 0 (rows (list_in w from to)) position
+      ≡ walk 0 (k - from) first (row_at w k ∷ table_rows w (suc k) (to - suc k)) q
   at_row h = a.same ∙ ap (λ (l : List Row). walk 0 (k - from) first l q) (table-next w to k h)
 
   -- a byte before the row
-  pub found-slack : k < to → {o : ℕ} → o ≡ cell w k OFFSET → q < o → Owner.Slack (k - from) ≡ walk 0 0 0 (rows (list_in w from to)) position
-  found-slack h e l = sym (at_row h ∙ walk-slack (k - from) first (row_at w k) (table_rows w (suc k) (to - suc k)) q (omega arith))
+  pub found-slack : k < to → {o : ℕ} → o ≡ cell w k OFFSET → q < o →
+      Owner.Slack (k - from) ≡ walk 0 0 0 (rows (list_in w from to)) position
+  found-slack h e l = sym (at_row h
+      ∙ walk-slack (k - from) first (row_at w k) (table_rows w (suc k) (to - suc k)) q (omega arith))
 
   -- no row is left
   pub found_none : to ≤ k → Owner.Unowned ≡ walk 0 0 0 (rows (list_in w from to)) position
   unfolding walk
   found_none h = sym (a.same ∙ ap (λ (l : List Row). walk 0 (k - from) first l q) (table_none w to k h))
 
--- what the code has read of row k, where the byte does not stand before it
-pub record RowRead (w : List ℕ) (from to position k first q offset width below all : ℕ) : Type 0 where
-  pub at : At w from to position k first q
-  pub here : k < to
-  pub offset-is : offset ≡ cell w k OFFSET
-  pub width_is : width ≡ cell w k WIDTH
-  pub below-is : below ≡ cell w k BELOW
-  pub all-is : Measured (total (entry_in w k)) all
-  pub reached : offset ≤ q
-
-module _ {w : List ℕ} {from to position k first q offset width below all : ℕ} (r : RowRead w from to position k first q offset width below all) where
+-- a byte that does not stand before row k, where so much is known of the row
+module _ {w : List ℕ} {from to position k first q : ℕ} (a : At w from to position k first q) (h : k < to)
+    {offset width below all : ℕ} (o : offset ≡ cell w k OFFSET) (d : width ≡ cell w k WIDTH)
+    (b : below ≡ cell w k BELOW) (t : Measured (total (entry_in w k)) all) (r : offset ≤ q) where
   -- a byte in an occurrence of the row
   module _ (l : q - offset < all) where
     inside-row : q < cell w k OFFSET + total (entry_in w k)
-    inside-row = omega (arith, r.offset-is, r.all-is.is)
+    inside-row = omega (arith, o, t.is)
 
     -- the walk's start and place are the code's
-    known_start : first + cell w k OFFSET + (q - cell w k OFFSET) / cell w k WIDTH * cell w k WIDTH ≡ first + offset + (q - offset) / width * width
-    known_start = ap₂ (λ (x y : ℕ). first + x + (q - x) / y * y) (sym r.offset-is) (sym r.width_is)
+    known_start : first + cell w k OFFSET + (q - cell w k OFFSET) / cell w k WIDTH * cell w k WIDTH
+        ≡ first + (offset + (q - offset) / width * width)
+    known_start = ap₂ (λ (x y : ℕ). first + x + (q - x) / y * y) (sym o) (sym d) ∙ omega arith
 
     known-place : (q - cell w k OFFSET) % cell w k WIDTH ≡ (q - offset) % width
-    known-place = ap₂ (λ (x y : ℕ). (q - x) % y) (sym r.offset-is) (sym r.width_is)
+    known-place = ap₂ (λ (x y : ℕ). (q - x) % y) (sym o) (sym d)
 
     pub found-piece :
         below ≡ 0 →
-        Owner.Piece (k - from) (first + offset + (q - offset) / width * width) ((q - offset) % width) ≡ walk 0 0 0 (rows (list_in w from to)) position
+        Owner.Piece (k - from) (first + (offset + (q - offset) / width * width)) ((q - offset) % width)
+        ≡ walk 0 0 0 (rows (list_in w from to)) position
     found-piece z =
         sym
-        (at_row r.at r.here
-        ∙ walk-piece (k - from) first (row_at w k) (table_rows w (suc k) (to - suc k)) q (omega (arith, r.offset-is, r.reached)) inside-row (sym r.below-is ∙ z)
+        (at_row a h
+        ∙ walk-piece (k - from) first (row_at w k) (table_rows w (suc k) (to - suc k)) q (omega (arith, o, r))
+        inside-row (sym b ∙ z)
         ∙ ap₂ (Owner.Piece (k - from)) known_start known-place)
 
     pub go-in :
         (below ≡ 0 → ⊥) →
-        At w from to position (k + 1) (first + offset + (q - offset) / width * width) ((q - offset) % width)
+        At w from to position (k + 1) (first + (offset + (q - offset) / width * width)) ((q - offset) % width)
     go-in z =
         let rest = table_rows w (suc k) (to - suc k) in
-        let e : suc (k - from) ≡ suc k - from = omega (arith, r.at.low) in
+        let e : suc (k - from) ≡ suc k - from = omega (arith, a.low) in
         record {
-          held = r.at.held;
-          fits = r.at.fits;
-          low = omega (arith, r.at.low);
+          held = a.held;
+          fits = a.fits;
+          low = omega (arith, a.low);
           same =
               rw (add-one k)
-              (at_row r.at r.here
-              ∙ walk-in (k - from) first (row_at w k) rest q (omega (arith, r.offset-is, r.reached)) inside-row (omega arith)
+              (at_row a h
+              ∙ walk-in (k - from) first (row_at w k) rest q (omega (arith, o, r)) inside-row (omega (arith, z))
               ∙ ap₂ (λ (x y : ℕ). walk 0 (suc (k - from)) x rest y) known_start known-place
-              ∙ ap (λ (n : ℕ). walk 0 n (first + offset + (q - offset) / width * width) rest ((q - offset) % width)) e);
-          whole = omega (arith, r.at.whole, div-add-mod' (q - offset) width);
+              ∙ ap (λ (n : ℕ). walk 0 n (first + (offset + (q - offset) / width * width)) rest
+              ((q - offset) % width)) e);
+          whole = omega (arith, a.whole, div-add-mod' (q - offset) width);
         }
 
     -- what the code's sums and quotients need
     pub width_positive : 0 < width
-    width_positive = positive width (times (entry_in w k).occurs) (q - offset) (omega (arith, r.all-is.is, ap (λ (x : ℕ). x * times (entry_in w k).occurs) r.width_is))
+    width_positive =
+        let n = times (entry_in w k).occurs in
+        positive width n (q - offset) (omega (arith, t.is, ap (λ (x : ℕ). x * n) d))
 
-    pub start_fits : first + offset + (q - offset) / width * width ≤ position
-    start_fits = omega (arith, r.at.whole, div-mul-le_self (q - offset) width)
+    pub start_fits : first + (offset + (q - offset) / width * width) ≤ position
+    start_fits = omega (arith, a.whole, div-mul-le_self (q - offset) width)
 
   -- a byte behind the row
-  pub go_on : all ≤ q - offset → At w from to position (k + 1 + below) first q
+  pub go_on : all ≤ q - offset → At w from to position (k + (1 + below)) first q
   go_on l =
-      let s = row-nested r.at r.here in
+      let s = row-nested a h in
       let left = to - (suc k + below) in
-      let e : to - suc k ≡ below + left = omega (arith, r.below-is) in
-      let n : suc (k - from) + below ≡ suc k + below - from = omega (arith, r.at.low) in
+      let next : k + (1 + below) ≡ suc k + below = omega arith in
+      let e : to - suc k ≡ below + left = omega (arith, b) in
+      let n : suc (k - from) + below ≡ suc k + below - from = omega (arith, a.low) in
       record {
-        held = r.at.held;
-        fits = r.at.fits;
-        low = omega (arith, r.at.low);
+        held = a.held;
+        fits = a.fits;
+        low = omega (arith, a.low);
         same =
-            rw (add-one k)
-            (at_row r.at r.here
-            ∙ walk-later (k - from) first (row_at w k) (table_rows w (suc k) (to - suc k)) q (omega (arith, r.offset-is, r.reached)) (omega (arith, r.offset-is, r.all-is.is))
-            ∙ ap₂ (λ (x m : ℕ). walk x (suc (k - from)) first (table_rows w (suc k) m) q) (sym r.below-is) e
+            rw next
+            (at_row a h
+            ∙ walk-later (k - from) first (row_at w k) (table_rows w (suc k) (to - suc k)) q (omega (arith, o, r))
+            (omega (arith, o, t.is))
+            ∙ ap₂ (λ (x m : ℕ). walk x (suc (k - from)) first (table_rows w (suc k) m) q) (sym b) e
             ∙ walk-past w below (suc k) left (suc (k - from)) first q
             ∙ ap (λ (x : ℕ). walk 0 x first (table_rows w (suc k + below) left) q) n);
-        whole = r.at.whole;
+        whole = a.whole;
       }
+
+pub ruleset walk_steps = (walk-starts, found-slack, found-piece, go-in, go_on, found_none)
 
 -- ---------------------------------------------------------------- without REDEFINES every list is folded as it stands
 
@@ -288,53 +295,62 @@ module _ (text : List ℕ) where
   rows-unfolded : (w : List ℕ) (f : Forest) (k : ℕ) → Plain f → Rows w k f → Unfolded (entries_in w k f)
   unfolding entries_in
   rows-unfolded w leaf k p r = tt
-  rows-unfolded w (item s kids later) k p r =
-      (ap (λ (x : Statement). given x.clauses.redefines) r.0 ∙ p.0.redefines, rows-unfolded w later (suc k + size kids) p.2 r.2)
+  rows-unfolded w (item s kids later) k p r = (
+    ap (λ (x : Statement). given x.clauses.redefines) r.0 ∙ p.0.redefines,
+    rows-unfolded w later (suc k + size kids) p.2 r.2,
+  )
 
   -- the lists below
-  below_plain : (w : List ℕ) (f : Forest) (k : ℕ) → Plain f → Rows w k f → folded_below text (entries_in w k f) ≡ entries_in w k f
+  below_plain : (w : List ℕ) (f : Forest) (k : ℕ) → Plain f → Rows w k f →
+      folded_below text (entries_in w k f) ≡ entries_in w k f
   unfolding entries_in folded_below
   below_plain w leaf k p r = refl
   below_plain w (item s kids later) k p r =
-      let inner = ap (folded_list text []) (below_plain w kids (suc k) p.1 r.1) ∙ list-plain [] (entries_in w (suc k) kids) (rows-unfolded w kids (suc k) p.1 r.1) in
+      let inner = ap (folded_list text []) (below_plain w kids (suc k) p.1 r.1)
+      ∙ list-plain [] (entries_in w (suc k) kids) (rows-unfolded w kids (suc k) p.1 r.1) in
       let rest = below_plain w later (suc k + size kids) p.2 r.2 in
       λ i. entry (entry_in w k) (inner i) (rest i)
 
   -- and all of them
-  pub folded-plain : (w : List ℕ) (from to : ℕ) → overlaid (rows_forest w from to) ≡ false → folded_all text (list_in w from to) ≡ list_in w from to
+  pub folded-plain : (w : List ℕ) (from to : ℕ) → overlaid (rows_forest w from to) ≡ false →
+      folded_all text (list_in w from to) ≡ list_in w from to
   folded-plain w from to free =
       let f = rows_forest w from to in
       let p = plain f free in
       let r = rows-forest w from (to - from) in
-      ap (folded_list text []) (below_plain w f from p r) ∙ list-plain [] (entries_in w from f) (rows-unfolded w f from p r)
+      ap (folded_list text []) (below_plain w f from p r)
+      ∙ list-plain [] (entries_in w from f) (rows-unfolded w f from p r)
 
 -- ---------------------------------------------------------------- the answer
 
 -- rows that hold a record can be walked
-pub listed-walkable : {text : List ℕ} {read : Answer Forest} {w : List ℕ} {from to length : ℕ} → Listed text read w from to length → Walkable w from to
+pub listed-walkable : {text : List ℕ} {read : Answer Forest} {w : List ℕ} {from to length : ℕ} →
+    Listed text read w from to length → Walkable w from to
 listed-walkable {text} {w = w} {from} {to} l =
     let f = rows_forest w from to in
     let linked = marked-linked text w f from 0 l.tree.marked in
     record { fits = l.tree.fits; sized = l.tree.sized; counted = linked-counted text w f from 0 linked }
 
-module _ {text w : List ℕ} {from to length : ℕ} (l : Listed text (give (rows_forest w from to)) w from to length) where
+module _ {text w : List ℕ} {from to length : ℕ} (l : Listed text (Ok (rows_forest w from to)) w from to length) where
   -- the record's layout
-  pub laid_out : layout text (rows_forest w from to) ≡ give (folded_all text (list_in w from to))
-  unfolding ◌>>=◌
+  pub laid_out : layout text (rows_forest w from to) ≡ Ok (folded_all text (list_in w from to))
+  unfolding and_then
   laid_out =
       layout_is text (rows_forest w from to)
-      ∙ ap (λ (a : Answer Entries). a >>= λ es. give (folded_all text es)) l.is
+      ∙ ap (λ (a : Answer Entries). a >>= λ es. Ok (folded_all text es)) l.is
 
   module _ {b : Bool} (p : b ≡ overlaid (rows_forest w from to)) (q : ℕ) where
     -- 40
-    pub answers-40 : b ≡ true → owner_answer_of (OwnerAnswer.Refused (record { number = 40; position = 0; needed = 0 })) ≡ owner_in text (rows_forest w from to) q
-    answers-40 e = sym (refuses-40 text (rows_forest w from to) (folded_all text (list_in w from to)) laid_out (sym p ∙ e) q)
+    pub answers-40 : b ≡ true → Err Refusal.Overlaid ≡ owner_in text (rows_forest w from to) q
+    answers-40 e = sym (refuses-40 text (rows_forest w from to) (folded_all text (list_in w from to)) laid_out
+        (sym p ∙ e) q)
 
     module _ (e : b ≡ false) where
       -- 41
-      pub answers-41 : length ≤ q → owner_answer_of (OwnerAnswer.Refused (record { number = 41; position = 0; needed = 0 })) ≡ owner_in text (rows_forest w from to) q
+      pub answers-41 : length ≤ q → Err Refusal.OutsideRecord ≡ owner_in text (rows_forest w from to) q
       answers-41 h =
-          sym (refuses-41 text (rows_forest w from to) (folded_all text (list_in w from to)) laid_out (sym p ∙ e) q (omega (arith, l.long)))
+          sym (refuses-41 text (rows_forest w from to) (folded_all text (list_in w from to)) laid_out (sym p ∙ e) q
+          (omega (arith, l.long)))
 
       module _ (h : q < length) {o : Owner} (f : o ≡ walk 0 0 0 (rows (list_in w from to)) q) where
         below_length : q < record_length (folded_all text (list_in w from to))
@@ -344,18 +360,12 @@ module _ {text w : List ℕ} {from to length : ℕ} (l : Listed text (give (rows
         of-listing : o ≡ walk 0 0 0 (rows (folded_all text (list_in w from to))) q
         of-listing = f ∙ ap (λ (es : Entries). walk 0 0 0 (rows es) q) (sym (folded-plain text w from to (sym p ∙ e)))
 
-        found : give o ≡ owner_in text (rows_forest w from to) q
+        -- what it finds is the owner
+        pub found : Ok o ≡ owner_in text (rows_forest w from to) q
         found =
-            ap give of-listing
-            ∙ sym (computed text (rows_forest w from to) (folded_all text (list_in w from to)) laid_out (sym p ∙ e) q below_length)
-
-        -- a piece
-        pub answers-piece : {k first place : ℕ} → o ≡ Owner.Piece k first place → owner_answer_of (OwnerAnswer.Piece k first place) ≡ owner_in text (rows_forest w from to) q
-        answers-piece z = ap give (sym z) ∙ found
-
-        -- slack
-        pub answers-slack : {k : ℕ} → o ≡ Owner.Slack k → owner_answer_of (OwnerAnswer.Slack k) ≡ owner_in text (rows_forest w from to) q
-        answers-slack z = ap give (sym z) ∙ found
+            ap Ok of-listing
+            ∙ sym (computed text (rows_forest w from to) (folded_all text (list_in w from to)) laid_out (sym p
+            ∙ e) q below_length)
 
         -- every byte below the length has an owner
         pub someone : o ≡ Owner.Unowned → ⊥
@@ -369,27 +379,30 @@ module _ {text w : List ℕ} {from to length : ℕ} (l : Listed text (give (rows
 -- ---------------------------------------------------------------- the call
 
 -- a record that is not laid is refused
-not-laid : (text : List ℕ) (q : ℕ) (f : Forest) {r : Refusal} → unfolded text f ≡ refuse r → owner_in text f q ≡ refuse r
-unfolding owner_in ◌>>=◌
+not-laid : (text : List ℕ) (q : ℕ) (f : Forest) {r : Refusal} → unfolded text f ≡ Err r → owner_in text f q ≡ Err r
+unfolding owner_in and_then
 not-laid text q f {r} h =
-    let e : layout text f ≡ refuse r = layout_is text f ∙ ap (λ (a : Answer Entries). a >>= λ es. give (folded_all text es)) h in
+    let e : layout text f ≡ Err r = layout_is text f
+    ∙ ap (λ (a : Answer Entries). a >>= λ es. Ok (folded_all text es)) h in
     rw e
 
-by-fields : (text : List ℕ) (q : ℕ) (a : Answer Forest) {r : Refusal} → laid_of text a ≡ refuse r → (a >>= λ f. owner_in text f q) ≡ refuse r
-unfolding ◌>>=◌
-by-fields text q (refuse x) h = ap refuse (cc)
-by-fields text q (give f) h = not-laid text q f h
+by-fields : (text : List ℕ) (q : ℕ) (a : Answer Forest) {r : Refusal} → laid_of text a ≡ Err r →
+    (a >>= λ f. owner_in text f q) ≡ Err r
+unfolding and_then
+by-fields text q (Err x) h = ap Err (cc)
+by-fields text q (Ok f) h = not-laid text q f h
 
-pub owner-refused : (text : List ℕ) (n q : ℕ) {r : Refusal} → laid_of text (record_fields text n) ≡ refuse r → byte_owner text n q ≡ refuse r
+pub owner-refused : (text : List ℕ) (n q : ℕ) {r : Refusal} → laid_of text (record_fields text n) ≡ Err r →
+    byte_owner text n q ≡ Err r
 unfolding byte_owner
 owner-refused text n q h = by-fields text q (record_fields text n) h
 
 module _ {text w : List ℕ} (n : ℕ) {from to length : ℕ} (l : Listed text (record_fields text n) w from to length) where
   -- a record that is laid has the owners of its rows
   pub owner-laid : (q : ℕ) → byte_owner text n q ≡ owner_in text (rows_forest w from to) q
-  unfolding byte_owner ◌>>=◌
+  unfolding byte_owner and_then
   owner-laid q = ap (λ (a : Answer Forest). a >>= λ f. owner_in text f q) l.fields
 
   -- and its rows are the fields that were read
-  pub rows-listed : Listed text (give (rows_forest w from to)) w from to length
+  pub rows-listed : Listed text (Ok (rows_forest w from to)) w from to length
   rows-listed = subst (λ (a : Answer Forest). Listed text a w from to length) l.fields l

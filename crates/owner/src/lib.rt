@@ -1,140 +1,99 @@
-// The byte owner over a record laid out in work memory: which piece or slack a byte belongs to, found from row to row
-// with no piece laid.
+//! The byte owner over a record laid out in work memory: which piece or slack a byte belongs to, found from row to row
+//! with no piece laid. Leans on `rows`, `unions` and `record`.
 #![tactic(auto)]
 
-ghost use Rattle.std.specs.Prelude.{◌≡◌, ◌+◌, ◌*◌, ◌≤◌, ◌<◌, length};
-ghost use Rattle.definition.specs.Basic.{give};
-ghost use Rattle.definition.specs.Calls.{owner_answer_of, owner_in};
+ghost use Rattle.std.specs.Prelude.{◌≡◌, ◌≢◌, ◌-◌, ◌<◌};
+ghost use Rattle.std.specs.List.{list_any, range_with_len};
+ghost use Rattle.definition.specs.Basic.{Ok};
+ghost use Rattle.definition.specs.Calls.{owner_in};
 ghost use Rattle.definition.specs.Owner.{overlaid};
-ghost use Rattle.definition.specs.Search.{rows, walk};
-ghost use Rattle.rows.specs.Columns.{ROW};
+ghost use Rattle.definition.specs.Search.{rows as rows_of, walk};
 ghost use Rattle.rows.specs.Table.{statement_at};
 ghost use Rattle.places.specs.Places.{rows_forest};
 ghost use Rattle.record.specs.Laying.{Listed};
 ghost use Rattle.unions.specs.Shown.{list_in};
 ghost use Rattle.owner.specs.Walked.{overlays, Walkable};
 
-use definition::{Owner, OwnerAnswer, Refusal};
-use rows::{BELOW, DEPENDING, OFFSET, REDEFINES, ROW, WIDTH};
+use definition::{Owner, Refusal};
+use record::Record;
+use rows::Rows;
 
 // Whether row k has a REDEFINES or a DEPENDING ON.
-fn is_overlay(work: &[u32], k: usize) -> bool
-    requires { ROW * k + ROW ≤ length work.now }
-    ensures { result ≡ overlays (statement_at work.now k) }
+fn is_overlay(rows: Rows, k: usize) -> bool
+    requires { k < rows.count }
+    ensures { result ≡ overlays (statement_at rows.entry.work.now k) }
 {
-    let redefines = rows::span_at(work[ROW * k + REDEFINES]);
-    if 0 < redefines.len {
-        return true;
-    }
-    let depending = rows::span_at(work[ROW * k + DEPENDING]);
-    if 0 < depending.len {
-        return true;
-    }
-    false
+    rows.redefines(k).is_given() || rows.depending(k).is_given()
 }
 
-// Whether some row from `from` up to `to` has one.
-pub fn is_overlaid(work: &[u32], from: usize, to: usize) -> bool
-    requires { ROW * to ≤ length work.now }
-    ensures { result ≡ overlaid (rows_forest work.now from to) }
+// Whether one of the rows from `from` on has one.
+fn some_overlay(rows: Rows, from: usize) -> bool
+    ensures { result
+        ≡ list_any (λ k. overlays (statement_at rows.entry.work.now k))
+        (range_with_len from (rows.entry.count - from)) }
 {
-    let mut k = from;
-    while k < to {
-        if is_overlay(work, k) {
-            return true;
-        }
-        k += 1;
-    }
-    false
+    (from..rows.count).any(|k| is_overlay(rows, k))
 }
 
-// The owner of the byte at a position of the record in the rows from `from` up to `to`: slack before a row's offset;
-// else an occurrence of the row, or of a row below it; else the next row that is not below it.
-pub fn walk_rows(work: &[u32], from: usize, to: usize, position: usize) -> Owner
-    requires { Walkable work.now from to }
-    ensures { result ≡ walk 0 0 0 (rows (list_in work.now from to)) position }
+/// Whether some row from `from` on has a REDEFINES or a DEPENDING ON.
+pub fn is_overlaid(rows: Rows, from: usize) -> bool
+    ensures { result ≡ overlaid (rows_forest rows.entry.work.now from rows.entry.count) }
+{
+    some_overlay(rows, from)
+}
+
+/// The owner of the byte at a position of the record in the rows from `from` on: slack before a row's offset; else an
+/// occurrence of the row, or of a row below it; else the next row that is not below it.
+#[tactic(auto, using(crate::proofs::OwnerLaws::walk_steps))]
+pub fn walk_rows(rows: Rows, from: usize, position: usize) -> Owner
+    requires { Walkable rows.work.now from rows.count }
+    ensures { result ≡ walk 0 0 0 (rows_of (list_in rows.entry.work.now from rows.entry.count)) position }
 {
     let mut k = from;
     let mut first = 0;
     let mut q = position;
-    while k < to {
-        let offset = rows::wide(work[ROW * k + OFFSET]);
+    // Kept: a `while` over rows – no plainer: a step goes into a row or behind those below it, which no range says.
+    while k < rows.count {
+        let offset = rows.offset(k);
         let before = q < offset;
         if before {
             return Owner::Slack { entry: k - from };
         }
-        let width = rows::wide(work[ROW * k + WIDTH]);
-        let below = rows::wide(work[ROW * k + BELOW]);
-        let total = unions::row_total(work, k);
+        let width = rows.width(k);
+        let below = rows.below(k);
         let r = q - offset;
-        if r < total {
-            let start = first + offset + r / width * width;
-            let place = r % width;
+        if r < unions::row_total(rows, k) {
+            first += offset + r / width * width;
+            q = r % width;
             if below == 0 {
                 return Owner::Piece {
                     entry: k - from,
-                    first: start,
-                    place,
+                    first,
+                    place: q,
                 };
             }
-            first = start;
-            q = place;
-            k = k + 1;
+            k += 1;
         } else {
-            k = k + 1 + below;
+            k += 1 + below;
         }
     }
     Owner::Unowned
 }
 
-// The byte owner of a position in the record that was laid in the rows from `from` up to `to`: 40 for a REDEFINES or a
-// DEPENDING ON, 41 for a position that is not below the record's length.
-pub fn owner_of(
-    text: &[u8],
-    work: &[u32],
-    from: usize,
-    to: usize,
-    length: usize,
-    position: usize,
-) -> OwnerAnswer
-    requires { Listed text.now (give (rows_forest work.now from to)) work.now from to length }
-    ensures { owner_answer_of result ≡ owner_in text.now (rows_forest work.now from to) position }
+/// The byte owner of a position in a record that was laid: 40 for a REDEFINES or a DEPENDING ON, 41 for a position that
+/// is not below the record's length. Every byte below it has an owner.
+pub fn owner_of(text: &[u8], work: &[u32], laid: Record, position: usize) -> Result<Owner, Refusal>
+    requires { Listed text.now (Ok (rows_forest work.now laid.from laid.to)) work.now laid.from laid.to
+        laid.length }
+    ensures value { result ≡ owner_in text.now (rows_forest work.now laid.from laid.to) position }
+    ensures owned { result ≢ Ok Owner.Unowned }
 {
-    if is_overlaid(work, from, to) {
-        return OwnerAnswer::Refused(Refusal {
-            number: 40,
-            position: 0,
-            needed: 0,
-        });
+    let rows = Rows::new(work, laid.to);
+    if is_overlaid(rows, laid.from) {
+        return Err(Refusal::Overlaid);
     }
-    if length <= position {
-        return OwnerAnswer::Refused(Refusal {
-            number: 41,
-            position: 0,
-            needed: 0,
-        });
+    if laid.length <= position {
+        return Err(Refusal::OutsideRecord);
     }
-    match walk_rows(work, from, to, position) {
-        Owner::Piece {
-            entry,
-            first,
-            place,
-        } => {
-            return OwnerAnswer::Piece {
-                entry,
-                first,
-                place,
-            };
-        }
-        Owner::Slack { entry } => {
-            return OwnerAnswer::Slack { entry };
-        }
-        Owner::Unowned => {
-            return OwnerAnswer::Refused(Refusal {
-                number: 41,
-                position: 0,
-                needed: 0,
-            });
-        }
-    }
+    Ok(walk_rows(rows, laid.from, position))
 }

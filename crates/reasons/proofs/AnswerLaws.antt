@@ -3,12 +3,13 @@
 use Prim.Native.Nat.{ℕ, suc, ◌+◌, ◌-◌, ◌≤◌, ◌<◌}
 use mathlib.Core.Path.{◌≡◌, refl, sym, ap, subst, ◌∙◌}
 use mathlib.Core.List.{List, []}
-use mathlib.Core.Option.{Option, none, some}
+use Rattle.std.specs.Prelude.{Option, None, Some}
 use native.Mathlib.Omega.{arith}
 use Rattle.definition.specs.declared.Entry.{Entry}
 use Rattle.definition.specs.declared.Reason.{Reason}
 use Rattle.definition.specs.declared.Statement.{Statement}
-use Rattle.definition.specs.Basic.{Answer, give, ◌>>=◌, refused, or_refuse, given}
+use Rattle.definition.specs.declared.Refusal.{Refusal}
+use Rattle.definition.specs.Basic.{Err, Answer, Ok, ◌>>=◌, and_then, or_refuse, given}
 use Rattle.definition.specs.Tree.{Forest, leaf, item}
 use Rattle.definition.specs.Fold.{Entries, folded_all}
 use Rattle.definition.specs.Record.{unfolded}
@@ -24,39 +25,41 @@ use Rattle.places.specs.Places.{rows_forest}
 use Rattle.places.proofs.EntriesLaws.{Rows, rows-forest, size-stretch}
 use Rattle.unions.specs.Shown.{list_in}
 use Rattle.unions.proofs.ShownLaws.{marked-linked}
-use Rattle.table.specs.Items.{item_at}
+use Rattle.std.specs.List.{slice_get}
+use Rattle.std.specs.Option.{option_map}
+use Rattle.table.specs.declared.Item.{Item}
+use Rattle.table.specs.Entered.{own_of}
 use Rattle.record.specs.Laying.{Listed}
 use Rattle.reasons.specs.Chained.{chain_of, Settled, reasons_of, ChainedTable}
 use Rattle.reasons.proofs.ChainLaws.{seen_none, row_chains, Redefining, ListExplained, list-explained, settled_at}
 use Rattle.reasons.proofs.ChainLaws.{chain-among}
 use Rattle.reasons.proofs.OutwardLaws.{outward-none}
-use Rattle.reasons.proofs.NumberLaws.{entered-numbered, entered-past, own-begins, row_inside}
+use Rattle.reasons.proofs.NumberLaws.{entered-numbered, own-begins, row_inside}
 
 -- ---------------------------------------------------------------- the answer
 
-module _ {text w t : List ℕ} {from to n : ℕ} (h : ChainedTable text w t from to n) (number room : ℕ) where
+module _ {text w : List ℕ} {t : List Item} {from to : ℕ} (h : ChainedTable text w t from to) (number room : ℕ) where
   -- 53
-  pub past-listing : n ≤ number → reasons_of text w from to number room ≡ refused 53 0
-  unfolding ◌>>=◌
-  past-listing l =
-      ap (λ (o : Option Entry). or_refuse 53 0 o >>= λ e. fitting room
-      (reasons_bytes (chain_at e.at (chains text [] [] (list_in w from to)))))
-      (entered-past h.table number l)
+  pub past-listing : slice_get t number ≡ None → reasons_of text w from to number room ≡ Err Refusal.NoSuchEntry
+  unfolding and_then
+  past-listing e =
+      ap (λ (o : Option Entry). or_refuse Refusal.NoSuchEntry o >>= λ y. fitting room
+      (reasons_bytes (chain_at y.at (chains text [] [] (list_in w from to)))))
+      (entered-numbered h.table number ∙ ap (option_map (own_of w)) e)
 
   -- the chain of the row behind the entry
   pub entry-chain :
-      number < n → {row : ℕ} → row ≡ (item_at t number).row → reasons_of text w from to number room
-      ≡ fitting room (reasons_bytes (chain_of w from row))
-  unfolding ◌>>=◌
-  entry-chain l {row} e =
-      let x = item_at t number in
-      let inside = row_inside h.table number l in
-      ap (λ (o : Option Entry). or_refuse 53 0 o >>= λ y. fitting room
+      {x : Item} → slice_get t number ≡ Some x → reasons_of text w from to number room
+      ≡ fitting room (reasons_bytes (chain_of w from x.row))
+  unfolding and_then
+  entry-chain {x} e =
+      let inside = row_inside h.table number x e in
+      ap (λ (o : Option Entry). or_refuse Refusal.NoSuchEntry o >>= λ y. fitting room
       (reasons_bytes (chain_at y.at (chains text [] [] (list_in w from to)))))
-      (entered-numbered h.table number l)
-      ∙ ap (λ (m : ℕ). fitting room (reasons_bytes (chain_at m (chains text [] [] (list_in w from to))))) (own-begins w x)
+      (entered-numbered h.table number ∙ ap (option_map (own_of w)) e)
+      ∙ ap (λ (m : ℕ). fitting room (reasons_bytes (chain_at m (chains text [] [] (list_in w from to)))))
+      (own-begins w x)
       ∙ ap (λ (rs : List Reason). fitting room (reasons_bytes rs)) (h.chained x.row inside.0 inside.1)
-      ∙ ap (λ (m : ℕ). fitting room (reasons_bytes (chain_of w from m))) (sym e)
 
 -- ---------------------------------------------------------------- a record that was laid
 
@@ -70,12 +73,13 @@ rows-redefine w (item s kids later) k r = (
   rows-redefine w later (suc k + size kids) r.2,
 )
 
-module _ {text w : List ℕ} {from to long : ℕ} (work : ℕ) (l : Listed text (record_fields text work) w from to long) where
-  fields-are : record_fields text work ≡ give (rows_forest w from to)
+module _ {text w : List ℕ} {from to long : ℕ} (work : ℕ)
+    (l : Listed text (record_fields text work) w from to long) where
+  fields-are : record_fields text work ≡ Ok (rows_forest w from to)
   fields-are = l.fields
 
-  laid-is : unfolded text (rows_forest w from to) ≡ give (list_in w from to)
-  unfolding ◌>>=◌
+  laid-is : unfolded text (rows_forest w from to) ≡ Ok (list_in w from to)
+  unfolding and_then
   laid-is = ap (λ (a : Answer Forest). a >>= λ f. unfolded text f) (sym fields-are) ∙ l.is
 
   many : from + size (rows_forest w from to) ≡ to
@@ -123,19 +127,20 @@ module _ {text w : List ℕ} {from to long : ℕ} (work : ℕ) (l : Listed text 
 
   -- so the call answers with the reasons by the rows
   pub reasons-laid : (number room : ℕ) → entry_reasons text work number room ≡ reasons_of text w from to number room
-  unfolding entry_reasons reasons_in ◌>>=◌
+  unfolding entry_reasons reasons_in and_then
   reasons-laid number room =
-      ap (λ (a : Answer Forest). a >>= λ f. reasons_in text f number >>= λ rs. fitting room (reasons_bytes rs)) fields-are
+      ap (λ (a : Answer Forest). a >>= λ f. reasons_in text f number >>= λ rs. fitting room
+      (reasons_bytes rs)) fields-are
       ∙ ap (λ (a : Answer Entries).
-      (a >>= λ es. or_refuse 53 0 (numbered number (flat (folded_all text es))) >>= λ e. give
+      (a >>= λ es. or_refuse Refusal.NoSuchEntry (numbered number (flat (folded_all text es))) >>= λ e. Ok
       (chain_at e.at (chains text [] [] es))) >>= λ rs. fitting room (reasons_bytes rs)) laid-is
       ∙ by-entry (numbered number (flat (folded_all text (list_in w from to))))
     where
       by-entry :
           (o : Option Entry) →
-          ((or_refuse 53 0 o >>= λ e. give (chain_at e.at (chains text [] [] (list_in w from to))))
+          ((or_refuse Refusal.NoSuchEntry o >>= λ e. Ok (chain_at e.at (chains text [] [] (list_in w from to))))
           >>= λ rs. fitting room (reasons_bytes rs))
-          ≡ (or_refuse 53 0 o >>= λ e. fitting room
+          ≡ (or_refuse Refusal.NoSuchEntry o >>= λ e. fitting room
           (reasons_bytes (chain_at e.at (chains text [] [] (list_in w from to)))))
-      by-entry none = refl
-      by-entry (some e) = refl
+      by-entry None = refl
+      by-entry (Some e) = refl

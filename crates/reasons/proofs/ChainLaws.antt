@@ -5,34 +5,33 @@ use mathlib.Core.Path.{◌≡◌, refl, sym, ap, ap₂, subst, ◌∙◌}
 use mathlib.Core.Bool.{Bool, true, false}
 use mathlib.Core.List.{List, [], ◌∷◌, ◌++◌}
 use mathlib.Core.Logic.{inl, inr, ⊎_elim}
-use mathlib.Core.Option.{Option, none, some}
+use Rattle.std.specs.Prelude.{Option, None, Some}
 use native.Mathlib.Omega.{arith}
-use lib.Dec.{eqb}
-use borrow.Author.Tests.{ne_eqb}
 use Rattle.definition.specs.declared.Span.{Span}
 use Rattle.definition.specs.declared.Statement.{Statement}
 use Rattle.definition.specs.declared.Entry.{Entry}
 use Rattle.definition.specs.declared.Reason.{Reason}
 use Rattle.std.specs.Prelude.{if◌then◌else◌}
-use Rattle.definition.specs.Basic.{absent, given}
+use Rattle.definition.specs.Basic.{given}
 use Rattle.definition.specs.Tree.{Forest, leaf, item}
-use Rattle.definition.specs.Fold.{same_name}
+use Rattle.definition.specs.Fold.{entry_end, same_name}
 use Rattle.definition.specs.Owner.{size}
 use Rattle.definition.specs.Demand.{Among}
-use Rattle.definition.specs.Reasons.{reason, first_in, after, slack_of, over, inside, latest, plain, has_name, or_first}
+use Rattle.definition.specs.Reasons.{adds as bytes_added, after, slack_of, over, inside, latest, plain, has_name, or_first}
 use Rattle.definition.specs.Reasons.{placing, own, Chain, chain, chains}
 use Rattle.definition.specs.Explained.{Because, Explains}
 use Rattle.definition.proofs.Lists.{order}
 use Rattle.definition.proofs.Pieces.{among-left, among-right}
 use Rattle.definition.proofs.Why.{latest-hit, latest-miss, latest-next, latest-empty, added-own, added-slack}
 use Rattle.rows.specs.Columns.{PARENT, AT, NAME, REDEFINES, OFFSET, SLACK}
-use Rattle.rows.specs.Table.{cell, span_at}
+use Rattle.rows.specs.Table.{cell, span_at, row_of}
+use Rattle.rows.proofs.TableLaws.{row-back}
 use Rattle.redefines.specs.Targets.{plain_after, target_from}
 use Rattle.redefines.proofs.SearchLaws.{found, found_none, found-step, row-most}
 use Rattle.places.specs.Places.{entry_in, entries_in, RowLinked, Linked}
 use Rattle.record.specs.Laying.{Under}
-use Rattle.reasons.specs.Chained.{plain_at, target_at, name_at, added_at, placing_at, own_at, outward_at}
-use Rattle.reasons.specs.Chained.{chain_of, RowSettled}
+use Rattle.reasons.specs.Chained.{plain_at, target_at, added_at, over_row, after_row, placing_at, own_at, group_at}
+use Rattle.reasons.specs.Chained.{outward_at, chain_of, RowSettled}
 use Rattle.reasons.proofs.OutwardLaws.{outward-step}
 
 -- the rows hold the statements' REDEFINES
@@ -46,8 +45,8 @@ Redefining w k (item s kids later) =
 module _ (text w : List ℕ) where
   -- the entry of a row, which is given with 1, or none for 0
   abbrev pub row_entry : ℕ → Option Entry
-  row_entry zero = none
-  row_entry (suc k) = some (entry_in w k)
+  row_entry zero = None
+  row_entry (suc k) = Some (entry_in w k)
 
   -- the earlier siblings, which the definition has as entries, are those that the rows name from `last` back
   pub record Seen (seen : List Entry) (last : ℕ) : Type 0 where
@@ -119,44 +118,29 @@ module _ (text w : List ℕ) where
     module _ (s : Statement) (because : Because text s kids seen (entry_in w k))
         (redefines : given s.clauses.redefines ≡ given (span_at (cell w k REDEFINES))) where
       -- what the placing reason adds
-      adds : (placing text seen (entry_in w k)).adds + cell w k SLACK ≡ cell w k OFFSET
+      adds : bytes_added (placing text seen (entry_in w k)) + cell w k SLACK ≡ cell w k OFFSET
       adds =
           omega (arith, added-own text s kids seen (entry_in w k) because, added-slack (cell w k SLACK))
 
-      not_first : given (span_at (cell w k REDEFINES)) ≡ true → (placing text seen (entry_in w k)).kind ≡ 1 → ⊥
-      not_first g e =
-          let kind : (placing text seen (entry_in w k)).kind ≡ 4 =
-          ap first_kind (because.laid-over (redefines ∙ g)).2 in
-          omega (arith, kind, e)
-        where
-          first_kind : List Reason → ℕ
-          first_kind [] = 0
-          first_kind (r ∷ rs) = r.kind
+      -- the rows that may place it, as the numbers name them
+      over-row : (n : ℕ) → placing text seen (entry_in w k) ≡ or_first over (row_entry n) →
+          placing text seen (entry_in w k) ≡ over_row w (added_at w k) (row_of n)
+      over-row zero e = e
+      over-row (suc j) e =
+          let same : cell w j OFFSET ≡ added_at w k = omega (arith, adds, ap bytes_added e) in
+          e ∙ ap (Reason.Over (span_at (cell w j NAME))) same ∙ ap (over_row w (added_at w k)) (sym (row-back j))
+
+      after-row : (n : ℕ) → placing text seen (entry_in w k) ≡ or_first after (row_entry n) →
+          placing text seen (entry_in w k) ≡ after_row w (added_at w k) (row_of n)
+      after-row zero e = e
+      after-row (suc j) e =
+          let same : entry_end (entry_in w j) ≡ added_at w k = omega (arith, adds, ap bytes_added e) in
+          e ∙ ap (Reason.After (span_at (cell w j NAME))) same ∙ ap (after_row w (added_at w k)) (sym (row-back j))
 
       is-placing : placing text seen (entry_in w k) ≡ placing_at w k
+      unfolding placing_at
       is-placing = by-redefines (given (span_at (cell w k REDEFINES))) refl
         where
-          -- a reason is its kind, its name and what it adds
-          is : (x : Reason) {kind : ℕ} {name : Span} → placing text seen (entry_in w k) ≡ x → x.kind ≡ kind → x.name
-              ≡ name → x ≡ reason kind name (added_at w k)
-          is x e p q =
-              let a : x.adds ≡ added_at w k = omega (arith, adds, ap (λ (r : Reason). r.adds) e) in
-              λ i. reason (p i) (q i) (a i)
-
-          laid : (n : ℕ) → given (span_at (cell w k REDEFINES)) ≡ true → placing text seen (entry_in w k)
-              ≡ or_first over (row_entry n) → or_first over (row_entry n) ≡ reason 4 (name_at w n) (added_at w k)
-          laid zero g e = absurd (not_first g (ap (λ (r : Reason). r.kind) e))
-          laid (suc j) g e = is (over (entry_in w j)) e refl refl
-
-          follows : (n : ℕ) → placing text seen (entry_in w k) ≡ or_first after (row_entry n) → or_first after (row_entry n)
-              ≡ (if eqb n 0 then reason 1 absent (added_at w k) else reason 2 (name_at w n) (added_at w k))
-          follows zero e = is first_in e refl refl
-          follows (suc j) e =
-              is (after (entry_in w j)) e refl refl
-              ∙ sym (ap
-              (λ (b : Bool). if b then reason 1 absent (added_at w k) else reason 2 (name_at w (suc j)) (added_at w k))
-              (ne_eqb (suc j) 0 (λ z. omega arith)))
-
           by-redefines : (b : Bool) → given (span_at (cell w k REDEFINES)) ≡ b → placing text seen (entry_in w k)
               ≡ placing_at w k
           by-redefines true g =
@@ -168,11 +152,11 @@ module _ (text w : List ℕ) where
               ap (λ (b : Bool). if b then or_first over (latest (has_name text r) seen) else or_first after
               (latest plain seen)) g
               ∙ ap (or_first over) (it.named r ∙ ap row_entry found_it) in
-              e ∙ laid n g e
+              over-row n e
               ∙ sym (ap
-              (λ (b : Bool). if b then reason 4 (name_at w n) (added_at w k) else if eqb
-              (plain_at w k) 0 then reason 1 absent (added_at w k) else reason 2 (name_at w (plain_at w k))
-              (added_at w k)) g)
+              (λ (b : Bool). if b then over_row w (added_at w k) (row_of n)
+              else after_row w (added_at w k) (row_of (plain_at w k)))
+              g)
           by-redefines false g =
               let r = span_at (cell w k REDEFINES) in
               let n = plain_at w k in
@@ -180,13 +164,14 @@ module _ (text w : List ℕ) where
               ap (λ (b : Bool). if b then or_first over (latest (has_name text r) seen) else or_first after
               (latest plain seen)) g
               ∙ ap (or_first after) (it.plain-is ∙ ap row_entry (sym plain-kept)) in
-              e ∙ follows n e
+              after-row n e
               ∙ sym (ap
-              (λ (b : Bool). if b then reason 4 (name_at w (target_at w k))
-              (added_at w k) else if eqb n 0 then reason 1 absent (added_at w k) else reason 2 (name_at w n)
-              (added_at w k)) g)
+              (λ (b : Bool). if b then over_row w (added_at w k) (row_of (target_at w k))
+              else after_row w (added_at w k) (row_of n))
+              g)
 
       is-own : own text seen (entry_in w k) ≡ own_at w k
+      unfolding own_at
       is-own = ap (λ (r : Reason). r ∷ slack_of (cell w k SLACK)) is-placing
 
       settled : (p : ℕ) → cell w k PARENT ≡ p → p ≤ k → RowSettled w k
@@ -227,7 +212,7 @@ module _ (text w : List ℕ) where
         p ≤ k →
         k + size f ≤ 65535 →
         ListExplained k p seen f
-    unfolding entries_in chains
+    unfolding entries_in chains group_at chain_of
     list-explained leaf k last p seen l u q x it h m n few = record { same = refl; settled = tt }
     list-explained (item s kids later) k last p seen l u q x it h m n few =
         let e = entry_in w k in
@@ -284,5 +269,7 @@ module _ (text w : List ℕ) where
         (λ (q : m < suc k + size kids). inr (among-left c a b (inner (omega arith) q)))
         (λ (q : suc k + size kids ≤ m). inr (among-right c a b (rest q (omega arith))))
         (order m (suc k + size kids)))
-        (λ (p : m ≤ k). inl (ap (λ (n : ℕ). chain (cell w n AT) (chain_of w from n)) (let e : m ≡ k = omega arith in e)))
+        (λ (p : m ≤ k).
+        let e : m ≡ k = omega arith in
+        inl (ap (λ (n : ℕ). chain (cell w n AT) (chain_of w from n)) e))
         (order k m)

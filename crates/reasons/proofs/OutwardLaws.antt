@@ -1,18 +1,25 @@
--- Laws of the reasons by the rows: the groups outward one by one, and the bytes of reasons one after the other.
+-- Laws of the reasons by the rows: the groups outward one by one, the bytes of reasons one after the other, and what is
+-- put of them.
 -- Assumes nothing.
-use Prim.Native.Nat.{ℕ, zero, suc, ◌≤◌, ◌<◌}
-use mathlib.Core.Path.{◌≡◌, refl, sym, ap, ◌∙◌}
-use mathlib.Core.List.{List, [], ◌∷◌, ◌++◌, append_assoc}
+use Prim.Native.Nat.{ℕ, zero, suc, ◌+◌, ◌*◌, ◌≤◌, ◌<◌}
+use mathlib.Core.Path.{◌≡◌, refl, sym, ap, subst, ◌∙◌}
+use mathlib.Core.List.{List, [], ◌∷◌, ◌++◌, append_assoc, append-nil}
 use mathlib.Core.Logic.{⊎_elim}
 use native.Mathlib.Omega.{arith}
 use lib.ListN.{length, length-append}
+use Rattle.std.specs.Prelude.{Option, None, Some}
 use borrow.Author.Tests.{eq-eqb, ne_eqb, lt-ltb, le-ltb}
 use Rattle.definition.specs.declared.Reason.{Reason}
 use Rattle.definition.specs.Reasons.{slack_of, reason_bytes, reasons_bytes}
 use Rattle.definition.proofs.Lists.{order}
-use Rattle.rows.specs.Columns.{PARENT}
-use Rattle.rows.specs.Table.{cell}
-use Rattle.reasons.specs.Chained.{placing_at, own_at, group_at, outward_in, outward_at}
+use Rattle.definition.specs.declared.Span.{Span}
+use Rattle.listing.specs.declared.Sink.{Sink}
+use Rattle.listing.specs.Puts.{Puts}
+use Rattle.listing.proofs.PutLaws.{◌and◌}
+use Rattle.rows.specs.Columns.{PARENT, NAME, SLACK}
+use Rattle.rows.specs.Table.{cell, span_at, row_of, row_code}
+use Rattle.rows.proofs.TableLaws.{code-back}
+use Rattle.reasons.specs.Chained.{placing_at, own_at, group_at, outward_in, outward_at, chain_of, Settled}
 
 -- ---------------------------------------------------------------- outward
 
@@ -67,6 +74,65 @@ pub bytes_one : (x : Reason) → reasons_bytes (x ∷ []) ≡ reason_bytes x
 unfolding reasons_bytes
 bytes_one x = refl
 
+-- no slack is none, and any is one reason
+slack-none : (n : ℕ) → n ≡ 0 → reasons_bytes (slack_of n) ≡ []
+slack-none zero e = bytes-none
+slack-none (suc n) e = absurd (omega arith)
+
+slack_one : (n : ℕ) → (n ≡ 0 → ⊥) → reasons_bytes (slack_of n) ≡ reason_bytes (Reason.Slack n)
+slack_one zero h = absurd (h refl)
+slack_one (suc n) h = bytes_one (Reason.Slack (suc n))
+
+module _ (w : List ℕ) (k : ℕ) where
+  -- a row's own reasons
+  pub own-alone : (r : Reason) (n : ℕ) → r ≡ placing_at w k → n ≡ cell w k SLACK → n ≡ 0 →
+      reason_bytes r ≡ reasons_bytes (own_at w k)
+  unfolding own_at
+  own-alone r n e s z =
+      sym (bytes-cons (placing_at w k) (slack_of (cell w k SLACK))
+      ∙ ap (λ (bs : List ℕ). reason_bytes (placing_at w k) ++ bs) (slack-none (cell w k SLACK) (sym s ∙ z))
+      ∙ append-nil (reason_bytes (placing_at w k))
+      ∙ ap reason_bytes (sym e))
+
+  pub own-slack : (r : Reason) (n : ℕ) → r ≡ placing_at w k → n ≡ cell w k SLACK → (n ≡ 0 → ⊥) →
+      reason_bytes r ++ reason_bytes (Reason.Slack n) ≡ reasons_bytes (own_at w k)
+  unfolding own_at
+  own-slack r n e s z =
+      sym (bytes-cons (placing_at w k) (slack_of (cell w k SLACK))
+      ∙ ap (λ (bs : List ℕ). reason_bytes (placing_at w k) ++ bs) (ap (λ (m : ℕ). reasons_bytes (slack_of m))
+      (sym s) ∙ slack_one n z)
+      ∙ ap (λ (x : Reason). reason_bytes x ++ reason_bytes (Reason.Slack n)) (sym e))
+
+  -- a group's
+  pub group-own : (name : Span) → name ≡ span_at (cell w k NAME) →
+      reason_bytes (Reason.Inside name) ++ reasons_bytes (own_at w k) ≡ reasons_bytes (group_at w k)
+  unfolding group_at
+  group-own name e =
+      ap (λ (x : Span). reason_bytes (Reason.Inside x) ++ reasons_bytes (own_at w k)) e
+      ∙ sym (bytes-cons (Reason.Inside (span_at (cell w k NAME))) (own_at w k))
+
+-- the same of what was put
+pub own-put :
+    (w : List ℕ) (k : ℕ) {s s' : Sink} {r : Reason} {n : ℕ} →
+    Puts s (reason_bytes r) s' → r ≡ placing_at w k → n ≡ cell w k SLACK → n ≡ 0 →
+    Puts s (reasons_bytes (own_at w k)) s'
+own-put w k {s} {s'} {r} {n} p e m z = subst (λ (bs : List ℕ). Puts s bs s') (own-alone w k r n e m z) p
+
+pub slack-put :
+    (w : List ℕ) (k : ℕ) {s s' s'' : Sink} {r : Reason} {n : ℕ} →
+    Puts s (reason_bytes r) s' → r ≡ placing_at w k → n ≡ cell w k SLACK → (n ≡ 0 → ⊥) →
+    Puts s' (reason_bytes (Reason.Slack n)) s'' →
+    Puts s (reasons_bytes (own_at w k)) s''
+slack-put w k {s} {s'} {s''} {r} {n} p e m z q = subst (λ (bs : List ℕ). Puts s bs s'') (own-slack w k r n e m z)
+    (p and q)
+
+pub group-put :
+    (w : List ℕ) (k : ℕ) {s s' s'' : Sink} {name : Span} →
+    Puts s (reason_bytes (Reason.Inside name)) s' → name ≡ span_at (cell w k NAME) →
+    Puts s' (reasons_bytes (own_at w k)) s'' →
+    Puts s (reasons_bytes (group_at w k)) s''
+group-put w k {s} {s'} {s''} {name} p e q = subst (λ (bs : List ℕ). Puts s bs s'') (group-own w k name e) (p and q)
+
 slack-long : (n : ℕ) → length (reasons_bytes (slack_of n)) ≤ 13
 unfolding reasons_bytes
 slack-long zero = omega arith
@@ -75,6 +141,7 @@ slack-long (suc n) = omega arith
 module _ (w : List ℕ) (k : ℕ) where
   -- a row has two reasons at most, and its group three
   pub own-long : length (reasons_bytes (own_at w k)) ≤ 26
+  unfolding own_at
   own-long =
       omega (
         arith,
@@ -82,3 +149,105 @@ module _ (w : List ℕ) (k : ℕ) where
         length-append (reason_bytes (placing_at w k)) (reasons_bytes (slack_of (cell w k 15))),
         slack-long (cell w k 15),
       )
+
+  pub group-long : length (reasons_bytes (group_at w k)) ≤ 39
+  unfolding group_at
+  group-long =
+      let r = Reason.Inside (span_at (cell w k NAME)) in
+      omega (
+        arith,
+        ap length (bytes-cons r (own_at w k)),
+        length-append (reason_bytes r) (reasons_bytes (own_at w k)),
+        own-long,
+      )
+
+-- ---------------------------------------------------------------- the loop outward
+
+-- row k is one of a record's, which began at row `from`
+pub record RowIn (w : List ℕ) (from to k : ℕ) : Type 0 where
+  pub low : from ≤ k
+  pub high : k < to
+  pub settled : Settled w from to
+
+-- what was put of the chain of row k, and the groups that are left, from a row outward
+pub record Going (w : List ℕ) (from to k : ℕ) (first now : Sink) (outer : Option ℕ) : Type 0 where
+  pub settled : Settled w from to
+  pub high : row_code outer ≤ to
+  pub room : now.at + 39 * row_code outer ≤ 65536
+  pub done : List Reason
+  pub put : Puts first (reasons_bytes done) now
+  pub same : chain_of w from k ≡ done ++ outward_at w from (row_code outer)
+
+pub going-starts :
+    {w : List ℕ} {from to k : ℕ} {first now : Sink} {outer : Option ℕ} →
+    RowIn w from to k → first.at ≡ 0 → Puts first (reasons_bytes (own_at w k)) now → outer ≡ row_of (cell w k PARENT) →
+    Going w from to k first now outer
+unfolding chain_of
+going-starts {w} {from} {to} {k} {first} {now} {outer} i z p e =
+    let parent = (i.settled.rows k i.low i.high).parent in
+    let is : row_code outer ≡ cell w k PARENT = ap row_code e ∙ code-back (cell w k PARENT) in
+    record {
+      settled = i.settled;
+      high = omega (arith, is, parent, i.high);
+      room = omega (arith, is, parent, i.high, i.settled.few, p.put.next, own-long w k);
+      done = own_at w k;
+      put = p;
+      same = ap (λ (n : ℕ). own_at w k ++ outward_at w from n) (sym is);
+    }
+
+module _ {w : List ℕ} {from to k : ℕ} {first now : Sink} {outer : Option ℕ}
+    (g : Going w from to k first now outer) where
+  -- the fields of the record stand in no group
+  pub going-ends : outer ≡ None → Puts first (reasons_bytes (chain_of w from k)) now
+  going-ends e =
+      subst (λ (rs : List Reason). Puts first (reasons_bytes rs) now)
+      (sym (g.same
+      ∙ ap (λ (rs : List Reason). g.done ++ rs) (ap (λ (o : Option ℕ). outward_at w from (row_code o)) e
+      ∙ outward-none w from 0 (omega arith)) ∙ append-nil g.done))
+      g.put
+
+  module _ {group : ℕ} (e : outer ≡ Some group) where
+    number : row_code outer ≡ suc group
+    number = ap row_code e
+
+    pub going-stops : group < from → Puts first (reasons_bytes (chain_of w from k)) now
+    going-stops l =
+        subst (λ (rs : List Reason). Puts first (reasons_bytes rs) now)
+        (sym (g.same
+        ∙ ap (λ (rs : List Reason). g.done ++ rs) (outward-none w from (row_code outer) (omega
+        (arith, number))) ∙ append-nil g.done))
+        g.put
+
+    module _ (l : from ≤ group) where
+      pub going-in : RowIn w from to group
+      going-in = record { low = l; high = omega (arith, g.high, number); settled = g.settled }
+
+      pub going-room : now.at + 26 ≤ 65536
+      going-room = omega (arith, g.room, number)
+
+      module _ {next : Option ℕ} (n : next ≡ row_of (cell w group PARENT)) where
+        outer-is : row_code next ≡ cell w group PARENT
+        outer-is = ap row_code n ∙ code-back (cell w group PARENT)
+
+        pub going-falls : row_code next < row_code outer
+        going-falls = omega (arith, (g.settled.rows group l going-in.high).parent, outer-is, number)
+
+        pub going_on : {then : Sink} → Puts now (reasons_bytes (group_at w group)) then →
+            Going w from to k first then next
+        going_on {then} q =
+            let parent = (g.settled.rows group l going-in.high).parent in
+            record {
+              settled = g.settled;
+              high = omega (arith, parent, outer-is, g.high, number);
+              room = omega (arith, parent, outer-is, g.room, number, q.put.next, group-long w group);
+              done = g.done ++ group_at w group;
+              put =
+                  subst (λ (bs : List ℕ). Puts first bs then) (sym (bytes-both g.done (group_at w group)))
+                  (g.put and q);
+              same =
+                  g.same
+                  ∙ ap (λ (m : ℕ). g.done ++ outward_at w from m) number
+                  ∙ ap (λ (rs : List Reason). g.done ++ rs) (outward-step w from group l parent)
+                  ∙ sym (append_assoc g.done (group_at w group) (outward_at w from (cell w group PARENT)))
+                  ∙ ap (λ (m : ℕ). (g.done ++ group_at w group) ++ outward_at w from m) (sym outer-is);
+            }

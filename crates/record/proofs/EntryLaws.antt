@@ -1,13 +1,12 @@
 -- Laws of the checks of what a caller lends: the fields that are read after them.
 -- Assumes nothing.
 use Prim.Native.Nat.{ℕ}
-use mathlib.Core.Path.{◌≡◌, sym, ◌∙◌, ap}
+use mathlib.Core.Path.{◌≡◌, ◌∙◌, ap}
 use mathlib.Core.List.{List}
 use lib.ListN.{length}
-use Rattle.definition.specs.declared.Check.{Check}
 use Rattle.definition.specs.declared.Refusal.{Refusal}
-use Rattle.definition.specs.Basic.{refuse, ◌>>=◌}
-use Rattle.definition.specs.Calls.{entry_checks, kept_statements, record_fields, check_of}
+use Rattle.definition.specs.Basic.{Err, and_then}
+use Rattle.definition.specs.Calls.{entry_checks, kept_statements, record_fields}
 use Rattle.definition.proofs.CallsLaws.{Passes}
 use Rattle.tree.proofs.ReadingLaws.{Stored}
 use Rattle.redefines.specs.Prints.{PrintsPut}
@@ -15,19 +14,18 @@ use Rattle.places.specs.Children.{BelowPut}
 use Rattle.record.specs.Laying.{fields_of, Read}
 use Rattle.record.proofs.LaidLaws.{reading-refused, rows-read, rows_under, rows-room}
 
-module _ (text : List ℕ) (n : ℕ) {c : Check} (p : check_of c ≡ entry_checks text n) where
-  -- refused by the checks
-  pub checks-refuse : {r : Refusal} → c ≡ Check.Refused r → record_fields text n ≡ refuse r
-  unfolding record_fields ◌>>=◌
-  checks-refuse {r} e = let q : entry_checks text n ≡ refuse r = sym p ∙ ap check_of e in rw q
+-- refused by the checks
+pub checks-refuse : (text : List ℕ) (n : ℕ) {r : Refusal} → Err r ≡ entry_checks text n → record_fields text n ≡ Err r
+unfolding record_fields and_then
+checks-refuse text n e = rw (← e)
 
 -- past the checks the fields are what is read
 pub fields_read : (text : List ℕ) (n : ℕ) → Passes text n → record_fields text n ≡ fields_of text
-unfolding record_fields fields_of ◌>>=◌
+unfolding record_fields fields_of and_then
 fields_read text n p = rw p.is
 
 -- the statements are refused
-pub read-refused : (text : List ℕ) (n : ℕ) → Passes text n → {r : Refusal} → kept_statements text ≡ refuse r → record_fields text n ≡ refuse r
+pub read-refused : (text : List ℕ) (n : ℕ) → Passes text n → {r : Refusal} → kept_statements text ≡ Err r → record_fields text n ≡ Err r
 read-refused text n p e = fields_read text n p ∙ reading-refused text e
 
 -- or they stand in n rows, with the counts of the rows below them and the fingerprints of their names

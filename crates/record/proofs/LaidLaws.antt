@@ -9,11 +9,10 @@ use native.Mathlib.Omega.{arith}
 use lib.Dec.{lit<, ltb}
 use lib.ListN.{length}
 use borrow.Author.Tests.{ltb-false}
-use Rattle.definition.specs.declared.Check.{Check}
 use Rattle.definition.specs.declared.Refusal.{Refusal}
 use Rattle.definition.specs.declared.Entry.{Entry}
 use Rattle.definition.specs.Limits.{least_work, most_statements, largest}
-use Rattle.definition.specs.Basic.{Answer, refuse, give, ◌>>=◌}
+use Rattle.definition.specs.Basic.{Answer, Err, Ok, ◌>>=◌, and_then}
 use Rattle.definition.specs.declared.Statement.{Statement}
 use Rattle.definition.specs.Tree.{Forest, leaf, item, forest, fields, parents_in}
 use Rattle.definition.specs.Fold.{Entries, end, entry, times, total, entry_end, Place, place_of, fold_check, folded_all}
@@ -28,13 +27,12 @@ use Rattle.rows.specs.Columns.{ROW, PARENT, BELOW, OFFSET, NEXT}
 use Rattle.rows.specs.Table.{cell, statement_at, statements_from, parents_from}
 use Rattle.rows.proofs.TableLaws.{statements-same}
 use Rattle.tree.proofs.ReadingLaws.{Stored}
-use Rattle.definition.specs.Calls.{check_of, record_fields}
+use Rattle.definition.specs.Calls.{record_fields}
 use Rattle.definition.specs.Record.{record_length, ends_fit, unfolded, layout}
 use Rattle.places.specs.Places.{put_places, entry_in, entries_in, rows_forest}
 use Rattle.redefines.specs.Targets.{seen_from}
 use Rattle.redefines.specs.Prints.{PrintsPut}
-use Rattle.layout.specs.Outcomes.{lay_table, list_of, Room}
-use Rattle.layout.specs.declared.LaidList.{LaidList}
+use Rattle.layout.specs.Outcomes.{stopped, ready, lay_table, Room}
 use Rattle.places.specs.Children.{ChildrenEnd, BelowPut}
 use Rattle.places.proofs.EntriesLaws.{size-forest, size-stretch, counted_step, counted-kept}
 use Rattle.layout.proofs.ListLaws.{bare-split, item-is}
@@ -44,9 +42,8 @@ use Rattle.places.proofs.PlaceLaws.{length-places, kept-places, statements-place
 use Rattle.unions.specs.Shown.{list_in}
 use Rattle.unions.specs.Marks.{UnionsLinked}
 use Rattle.unions.proofs.KeptLaws.{forest-kept, list-kept, Ready, marked-tree}
-use Rattle.record.specs.declared.RecordLaid.{RecordLaid}
 use Rattle.record.proofs.ParentLaws.{under-parents, under_same}
-use Rattle.record.specs.Laying.{Under, FieldsFrom, fields_of, Read, laid_of, Listed, RecordIs}
+use Rattle.record.specs.Laying.{Under, FieldsFrom, fields_of, Read, laid_of, Listed}
 
 -- ---------------------------------------------------------------- no entry is too large
 
@@ -63,7 +60,7 @@ total-within e h =
 
 bare-sized :
     (text : List ℕ) (f : Forest) (depth : ℕ) (seen : List Place) (cursor reach : ℕ) {l : Laid} →
-    lay text depth seen cursor reach f ≡ give l →
+    lay text depth seen cursor reach f ≡ Ok l →
     SizedAll l.entries
 unfolding lay
 bare-sized text leaf depth seen cursor reach e = subst (λ (l : Laid). SizedAll l.entries) (given-same e) tt
@@ -182,76 +179,76 @@ few-rows w n h =
 -- ---------------------------------------------------------------- the record
 
 -- the layout is the record laid and then folded
-pub layout_is : (text : List ℕ) (f : Forest) → layout text f ≡ (unfolded text f >>= λ es. give (folded_all text es))
+pub layout_is : (text : List ℕ) (f : Forest) → layout text f ≡ (unfolded text f >>= λ es. Ok (folded_all text es))
 unfolding layout
 layout_is text f = refl
 
 module _ (text w : List ℕ) (a b : ℕ) where
-  module _ {x : LaidList} (w₁ : List ℕ) (p : list_of x w₁ ≡ lay_table text w a b 0) where
-    -- the list is laid
-    pub list-laid : a ≤ b → Room text w a b → {width last : ℕ} → x ≡ LaidList.Done width last → LaidRows text w a b 0 width w₁
-    list-laid h room e = laid-rows text w a b 0 h room (sym p ∙ ap (λ (y : LaidList). list_of y w₁) e)
+  -- the list is laid
+  pub list-laid :
+      {w₁ : List ℕ} {width last : ℕ} → a ≤ b → Room text w a b → ready width last w₁ ≡ lay_table text w a b 0 → LaidRows text w a b 0 width w₁
+  list-laid h room p = laid-rows text w a b 0 h room (sym p)
 
-    -- or refused
-    pub list-refused : {r : Refusal} → x ≡ LaidList.Refused r → laid_of text (give (rows_forest w a b)) ≡ refuse r
-    unfolding unfolded seen_from ◌>>=◌
-    list-refused e =
-        ap (λ (y : Answer Laid). y >>= λ l. fold_check text [] l.entries >>= λ _. ends_fit (folded_all text l.entries) >>= λ _. give l.entries)
-        (stopped-was text w a 0 (lay text 0 [] 0 0 (rows_forest w a b)) (sym p ∙ ap (λ (y : LaidList). list_of y w₁) e))
+  -- or refused
+  pub list-refused : {r : Refusal} → stopped r ≡ lay_table text w a b 0 → laid_of text (Ok (rows_forest w a b)) ≡ Err r
+  unfolding unfolded seen_from and_then
+  list-refused p =
+      ap (λ (y : Answer Laid). y >>= λ l. fold_check text [] l.entries >>= λ _. ends_fit (folded_all text l.entries) >>= λ _. Ok l.entries)
+      (stopped-was text w a 0 (lay text 0 [] 0 0 (rows_forest w a b)) (sym p))
 
   module _ {width : ℕ} {w₁ : List ℕ} (n : LaidRows text w a b 0 width w₁) where
     -- the checks of the list, as the rows hold it
     record-split :
-        laid_of text (give (rows_forest w a b))
-        ≡ (fold_check text [] (list_in w₁ a b) >>= λ _. ends_fit (folded_all text (list_in w₁ a b)) >>= λ _. give (list_in w₁ a b))
-    unfolding unfolded ◌>>=◌
+        laid_of text (Ok (rows_forest w a b))
+        ≡ (fold_check text [] (list_in w₁ a b) >>= λ _. ends_fit (folded_all text (list_in w₁ a b)) >>= λ _. Ok (list_in w₁ a b))
+    unfolding unfolded and_then
     record-split =
-        ap (λ (x : Answer Laid). x >>= λ l. fold_check text [] l.entries >>= λ _. ends_fit (folded_all text l.entries) >>= λ _. give l.entries) n.is
-        ∙ ap (λ (es : Entries). fold_check text [] es >>= λ _. ends_fit (folded_all text es) >>= λ _. give es) (sym n.held.entries)
+        ap (λ (x : Answer Laid). x >>= λ l. fold_check text [] l.entries >>= λ _. ends_fit (folded_all text l.entries) >>= λ _. Ok l.entries) n.is
+        ∙ ap (λ (es : Entries). fold_check text [] es >>= λ _. ends_fit (folded_all text es) >>= λ _. Ok es) (sym n.held.entries)
 
-    module _ {c : Check} (p : check_of c ≡ fold_check text [] (list_in w₁ a b)) where
-      checked : (x : Check) → c ≡ x → laid_of text (give (rows_forest w a b)) ≡ (check_of x >>= λ _. ends_fit (folded_all text (list_in w₁ a b)) >>= λ _. give (list_in w₁ a b))
+    module _ {c : Answer (Unit {0})} (p : c ≡ fold_check text [] (list_in w₁ a b)) where
+      checked : (x : Answer (Unit {0})) → c ≡ x → laid_of text (Ok (rows_forest w a b)) ≡ (x >>= λ _. ends_fit (folded_all text (list_in w₁ a b)) >>= λ _. Ok (list_in w₁ a b))
       checked x e =
           record-split
-          ∙ ap (λ (y : Answer (Unit {0})). y >>= λ _. ends_fit (folded_all text (list_in w₁ a b)) >>= λ _. give (list_in w₁ a b)) (sym p ∙ ap check_of e)
+          ∙ ap (λ (y : Answer (Unit {0})). y >>= λ _. ends_fit (folded_all text (list_in w₁ a b)) >>= λ _. Ok (list_in w₁ a b)) (sym p ∙ e)
 
       -- 30
-      pub fold-refused : {r : Refusal} → c ≡ Check.Refused r → laid_of text (give (rows_forest w a b)) ≡ refuse r
-      unfolding ◌>>=◌
-      fold-refused {r} e = checked (Check.Refused r) e
+      pub fold-refused : {r : Refusal} → c ≡ Err r → laid_of text (Ok (rows_forest w a b)) ≡ Err r
+      unfolding and_then
+      fold-refused {r} e = checked (Err r) e
 
-      module _ (e : c ≡ Check.Passed) {w₂ : List ℕ} (m : UnionsLinked w₁ a b w₂) {d : Check} (q : check_of d ≡ ends_fit (folded_all text (list_in w₂ a b))) where
-        passed : (x : Check) → d ≡ x → laid_of text (give (rows_forest w a b)) ≡ (check_of x >>= λ _. give (list_in w₂ a b))
-        unfolding ◌>>=◌
+      module _ (e : c ≡ Ok tt) {w₂ : List ℕ} (m : UnionsLinked w₁ a b w₂) {d : Answer (Unit {0})} (q : d ≡ ends_fit (folded_all text (list_in w₂ a b))) where
+        passed : (x : Answer (Unit {0})) → d ≡ x → laid_of text (Ok (rows_forest w a b)) ≡ (x >>= λ _. Ok (list_in w₂ a b))
+        unfolding and_then
         passed x f =
-            checked Check.Passed e
-            ∙ ap (λ (es : Entries). ends_fit (folded_all text es) >>= λ _. give es) (list-kept m.kept a b)
-            ∙ ap (λ (y : Answer (Unit {0})). y >>= λ _. give (list_in w₂ a b)) (sym q ∙ ap check_of f)
+            checked (Ok tt) e
+            ∙ ap (λ (es : Entries). ends_fit (folded_all text es) >>= λ _. Ok es) (list-kept m.kept a b)
+            ∙ ap (λ (y : Answer (Unit {0})). y >>= λ _. Ok (list_in w₂ a b)) (sym q ∙ f)
 
         -- 29
-        pub end_refused : {r : Refusal} → d ≡ Check.Refused r → laid_of text (give (rows_forest w a b)) ≡ refuse r
-        unfolding ◌>>=◌
-        end_refused {r} f = passed (Check.Refused r) f
+        pub end_refused : {r : Refusal} → d ≡ Err r → laid_of text (Ok (rows_forest w a b)) ≡ Err r
+        unfolding and_then
+        end_refused {r} f = passed (Err r) f
 
         -- the record is laid
         pub laid-listed :
-            d ≡ Check.Passed →
+            d ≡ Ok tt →
             a ≤ b →
             ROW * b ≤ length w →
             b ≤ most_statements →
             Under w a a (rows_forest w a b) →
             {l : ℕ} →
             l ≡ record_length (folded_all text (list_in w₂ a b)) →
-            Listed text (give (rows_forest w a b)) w₂ a b l
-        unfolding ◌>>=◌
+            Listed text (Ok (rows_forest w a b)) w₂ a b l
+        unfolding and_then
         laid-listed f h fits few under long =
             let ready = laid-ready text w a b 0 h fits n in
             let forests = same-fields text w a b 0 h fits n ∙ forest-kept m.kept a b in
             record {
-              fields = ap give forests;
+              fields = ap Ok forests;
               low = h;
               under = subst (Under w₂ a a) forests (under_same w w₂ (λ k. sym (m.kept.same k PARENT (lit< tt) ∙ same-column text w a b 0 h fits n k PARENT (lit< tt))) (rows_forest w a b) a a under);
-              is = passed Check.Passed f;
+              is = passed (Ok tt) f;
               tree = marked-tree text a b h ready m;
               few = few;
               long = long;
@@ -260,9 +257,9 @@ module _ (text w : List ℕ) (a b : ℕ) where
 -- ---------------------------------------------------------------- the rows of a text
 
 -- the text is refused
-pub reading-refused : (text : List ℕ) {r : Refusal} → kept_statements text ≡ refuse r → fields_of text ≡ refuse r
-unfolding fields_of ◌>>=◌
-reading-refused text e = ap (λ (x : Answer (List Statement)). x >>= λ ss. give (record_of ss)) e
+pub reading-refused : (text : List ℕ) {r : Refusal} → kept_statements text ≡ Err r → fields_of text ≡ Err r
+unfolding fields_of and_then
+reading-refused text e = ap (λ (x : Answer (List Statement)). x >>= λ ss. Ok (record_of ss)) e
 
 -- its statements stand in n rows, which got the counts of the rows below them and the fingerprints of their names
 module _
@@ -274,14 +271,14 @@ module _
   same_rows : rows_forest w₀ 0 n ≡ rows_forest w₂ 0 n
   same_rows = ap forest (statements-same w₀ w₂ same 0 (n - 0))
 
-  pub rows-read : fields_of text ≡ give (fields (rows_forest w₂ 0 n))
-  unfolding fields_of ◌>>=◌
+  pub rows-read : fields_of text ≡ Ok (fields (rows_forest w₂ 0 n))
+  unfolding fields_of and_then
   rows-read =
-      ap (λ (x : Answer (List Statement)). x >>= λ ss. give (record_of ss)) s.are
-      ∙ ap (λ (x : Forest). give (fields x)) (sym (along-forest s.kept))
-      ∙ ap (λ (ss : List Statement). give (fields (forest ss)))
+      ap (λ (x : Answer (List Statement)). x >>= λ ss. Ok (record_of ss)) s.are
+      ∙ ap (λ (x : Forest). Ok (fields x)) (sym (along-forest s.kept))
+      ∙ ap (λ (ss : List Statement). Ok (fields (forest ss)))
       (sym s.back ∙ ap (statements_from w₀ 0) (let e : n ≡ n - 0 = omega arith in e))
-      ∙ ap (λ (x : Forest). give (fields x)) same_rows
+      ∙ ap (λ (x : Forest). Ok (fields x)) same_rows
 
   -- under their parents
   pub rows_under : Under w₂ 0 0 (rows_forest w₂ 0 n)
@@ -316,7 +313,5 @@ pub fields_laid :
     {text w : List ℕ} {n from : ℕ} →
     Read text w n →
     FieldsFrom w n from →
-    (w₁ t : List ℕ) (r : RecordLaid) →
-    RecordIs text (give (rows_forest w from n)) r w₁ t →
-    RecordIs text (record_fields text (length w)) r w₁ t
-fields_laid {text} h f w₁ t r q = subst (λ (a : Answer Forest). RecordIs text a r w₁ t) (sym (h.are ∙ ap give f.is)) q
+    record_fields text (length w) ≡ Ok (rows_forest w from n)
+fields_laid h f = h.are ∙ ap Ok f.is

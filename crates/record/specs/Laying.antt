@@ -1,23 +1,23 @@
 -- What laying a whole record says: why it is refused, or which rows hold its entries, and its length.
 -- Assumes nothing.
-use Rattle.std.specs.Prelude.{ℕ, suc, ◌+◌, ◌≤◌, ◌≡◌, List, length}
+use Rattle.std.specs.Prelude.{ℕ, suc, ◌+◌, ◌*◌, ◌≤◌, ◌≡◌, List, length, take}
 use Rattle.definition.specs.Limits.{most_statements}
-use Rattle.definition.specs.Basic.{Answer, refuse, give, ◌>>=◌}
+use Rattle.definition.specs.Basic.{Answer, Ok, ◌>>=◌}
 use Rattle.definition.specs.Calls.{kept_statements, record_fields}
 use Rattle.definition.specs.Tree.{Forest, leaf, item, fields}
 use Rattle.definition.specs.Usages.{record_of}
 use Rattle.definition.specs.Owner.{size}
-use Rattle.rows.specs.Columns.{PARENT}
+use Rattle.rows.specs.Columns.{ROW, PARENT}
 use Rattle.rows.specs.Table.{cell}
 use Rattle.definition.specs.Fold.{Entries, folded_all}
 use Rattle.definition.specs.Record.{record_length, unfolded}
 use Rattle.places.specs.Places.{rows_forest}
 use Rattle.places.specs.Children.{BelowCounted}
-use Rattle.tree.specs.declared.RowsRead.{RowsRead}
 use Rattle.layout.specs.Outcomes.{Room}
-use Rattle.record.specs.declared.RecordLaid.{RecordLaid}
+use Rattle.record.specs.declared.Record.{Record}
 use Rattle.definition.specs.Listing.{members#}
 use Rattle.unions.specs.Shown.{list_in, Tree}
+use Rattle.table.specs.declared.Item.{Item}
 use Rattle.table.specs.Entered.{Entered}
 
 -- each row of a list, from row k on, and of those below it names its parent, the row and 1; that of the list is p
@@ -37,19 +37,14 @@ pub record FieldsFrom (w : List ℕ) (n r : ℕ) : Type 0 where
 unfoldable pub fields_of : List ℕ → Answer Forest
 fields_of text = do
   ss ← kept_statements text
-  give (record_of ss)
+  Ok (record_of ss)
 
 -- the fields of a text, read into work memory w, stand in its first n rows, ready to be laid
 pub record Read (text w : List ℕ) (n : ℕ) : Type 0 where
-  pub are : record_fields text (length w) ≡ give (fields (rows_forest w 0 n))
+  pub are : record_fields text (length w) ≡ Ok (fields (rows_forest w 0 n))
   pub under : Under w 0 0 (rows_forest w 0 n)
   pub few : n ≤ most_statements
   pub room : Room text w 0 n
-
--- what an answer says of a text, with work memory as the call leaves it
-abbrev pub CopybookRows : List ℕ → RowsRead → List ℕ → Type 0
-CopybookRows text (RowsRead.Refused r) w = record_fields text (length w) ≡ refuse r
-CopybookRows text (RowsRead.Rows n) w = Read text w n
 
 -- these fields laid, with no list folded
 abbrev pub laid_of : List ℕ → Answer Forest → Answer Entries
@@ -57,18 +52,23 @@ laid_of text read = read >>= λ f. unfolded text f
 
 -- the rows from `from` up to `to` hold the fields that were read, and their places; the parent of a field, the row and
 -- 1, is `from`: none, or the root that was dropped
-pub record Listed (text : List ℕ) (read : Answer Forest) (w : List ℕ) (from to length : ℕ) : Type 0 where
-  pub fields : read ≡ give (rows_forest w from to)
-  pub is : laid_of text read ≡ give (list_in w from to)
+pub record Listed (text : List ℕ) (read : Answer Forest) (w : List ℕ) (from to bytes : ℕ) : Type 0 where
+  pub fields : read ≡ Ok (rows_forest w from to)
+  pub is : laid_of text read ≡ Ok (list_in w from to)
   pub low : from ≤ to
   pub under : Under w from from (rows_forest w from to)
   pub tree : Tree text w from to
   pub few : to ≤ most_statements
-  pub long : length ≡ record_length (folded_all text (list_in w from to))
+  pub long : bytes ≡ record_length (folded_all text (list_in w from to))
 
--- what an answer says of the fields that were read, with the rows and the table of entries as the call leaves them
-abbrev pub RecordIs : List ℕ → Answer Forest → RecordLaid → List ℕ → List ℕ → Type 0
-RecordIs text read (RecordLaid.Refused r) w t = laid_of text read ≡ refuse r
-RecordIs text read (RecordLaid.Record from to length count top) w t =
-    Listed text read w from to length × Entered text w from to t count
-    × (top ≡ members# (folded_all text (list_in w from to)))
+-- a record of the fields that were read, with its rows and its entries
+pub record LaidOut (text : List ℕ) (read : Answer Forest) (w : List ℕ) (t : List Item) (a : Record) : Type 0 where
+  pub fits : ROW * a.to ≤ length w
+  pub listed : Listed text read w a.from a.to a.length
+  pub entered : Entered text w a.from a.to t
+  pub tops : a.top ≡ members# (folded_all text (list_in w a.from a.to))
+
+-- the same, as a call leaves the table: its first items are the entries
+pub record LaidIn (text : List ℕ) (read : Answer Forest) (w : List ℕ) (t : List Item) (a : Record) : Type 0 where
+  pub inside : a.count ≤ length t
+  pub laid : LaidOut text read w (take a.count t) a

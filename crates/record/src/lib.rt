@@ -1,136 +1,116 @@
-// A record laid out in work memory: a copybook read, laid and checked, its redefiners linked and its table made.
+//! A record laid out in work memory: a copybook read, laid and checked, its redefiners linked and its table made.
 #![tactic(auto)]
 
-ghost use Rattle.std.specs.Prelude.{◌≡◌, ◌+◌, ◌*◌, ◌≤◌, ◌<◌, length};
+ghost use Rattle.std.specs.Prelude.{MatchResult, ◌≡◌, ◌*◌, ◌≤◌, length};
 ghost use Rattle.definition.specs.Limits.{most_statements};
-ghost use Rattle.definition.specs.Basic.{give};
+ghost use Rattle.definition.specs.Basic.{Ok, Err};
 ghost use Rattle.definition.specs.Calls.{record_fields};
 ghost use Rattle.places.specs.Places.{rows_forest};
 ghost use Rattle.places.specs.Children.{BelowCounted};
 ghost use Rattle.layout.specs.Outcomes.{Room};
-ghost use Rattle.rows.specs.Columns.{ROW};
 ghost use Rattle.entries.specs.Building.{Roomy};
-ghost use Rattle.record.specs.Laying.{Under, FieldsFrom, RecordIs, Read, CopybookRows};
+ghost use Rattle.record.specs.Laying.{Under, FieldsFrom, LaidIn, laid_of, Read};
 
-use definition::{Check, DEEPEST, Refusal};
-use layout::LaidList;
-use tree::RowsRead;
+use definition::{DEEPEST, Refusal};
+use rows::Rows;
+use table::Item;
 
 // ---------------------------------------------------------------- the rows
 
-// Checks what a caller lends and reads the text into rows of work memory, with the counts of the rows below them and
-// the fingerprints of their names, or says why not: 1, 2, 3, then 50, then the statements' 10 to 14. Every entry that
-// speaks of a copybook's record starts so.
-pub fn read_rows(text: &[u8], work: &mut [u32]) -> RowsRead
-    ensures { CopybookRows text.now result work.new }
+/// Checks what a caller lends and reads the text into rows of work memory, with the counts of the rows below them and
+/// the fingerprints of their names, and answers how many they are; or says why not: 1, 2, 3, then 50, then the
+/// statements' 10 to 14. Every entry that speaks of a copybook's record starts so.
+pub fn read_rows(text: &[u8], work: &mut [u32]) -> Result<usize, Refusal>
+    ensures { MatchResult result (λ n. Read text.now work.new n)
+        (λ r. record_fields text.now (length work.new) ≡ Err r) }
 {
-    match text::entry_checks(text, work.len()) {
-        Check::Passed => {}
-        Check::Refused(r) => {
-            return RowsRead::Refused(r);
-        }
-    }
-    match tree::read_rows(text, work) {
-        RowsRead::Rows(n) => {
-            places::count_below(work, n);
-            redefines::put_prints(text, work, n);
-            return RowsRead::Rows(n);
-        }
-        RowsRead::Refused(r) => {
-            return RowsRead::Refused(r);
-        }
-    }
+    text::entry_checks(text, work.len())?;
+    let n = tree::read_rows(text, work)?;
+    places::count_below(work, n);
+    redefines::put_prints(text, work, n);
+    Ok(n)
 }
 
-// How many rows are few: for no more a small table of entries will do, which is sooner cleared.
+/// How many rows are few: for no more a small table of entries will do, which is sooner made.
 pub const FEW_ROWS: usize = 128;
 
-// How many numbers a table needs for few rows, and for as many as there may be.
-pub const FEW_ENTRIES: usize = 1344;
+/// How many entries a table needs for few rows, and for as many as there may be.
+pub const FEW_ENTRIES: usize = 192;
 
-pub const ENTRIES: usize = 8400;
+pub const ENTRIES: usize = 1200;
 
 // ---------------------------------------------------------------- a record
 
-// The rows that hold a record, its length, and how many entries its table has, in all and at the top; or why it is
-// refused.
+/// The rows that hold a record, its length, and how many entries its table has, in all and at the top.
 #[derive(Clone, Copy)]
-pub enum RecordLaid {
-    Record {
-        from: usize,
-        to: usize,
-        length: usize,
-        count: usize,
-        top: usize,
-    },
-    Refused(Refusal),
+pub struct Record {
+    pub from: usize,
+    pub to: usize,
+    pub length: usize,
+    pub count: usize,
+    pub top: usize,
 }
 
-// The first row of the fields of a record that has n rows: an only root with children is dropped.
-pub fn first_field(work: &[u32], n: usize) -> usize
-    requires { (ROW * n ≤ length work.now) × BelowCounted work.now 0 (rows_forest work.now 0 n) }
-    ensures { FieldsFrom work.now n result }
+/// The first row of the fields of a record: an only root with children is dropped.
+pub fn first_field(rows: Rows) -> usize
+    requires { BelowCounted rows.work.now 0 (rows_forest rows.work.now 0 rows.count) }
+    ensures { FieldsFrom rows.entry.work.now rows.entry.count result }
 {
+    let n = rows.count;
     if n < 2 {
         return 0;
     }
-    if places::next_of(work, 0, n) < n {
-        return 0;
+    if places::next_of(rows, 0, n) < n {
+        0
+    } else {
+        1
     }
-    1
 }
 
-// Lays out the fields in the rows from `from` up to `to`: their places, then 30, then 29 for an end in the folded list.
+// Kept: work memory and its rows – no plainer: a struct over a `&mut` asks three clauses a method.
+/// Lays out the fields in the rows from `from` up to `to`: their places, then 30, then 29 for an end in the folded
+/// list.
 pub fn lay_fields(
     text: &[u8],
     work: &mut [u32],
-    entries: &mut [u32],
+    entries: &mut [Item],
     from: usize,
     to: usize,
-) -> RecordLaid
+) -> Result<Record, Refusal>
     requires { (from ≤ to) × Room text.now work.old from to × (to ≤ most_statements) × Roomy entries.old to
         × Under work.old from from (rows_forest work.old from to) }
-    ensures { RecordIs text.now (give (rows_forest work.old from to)) result
-        work.new entries.new }
+    ensures { MatchResult result (LaidIn text.now (Ok (rows_forest work.old from to)) work.new entries.new)
+        (λ r. laid_of text.now (Ok (rows_forest work.old from to)) ≡ Err r) }
 {
-    match layout::lay_list(text, work, from, to, DEEPEST) {
-        LaidList::Done { width, last } => match unions::fold_check(text, work, from, to) {
-            Check::Passed => {
-                unions::link_unions(work, from, to);
-                let made = entries::make_entries(text, work, from, to, entries);
-                let count = made.next;
-                match table::ends_fit(work, entries, count) {
-                    Check::Passed => {
-                        return RecordLaid::Record {
-                            from,
-                            to,
-                            length: table::record_length(work, entries, count),
-                            count,
-                            top: made.count,
-                        };
-                    }
-                    Check::Refused(r) => {
-                        return RecordLaid::Refused(r);
-                    }
-                }
-            }
-            Check::Refused(r) => {
-                return RecordLaid::Refused(r);
-            }
-        },
-        LaidList::Refused(r) => {
-            return RecordLaid::Refused(r);
-        }
-    }
+    layout::lay_list(text, work, from, to, DEEPEST)?;
+    unions::fold_check(text, Rows::new(work, to), from, to)?;
+    unions::link_unions(work, from, to);
+    let rows = Rows::new(work, to);
+    let made = entries::make_entries(text, rows, from, to, entries);
+    let listed = &entries[..made.next];
+    table::ends_fit(rows, listed)?;
+    Ok(Record {
+        from,
+        to,
+        length: table::record_length(rows, listed),
+        count: made.next,
+        top: made.count,
+    })
 }
 
-// Lays out the record that was read into n rows, or says why not: 20 to 30 and 52. The table has room for the entries
-// of so many rows.
-pub fn lay_record(text: &[u8], work: &mut [u32], n: usize, entries: &mut [u32]) -> RecordLaid
+// Kept: work memory and how many rows – no plainer: a struct over a `&mut` asks three clauses a method.
+/// Lays out the record that was read into n rows, or says why not: 20 to 30 and 52. The table has room for the entries
+/// of so many rows.
+pub fn lay_record(
+    text: &[u8],
+    work: &mut [u32],
+    n: usize,
+    entries: &mut [Item],
+) -> Result<Record, Refusal>
     requires { Read text.now work.old n × Roomy entries.old n }
-    ensures { RecordIs text.now (record_fields text.now (length work.old)) result
-        work.new entries.new }
+    ensures { MatchResult result (LaidIn text.now (record_fields text.now (length work.old)) work.new entries.new)
+        (λ r. laid_of text.now (record_fields text.now (length work.old)) ≡ Err r) }
 {
-    let from = first_field(work, n);
+    let from = first_field(Rows::new(work, n));
     lay_fields(text, work, entries, from, n)
 }

@@ -1,7 +1,7 @@
--- `answers::extract` meets its contract: the extract, and work memory cleared.
-use Rattle.answers.proofs.CallLaws.{extract-call}
+-- `answers::extract` meets its contract.
+use Rattle.answers.proofs.Same.{extract-call}
 use Rattle.answers.proofs.extract.Goals as goal
 
 pub returns : goal.returns
-returns c = extract-call c.args.text.now c.args.weights.now c.args.work.now c.extract_of-chosen.new.work c.clear.ensures
-    c.extract_of-chosen.auto.work c.args.limit c.args.budget c.extract_of-chosen.result c.extract_of-chosen.ensures
+returns c =
+    extract-call (record { weights = c.args.weights; limit = c.args.limit; budget = c.args.budget }) c.args.text.now c.args.work.now c.answer.ensures

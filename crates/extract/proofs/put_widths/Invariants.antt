@@ -1,10 +1,6 @@
--- `extract::put_widths` meets its contract: what is stored, and what is left of the rows, make the widths.
-use Prim.Native.Nat.{◌-◌}
+-- What is stored, and what is left of the rows, make the widths.
 use Rattle.extract.proofs.GatherLaws.{Gathering}
 use Rattle.extract.proofs.put_widths.Given as goal
 
-abbrev pub invariant-loop-k : goal.invariant-loop-k
-invariant-loop-k l = Gathering l.work l.from l.to l.initial.widths l.widths l.k l.i
-
-abbrev pub decreases-loop-k : goal.decreases-loop-k
-decreases-loop-k l = l.to - l.k
+abbrev pub invariant-loop-width : goal.invariant-loop-width
+invariant-loop-width l = Gathering l.rows.work.now l.from l.rows.count l.widths l.k l.width-index

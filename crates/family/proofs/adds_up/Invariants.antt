@@ -1,11 +1,6 @@
--- `family::adds_up` meets its contract: each length is taken off what is left.
-use Prim.Native.Nat.{◌-◌}
-use lib.ListN.{length}
-use Rattle.family.proofs.SetLaws.{Adding}
+use Rattle.std.proofs.Common.{◌≡◌, eqb, drop}
+use Rattle.definition.specs.Basic.{sum}
 use Rattle.family.proofs.adds_up.Given as goal
 
-abbrev pub invariant-loop-i : goal.invariant-loop-i
-invariant-loop-i l = Adding l.lengths l.n l.left l.i
-
-abbrev pub decreases-loop-i : goal.decreases-loop-i
-decreases-loop-i l = length l.lengths - l.i
+abbrev pub invariant-loop-len : goal.invariant-loop-len
+invariant-loop-len l = eqb (sum l.lengths) l.n ≡ eqb (sum (drop l.len-index l.lengths)) l.left

@@ -1,32 +1,38 @@
-use native.Mathlib.Omega.{arith}
-use Rattle.family.proofs.SetLaws.{agreeing-starts, agreeing-ends, agreeing-on, agreeing-refused}
-use Rattle.family.proofs.SetLaws.{next_fits, next-part}
+-- `family::later_agree` meets its contract: copybook by copybook, each before the rest.
+use Rattle.std.proofs.Common.{◌≡◌, ◌∙◌, sym, ap, arith, ◌&&◌, length, drop, get_or, length-drop}
+use Rattle.std.proofs.lemmas.Result.{err_from_is_err_and}
+use Rattle.definition.specs.Key.{agree}
+use Rattle.key.specs.Sought.{found_key}
+use Rattle.family.proofs.SetLaws.{sum_next, agree_refused, agree_on, agree_last}
 use Rattle.family.proofs.later_agree.Goals as goal
+use Rattle.family.proofs.later_agree.Goals.{then-agreed, else-agreed}
 
-pub bounds-lengths-0 : goal.bounds-lengths-0
-bounds-lengths-0 c = omega (arith, c.requires.some-there)
+pub split_at-requires : goal.split_at-requires
+split_at-requires c = omega (arith, c.loop-len.invariant.fits, sum_next c.args.lengths.now c.loop-len.len-index c.loop-len-test.true)
 
-pub loop-i-init : goal.loop-i-init
-loop-i-init c = agreeing-starts c.requires c.args.name.now c.args.first c.args.work.now
+pub returns-in_err-found : goal.returns-in_err-found
+returns-in_err-found c =
+    let p = err_from_is_err_and c.from_residual.result c.from_residual.ensures.1 in
+    let a = c.args in
+    let l = c.loop-len in
+    rw (p.1, p.2) (agree_refused (length a.work.now) a.name.now (found_key a.text.now a.first) l.agreed a.lengths.now l.rest.now c.loop-len-test.true l.auto.work c.split_at.ensures.front c.split_at.ensures.back c.in_err-found.ensures ∙ sym l.invariant.same)
 
-pub overflow_add-end : goal.overflow_add-end
-overflow_add-end c = omega (arith, next_fits c.loop-i.invariant c.loop-i-test.true)
-
-pub next_agrees-requires : goal.next_agrees-requires
-next_agrees-requires c = next-part c.loop-i.invariant c.loop-i-test.true
-
-pub shape_of-work-in-Refused : goal.shape_of-work-in-Refused
-shape_of-work-in-Refused c = omega (arith, c.loop-i.invariant.kept, c.next_agrees.auto.work)
-
-pub returns-in-Refused : goal.returns-in-Refused
-returns-in-Refused c = agreeing-refused c.loop-i.invariant c.loop-i-test.true c.next_agrees.result c.next_agrees.ensures c.in-Refused.is
-
-pub loop-i-preserved : goal.loop-i-preserved
-loop-i-preserved c = agreeing-on c.loop-i.invariant c.loop-i-test.true c.next_agrees.result c.next_agrees.ensures c.in-So.is
-    c.next_agrees.auto.work
-
-pub shape_of-work : goal.shape_of-work
-shape_of-work c = omega (arith, c.loop-i.invariant.kept)
+pub loop-len-preserved : goal.loop-len-preserved
+loop-len-preserved c =
+    let l = c.loop-len in
+    let a = c.args in
+    let so : c.if-agreed.agreed ≡ (l.agreed && agree (found_key a.text.now a.first) (found_key c.split_at.result.0.now c.in_ok-found.found)) = elim c.if-agreed.branch [
+      | then-agreed w ↦ w.agreed-is ∙ w.agrees-agreed.ensures ∙ rw w.if-agreed.true
+      | else-agreed w ↦ w.agreed-is ∙ rw w.if-agreed.false
+    ] in
+    let behind : c.if-agreed.rest.now ≡ drop (get_or a.lengths.now l.len-index 0) l.rest.now = elim c.if-agreed.branch [
+      | then-agreed w ↦ ap (λ r. r.now) w.rest-is ∙ c.split_at.ensures.back
+      | else-agreed w ↦ ap (λ r. r.now) w.rest-is ∙ c.split_at.ensures.back
+    ] in
+    record {
+      fits = omega (arith, l.invariant.fits, sum_next a.lengths.now l.len-index c.loop-len-test.true, ap length behind, length-drop (get_or a.lengths.now l.len-index 0) l.rest.now);
+      same = l.invariant.same ∙ agree_on (length a.work.now) a.name.now (found_key a.text.now a.first) l.agreed a.lengths.now l.rest.now c.loop-len-test.true l.auto.work c.split_at.ensures.front behind c.in_ok-found.ensures so;
+    }
 
 pub returns : goal.returns
-returns c = agreeing-ends c.loop-i.invariant c.loop-i-test.false
+returns c = let l = c.loop-len in sym (l.invariant.same ∙ agree_last (length c.args.work.now) c.args.name.now (found_key c.args.text.now c.args.first) l.agreed c.args.lengths.now l.len-index l.rest.now c.loop-len-test.false)

@@ -1,11 +1,18 @@
--- `family::later_agree` meets its contract: copybook by copybook, each at its place.
-use Prim.Native.Nat.{◌-◌}
-use lib.ListN.{length}
-use Rattle.family.proofs.SetLaws.{Agreeing}
+use Rattle.std.proofs.Common.{◌≡◌, ◌≤◌, true, length, drop}
+use Rattle.definition.specs.Basic.{sum}
+use Rattle.definition.specs.Key.{copybooks}
+use Rattle.key.specs.Sought.{found_key}
+use Rattle.family.specs.Sets.{all_agreed}
 use Rattle.family.proofs.later_agree.Given as goal
 
-abbrev pub invariant-loop-i : goal.invariant-loop-i
-invariant-loop-i l = Agreeing l.texts l.lengths (length l.initial.work) l.name l.first l.work l.head l.at l.i l.agreed
-
-abbrev pub decreases-loop-i : goal.decreases-loop-i
-decreases-loop-i l = length l.lengths - l.i
+-- what is left of the lengths and the texts
+abbrev pub invariant-loop-len : goal.invariant-loop-len
+invariant-loop-len l =
+    let n = length l.initial.work in
+    let a = found_key l.text l.first in
+    record {
+      fits : sum (drop l.len-index l.lengths) ≤ length l.rest;
+      same :
+          all_agreed n l.name a true (copybooks l.lengths l.others)
+          ≡ all_agreed n l.name a l.agreed (copybooks (drop l.len-index l.lengths) l.rest);
+    }

@@ -1,10 +1,11 @@
 -- `key::seek_key` meets its contract: what was found so far, and what is found in the rest.
-use Prim.Native.Nat.{◌-◌}
-use Rattle.key.proofs.SoughtLaws.{Seeking}
+use Rattle.std.proofs.Common.{◌≡◌, false, drop}
+use Rattle.key.specs.declared.Sought.{Sought}
+use Rattle.key.specs.Sought.{sought_in}
+use Rattle.table.specs.Entered.{shown_all}
 use Rattle.key.proofs.seek_key.Given as goal
 
-abbrev pub invariant-loop-k : goal.invariant-loop-k
-invariant-loop-k l = Seeking l.text l.name l.work l.entries l.n l.k l.behind l.found
-
-abbrev pub decreases-loop-k : goal.decreases-loop-k
-decreases-loop-k l = l.n - l.k
+abbrev pub invariant-loop-x : goal.invariant-loop-x
+invariant-loop-x l =
+    sought_in l.text l.name false Sought.Nothing (shown_all l.rows.work.now l.entries)
+    ≡ sought_in l.text l.name l.behind l.found (shown_all l.rows.work.now (drop l.x-index l.entries))

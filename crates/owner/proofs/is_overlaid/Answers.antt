@@ -1,14 +1,7 @@
-use Rattle.owner.proofs.OwnerLaws.{search-starts, search-hits, search-goes-on, search-ends}
+-- `owner::is_overlaid` meets its contract: what one of the rows has is what their forest has.
+use mathlib.Core.Path.{◌∙◌}
+use Rattle.owner.proofs.OwnerLaws.{rows-overlaid}
 use Rattle.owner.proofs.is_overlaid.Goals as goal
 
-pub loop-k-init : goal.loop-k-init
-loop-k-init c = search search-starts
-
-pub returns-then-is_overlay : goal.returns-then-is_overlay
-returns-then-is_overlay c = search search-hits
-
-pub loop-k-preserved : goal.loop-k-preserved
-loop-k-preserved c = search search-goes-on
-
 pub returns : goal.returns
-returns c = search search-ends
+returns c = c.some_overlay.ensures ∙ rows-overlaid c.args.rows.work.now c.args.from c.args.rows.count

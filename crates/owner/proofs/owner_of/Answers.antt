@@ -1,26 +1,33 @@
 -- `owner::owner_of` meets its contract: 40, 41, and what the walk finds; every byte below the record's length has an
 -- owner.
-use Rattle.owner.proofs.OwnerLaws.{listed-walkable, answers-40, answers-41, answers-piece, answers-slack}
-use Rattle.owner.proofs.OwnerLaws.{someone}
+use mathlib.Core.Path.{◌≡◌}
+use native.Mathlib.Omega.{arith}
+use Rattle.definition.specs.declared.Owner.{Owner}
+use Rattle.owner.proofs.OwnerLaws.{listed-walkable, answers-40, answers-41, found, someone}
 use Rattle.owner.proofs.owner_of.Goals as goal
 
-pub is_overlaid-requires : goal.is_overlaid-requires
-is_overlaid-requires c = c.requires.tree.fits
+pub returns-then-is_overlaid-clause-value : goal.returns-then-is_overlaid-clause-value
+returns-then-is_overlaid-clause-value c =
+    let p = rw (c.new-rows.ensures.0, c.new-rows.ensures.1) at c.is_overlaid.ensures in
+    answers-40 c.requires p _ c.if-is_overlaid.true
 
-pub returns-then-is_overlaid : goal.returns-then-is_overlaid
-returns-then-is_overlaid c = search answers-40
-
-pub returns-then-length-position : goal.returns-then-length-position
-returns-then-length-position c = search answers-41
+pub returns-then-laid-position-clause-value : goal.returns-then-laid-position-clause-value
+returns-then-laid-position-clause-value c =
+    let p = rw (c.new-rows.ensures.0, c.new-rows.ensures.1) at c.is_overlaid.ensures in
+    answers-41 c.requires p _ c.if-is_overlaid.false (omega arith)
 
 pub walk_rows-requires : goal.walk_rows-requires
-walk_rows-requires c = listed-walkable c.requires
+walk_rows-requires c = rw (c.new-rows.ensures.0, c.new-rows.ensures.1) (listed-walkable c.requires)
 
-pub returns-in-Piece : goal.returns-in-Piece
-returns-in-Piece c = search answers-piece
+pub returns-clause-value : goal.returns-clause-value
+returns-clause-value c =
+    let p = rw (c.new-rows.ensures.0, c.new-rows.ensures.1) at c.is_overlaid.ensures in
+    let f = rw (c.new-rows.ensures.0, c.new-rows.ensures.1) at c.walk_rows.ensures in
+    found c.requires p _ c.if-is_overlaid.false (omega arith) f
 
-pub returns-in-Slack : goal.returns-in-Slack
-returns-in-Slack c = search answers-slack
-
-pub returns-in-Unowned : goal.returns-in-Unowned
-returns-in-Unowned c = absurd (search someone)
+pub returns-clause-owned : goal.returns-clause-owned
+returns-clause-owned c = λ e.
+    let p = rw (c.new-rows.ensures.0, c.new-rows.ensures.1) at c.is_overlaid.ensures in
+    let f = rw (c.new-rows.ensures.0, c.new-rows.ensures.1) at c.walk_rows.ensures in
+    let unowned : c.walk_rows.result ≡ Owner.Unowned = cc in
+    someone c.requires p _ c.if-is_overlaid.false (omega arith) f unowned

@@ -8,10 +8,12 @@ pub returns-then-n-lt2 : goal.returns-then-n-lt2
 returns-then-n-lt2 c = search few-rows
 
 pub next_of-requires : goal.next_of-requires
-next_of-requires c = counted-numbered c.args.work.now 0 c.args.n c.requires.0 (omega (arith, c.if-n-lt2.false)) c.requires.1
+next_of-requires c =
+    let r = c.args.rows in
+    (omega arith, counted-numbered r.work.now 0 r.count r.fits (omega (arith, c.if-n-lt2.false)) c.requires)
 
 pub returns-then-next_of-n : goal.returns-then-next_of-n
 returns-then-next_of-n c = search roots_kept
 
-pub returns : goal.returns
-returns c = search root-dropped
+pub returns-else-next_of-n : goal.returns-else-next_of-n
+returns-else-next_of-n c = search root-dropped

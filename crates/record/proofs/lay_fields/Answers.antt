@@ -1,33 +1,71 @@
 -- `record::lay_fields` meets its contract: the list that was laid, then its two checks.
-use mathlib.Core.Path.{◌∙◌}
+use Rattle.std.proofs.Common.{refl, arith}
+use Rattle.std.proofs.lemmas.Result.{err_from_is_err_and}
 use Rattle.table.proofs.ListedLaws.{table-long, table-ends}
 use Rattle.unions.proofs.KeptLaws.{unlinked, marked-tree}
 use Rattle.record.proofs.LaidLaws.{laid-ready, list-laid, list-refused, fold-refused, end_refused, laid-listed}
 use Rattle.record.proofs.lay_fields.Goals as goal
 
+pub returns-in_err-lay_list : goal.returns-in_err-lay_list
+returns-in_err-lay_list c =
+    let a = c.args in
+    let p = err_from_is_err_and c.from_residual.result c.from_residual.ensures.1 in
+    rw (p.1, p.2) (list-refused a.text.now a.work.now a.from a.to c.in_err-lay_list.ensures)
+
 pub fold_check-requires : goal.fold_check-requires
-fold_check-requires c = ((laid-ready c.args.text.now c.args.work.now c.args.from c.args.to 0 c.requires.0 c.requires.1.fits (list-laid c.args.text.now c.args.work.now c.args.from c.args.to c.lay_list.new.work c.lay_list.ensures c.requires.0 c.requires.1 c.in-Done.is)).fits, (list-laid c.args.text.now c.args.work.now c.args.from c.args.to c.lay_list.new.work c.lay_list.ensures c.requires.0 c.requires.1 c.in-Done.is).held.linked)
+fold_check-requires c =
+    let a = c.args in
+    let n = list-laid a.text.now a.work.now a.from a.to c.requires.0 c.requires.1 c.in_ok-lay_list.ensures in
+    (omega (arith, c.new.ensures.1), rw c.new.ensures.0 n.held.linked)
+
+pub returns-in_err-fold_check : goal.returns-in_err-fold_check
+returns-in_err-fold_check c =
+    let a = c.args in
+    let n = list-laid a.text.now a.work.now a.from a.to c.requires.0 c.requires.1 c.in_ok-lay_list.ensures in
+    let p = err_from_is_err_and c.from_residual-in_err-fold_check.result c.from_residual-in_err-fold_check.ensures.1 in
+    rw (p.1, p.2) (fold-refused a.text.now a.work.now a.from a.to n (rw c.new.ensures.0 at c.in_err-fold_check.ensures) refl)
 
 pub link_unions-requires : goal.link_unions-requires
-link_unions-requires c = unlinked c.args.text.now c.args.from c.args.to c.requires.0 (laid-ready c.args.text.now c.args.work.now c.args.from c.args.to 0 c.requires.0 c.requires.1.fits (list-laid c.args.text.now c.args.work.now c.args.from c.args.to c.lay_list.new.work c.lay_list.ensures c.requires.0 c.requires.1 c.in-Done.is)) c.requires.2
+link_unions-requires c =
+    let a = c.args in
+    let n = list-laid a.text.now a.work.now a.from a.to c.requires.0 c.requires.1 c.in_ok-lay_list.ensures in
+    let ready = laid-ready a.text.now a.work.now a.from a.to 0 c.requires.0 c.requires.1.fits n in
+    unlinked a.text.now a.from a.to c.requires.0 ready c.requires.2
 
 pub make_entries-made-requires : goal.make_entries-made-requires
-make_entries-made-requires c = ((marked-tree c.args.text.now c.args.from c.args.to c.requires.0 (laid-ready c.args.text.now c.args.work.now c.args.from c.args.to 0 c.requires.0 c.requires.1.fits (list-laid c.args.text.now c.args.work.now c.args.from c.args.to c.lay_list.new.work c.lay_list.ensures c.requires.0 c.requires.1 c.in-Done.is)) c.link_unions.ensures), c.requires.2, c.requires.3)
+make_entries-made-requires c =
+    let a = c.args in
+    let n = list-laid a.text.now a.work.now a.from a.to c.requires.0 c.requires.1 c.in_ok-lay_list.ensures in
+    let ready = laid-ready a.text.now a.work.now a.from a.to 0 c.requires.0 c.requires.1.fits n in
+    let tree = marked-tree a.text.now a.from a.to c.requires.0 ready c.link_unions.ensures in
+    (omega (arith, c.new-rows.ensures.1), rw c.new-rows.ensures.0 tree, c.requires.2, c.requires.3)
 
-pub shape_of-work-in-Passed-ends_fit : goal.shape_of-work-in-Passed-ends_fit
-shape_of-work-in-Passed-ends_fit c = c.link_unions.auto.work ∙ c.lay_list.auto.work
+pub returns-in_err-ends_fit : goal.returns-in_err-ends_fit
+returns-in_err-ends_fit c =
+    let a = c.args in
+    let n = list-laid a.text.now a.work.now a.from a.to c.requires.0 c.requires.1 c.in_ok-lay_list.ensures in
+    let p = err_from_is_err_and c.from_residual-in_err-ends_fit.result c.from_residual-in_err-ends_fit.ensures.1 in
+    let ends = table-ends c.make_entries-made.ensures.entered c.in_err-ends_fit.ensures in
+    rw (p.1, p.2)
+    (end_refused a.text.now a.work.now a.from a.to n (rw c.new.ensures.0 at c.in_ok-fold_check.ensures) refl c.link_unions.ensures
+    (rw c.new-rows.ensures.0 at ends) refl)
 
-pub returns-in-Passed-ends_fit : goal.returns-in-Passed-ends_fit
-returns-in-Passed-ends_fit c = (laid-listed c.args.text.now c.args.work.now c.args.from c.args.to (list-laid c.args.text.now c.args.work.now c.args.from c.args.to c.lay_list.new.work c.lay_list.ensures c.requires.0 c.requires.1 c.in-Done.is) c.fold_check.ensures c.in-Passed.is c.link_unions.ensures (table-ends c.make_entries-made.ensures.0 c.ends_fit.ensures) c.in-Passed-ends_fit.is c.requires.0 c.requires.1.fits c.requires.2 c.requires.4 (table-long c.make_entries-made.ensures.0 c.record_length.ensures), c.make_entries-made.ensures.0, c.make_entries-made.ensures.1)
-
-pub shape_of-work-in-Refused-ends_fit : goal.shape_of-work-in-Refused-ends_fit
-shape_of-work-in-Refused-ends_fit c = c.link_unions.auto.work ∙ c.lay_list.auto.work
-
-pub returns-in-Refused-ends_fit : goal.returns-in-Refused-ends_fit
-returns-in-Refused-ends_fit c = end_refused c.args.text.now c.args.work.now c.args.from c.args.to (list-laid c.args.text.now c.args.work.now c.args.from c.args.to c.lay_list.new.work c.lay_list.ensures c.requires.0 c.requires.1 c.in-Done.is) c.fold_check.ensures c.in-Passed.is c.link_unions.ensures (table-ends c.make_entries-made.ensures.0 c.ends_fit.ensures) c.in-Refused-ends_fit.is
-
-pub returns-in-Refused-fold_check : goal.returns-in-Refused-fold_check
-returns-in-Refused-fold_check c = fold-refused c.args.text.now c.args.work.now c.args.from c.args.to (list-laid c.args.text.now c.args.work.now c.args.from c.args.to c.lay_list.new.work c.lay_list.ensures c.requires.0 c.requires.1 c.in-Done.is) c.fold_check.ensures c.in-Refused-fold_check.is
-
-pub returns-in-Refused : goal.returns-in-Refused
-returns-in-Refused c = list-refused c.args.text.now c.args.work.now c.args.from c.args.to c.lay_list.new.work c.lay_list.ensures c.in-Refused.is
+pub returns : goal.returns
+returns c =
+    let a = c.args in
+    let n = list-laid a.text.now a.work.now a.from a.to c.requires.0 c.requires.1 c.in_ok-lay_list.ensures in
+    let made = c.make_entries-made.ensures in
+    let ends = table-ends made.entered c.in_ok-ends_fit.ensures in
+    let long = table-long made.entered c.record_length.ensures in
+    record {
+      inside = made.inside;
+      laid =
+          record {
+            fits = omega (arith, c.requires.1.fits, c.link_unions.auto.work, c.lay_list.auto.work);
+            listed =
+                laid-listed a.text.now a.work.now a.from a.to n (rw c.new.ensures.0 at c.in_ok-fold_check.ensures) refl c.link_unions.ensures
+                (rw c.new-rows.ensures.0 at ends) refl c.requires.0 c.requires.1.fits c.requires.2 c.requires.4 (rw c.new-rows.ensures.0 at long);
+            entered = rw c.new-rows.ensures.0 at made.entered;
+            tops = rw c.new-rows.ensures.0 at made.count;
+          };
+    }

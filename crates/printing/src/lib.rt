@@ -1,74 +1,22 @@
-// What the programs print on standard output, how they read what they are given, and how they read the bytes of a
-// layout listing back. A place past the end of a listing reads as 0, so nothing is asked of the bytes.
+//! How the programs read what they are given, how they print a part of a text, and how they read the bytes of a layout
+//! listing back. A place past the end of a listing reads as 0, so nothing is asked of the bytes.
 #![tactic(auto)]
 
-ghost use Rattle.std.specs.Prelude.{◌+◌, ◌≤◌, ◌<◌, length};
+pub mod depths;
+
+ghost use Rattle.std.specs.Prelude.{◌≡◌, false, true, length, get_or, MatchOption};
 ghost use Rattle.std.specs.Io.{ReadsAtMost};
+ghost use Rattle.std.specs.Iterator.{at_most};
+ghost use Rattle.definition.specs.Basic.{part};
+ghost use Rattle.printing.specs.Read.{stands, four, span, kind, size, entry, first_entry, behind};
 
-use definition::{Refusal, Span};
-use std::io;
+use definition::Span;
 use std::io::Read;
-
-// ---------------------------------------------------------------- words and numbers
-
-// Prints these bytes.
-pub fn word(rt: &impl Print, s: &[u8]) -> io::Result<()> {
-    rt.write_all(s)
-}
-
-// Prints a number in decimal.
-pub fn number(rt: &impl Print, n: u64) -> io::Result<()> {
-    print!(rt; "{n}")
-}
-
-// Prints a blank and a number.
-pub fn next_number(rt: &impl Print, n: u64) -> io::Result<()> {
-    print!(rt; " {n}")
-}
-
-// Prints the part of the text that a span fills, and the other word where the span has length 0.
-pub fn name(rt: &impl Print, text: &[u8], w: Span, absent: &[u8]) -> io::Result<()> {
-    let start = w.start;
-    let len = w.len;
-    if len == 0 {
-        return word(rt, absent);
-    }
-    if text.len() < start {
-        return word(rt, absent);
-    }
-    if text.len() - start < len {
-        return word(rt, absent);
-    }
-    word(rt, &text[start..start + len])
-}
-
-// Prints a blank and that part or word.
-pub fn next_name(rt: &impl Print, text: &[u8], w: Span, absent: &[u8]) -> io::Result<()> {
-    word(rt, b" ")?;
-    name(rt, text, w, absent)
-}
-
-// Prints a blank and the word for a kind.
-pub fn kind(rt: &impl Print, kind: u8) -> io::Result<()> {
-    match kind {
-        1 => word(rt, b" text"),
-        2 => word(rt, b" int"),
-        3 => word(rt, b" bin"),
-        4 => word(rt, b" dec"),
-        5 => word(rt, b" edit"),
-        7 => word(rt, b" float"),
-        _ => word(rt, b" group"),
-    }
-}
-
-// Prints the line of a refusal: its number and its position.
-pub fn refusal(rt: &impl Print, r: Refusal) -> io::Result<()> {
-    println!(rt; "refused {} {}", r.number, r.position)
-}
+use std::{fmt, io};
 
 // ---------------------------------------------------------------- what is read
 
-// Reads to the start of the buffer until the input ends or the buffer is full, and answers how many bytes stand there.
+/// Reads to the start of the buffer until the input ends or the buffer is full, and answers how many bytes stand there.
 pub fn read_full(input: &mut impl Read, buf: &mut [u8]) -> io::Result<usize>
     ensures { ReadsAtMost result buf.new }
 {
@@ -83,48 +31,48 @@ pub fn read_full(input: &mut impl Read, buf: &mut [u8]) -> io::Result<usize>
     Ok(n)
 }
 
-// ---------------------------------------------------------------- the bytes of a listing
+// ---------------------------------------------------------------- parts of a text
 
-// The most bytes that a listing has: 10, and 98 for each of 800 statements.
+/// The part of a text that a place is, if it is given and lies in the text.
+pub fn part_of(text: &[u8], place: Span) -> Option<&[u8]>
+    ensures { MatchOption result
+        (stands text.now place ≡ false)
+        (λ s. (stands text.now place ≡ true) × (s.now ≡ part text.now place)) }
+{
+    if !place.is_given() {
+        return None;
+    }
+    text.get(place.start..)?.get(..place.len)
+}
+
+// ---------------------------------------------------------------- numbers and places
+
+/// The most bytes that a listing has: 10, and 98 for each of 800 statements.
 pub const MOST: usize = 78410;
 
-fn wide(b: u8) -> u64
-    ensures { result < 256 }
+/// The byte at a place of a listing.
+pub fn byte_at(listing: &[u8], at: usize) -> u8
+    ensures { result ≡ get_or listing.now at 0 }
 {
-    b as u64
+    listing.get(at).copied().unwrap_or(0)
 }
 
-// The byte at a place.
-pub fn byte_at(listing: &[u8], at: usize) -> u8 {
-    if at < listing.len() {
-        return listing[at];
-    }
-    0
-}
-
-// The number in the four bytes at a place.
-pub fn four_at(listing: &[u8], at: usize) -> u64
-    ensures { result < 4294967296 }
+/// The number in the four bytes at a place of a listing.
+pub fn four_at(listing: &[u8], at: usize) -> u32
+    ensures { result ≡ four listing.now at }
 {
-    if listing.len() < 4 {
-        return 0;
+    match listing.get(at..).and_then(|bytes| bytes.first_chunk()) {
+        Some(bytes) => u32::from_le_bytes(*bytes),
+        None => 0,
     }
-    if listing.len() - 4 < at {
-        return 0;
-    }
-    wide(listing[at])
-        + 256 * wide(listing[at + 1])
-        + 65536 * wide(listing[at + 2])
-        + 16777216 * wide(listing[at + 3])
 }
 
-// The start and the length in the eight bytes at a place.
-pub fn span_at(listing: &[u8], at: usize) -> Span {
-    if listing.len() < at {
-        return Span { start: 0, len: 0 };
-    }
-    if listing.len() - at < 8 {
-        return Span { start: 0, len: 0 };
+/// The start and the length in the eight bytes at a place of a listing.
+pub fn span_at(listing: &[u8], at: usize) -> Span
+    ensures { result ≡ span listing.now at }
+{
+    if listing.len() < 8 || listing.len() - 8 < at {
+        return Span::ABSENT;
     }
     Span {
         start: four_at(listing, at) as usize,
@@ -132,70 +80,118 @@ pub fn span_at(listing: &[u8], at: usize) -> Span {
     }
 }
 
-// How many bytes an entry of a kind has, its kind included.
-pub fn entry_size(kind: u8) -> usize
-    ensures { (38 ≤ result) × (result ≤ 49) }
-{
-    match kind {
-        1 => 38,
-        2 => 40,
-        3 => 39,
-        4 => 42,
-        5 => 49,
-        7 => 39,
-        _ => 42,
-    }
+// ---------------------------------------------------------------- entries
+
+/// The kind of an entry.
+#[derive(Clone, Copy, PartialEq)]
+pub enum Kind {
+    Text,
+    Int,
+    Binary,
+    Decimal,
+    Edited,
+    Group,
+    Float,
 }
 
-// ---------------------------------------------------------------- depths
-
-// `left` says how many entries are still to come in each open list, the top list first. A listing has at most 130 lists
-// in one another: 65 of statements, and a fold in each.
-
-// The depth of the next entry: that of the innermost list, up to this depth, in which one is still to come.
-pub fn still_open(left: &[u64; 256], depth: usize) -> usize
-    requires { depth < 256 }
-    ensures { result ≤ depth }
-{
-    let mut d = depth;
-    while 0 < d {
-        if left[d] != 0 {
-            return d;
+impl Kind {
+    /// The kind that a byte of a listing stands for.
+    pub fn from_byte(b: u8) -> Option<Kind>
+        ensures { result ≡ kind b }
+    {
+        match b {
+            1 => Some(Kind::Text),
+            2 => Some(Kind::Int),
+            3 => Some(Kind::Binary),
+            4 => Some(Kind::Decimal),
+            5 => Some(Kind::Edited),
+            6 => Some(Kind::Group),
+            7 => Some(Kind::Float),
+            _ => None,
         }
-        d -= 1;
     }
-    0
+
+    /// How many bytes an entry of this kind has, its kind's byte included.
+    pub fn size(self) -> usize
+        ensures { result ≡ size self }
+    {
+        match self {
+            Kind::Text => 38,
+            Kind::Int => 40,
+            Kind::Binary => 39,
+            Kind::Decimal => 42,
+            Kind::Edited => 49,
+            Kind::Group => 42,
+            Kind::Float => 39,
+        }
+    }
 }
 
-// One entry less to come in the list at a depth.
-fn take_entry(left: &mut [u64; 256], depth: usize)
-    requires { depth < 256 }
-{
-    if left[depth] != 0 {
-        left[depth] -= 1;
+impl fmt::Display for Kind {
+    fn fmt<W: fmt::Write>(&self, f: &mut fmt::Formatter<W>) -> fmt::Result {
+        f.write_str(match self {
+            Kind::Text => "text",
+            Kind::Int => "int",
+            Kind::Binary => "bin",
+            Kind::Decimal => "dec",
+            Kind::Edited => "edit",
+            Kind::Group => "group",
+            Kind::Float => "float",
+        })
     }
 }
 
-// Opens the list of a group's members below a depth, and answers how deep the next entry is.
-fn open_group(left: &mut [u64; 256], depth: usize, members: u64) -> usize
-    requires { depth < 256 }
-    ensures { result < 256 }
-{
-    if 255 <= depth {
-        return depth;
-    }
-    left[depth + 1] = members;
-    depth + 1
+/// An entry of a listing: names are places of the text, offset and width are bytes, and a group has so many members.
+#[derive(Clone, Copy)]
+pub struct Entry {
+    pub kind: Kind,
+    pub name: Span,
+    pub offset: u32,
+    pub width: u32,
+    pub occurs: Option<u32>,
+    pub depending: Span,
+    pub redefines: Span,
+    pub members: Option<u32>,
 }
 
-// The depth after the entry at a place, which stands at a depth.
-pub fn depth_after(listing: &[u8], at: usize, left: &mut [u64; 256], depth: usize) -> usize
-    requires { (at + 38 ≤ length listing.now) × (depth < 256) }
-    ensures { result < 256 }
-{
-    take_entry(left, depth);
-    if listing[at] == 6 {
-        return open_group(left, depth, four_at(listing, at + 38));
+impl Entry {
+    /// The entry of a kind that these bytes begin with.
+    fn read(kind: Kind, bytes: &[u8]) -> Entry
+        ensures { result ≡ entry kind bytes.now }
+    {
+        Entry {
+            kind,
+            name: span_at(bytes, 1),
+            offset: four_at(bytes, 9),
+            width: four_at(bytes, 13),
+            occurs: (byte_at(bytes, 17) != 0).then_some(four_at(bytes, 18)),
+            depending: span_at(bytes, 22),
+            redefines: span_at(bytes, 30),
+            members: (kind == Kind::Group).then_some(four_at(bytes, 38)),
+        }
     }
-    depth
+}
+
+/// The entries that these bytes of a listing hold, one after the other, up to the first that is not whole.
+#[derive(Clone, Copy)]
+pub struct Entries<'a> {
+    pub bytes: &'a [u8],
+}
+
+impl<'a> Iterator for Entries<'a> {
+    type Item = Entry;
+
+    ghost next_gives = { λ s r t. (r ≡ first_entry s.bytes.now) × (t.bytes.now ≡ behind r s.bytes.now) };
+
+    ghost remaining = { λ s. at_most (length s.bytes.now) };
+
+    fn next(&mut self) -> Option<Entry> {
+        let bytes = self.bytes;
+        let kind = Kind::from_byte(byte_at(bytes, 0))?;
+        if bytes.len() < kind.size() {
+            return None;
+        }
+        self.bytes = &bytes[kind.size()..];
+        Some(Entry::read(kind, bytes))
+    }
 }

@@ -1,1 +1,5 @@
-pub mod Places
+pub mod Answers
+pub mod Inputs
+pub mod Lent
+pub mod Tallies
+pub mod Words

@@ -1,276 +1,163 @@
-// Answers to pictures: picture/pictures.txt has the Rust's, picture/document.txt and limits.txt those of documents 01
-// and 02 that the Rust cannot give. A case of the first: usage, sign, picture, and the Rust's answer, which ends in the
-// mask where the picture is edited under DISPLAY. A case of the second: usage, sign, picture, length of the output; the
-// answer of `parse_pic`, with a refusal's position; and the answer of `mask`, its length and bytes, or a refusal's
-// number, position and needed length. Usage and sign are numbered as in tools/oracle.
-ghost use Rattle.std.specs.Prelude.{◌≤◌, ◌≡◌, length};
-ghost use Rattle.replay.specs.Places.{Inside};
+//! Answers to pictures: picture/pictures.txt has the Rust's, picture/document.txt and limits.txt those of documents 01
+//! and 02 that the Rust cannot give. A case of the first: usage, sign, picture, and the Rust's answer, which ends in
+//! the mask where the picture is edited under DISPLAY. A case of the second: usage, sign, picture, length of the
+//! output; the answer of `parse_pic`, with a refusal's position; and the answer of `mask`, its length and bytes, or a
+//! refusal's number, position and needed length. Usage and sign are numbered as in tools/oracle.
+ghost use Rattle.std.specs.Prelude.{◌≡◌};
 
-use definition::{FieldKind, PicAnswer, SignClause, Usage, Writing};
-use replay::Reached;
+use definition::{FieldKind, SignKind, Usage};
+use kinds::Coded;
+use replay::case::{Case, Differs, only};
+use replay::lent::{is_untouched, write_pattern};
 
-// The most bytes that a mask is given room for.
+/// The most bytes that a mask is given room for.
 const ROOM: usize = 300;
+
+/// Whose answers a list has.
+#[derive(Clone, Copy)]
+pub enum Source {
+    Rust,
+    Document,
+}
+
+/// A picture, and the usage and the sign that it is read with.
+#[derive(Clone, Copy)]
+struct Asked<'a> {
+    picture: &'a [u8],
+    usage: Usage,
+    sign: Option<SignKind>,
+}
 
 // ---------------------------------------------------------------- one answer
 
-// Goes on where the next words are the kind and its details.
-fn kind(list: &[u8], p: Reached, k: FieldKind) -> Reached
-    requires { Inside list.now p }
-    ensures { Inside list.now result }
+/// Goes on where the next words are the kind and its details.
+fn kind(case: &mut Case, kind: FieldKind) -> Result<(), Differs>
+    ensures { case.new.list ≡ case.old.list }
 {
-    match k {
-        FieldKind::Text => {
-            return replay::number(list, p, 1);
-        }
-        FieldKind::Int { signed, sign } => {
-            let p = replay::number(list, p, 2);
-            let p = replay::flag(list, p, signed);
-            return replay::number(list, p, kinds::sign_byte(sign) as u64);
-        }
-        FieldKind::Binary { signed } => {
-            let p = replay::number(list, p, 3);
-            return replay::flag(list, p, signed);
-        }
+    match kind {
+        FieldKind::Text => case.bytes(&[1]),
+        FieldKind::Int { signed, sign } => case.bytes(&[2, signed.code(), sign.code()]),
+        FieldKind::Binary { signed } => case.bytes(&[3, signed.code()]),
         FieldKind::Decimal {
             precision,
             scale,
             repr,
             sign,
-        } => {
-            let p = replay::number(list, p, 4);
-            let p = replay::byte(list, p, precision);
-            let p = replay::byte(list, p, scale);
-            let p = replay::number(list, p, kinds::storage_byte(repr) as u64);
-            return replay::number(list, p, kinds::sign_byte(sign) as u64);
-        }
+        } => case.bytes(&[4, precision, scale, repr.code(), sign.code()]),
         FieldKind::Edited {
             precision,
             scale,
             signed,
-        } => {
-            let p = replay::number(list, p, 5);
-            let p = replay::byte(list, p, precision);
-            let p = replay::byte(list, p, scale);
-            return replay::flag(list, p, signed);
-        }
-        FieldKind::Group => {
-            return Reached::Differs;
-        }
-        FieldKind::Float { bits: _ } => {
-            return Reached::Differs;
-        }
+        } => case.bytes(&[5, precision, scale, signed.code()]),
+        FieldKind::Group | FieldKind::Float { .. } => Err(Differs),
     }
 }
 
-// Whether the kind is edited.
-fn is_edited(k: FieldKind) -> bool {
-    match k {
-        FieldKind::Text => false,
-        FieldKind::Int { signed: _, sign: _ } => false,
-        FieldKind::Binary { signed: _ } => false,
-        FieldKind::Decimal {
-            precision: _,
-            scale: _,
-            repr: _,
-            sign: _,
-        } => false,
-        FieldKind::Edited {
-            precision: _,
-            scale: _,
-            signed: _,
-        } => true,
-        FieldKind::Group => false,
-        FieldKind::Float { bits: _ } => false,
-    }
-}
-
-// An output with room for every mask, as it is before a call.
-fn lent_output() -> [u8; ROOM]
-    ensures { length result ≡ 300 }
-{
-    let mut out = [0u8; ROOM];
-    replay::write_pattern(&mut out);
+/// An output with room for every mask, as it is before a call.
+fn lent_output() -> [u8; ROOM] {
+    let mut out = [0; ROOM];
+    write_pattern(&mut out);
     out
 }
 
 // ---------------------------------------------------------------- a case of the Rust's list
 
-// Goes on where the mask is the one of the next words, if the picture is edited under DISPLAY, and has length 0 if not.
-fn rust_mask(list: &[u8], p: Reached, picture: &[u8], usage: Usage, edited: bool) -> Reached
-    requires { Inside list.now p }
-    ensures { Inside list.now result }
+/// Goes on where the mask is the one of the next words, if the picture is edited under DISPLAY, and has length 0 if
+/// not.
+fn rust_mask(case: &mut Case, asked: Asked, edited: bool) -> Result<(), Differs>
+    ensures { case.new.list ≡ case.old.list }
 {
     let mut out = lent_output();
-    match copybook::mask(picture, usage, &mut out) {
-        Writing::Written(n) => {
-            if edited {
-                return replay::written(list, p, &out, n);
-            }
-            let p = replay::only(list, p, n == 0);
-            return replay::only(list, p, replay::is_untouched(&out, 0));
-        }
-        Writing::Refused(_) => {
-            return Reached::Differs;
-        }
+    match copybook::mask(asked.picture, asked.usage, &mut out) {
+        Ok(n) if edited => case.written(&out, n),
+        Ok(n) => only(n == 0 && is_untouched(&out, 0)),
+        Err(_) => Err(Differs),
     }
 }
 
-// Whether the mask is refused with this number at position 0, and the output is untouched.
-fn is_mask_refused(picture: &[u8], usage: Usage, number: u32) -> bool {
+/// Goes on where the mask is refused with this number at position 0, and the output is untouched.
+fn mask_refused(asked: Asked, number: u32) -> Result<(), Differs> {
     let mut out = lent_output();
-    match copybook::mask(picture, usage, &mut out) {
-        Writing::Written(_) => {
-            return false;
-        }
-        Writing::Refused(r) => {
-            if r.number != number {
-                return false;
-            }
-            if r.position != 0 {
-                return false;
-            }
-            if r.needed != 0 {
-                return false;
-            }
-            return replay::is_untouched(&out, 0);
-        }
+    match copybook::mask(asked.picture, asked.usage, &mut out) {
+        Ok(_) => Err(Differs),
+        Err(r) => only(
+            r.number() == number && r.position() == 0 && r.needed() == 0 && is_untouched(&out, 0),
+        ),
     }
 }
 
-// Goes on where the answers of `parse_pic` and `mask` are those of the next words.
-fn rust_answer(list: &[u8], p: Reached, picture: &[u8], usage: Usage, sign: SignClause) -> Reached
-    requires { Inside list.now p }
-    ensures { Inside list.now result }
+/// Goes on where the answers of `parse_pic` and `mask` are those of the next words.
+fn rust_answer(case: &mut Case, asked: Asked) -> Result<(), Differs>
+    ensures { case.new.list ≡ case.old.list }
 {
-    match copybook::parse_pic(picture, usage, sign) {
-        PicAnswer::Accepted(a) => {
-            let k = a.kind;
-            let p = replay::number(list, p, 1);
-            let p = replay::number(list, p, a.width as u64);
-            let p = kind(list, p, k);
-            return rust_mask(list, p, picture, usage, is_edited(k));
+    match copybook::parse_pic(asked.picture, asked.usage, asked.sign) {
+        Ok(a) => {
+            case.numbers(&[1, a.width as u64])?;
+            kind(case, a.kind)?;
+            rust_mask(case, asked, matches!(a.kind, FieldKind::Edited { .. }))
         }
-        PicAnswer::Refused(r) => {
-            let p = replay::number(list, p, 0);
-            let p = replay::number(list, p, r.number as u64);
-            let p = replay::only(list, p, r.position == 0);
-            let p = replay::only(list, p, r.needed == 0);
-            return replay::only(list, p, is_mask_refused(picture, usage, r.number));
+        Err(r) => {
+            case.numbers(&[0, u64::from(r.number())])?;
+            only(r.position() == 0 && r.needed() == 0)?;
+            mask_refused(asked, r.number())
         }
     }
 }
 
 // ---------------------------------------------------------------- a case of the document's list
 
-// Goes on where the answer of `parse_pic` is that of the next words.
-fn document_picture(
-    list: &[u8],
-    p: Reached,
-    picture: &[u8],
-    usage: Usage,
-    sign: SignClause,
-) -> Reached
-    requires { Inside list.now p }
-    ensures { Inside list.now result }
+/// Goes on where the answer of `parse_pic` is that of the next words.
+fn document_picture(case: &mut Case, asked: Asked) -> Result<(), Differs>
+    ensures { case.new.list ≡ case.old.list }
 {
-    match copybook::parse_pic(picture, usage, sign) {
-        PicAnswer::Accepted(a) => {
-            let k = a.kind;
-            let p = replay::number(list, p, 1);
-            let p = replay::number(list, p, a.width as u64);
-            return kind(list, p, k);
+    match copybook::parse_pic(asked.picture, asked.usage, asked.sign) {
+        Ok(a) => {
+            case.numbers(&[1, a.width as u64])?;
+            kind(case, a.kind)
         }
-        PicAnswer::Refused(r) => {
-            return replay::refusal(list, p, r);
-        }
+        Err(r) => case.refusal(r),
     }
 }
 
-// Goes on where the answer of `mask`, whose output ends at a place of these bytes, is that of the next words.
-fn mask_within(
-    list: &[u8],
-    p: Reached,
-    picture: &[u8],
-    usage: Usage,
-    out: &mut [u8],
-    end: usize,
-) -> Reached
-    requires { Inside list.now p × (end ≤ length out.old) }
-    ensures { Inside list.now result }
+/// Goes on where the answer of `mask`, with so much room, is that of the next words.
+fn document_mask(case: &mut Case, asked: Asked, room: u64) -> Result<(), Differs>
+    ensures { case.new.list ≡ case.old.list }
 {
-    let w = copybook::mask(picture, usage, &mut out[0..end]);
-    replay::writing(list, p, w, out)
-}
-
-// Goes on where the answer of `mask`, with so much room, is that of the next words.
-fn document_mask(list: &[u8], p: Reached, picture: &[u8], usage: Usage, room: u64) -> Reached
-    requires { Inside list.now p }
-    ensures { Inside list.now result }
-{
-    if (ROOM as u64) < room {
-        return Reached::Differs;
+    if room > ROOM as u64 {
+        return Err(Differs);
     }
     let mut out = lent_output();
-    mask_within(list, p, picture, usage, &mut out, room as usize)
+    let answer = copybook::mask(asked.picture, asked.usage, &mut out[..room as usize]);
+    case.writing(answer, &out)
 }
 
-// Goes on where the next words are the room for the mask, and the answers of `parse_pic` and `mask`.
-fn document_answer(
-    list: &[u8],
-    p: Reached,
-    picture: &[u8],
-    usage: Usage,
-    sign: SignClause,
-) -> Reached
-    requires { Inside list.now p }
-    ensures { Inside list.now result }
+/// Goes on where the next words are the room for the mask, and the answers of `parse_pic` and `mask`.
+fn document_answer(case: &mut Case, asked: Asked) -> Result<(), Differs>
+    ensures { case.new.list ≡ case.old.list }
 {
-    let room = replay::take_number(list, p);
-    let place = room.place;
-    let p = document_picture(list, place, picture, usage, sign);
-    document_mask(list, p, picture, usage, room.value)
+    let room = case.take_number()?;
+    document_picture(case, asked)?;
+    document_mask(case, asked, room)
 }
 
 // ---------------------------------------------------------------- a case
 
-// Goes on where the next words are the answer to a picture, in the document's list or in the Rust's.
-fn answer(
-    list: &[u8],
-    p: Reached,
-    picture: &[u8],
-    usage: Usage,
-    sign: SignClause,
-    document: bool,
-) -> Reached
-    requires { Inside list.now p }
-    ensures { Inside list.now result }
+/// Goes on where the next words ask and answer, in a list of that source, with so many X before the picture.
+pub fn replay(case: &mut Case, source: Source, before: usize) -> Result<(), Differs>
+    ensures { case.new.list ≡ case.old.list }
 {
-    if document {
-        return document_answer(list, p, picture, usage, sign);
+    let mut room = [b'X'; 65536];
+    let usage = Usage::at((case.take_number()? % 256) as u8);
+    let sign = kinds::clause_at((case.take_number()? % 256) as u8);
+    let picture = case.input(&mut room, before)?;
+    let asked = Asked {
+        picture,
+        usage,
+        sign,
+    };
+    match source {
+        Source::Rust => rust_answer(case, asked)?,
+        Source::Document => document_answer(case, asked)?,
     }
-    rust_answer(list, p, picture, usage, sign)
-}
-
-// Whether the next words ask and answer, with so many X before the picture.
-pub fn is_agreed(list: &[u8], p: Reached, before: usize, document: bool) -> bool
-    requires { Inside list.now p }
-{
-    let mut picture = [b'X'; 65536];
-    let usage = replay::take_number(list, p);
-    let place = usage.place;
-    let sign = replay::take_number(list, place);
-    let place = sign.place;
-    let input = replay::take_input(list, place, &mut picture, before);
-    let place = input.place;
-    let n = input.len;
-    let p = answer(
-        list,
-        place,
-        &picture[..n],
-        kinds::usage_at((usage.value % 256) as u8),
-        kinds::sign_clause_at((sign.value % 256) as u8),
-        document,
-    );
-    replay::is_whole(list, p)
+    case.end()
 }

@@ -1,0 +1,78 @@
+-- What the bytes of a listing say, where they are read back: numbers, places, and an entry's kind and body.
+-- Assumes nothing.
+use Rattle.std.specs.Prelude.{ℕ, ◌+◌, Bool, List, eqb, leb, ◌&&◌, get_or, take, drop, length}
+use Rattle.std.specs.Prelude.{Option, None, Some, if◌then◌else◌}
+use Rattle.std.specs.Int.{w32, from_le_bytes}
+use Rattle.definition.specs.declared.Span.{Span}
+use Rattle.definition.specs.Basic.{given}
+use Rattle.printing.specs.declared.Kind.{Kind}
+use Rattle.printing.specs.declared.Kind.TheVariants.{Text, Int, Binary, Decimal, Edited, Group, Float}
+use Rattle.printing.specs.declared.Entry.{Entry}
+
+-- ---------------------------------------------------------------- places of a text
+
+-- a place is given, and lies in the text
+abbrev pub stands : List ℕ → Span → Bool
+stands text w = given w && leb (w.start + w.len) (length text)
+
+-- ---------------------------------------------------------------- numbers
+
+-- the number in the four bytes from a place on, and 0 where they are not all there
+abbrev pub four : List ℕ → ℕ → ℕ
+four bytes at = if leb (at + 4) (length bytes) then from_le_bytes w32 (take 4 (drop at bytes)) else 0
+
+-- the start and the length in eight bytes, and no place where they are not all there
+abbrev pub span : List ℕ → ℕ → Span
+span bytes at =
+    if leb (at + 8) (length bytes) then record { start = four bytes at; len = four bytes (at + 4) }
+    else record { start = 0; len = 0 }
+
+-- ---------------------------------------------------------------- entries
+
+-- the kind that a byte stands for
+abbrev pub kind : ℕ → Option Kind
+kind n =
+    if eqb n 1 then Some Text else if eqb n 2 then Some Int else if eqb n 3 then Some Binary
+    else if eqb n 4 then Some Decimal else if eqb n 5 then Some Edited else if eqb n 6 then Some Group
+    else if eqb n 7 then Some Float else None
+
+-- how many bytes an entry of a kind has, its kind's byte included
+abbrev pub size : Kind → ℕ
+size Text = 38
+size Int = 40
+size Binary = 39
+size Decimal = 42
+size Edited = 49
+size Group = 42
+size Float = 39
+
+-- how many members a group has
+abbrev pub members : Kind → List ℕ → Option ℕ
+members Group bytes = Some (four bytes 38)
+members k bytes = None
+
+-- the entry of a kind that these bytes begin with
+abbrev pub entry : Kind → List ℕ → Entry
+entry k bytes = record {
+  kind = k;
+  name = span bytes 1;
+  offset = four bytes 9;
+  width = four bytes 13;
+  occurs = if eqb (get_or bytes 17 0) 0 then None else Some (four bytes 18);
+  depending = span bytes 22;
+  redefines = span bytes 30;
+  members = members k bytes;
+}
+
+-- it, if the kind is one and all of it is there
+abbrev pub entry_of : Option Kind → List ℕ → Option Entry
+entry_of None bytes = None
+entry_of (Some k) bytes = if leb (size k) (length bytes) then Some (entry k bytes) else None
+
+abbrev pub first_entry : List ℕ → Option Entry
+first_entry bytes = entry_of (kind (get_or bytes 0 0)) bytes
+
+-- what is left after it
+abbrev pub behind : Option Entry → List ℕ → List ℕ
+behind None bytes = bytes
+behind (Some e) bytes = drop (size e.kind) bytes

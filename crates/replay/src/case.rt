@@ -1,0 +1,211 @@
+//! A list and its cases, read word by word.
+ghost use Rattle.std.specs.Prelude.{◌≡◌, ◌≤◌, length, None, Some, is_ok, MatchResult};
+ghost use Rattle.tokens.specs.Tokens.{at_start};
+ghost use Rattle.replay.specs.Answers.{taken, refusal_numbers, written, writing};
+ghost use Rattle.replay.specs.Words.{ahead, first_word, behind_word, is_end, first_number, told, behind_told};
+ghost use Rattle.replay.specs.Words.{begins, first_case, behind_case};
+
+use crate::input::decode;
+use crate::lent::is_untouched;
+use definition::Refusal;
+use tokens::{Next, Stand};
+
+/// Some word of a case is not the expected one.
+#[derive(Clone, Copy)]
+pub struct Differs;
+
+/// Goes on where a test holds.
+pub fn only(test: bool) -> Result<(), Differs>
+    ensures { is_ok result ≡ test }
+{
+    if test { Ok(()) } else { Err(Differs) }
+}
+
+/// A case of a list, and how far its words are read.
+#[derive(Clone, Copy)]
+pub struct Case<'a> {
+    pub list: &'a [u8],
+    pub stand: Stand,
+    ghost within: { stand.at ≤ length list.now },
+}
+
+impl<'a> Case<'a> {
+    /// The beginning of a list.
+    pub fn first(list: &'a [u8]) -> Case<'a>
+        ensures list { result.list ≡ list.entry }
+        ensures stand { result.stand ≡ at_start }
+    {
+        Case {
+            list,
+            stand: Stand::at_start(),
+        }
+    }
+
+    /// The next word. Where the case has no more, it stays where it is.
+    #[tactic(auto, unfolding(crate::specs::Words::ahead))]
+    pub fn word(&mut self) -> Result<&'a [u8], Differs>
+        ensures list { self.new.list ≡ self.old.list }
+        ensures word { MatchResult result
+            (λ w. first_word self.old.list.now (ahead self.old.list.now self.old.stand) ≡ Some w.now)
+            (λ e. first_word self.old.list.now (ahead self.old.list.now self.old.stand) ≡ None) }
+        ensures behind { ahead self.old.list.now self.new.stand
+            ≡ behind_word (ahead self.old.list.now self.old.stand) }
+    {
+        let mut behind = self.stand;
+        match tokens::next_token(self.list, &mut behind) {
+            Next::Word(word) => {
+                self.stand = behind;
+                Ok(&self.list[word.start..word.start + word.len])
+            }
+            _ => Err(Differs),
+        }
+    }
+
+    /// The next word as a number.
+    pub fn take_number(&mut self) -> Result<u64, Differs>
+        ensures list { self.new.list ≡ self.old.list }
+        ensures number { MatchResult result
+            (λ n. first_number self.old.list.now (ahead self.old.list.now self.old.stand) ≡ Some n)
+            (λ e. first_number self.old.list.now (ahead self.old.list.now self.old.stand) ≡ None) }
+        ensures behind { ahead self.old.list.now self.new.stand
+            ≡ behind_word (ahead self.old.list.now self.old.stand) }
+    {
+        text::count_of(self.word()?).ok_or(Differs)
+    }
+
+    /// Goes on where the next words are these numbers.
+    pub fn numbers(&mut self, expected: &[u64]) -> Result<(), Differs>
+        ensures list { self.new.list ≡ self.old.list }
+        ensures told { is_ok result
+            ≡ told self.old.list.now expected.now (ahead self.old.list.now self.old.stand) }
+        ensures behind { ahead self.old.list.now self.new.stand
+            ≡ behind_told self.old.list.now expected.now (ahead self.old.list.now self.old.stand) }
+    {
+        for n in expected {
+            if self.take_number()? != *n {
+                return Err(Differs);
+            }
+        }
+        Ok(())
+    }
+
+    /// Goes on where the next words are these bytes, as numbers.
+    pub fn bytes(&mut self, expected: &[u8]) -> Result<(), Differs>
+        ensures list { self.new.list ≡ self.old.list }
+        ensures told { is_ok result
+            ≡ told self.old.list.now expected.now (ahead self.old.list.now self.old.stand) }
+        ensures behind { ahead self.old.list.now self.new.stand
+            ≡ behind_told self.old.list.now expected.now (ahead self.old.list.now self.old.stand) }
+    {
+        for b in expected {
+            self.numbers(&[u64::from(*b)])?;
+        }
+        Ok(())
+    }
+
+    /// Goes on where the next words are 0 and a refusal's number, position and needed length.
+    pub fn refusal(&mut self, r: Refusal) -> Result<(), Differs>
+        ensures list { self.new.list ≡ self.old.list }
+        ensures told { is_ok result
+            ≡ told self.old.list.now (refusal_numbers r) (ahead self.old.list.now self.old.stand) }
+        ensures behind { ahead self.old.list.now self.new.stand
+            ≡ behind_told self.old.list.now (refusal_numbers r) (ahead self.old.list.now self.old.stand) }
+    {
+        self.numbers(&[
+            0,
+            u64::from(r.number()),
+            r.position() as u64,
+            r.needed() as u64,
+        ])
+    }
+
+    /// Takes the input that the next word stands for. So many bytes of the output are part of it as they stand, and it
+    /// is written behind them; an input that has no room there differs.
+    pub fn input<'b>(&mut self, out: &'b mut [u8], before: usize) -> Result<&'b [u8], Differs>
+        ensures list { self.new.list ≡ self.old.list }
+        ensures input { MatchResult result
+            (λ s. taken (first_word self.old.list.now (ahead self.old.list.now self.old.stand)) before out.old
+            ≡ Some s.now)
+            (λ e. taken (first_word self.old.list.now (ahead self.old.list.now self.old.stand)) before out.old ≡ None) }
+        ensures behind { ahead self.old.list.now self.new.stand
+            ≡ behind_word (ahead self.old.list.now self.old.stand) }
+    {
+        let word = self.word()?;
+        let n = decode(word, out, before)?;
+        Ok(&out[..n])
+    }
+
+    /// Goes on where the next words are the length and the bytes of what was written to the start of an output, which
+    /// is else untouched.
+    pub fn written(&mut self, out: &[u8], n: usize) -> Result<(), Differs>
+        ensures list { self.new.list ≡ self.old.list }
+        ensures told { is_ok result
+            ≡ written self.old.list.now (ahead self.old.list.now self.old.stand) n out.now }
+    {
+        if out.len() < n {
+            return Err(Differs);
+        }
+        self.numbers(&[n as u64])?;
+        self.bytes(&out[..n])?;
+        only(is_untouched(out, n))
+    }
+
+    /// Goes on where the next words are the answer of a call that writes bytes: 1, their length and the bytes; or a
+    /// refusal, and then the whole output is untouched.
+    pub fn writing(&mut self, answer: Result<usize, Refusal>, out: &[u8]) -> Result<(), Differs>
+        ensures list { self.new.list ≡ self.old.list }
+        ensures told { is_ok result
+            ≡ writing self.old.list.now (ahead self.old.list.now self.old.stand) answer out.now }
+    {
+        match answer {
+            Ok(n) => {
+                self.numbers(&[1])?;
+                self.written(out, n)
+            }
+            Err(r) => {
+                self.refusal(r)?;
+                only(is_untouched(out, 0))
+            }
+        }
+    }
+
+    /// Goes on to the next word, over the periods that stand before it. `false` where the list has none.
+    #[tactic(auto, unfolding(crate::specs::Words::ahead))]
+    pub fn begin(&mut self) -> bool
+        ensures list { self.new.list ≡ self.old.list }
+        ensures word { result ≡ begins (first_case (ahead self.old.list.now self.old.stand)) }
+        ensures behind { ahead self.old.list.now self.new.stand
+            ≡ first_case (ahead self.old.list.now self.old.stand) }
+    {
+        loop {
+            let mut behind = self.stand;
+            match tokens::next_token(self.list, &mut behind) {
+                Next::Word(_) => return true,
+                Next::Stop => self.stand = behind,
+                Next::End => return false,
+            }
+        }
+    }
+
+    /// Goes on behind the period that ends the case, or to the end of the list.
+    #[tactic(auto, unfolding(crate::specs::Words::ahead))]
+    pub fn leave(&mut self)
+        ensures list { self.new.list ≡ self.old.list }
+        ensures behind { ahead self.old.list.now self.new.stand
+            ≡ behind_case (ahead self.old.list.now self.old.stand) }
+    {
+        while let Next::Word(_) = tokens::next_token(self.list, &mut self.stand) {}
+    }
+
+    /// Whether the case ends here.
+    #[tactic(auto, unfolding(crate::specs::Words::ahead))]
+    pub fn end(self) -> Result<(), Differs>
+        ensures { is_ok result ≡ is_end (ahead self.entry.list.now self.entry.stand) }
+    {
+        let mut behind = self.stand;
+        match tokens::next_token(self.list, &mut behind) {
+            Next::Stop => Ok(()),
+            _ => Err(Differs),
+        }
+    }
+}

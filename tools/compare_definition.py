@@ -46,18 +46,19 @@ def fail(message):
 CALLS = """
 use Rattle.definition.specs.declared.Usage.{Usage}
 use Rattle.definition.specs.declared.SignKind.{SignKind}
-use Rattle.definition.specs.declared.SignClause.{SignClause}
+use Rattle.std.specs.Prelude.{Option, None, Some}
 use Rattle.definition.specs.declared.NumRepr.{NumRepr}
 use Rattle.definition.specs.declared.FieldKind.{FieldKind}
 use Rattle.definition.specs.declared.Pictured.{Pictured}
 use Rattle.std.specs.Prelude.{if◌then◌else◌}
-use Rattle.definition.specs.Basic.{Answer, refuse, give}
+use Rattle.definition.specs.Basic.{Answer, Ok, Err}
+use Rattle.definition.specs.Refusals.{refusal_number}
 use Rattle.definition.specs.Calls.{layout_listing, picture_answer, picture_mask}
 """
 SEALED = "use Rattle.definition.specs.Computing.{computing}"
 UNFOLDING = "computing"
 USAGES = ["Usage.Display", "Usage.Comp3", "Usage.Comp"]
-SIGNS = ["SignClause.Absent"] + [f"(SignClause.Given SignKind.{k})" for k in ("Unsigned", "Embedded", "LeadingSeparate", "TrailingSeparate")]
+SIGNS = ["None"] + [f"(Some SignKind.{k})" for k in ("Unsigned", "Embedded", "LeadingSeparate", "TrailingSeparate")]
 
 # What a call answers, in the oracle's numbers.
 ANSWERS = """-- What the definition's calls answer, as the list of numbers that the oracle writes.
@@ -112,7 +113,7 @@ nameAt absent n body text =
     else sized (partAt n body text)
 
 abbrev pub maskOf : Usage → List ℕ → List ℕ
-maskOf usage picture = elim (picture_mask usage picture 65535) [ refuse r ↦ broken | give m ↦ sized m ]
+maskOf usage picture = elim (picture_mask usage picture 65535) [ Err r ↦ broken | Ok m ↦ sized m ]
 
 -- how long the body of a kind is
 abbrev pub bodyLength : ℕ → ℕ
@@ -169,11 +170,11 @@ kindNumbers (FieldKind.Float bits) m = broken
 
 -- the two questions
 abbrev pub copybook : List ℕ → List ℕ
-copybook text = elim (layout_listing text 16384 1000000) [ refuse r ↦ 0 ∷ r.number ∷ [] | give bytes ↦ 1 ∷ listingIn text bytes ]
+copybook text = elim (layout_listing text 16384 1000000) [ Err r ↦ 0 ∷ refusal_number r ∷ [] | Ok bytes ↦ 1 ∷ listingIn text bytes ]
 
-abbrev pub picture : Usage → SignClause → List ℕ → List ℕ
+abbrev pub picture : Usage → Option SignKind → List ℕ → List ℕ
 picture usage sign text =
-    elim (picture_answer usage sign text) [ refuse r ↦ 0 ∷ r.number ∷ [] | give p ↦ 1 ∷ p.width ∷ kindNumbers (p.kind) (maskOf usage text) ]
+    elim (picture_answer usage sign text) [ Err r ↦ 0 ∷ refusal_number r ∷ [] | Ok p ↦ 1 ∷ p.width ∷ kindNumbers (p.kind) (maskOf usage text) ]
 
 -- the number of the refusal, or 0
 abbrev pub refusal : List ℕ → ℕ
@@ -196,7 +197,7 @@ use mathlib.Core.Path.{◌≡◌}
 use lib.Dec.{T, eqb}
 use Rattle.definition.specs.declared.Usage.{Usage}
 use Rattle.definition.specs.declared.SignKind.{SignKind}
-use Rattle.definition.specs.declared.SignClause.{SignClause}
+use Rattle.std.specs.Prelude.{Option, None, Some}
 @SEALED@
 use Rattle.compare.specs.Answers.{◌⋯◌, equal, copybook, picture, refusal, bit}
 """

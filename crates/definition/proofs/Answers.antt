@@ -1,8 +1,9 @@
--- Laws of answers: what a `do` that gave something, or was refused, went through.
+-- Laws of answers: what a `do` that gave something, or was refused, went through, and what a `?` returns.
 -- Assumes nothing.
-use mathlib.Core.Path.{◌≡◌, refl}
-use mathlib.Core.Bool.{Bool, false, ◌||◌}
+use mathlib.Core.Path.{◌≡◌, refl, ap}
+use mathlib.Core.Bool.{Bool, false}
 use native.Mathlib.Omega.{arith}
+use Rattle.std.specs.Prelude.{Result, IsErrAnd}
 use Rattle.definition.specs.declared.Refusal.{Refusal}
 use Rattle.definition.specs.Basic.{Answer, Err, Ok, ◌>>=◌, and_then, refuse_if}
 
@@ -55,5 +56,7 @@ pub refused-through :
 unfolding and_then
 refused-through a f g r h = grind arith
 
-pub or-false : (a b : Bool) → (a || b) ≡ false → (a ≡ false) × (b ≡ false)
-or-false a b h = grind arith
+-- a `?` that returns hands on the error that it met
+pub handed_on : {T E : Type 0} (r : Result T E) {e : E} → IsErrAnd r (λ x. x ≡ e) → r ≡ Err e
+handed_on (Ok x) h = absurd h
+handed_on (Err x) h = ap Err h

@@ -1,31 +1,15 @@
--- Laws of the calls: one step of the search for the first byte over 127, at a place of the text and at its end; what a
--- text and work memory that pass the checks have; and a call for a copybook that another call accepted.
+-- Laws of the calls: what a text and work memory that pass the checks have, and a call for a copybook that another call
+-- accepted.
 -- Assumes nothing.
-use Prim.Native.Nat.{ℕ, ◌+◌, ◌≤◌, ◌<◌}
+use Prim.Native.Nat.{ℕ, ◌≤◌}
 use mathlib.Core.Path.{◌≡◌, sym, ◌∙◌}
 use mathlib.Core.List.{List}
-use Rattle.std.specs.Prelude.{None, Some}
-use lib.ListN.{length, get_or, drop, drop_of_length-le}
+use lib.ListN.{length}
 use Rattle.definition.specs.Limits.{most_bytes, least_work}
 use native.Mathlib.Omega.{arith}
 use Rattle.definition.specs.Basic.{Answer, Ok, and_then}
 use Rattle.definition.specs.Cards.{Form, view_in}
-use Rattle.definition.specs.Calls.{first_wide, text_checks, entry_checks, on_cards, called}
-use Rattle.definition.proofs.Lists.{drop-next}
-
-module _ (text : List ℕ) (i : ℕ) where
-  pub wide-none : length text ≤ i → first_wide i (drop i text) ≡ None
-  unfolding first_wide
-  wide-none h = rw (drop_of_length-le text h)
-
-  module _ (h : i < length text) where
-    pub wide-hit : 127 < get_or text i 0 → first_wide i (drop i text) ≡ Some i
-    unfolding first_wide
-    wide-hit l = rw (drop-next text i h) (grind arith)
-
-    pub wide-next : get_or text i 0 ≤ 127 → first_wide i (drop i text) ≡ first_wide (i + 1) (drop (i + 1) text)
-    unfolding first_wide
-    wide-next l = rw (drop-next text i h) (grind arith)
+use Rattle.definition.specs.Calls.{text_checks, entry_checks, on_cards, called}
 
 -- ---------------------------------------------------------------- the checks of what a caller lends
 

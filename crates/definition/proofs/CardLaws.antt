@@ -13,6 +13,7 @@ use native.Mathlib.Nat.{sub_self}
 use lib.Dec.{eqb}
 use lib.ListN.{length, get_or, drop, length-drop}
 use lib.Seq.{get_or-drop}
+use Rattle.std.proofs.lemmas.Bool.{or_parts}
 use Rattle.definition.specs.declared.Span.{Span}
 use Rattle.definition.specs.declared.ByteKind.{ByteKind}
 use Rattle.definition.specs.declared.ByteKind.TheVariants.{Newline}
@@ -29,7 +30,6 @@ use Rattle.definition.specs.Cards.{column_next, code_next, view_from, view, Form
 use Rattle.definition.specs.Cards.{card_text, view_in}
 use Rattle.definition.specs.Calls.{first_wide, text_checks, entry_checks}
 use Rattle.definition.proofs.Lists.{order, take_next}
-use Rattle.definition.proofs.Answers.{or-false}
 use Rattle.definition.proofs.SpanLaws.{Sentences}
 use Rattle.definition.proofs.WordLaws.{kind_at, stays_within, tokens-next, tokens-end}
 
@@ -138,7 +138,7 @@ module _
         let b = get_or v p 0 in
         let k = seen q (kind_at v p) in
         let w : stays_within k ≡ true → white b ≡ false =
-        λ g. (or-false (eqb b 10) (white b) (not_white b (drop (p + 1) v) q g)).1 in
+        λ g. (or_parts (eqb b 10) (white b) (not_white b (drop (p + 1) v) q g)).1 in
         let ih = all_same n (said_next v q m p b k) (next m p k) (p + 1) (omega arith) (so_far m k p h w x) in
         rw (tokens-next v q m p h) (all-completed m k p _ x (all-open q k _ ih)))
         (λ (h : length v ≤ p). rw (tokens-end v q m p h) (all_end m q p x))

@@ -10,6 +10,7 @@ use Rattle.std.specs.Prelude.{Option, None, Some}
 use native.Mathlib.Omega.{arith}
 use lib.Dec.{eqb}
 use lib.ListN.{get_or, drop}
+use Rattle.std.proofs.lemmas.Bool.{and_parts}
 use Rattle.definition.specs.declared.KeyColumn.{KeyColumn}
 use Rattle.definition.specs.declared.Refusal.{Refusal}
 use Rattle.definition.specs.declared.SignKind.{SignKind}
@@ -25,7 +26,7 @@ use Rattle.definition.specs.Key.{one_key, key_among, key_in, kind_details, same_
 use Rattle.definition.specs.Key.{copybooks, is_set, key_of_texts, NoEntryNamed, IsKey, HasKey, AllHave, Shared}
 use Rattle.definition.proofs.Answers.{through, given-same}
 use Rattle.definition.proofs.Lists.{by_cases}
-use Rattle.definition.proofs.WordLaws.{never, and_both, same-equal, same_self}
+use Rattle.definition.proofs.WordLaws.{never, same-equal, same_self}
 
 -- ---------------------------------------------------------------- a kind from its details
 
@@ -221,7 +222,7 @@ module _ (work : ℕ) (name : List ℕ) where
       let ih = all_have k texts in
       through _ _ h λ x first h₁.
       through _ _ h₁ λ more rest h₂.
-      let both = and_both (agree (Some k) x) (all_agree (Some k) more)
+      let both = and_parts (agree (Some k) x) (all_agree (Some k) more)
       (subst (λ (l : List (Option Key)). all_agree (Some k) l ≡ true) (sym (given-same h₂)) a) in
       (has_key text k (first ∙ ap Ok (agreed k x both.0)), ih more rest both.1)
 

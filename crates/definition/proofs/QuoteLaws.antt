@@ -6,6 +6,7 @@ use mathlib.Core.Path.{◌≡◌, ◌∙◌, ap}
 use mathlib.Core.Bool.{true}
 use mathlib.Core.List.{List, [], ◌∷◌, ◌++◌, append-nil}
 use native.Mathlib.Omega.{arith}
+use Rattle.std.proofs.lemmas.Bool.{and_parts}
 use Rattle.std.specs.Prelude.{None}
 use Rattle.definition.specs.declared.ByteKind.{ByteKind}
 use Rattle.definition.specs.declared.ByteKind.TheVariants.{Newline}
@@ -19,7 +20,7 @@ use Rattle.definition.specs.Words.{byte_kind, next, completed, completed_end, se
 use Rattle.definition.specs.Words.{tokens_of, first_open, sentences, statement_words}
 use Rattle.definition.specs.Unquoted.{bare_tokens, bare_words, harmless, harmless_from, plain_text}
 use Rattle.definition.specs.Calls.{literal_check}
-use Rattle.definition.proofs.WordLaws.{and_both, closed_on}
+use Rattle.definition.proofs.WordLaws.{closed_on}
 
 -- ---------------------------------------------------------------- the same words
 
@@ -38,7 +39,7 @@ unfolding tokens bare_tokens harmless_from
 same-tokens [] text q m p h = rw (closed_on q Newline [] h) (append-nil (completed_end m p))
 same-tokens (b ∷ bs) text q m p h =
     let k = byte_kind b bs in
-    let s = and_both (harmless q k) (harmless_from text (said_next text q m p b k) (next m p k) (p + 1) bs) h in
+    let s = and_parts (harmless q k) (harmless_from text (said_next text q m p b k) (next m p k) (p + 1) bs) h in
     let ih = same-tokens bs text (said_next text q m p b k) (next m p k) (p + 1) s.1 in
     rw (seen_same q k s.0, none_open q k (tokens text (said_next text q m p b k) (next m p k) (p + 1) bs) s.0, ih)
 

@@ -10,6 +10,7 @@ use mathlib.Core.List.{List, [], ◌∷◌, map}
 use Rattle.std.specs.Prelude.{Option, None, Some}
 use native.Mathlib.Omega.{arith}
 use lib.Dec.{eqb, leb}
+use Rattle.std.proofs.lemmas.Bool.{and_parts, or_parts}
 use Rattle.definition.specs.declared.Span.{Span}
 use Rattle.definition.specs.declared.Usage.{Usage}
 use Rattle.definition.specs.declared.ItemUsage.{ItemUsage}
@@ -46,9 +47,8 @@ use Rattle.definition.specs.Ungrouped.{is_one_of, new_words, as_seen, clauses_al
 use Rattle.definition.specs.Ungrouped.{statements_alone, entries_alone, is_other, lasts, lasting, is_skipped}
 use Rattle.definition.specs.Ungrouped.{lasting_in, lasting_all, names_usage, is_plain, plain_groups, plain_read}
 use Rattle.definition.specs.Ungrouped.{plain_usages}
-use Rattle.definition.proofs.Answers.{or-false}
 use Rattle.definition.proofs.Lists.{by_cases}
-use Rattle.definition.proofs.WordLaws.{never, and_both, same-equal}
+use Rattle.definition.proofs.WordLaws.{never, same-equal}
 
 -- ---------------------------------------------------------------- clauses without DISPLAY
 
@@ -117,7 +117,7 @@ module _ (u : List ℕ) (h : is_one_of new_words u ≡ false) where
       (ss : List Spelling) (k : Keyword) → new_alone ss ≡ true → is_old k ≡ true → is_old (meaning u ss k) ≡ true
   meaning-old [] k t n = n
   meaning-old (s ∷ ss) k t n =
-      let both = and_both (is_old s.means || is_one_of new_words (bytes s.word)) (new_alone ss) t in
+      let both = and_parts (is_old s.means || is_one_of new_words (bytes s.word)) (new_alone ss) t in
       meaning-old ss (pick u (bytes s.word) s.means k) both.1 (pick-old s k both.0 n)
 
   keyword-old : is_old (keyword_of u) ≡ true
@@ -194,7 +194,7 @@ NoneOf (k ∷ ks) u = (key k u ≡ false) × NoneOf ks u
 
 none_of : (ks : List String) (u : List ℕ) → is_one_of ks u ≡ false → NoneOf ks u
 none_of [] u h = tt
-none_of (k ∷ ks) u h = let both = or-false (key k u) (is_one_of ks u) h in (both.0, none_of ks u both.1)
+none_of (k ∷ ks) u h = let both = or_parts (key k u) (is_one_of ks u) h in (both.0, none_of ks u both.1)
 
 -- the words that a clause goes on with
 abbrev onward : List String
@@ -437,7 +437,7 @@ module _ (text : List ℕ) where
   unfolding statements statements_alone lasting_all and_then
   statements-forget [] n h = refl
   statements-forget (ws ∷ wss) n h =
-      let both = and_both (lasting_in text ws) (lasting_all text wss) h in
+      let both = and_parts (lasting_in text ws) (lasting_all text wss) h in
       let before : ℕ → Answer (List Statement) = λ m. statements_alone text m wss in
       let now : ℕ → Answer (List Statement) = λ m. statements text m wss in
       cc (
@@ -579,5 +579,5 @@ record-forget text ss h =
 pub same_entries : (text : List ℕ) (work : ℕ) → plain_usages text ≡ true → entries_alone text work ≡ entries text work
 unfolding entries_alone entries record_fields kept_statements and_then
 same_entries text work h =
-    let both = and_both (lasting_all text (statement_words text)) (plain_read (kept_statements text)) h in
+    let both = and_parts (lasting_all text (statement_words text)) (plain_read (kept_statements text)) h in
     grind (arith, statements-forget text (statement_words text) 0 both.0, record-forget text)

@@ -1,9 +1,9 @@
--- Laws of words and tokens: two words compared byte by byte, one step of the tokens, and the statements one by one.
+-- Laws of words and tokens: words with the same bytes, one step of the tokens, and the statements one by one.
 -- Assumes nothing.
 use Prim.Native.Nat.{ℕ, ◌+◌, ◌-◌, ◌≤◌, ◌<◌}
 use mathlib.Core.Path.{◌≡◌, refl, ◌∙◌, ap}
-use mathlib.Core.Bool.{Bool, true, false, ◌&&◌}
-use mathlib.Core.List.{List, [], ◌∷◌, ◌++◌, map}
+use mathlib.Core.Bool.{Bool, true, false}
+use mathlib.Core.List.{List, [], ◌∷◌, ◌++◌}
 use native.Mathlib.Omega.{arith}
 use lib.ListN.{length, get_or, drop, drop_of_length-le}
 use borrow.Author.Tests.{eq-eqb, ne_eqb}
@@ -17,7 +17,7 @@ use Rattle.definition.specs.declared.Said.TheVariants.{Literal}
 use Rattle.definition.specs.declared.Token.{Token}
 use Rattle.definition.specs.declared.Token.TheVariants.{Word, Stop, Open}
 use Rattle.definition.specs.Basic.{white, same, span, part}
-use Rattle.definition.specs.Words.{cut_here, ends, byte_kind, next, up_to, completed, completed_end, seen, marked}
+use Rattle.definition.specs.Words.{ends, byte_kind, next, up_to, completed, completed_end, seen, marked}
 use Rattle.definition.specs.Words.{heard, said_next, unless_open, tokens, first_open, first_words, after_stop}
 use Rattle.definition.specs.Words.{on_first, sentences}
 use Rattle.definition.specs.Unquoted.{closed}
@@ -26,16 +26,7 @@ use Rattle.definition.proofs.Lists.{drop-next}
 pub never {ℓ} : {A : Type ℓ} → false ≡ true → A
 never h = absurd (cc)
 
-pub and_both : (a b : Bool) → (a && b) ≡ true → (a ≡ true) × (b ≡ true)
-and_both true b h = (refl, h)
-and_both false b h = never h
-
 -- ---------------------------------------------------------------- two words
-
--- a list read as it stands
-pub map-itself : (l : List ℕ) → map (λ x. x) l ≡ l
-map-itself [] = refl
-map-itself (b ∷ l) = rw (map-itself l)
 
 -- words with the same bytes are equal
 pub same-equal : (a b : List ℕ) → same a b ≡ true → a ≡ b
@@ -51,44 +42,6 @@ unfolding same
 same_self [] = refl
 same_self (x ∷ l) = grind (arith, same_self l)
 
--- words of other lengths are other words
-pub same-long : (a b : List ℕ) → (length a ≡ length b → ⊥) → same a b ≡ false
-unfolding same
-same-long [] [] h = absurd (h refl)
-same-long [] (y ∷ ys) h = refl
-same-long (x ∷ xs) [] h = refl
-same-long (x ∷ xs) (y ∷ ys) h = grind (arith, same-long xs ys)
-
--- the words a and b, read through f and g, from i on
-module _ (f g : ℕ → ℕ) (a b : List ℕ) (i : ℕ) where
-  abbrev pub same_from : Bool
-  same_from = same (map f (drop i a)) (map g (drop i b))
-
-  -- both have ended, or one
-  pub same_ended : length a ≤ i → length b ≤ i → same_from ≡ true
-  unfolding same
-  same_ended h h' = rw (drop_of_length-le a h, drop_of_length-le b h')
-
-  pub same-shorter : length a ≤ i → i < length b → same_from ≡ false
-  unfolding same
-  same-shorter h h' = rw (drop_of_length-le a h, drop-next b i h')
-
-  pub same-longer : i < length a → length b ≤ i → same_from ≡ false
-  unfolding same
-  same-longer h h' = rw (drop-next a i h, drop_of_length-le b h')
-
-  -- neither has
-  module _ (h : i < length a) (h' : i < length b) where
-    pub same-other : (f (get_or a i 0) ≡ g (get_or b i 0) → ⊥) → same_from ≡ false
-    unfolding same
-    same-other n = rw (drop-next a i h, drop-next b i h') (grind arith)
-
-    pub same_next :
-        f (get_or a i 0) ≡ g (get_or b i 0) →
-        same_from ≡ same (map f (drop (i + 1) a)) (map g (drop (i + 1) b))
-    unfolding same
-    same_next e = rw (drop-next a i h, drop-next b i h') (grind arith)
-
 -- ---------------------------------------------------------------- bytes
 
 -- what a byte is, test by test
@@ -102,28 +55,10 @@ module _ (b : ℕ) (bs : List ℕ) where
     unfolding byte_kind
     kind-blank w = rw (ne_eqb b 10 n, w)
 
-    module _ (w : white b ≡ false) where
-      pub kind-cut : cut_here (b ∷ bs) ≡ true → byte_kind b bs ≡ Cut
-      unfolding byte_kind
-      kind-cut c = rw (ne_eqb b 10 n, w, c)
-
-      module _ (c : cut_here (b ∷ bs) ≡ false) where
-        pub kind-star : b ≡ 42 → byte_kind b bs ≡ Star
-        unfolding byte_kind
-        kind-star e = rw (ne_eqb b 10 n, w, c, eq-eqb b 42 e)
-
-        module _ (s : b ≡ 42 → ⊥) where
-          pub kind-plain : (b ≡ 46 → ⊥) → byte_kind b bs ≡ Other
-          unfolding byte_kind
-          kind-plain d = rw (ne_eqb b 10 n, w, c, ne_eqb b 42 s, ne_eqb b 46 d)
-
-          pub kind-period : b ≡ 46 → ends bs ≡ true → byte_kind b bs ≡ Period
-          unfolding byte_kind
-          kind-period d e = rw (ne_eqb b 10 n, w, c, ne_eqb b 42 s, eq-eqb b 46 d, e)
-
-          pub kind-point : b ≡ 46 → ends bs ≡ false → byte_kind b bs ≡ Other
-          unfolding byte_kind
-          kind-point d e = rw (ne_eqb b 10 n, w, c, ne_eqb b 42 s, eq-eqb b 46 d, e)
+-- a period that ends no statement belongs to its word, as in `ZZ9.99`
+pub kind-point : (bs : List ℕ) → ends bs ≡ false → byte_kind 46 bs ≡ Other
+unfolding byte_kind
+kind-point bs e = rw e
 
 pub dropped-on : (b : ℕ) (bs : List ℕ) (p : ℕ) → (b ≡ 10 → ⊥) → next Dropped p (byte_kind b bs) ≡ Dropped
 unfolding byte_kind

@@ -1,5 +1,6 @@
-// The types that the definition speaks of, and that the code hands from one stage to the next. A place in the copybook
-// text is a span, its first byte and its length; length 0 means absent.
+//! The types that the definition speaks of, and that the code hands from one stage to the next: the reader's states,
+//! what statements and pictures say, the entries of the listing, what is asked of a record, and the refusals. A place
+//! in the copybook text is a span, its first byte and its length; length 0 means absent. Positions count bytes from 0.
 
 #![tactic(auto)]
 
@@ -8,38 +9,58 @@ ghost use Rattle.definition.specs.Basic.{given};
 ghost use Rattle.definition.specs.Refusals.{refusal_number, refusal_position, refusal_needed};
 ghost use Rattle.definition.specs.Statement.{missing};
 
-// The limits that the rules name, as `specs/Limits` has them.
+// ---------------------------------------------------------------- limits, as `specs/Limits` has them
+
+/// The most bytes of a text (1).
 pub const MOST_BYTES: usize = 65535;
 
+/// The fewest numbers of 32 bits that work memory has (3).
 pub const LEAST_WORK: usize = 16384;
 
+/// The most statements that are kept (14).
 pub const MOST_STATEMENTS: usize = 800;
 
+/// The depth of the deepest list; the record's fields are at 0 (20).
 pub const DEEPEST: u32 = 64;
 
+/// The most symbols of a picture (24).
 pub const MOST_SYMBOLS: u32 = 65535;
 
+/// The most digits of a number, P included (27).
 pub const MOST_DIGITS: usize = 31;
 
+/// The most bytes of a mask (27).
 pub const LONGEST_MASK: usize = 255;
 
+/// The largest aligned cursor, size or end, in bytes (29).
 pub const LARGEST: usize = 2147483647;
 
+/// The largest count of OCCURS (29).
 pub const LARGEST_COUNT: u64 = 2147483647;
 
+/// The most top-level items that an extract is chosen from (58).
 pub const MOST_ITEMS: usize = 16;
 
+/// The smallest weight of an item (59).
 pub const LEAST_WEIGHT: u32 = 1;
 
+/// The largest weight of an item (59).
 pub const MOST_WEIGHT: u32 = 1000;
 
+/// The fewest copybooks of a set (56).
 pub const FEWEST_IN_SET: usize = 2;
 
+/// The most copybooks of a set (56).
 pub const MOST_IN_SET: usize = 16;
 
+// ---------------------------------------------------------------- the text
+
+/// A place in the text: a word, a name, a picture.
 #[derive(Clone, Copy)]
 pub struct Span {
+    /// Its first byte.
     pub start: usize,
+    /// Its length in bytes; 0 means absent.
     pub len: usize,
 }
 
@@ -55,47 +76,61 @@ impl Span {
     }
 }
 
-// What a byte of the text is to the reader, by itself and the bytes after it: the end of a line, other white space, the
-// beginning of `*>`, any other `*`, a period that ends a statement, or any other byte.
+/// What a byte of the text is to the reader, by itself and the bytes after it.
 #[derive(Clone, Copy)]
 pub enum ByteKind {
+    /// The end of a line.
     Newline,
+    /// Other white space.
     Blank,
+    /// The beginning of `*>`, which cuts the line.
     Cut,
+    /// Any other `*`.
     Star,
+    /// A period that ends a statement.
     Period,
+    /// Any other byte.
     Other,
 }
 
-// Where the reader is: before the first non-blank of a line, between words, in what is dropped of a line, or in a word
-// since a position.
+/// Where the reader is.
 #[derive(Clone, Copy)]
 pub enum Mode {
+    /// Before the first non-blank of a line.
     Fresh,
+    /// Between words.
     Between,
+    /// In what is dropped of a line.
     Dropped,
+    /// In a word that began at this position.
     Within(usize),
 }
 
-// What a statement has said so far, as far as its literals go: this many words, 2 standing for more, and no VALUE from
-// the third on; VALUE, so that a quote or an apostrophe opens a literal; or a literal is open, with this mark at this
-// position.
+/// What a statement has said so far, as far as its literals go.
 #[derive(Clone, Copy)]
 pub enum Said {
+    /// This many words, 2 standing for more, and no VALUE from the third on.
     Before(u8),
+    /// VALUE: a quote or an apostrophe opens a literal.
     Value,
+    /// A literal is open, with this mark at this position.
     Literal { mark: u8, at: usize },
 }
 
-// A word, the period that ends a statement, or the opening mark of a literal that its line does not close.
+/// What the reader makes of the text's bytes.
 #[derive(Clone, Copy)]
 pub enum Token {
+    /// A word.
     Word(Span),
+    /// The period that ends a statement.
     Stop,
+    /// The opening mark, at this position, of a literal that its line does not close.
     Open(usize),
 }
 
-// The usage that a picture is read with.
+// ---------------------------------------------------------------- pictures
+
+/// The usage that a picture is read with.
 #[derive(Clone, Copy)]
 pub enum Usage {
     Display,
@@ -103,84 +138,117 @@ pub enum Usage {
     Comp,
 }
 
-// The usage of an item: one that its picture is read with, or that of a float, which has no picture.
+/// The usage of an item.
 #[derive(Clone, Copy)]
 pub enum ItemUsage {
+    /// One that its picture is read with.
     Picture(Usage),
+    /// That of a float of 32 bits, which has no picture.
     Comp1,
+    /// That of a float of 64 bits, which has no picture.
     Comp2,
 }
 
+/// Where a number has its sign.
 #[derive(Clone, Copy)]
 pub enum SignKind {
+    /// Nowhere: it has none.
     Unsigned,
+    /// In a byte of its digits.
     Embedded,
+    /// In a byte of its own before them.
     LeadingSeparate,
+    /// In a byte of its own after them.
     TrailingSeparate,
 }
 
-// What SIGN says: whether LEADING and SEPARATE were said.
+/// What SIGN says.
 #[derive(Clone, Copy)]
 pub struct SignWords {
+    /// Whether LEADING was said.
     pub leading: bool,
+    /// Whether SEPARATE was said.
     pub separate: bool,
 }
 
+/// How the digits of a decimal are stored.
 #[derive(Clone, Copy)]
 pub enum NumRepr {
+    /// A digit a byte.
     Display,
+    /// Two digits a byte, and the sign after the last one.
     Comp3,
+    /// A digit a byte, the sign in one of them.
     Zoned,
 }
 
+/// What an item holds. A precision counts digits and a scale those after the point, both with P; `signed` is true
+/// where the picture has a sign.
 #[derive(Clone, Copy)]
 pub enum FieldKind {
+    /// Characters.
     Text,
+    /// Digits, a byte each.
     Int {
         signed: bool,
         sign: SignKind,
     },
+    /// A number of COMP, big-endian.
     Binary {
         signed: bool,
     },
+    /// A number with a point, an embedded sign, or of COMP-3.
     Decimal {
         precision: u8,
         scale: u8,
         repr: NumRepr,
         sign: SignKind,
     },
+    /// A number as it is printed.
     Edited {
         precision: u8,
         scale: u8,
         signed: bool,
     },
+    /// Members.
     Group,
+    /// A float of 32 or 64 bits, big-endian.
     Float {
         bits: u8,
     },
 }
 
-// What an item holds, and the bytes of one occurrence.
+/// What a picture says.
 #[derive(Clone, Copy)]
 pub struct Pictured {
+    /// What the item holds.
     pub kind: FieldKind,
+    /// The bytes of one occurrence.
     pub width: usize,
 }
 
-// What the clauses of a statement say: the usage and the sign, where one is named, and the count of OCCURS. An item
-// without OCCURS stands once.
+// ---------------------------------------------------------------- statements
+
+/// What the clauses of a statement say.
 #[derive(Clone, Copy)]
 pub struct Clauses {
+    /// The word after PIC.
     pub picture: Span,
+    /// The usage that is named.
     pub usage: Option<ItemUsage>,
+    /// What SIGN says.
     pub sign: Option<SignWords>,
+    /// Whether SYNC was said.
     pub sync: bool,
+    /// The count of OCCURS, the bound after TO where there is one; an item without OCCURS stands once.
     pub occurs: Option<u64>,
+    /// The name after DEPENDING ON.
     pub depending: Span,
+    /// The name after REDEFINES.
     pub redefines: Span,
 }
 
-// The clause that a word begins, where one may begin.
+/// The clause that a word begins, where one may begin.
 #[derive(Clone, Copy)]
 pub enum Keyword {
     Picture,
@@ -195,38 +263,55 @@ pub enum Keyword {
     Sign,
     Sync,
     Value,
+    /// None.
     Other,
 }
 
-// What the reader of a statement expects: a clause; IS or a picture; a picture; a REDEFINES target; a count; TO, TIMES,
-// DEPENDING or a clause; a TO bound; TIMES, DEPENDING or a clause; DEPENDING or a clause; ON or a name; a name; IS or a
-// clause after USAGE; IS or the word of SIGN; the word of SIGN; LEFT, RIGHT or a clause after SYNC; nothing after
-// VALUE.
+/// What the reader of a statement expects.
 #[derive(Clone, Copy)]
 pub enum Expect {
+    /// A clause.
     Clause,
+    /// IS or a picture.
     IsPicture,
+    /// A picture.
     APicture,
+    /// A REDEFINES target.
     Target,
+    /// A count.
     ACount,
+    /// TO, TIMES, DEPENDING or a clause.
     To,
+    /// A bound after TO.
     Bound,
+    /// TIMES, DEPENDING or a clause.
     Times,
+    /// DEPENDING or a clause.
     DependingOn,
+    /// ON or a name.
     OnName,
+    /// A name.
     AName,
+    /// IS or a clause, after USAGE.
     UsageIs,
+    /// IS or the word of SIGN.
     SignIs,
+    /// The word of SIGN.
     SignWord,
+    /// LEFT, RIGHT or a clause, after SYNC.
     Side,
+    /// Nothing, after VALUE.
     Nothing,
 }
 
-// What a statement lacks at the end of a clause: a count after OCCURS, a bound after TO, or a name after DEPENDING.
+/// What a statement lacks at the end of a clause.
 #[derive(Clone, Copy)]
 pub enum Missing {
+    /// A count after OCCURS.
     Count,
+    /// A bound after TO.
     Bound,
+    /// A name after DEPENDING.
     Name,
 }
 
@@ -243,109 +328,192 @@ impl Missing {
     }
 }
 
-// A kept statement; `at` is the first byte of its first word. `usage` is the usage that holds for it: its own, or else
-// that of the nearest group above it that names one; its clauses have the one that it names.
+/// A kept statement.
 #[derive(Clone, Copy)]
 pub struct Statement {
+    /// Its level, the number that is its first word.
     pub level: u8,
+    /// The first byte of its first word.
     pub at: usize,
+    /// Its second word.
     pub name: Span,
+    /// What its own clauses say.
     pub clauses: Clauses,
+    /// The usage that holds for it: its own, or else that of the nearest group above it that names one, or DISPLAY.
     pub usage: ItemUsage,
 }
 
-// An entry of the listing. `at` and `level` are its statement's; `over` is its REDEFINES as the statement has it, which
-// the listing leaves out of a member of a fold; `slack` counts the slack bytes directly before it; `folded` is true of
-// a group made by folding.
+// ---------------------------------------------------------------- entries
+
+/// An entry of the listing. Offsets and widths are in bytes. A group made by folding has the statement of its base, but
+/// neither its picture, its count nor the names that it refers to.
 #[derive(Clone, Copy)]
 pub struct Entry {
+    /// The first byte of its statement.
     pub at: usize,
+    /// The level of its statement.
     pub level: u8,
+    /// The name of its statement.
     pub name: Span,
+    /// Where it begins: in the record, or in the group of which it is a member.
     pub offset: usize,
+    /// The bytes of one occurrence.
     pub width: usize,
+    /// What it holds.
     pub kind: FieldKind,
+    /// The picture of its statement.
     pub picture: Span,
+    /// The count of its OCCURS.
     pub occurs: Option<u64>,
+    /// The name after its DEPENDING ON.
     pub depending: Span,
+    /// The name after its REDEFINES, which the listing leaves out of a member of a fold.
     pub redefines: Span,
+    /// The name after its REDEFINES, as the statement has it.
     pub over: Span,
+    /// The slack bytes directly before it.
     pub slack: usize,
+    /// Whether it is a group made by folding.
     pub folded: bool,
 }
 
-// Why an item stands where it does: first in its list; directly after an item, which adds the bytes up to its end; so
-// many slack bytes before it; over an item, which adds that item's offset; or inside a group.
+/// Why an item stands where it does. What a reason adds to its offset is in bytes.
 #[derive(Clone, Copy)]
 pub enum Reason {
+    /// It is the first of its list.
     First,
+    /// It stands directly after the item of that name, and the bytes up to that one's end are added.
     After { name: Span, adds: usize },
+    /// So many slack bytes stand before it.
     Slack { adds: usize },
+    /// It stands over the item of that name, whose offset is added.
     Over { name: Span, adds: usize },
+    /// It is a member of the group of that name.
     Inside { name: Span },
 }
 
-// What a byte of a record belongs to: a piece, that is one occurrence of the elementary item whose entry has that
-// number, with the piece's first byte in the record and the byte's place inside it; slack before the entry of that
-// number; or nothing.
+// ---------------------------------------------------------------- what is asked of a record
+
+/// What a byte of a record belongs to.
 #[derive(Clone, Copy)]
 pub enum Owner {
+    /// A piece: one occurrence of the elementary item that is this entry of the listing, with the piece's first byte in
+    /// the record and the byte's place inside it.
     Piece {
         entry: usize,
         first: usize,
         place: usize,
     },
+    /// The slack before this entry.
     Slack {
         entry: usize,
     },
+    /// Nothing.
     Unowned,
 }
 
-// A choice among the top-level items: the number of the subset, its weight, how many subsets were looked at, and by how
-// much the best choice there is may outweigh it at most.
+/// A choice among the top-level items.
 #[derive(Clone, Copy)]
 pub struct Extract {
+    /// The number of the subset: in binary, the first item being the lowest bit.
     pub subset: usize,
+    /// The weights of its items, added up.
     pub weight: usize,
+    /// How many subsets were looked at.
     pub examined: usize,
+    /// By how much the best choice there is may outweigh it at most.
     pub off: usize,
 }
 
-// Why a call is turned down, with the position that is told: the byte of the text, of the card text or of the picture
-// that it is about; or with the length that the output should have had.
+/// The column that is the key of a set of copybooks, in each of their records.
 #[derive(Clone, Copy)]
+pub struct KeyColumn {
+    /// Its first byte in the record.
+    pub offset: usize,
+    /// Its bytes.
+    pub width: usize,
+}
+
+/// What is written of a copybook's record.
+#[derive(Clone, Copy)]
+pub enum Report {
+    /// The layout listing.
+    Listing,
+    /// The details of its entries.
+    Details,
+    /// The reasons of the entry of that number.
+    Reasons(usize),
+}
+
+// ---------------------------------------------------------------- refusals
+
+/// Why a call is turned down, with the position that is told: the byte of the text, of the card text or of the picture
+/// that it is about; or with the length that the output should have had. docs/REFUSALS.md says when each is given.
+#[derive(Clone, Copy, PartialEq, Eq)]
 pub enum Refusal {
+    /// The text has more bytes than a text may have.
     TextTooLong,
+    /// A byte over 127.
     WideByte { position: usize },
+    /// Too little work memory was lent.
     WorkTooShort,
+    /// A statement does not begin with a level.
     BadLevel { position: usize },
+    /// No count after OCCURS.
     BadCount { position: usize },
+    /// No count after TO.
     BadBound { position: usize },
+    /// No name after DEPENDING.
     NoDependingName { position: usize },
+    /// More statements than are kept.
     TooManyStatements { position: usize },
+    /// Groups nested too deep.
     TooDeep { position: usize },
+    /// An item with neither members nor a picture.
     NoPicture { position: usize },
+    /// A `(` in a picture without its `)`.
     UnclosedRepeat { position: usize },
+    /// No count between `(` and `)`.
     BadRepeat { position: usize },
+    /// A picture of too many symbols.
     TooManySymbols { position: usize },
+    /// A symbol that no picture has.
     BadSymbol { position: usize },
+    /// Text mixed with digits or with editing.
     MixedPicture { position: usize },
+    /// Too many digits, or too long a mask.
     TooLong { position: usize },
+    /// REDEFINES names no earlier sibling.
     NoTarget { position: usize },
+    /// A count, an offset, a size or an end that is too large.
     TooLarge { position: usize },
+    /// A redefiner begins before the item that it is folded under.
     StartsBeforeBase { position: usize },
+    /// The output is shorter than the answer, which has so many bytes.
     OutputTooShort { needed: usize },
+    /// The record has a REDEFINES or a DEPENDING ON.
     Overlaid,
+    /// The position is past the record.
     OutsideRecord,
+    /// A record is shorter than its layout.
     RecordTooShort,
+    /// A literal that its line does not close.
     UnclosedLiteral { position: usize },
+    /// A card has no indicator in column 7.
     BadIndicator { position: usize },
+    /// A float with a picture.
     FloatWithPicture { position: usize },
+    /// The entry's number is past the listing.
     NoSuchEntry,
+    /// Too few or too many copybooks, or their lengths do not add up to the bytes lent.
     NotASet,
+    /// The copybooks have no common key of that name.
     NoCommonKey,
+    /// Too many top-level items, or another number of weights.
     WrongItems,
+    /// A weight that is none.
     BadWeight,
+    /// No subset may be looked at.
     NoBudget,
 }
 
@@ -356,31 +524,31 @@ impl Refusal {
     {
         match self {
             Refusal::TextTooLong => 1,
-            Refusal::WideByte { position: _ } => 2,
+            Refusal::WideByte { .. } => 2,
             Refusal::WorkTooShort => 3,
-            Refusal::BadLevel { position: _ } => 10,
-            Refusal::BadCount { position: _ } => 11,
-            Refusal::BadBound { position: _ } => 12,
-            Refusal::NoDependingName { position: _ } => 13,
-            Refusal::TooManyStatements { position: _ } => 14,
-            Refusal::TooDeep { position: _ } => 20,
-            Refusal::NoPicture { position: _ } => 21,
-            Refusal::UnclosedRepeat { position: _ } => 22,
-            Refusal::BadRepeat { position: _ } => 23,
-            Refusal::TooManySymbols { position: _ } => 24,
-            Refusal::BadSymbol { position: _ } => 25,
-            Refusal::MixedPicture { position: _ } => 26,
-            Refusal::TooLong { position: _ } => 27,
-            Refusal::NoTarget { position: _ } => 28,
-            Refusal::TooLarge { position: _ } => 29,
-            Refusal::StartsBeforeBase { position: _ } => 30,
-            Refusal::OutputTooShort { needed: _ } => 31,
+            Refusal::BadLevel { .. } => 10,
+            Refusal::BadCount { .. } => 11,
+            Refusal::BadBound { .. } => 12,
+            Refusal::NoDependingName { .. } => 13,
+            Refusal::TooManyStatements { .. } => 14,
+            Refusal::TooDeep { .. } => 20,
+            Refusal::NoPicture { .. } => 21,
+            Refusal::UnclosedRepeat { .. } => 22,
+            Refusal::BadRepeat { .. } => 23,
+            Refusal::TooManySymbols { .. } => 24,
+            Refusal::BadSymbol { .. } => 25,
+            Refusal::MixedPicture { .. } => 26,
+            Refusal::TooLong { .. } => 27,
+            Refusal::NoTarget { .. } => 28,
+            Refusal::TooLarge { .. } => 29,
+            Refusal::StartsBeforeBase { .. } => 30,
+            Refusal::OutputTooShort { .. } => 31,
             Refusal::Overlaid => 40,
             Refusal::OutsideRecord => 41,
             Refusal::RecordTooShort => 42,
-            Refusal::UnclosedLiteral { position: _ } => 50,
-            Refusal::BadIndicator { position: _ } => 51,
-            Refusal::FloatWithPicture { position: _ } => 52,
+            Refusal::UnclosedLiteral { .. } => 50,
+            Refusal::BadIndicator { .. } => 51,
+            Refusal::FloatWithPicture { .. } => 52,
             Refusal::NoSuchEntry => 53,
             Refusal::NotASet => 56,
             Refusal::NoCommonKey => 57,
@@ -395,38 +563,27 @@ impl Refusal {
         ensures { result ≡ refusal_position self }
     {
         match self {
-            Refusal::TextTooLong => 0,
-            Refusal::WideByte { position } => position,
-            Refusal::WorkTooShort => 0,
-            Refusal::BadLevel { position } => position,
-            Refusal::BadCount { position } => position,
-            Refusal::BadBound { position } => position,
-            Refusal::NoDependingName { position } => position,
-            Refusal::TooManyStatements { position } => position,
-            Refusal::TooDeep { position } => position,
-            Refusal::NoPicture { position } => position,
-            Refusal::UnclosedRepeat { position } => position,
-            Refusal::BadRepeat { position } => position,
-            Refusal::TooManySymbols { position } => position,
-            Refusal::BadSymbol { position } => position,
-            Refusal::MixedPicture { position } => position,
-            Refusal::TooLong { position } => position,
-            Refusal::NoTarget { position } => position,
-            Refusal::TooLarge { position } => position,
-            Refusal::StartsBeforeBase { position } => position,
-            Refusal::OutputTooShort { needed: _ } => 0,
-            Refusal::Overlaid => 0,
-            Refusal::OutsideRecord => 0,
-            Refusal::RecordTooShort => 0,
-            Refusal::UnclosedLiteral { position } => position,
-            Refusal::BadIndicator { position } => position,
-            Refusal::FloatWithPicture { position } => position,
-            Refusal::NoSuchEntry => 0,
-            Refusal::NotASet => 0,
-            Refusal::NoCommonKey => 0,
-            Refusal::WrongItems => 0,
-            Refusal::BadWeight => 0,
-            Refusal::NoBudget => 0,
+            Refusal::WideByte { position }
+            | Refusal::BadLevel { position }
+            | Refusal::BadCount { position }
+            | Refusal::BadBound { position }
+            | Refusal::NoDependingName { position }
+            | Refusal::TooManyStatements { position }
+            | Refusal::TooDeep { position }
+            | Refusal::NoPicture { position }
+            | Refusal::UnclosedRepeat { position }
+            | Refusal::BadRepeat { position }
+            | Refusal::TooManySymbols { position }
+            | Refusal::BadSymbol { position }
+            | Refusal::MixedPicture { position }
+            | Refusal::TooLong { position }
+            | Refusal::NoTarget { position }
+            | Refusal::TooLarge { position }
+            | Refusal::StartsBeforeBase { position }
+            | Refusal::UnclosedLiteral { position }
+            | Refusal::BadIndicator { position }
+            | Refusal::FloatWithPicture { position } => position,
+            _ => 0,
         }
     }
 
@@ -439,20 +596,4 @@ impl Refusal {
             _ => 0,
         }
     }
-}
-
-// The column that is the key of a set of copybooks, in each of their records.
-#[derive(Clone, Copy)]
-pub struct KeyColumn {
-    pub offset: usize,
-    pub width: usize,
-}
-
-// What is written of a copybook's record: the layout listing, the details of its entries, or the reasons of the entry
-// of that number.
-#[derive(Clone, Copy)]
-pub enum Report {
-    Listing,
-    Details,
-    Reasons(usize),
 }

@@ -6,6 +6,7 @@ use mathlib.Core.Bool.{Bool, true, false, ◌||◌}
 use native.Mathlib.Omega.{arith}
 use lib.Dec.{ltb}
 use borrow.Author.Tests.{ltb-false}
+use Rattle.std.proofs.lemmas.Bool.{or_parts}
 use Rattle.definition.specs.declared.Entry.{Entry}
 use Rattle.definition.specs.declared.Refusal.{Refusal}
 use Rattle.definition.specs.Limits.{largest}
@@ -13,7 +14,6 @@ use Rattle.std.specs.Prelude.{if◌then◌else◌}
 use Rattle.definition.specs.Basic.{Answer, Err, Ok}
 use Rattle.definition.specs.Fold.{times, total, entry_end}
 use Rattle.definition.specs.Layout.{too_large}
-use Rattle.definition.proofs.Answers.{or-false}
 use Rattle.limits.specs.Ends.{end_of}
 
 -- the numbers of an entry for which 29 is not due
@@ -23,9 +23,9 @@ pub record Within (e : Entry) : Type 0 where
 
 pub within : (e : Entry) → too_large e ≡ false → Within e
 within e h =
-    let a = or-false (ltb largest (times e.occurs) || ltb largest e.offset || ltb largest (total e)) (ltb largest (entry_end e)) h in
-    let b = or-false (ltb largest (times e.occurs) || ltb largest e.offset) (ltb largest (total e)) a.0 in
-    let d = or-false (ltb largest (times e.occurs)) (ltb largest e.offset) b.0 in
+    let a = or_parts (ltb largest (times e.occurs) || ltb largest e.offset || ltb largest (total e)) (ltb largest (entry_end e)) h in
+    let b = or_parts (ltb largest (times e.occurs) || ltb largest e.offset) (ltb largest (total e)) a.0 in
+    let d = or_parts (ltb largest (times e.occurs)) (ltb largest e.offset) b.0 in
     record { starts = ltb-false largest e.offset d.1; ends = ltb-false largest (entry_end e) a.1 }
 
 -- where an entry ends, and that 29 is not due

@@ -9,7 +9,7 @@ use lib.Dec.{eqb, ltb}
 use lib.Pointwise.{pointwise}
 use lib.ListN.{length, get_or, take, drop}
 use borrow.Author.Tests.{le-ltb}
-use Rattle.std.specs.Prelude.{◌↔◌, IsTrue, IsAscii, None, position}
+use Rattle.std.specs.Prelude.{IsAscii, None, position}
 use Rattle.std.specs.Char.{to_ascii_lowercase}
 use Rattle.std.specs.List.{position_from}
 use Rattle.definition.specs.Calls.{first_wide}
@@ -19,7 +19,7 @@ use Rattle.std.proofs.lemmas.Bool.Decides.{nat_tests}
 use Rattle.definition.specs.Basic.{upper, uppers, same, digits, numeral, below, number}
 use Rattle.definition.proofs.Answers.{give-next, refuse-next}
 use Rattle.definition.proofs.NumberLaws.{number-less, number-none, number-plus, number-plain, digits-end, digits_low, digits-high, digits-next, too_large, numeral-none, numeral-some}
-use Rattle.definition.proofs.WordLaws.{never, same-equal, same_self}
+use Rattle.definition.proofs.WordLaws.{same-equal, same_self}
 
 -- a plus in front, and what a pattern binds after it
 pub number-rest : (limit : ℕ) (w : List ℕ) → 0 < length w → get_or w 0 0 ≡ 43 → number limit w ≡ below limit (numeral (take (length w - 1) (drop 1 w)))
@@ -43,11 +43,6 @@ same_not xs ys n = go (same xs ys) refl
     go : (t : Bool) → same xs ys ≡ t → t ≡ false
     go true e = absurd (n (same-equal xs ys e))
     go false e = refl
-
--- what says whether two words are equal is `same`
-pub same_is : (r : Bool) (xs ys : List ℕ) → (IsTrue r ↔ (xs ≡ ys)) → r ≡ same xs ys
-same_is true xs ys h = sym (same_if xs ys (h.0 refl))
-same_is false xs ys h = sym (same_not xs ys (λ e. never (h.1 e)))
 
 -- bytes compared one with one
 pub same-pairs : (xs ys : List ℕ) → pointwise eqb xs ys ≡ same xs ys

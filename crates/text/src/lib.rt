@@ -23,7 +23,8 @@ pub fn upper(b: u8) -> u8
 }
 
 /// Whether a word in upper case is this one.
-// Kept: under `same_key` – the proof didn't close: for the chain here, `result ≡ same (uppers word.now) key.now`.
+// Kept: under `same_key` – the proof didn't close: the check goes through a chain where a clause has the chain's words,
+// and not for `result ≡ same (uppers word.now) key.now`.
 fn is_spelt(word: &[u8], key: &[u8]) -> bool
     ensures { IsTrue result ↔ (uppers word.now ≡ key.now) }
 {
@@ -31,6 +32,7 @@ fn is_spelt(word: &[u8], key: &[u8]) -> bool
 }
 
 /// Whether a word in upper case is the keyword.
+#[tactic(auto, using(crate::proofs::Steps::case_steps))]
 pub fn same_key(word: &[u8], key: &[u8]) -> bool
     ensures { result ≡ same (uppers word.now) key.now }
 {

@@ -1,5 +1,5 @@
-// The theorems: what holds of the definition whatever the text, each as the contract of a function that does nothing.
-// Every public entry answers what the definition says, so they hold of every answer of the library.
+//! The theorems: what holds of the definition whatever the text, each as the contract of a function that does nothing.
+//! Every public entry answers what the definition says, so they hold of every answer of the library.
 #![tactic(auto)]
 
 ghost use Rattle.std.specs.Prelude.{ℕ, suc, ◌+◌, ◌-◌, ◌*◌, ◌%◌, ◌≤◌, ◌<◌, ◌≡◌, true, false, List, [], ◌∷◌, ◌++◌};
@@ -35,6 +35,7 @@ ghost use Rattle.theorems.specs.Occurrences.{Occurs, Slackened, pieces#, counts}
 /// Of every accepted copybook, free text or cards, the listing's entries keep the owner rule: without REDEFINES and
 /// DEPENDING ON, a dropped root's own aside, every byte of the record has exactly one owner, and the byte owner names
 /// it; with one it refuses every position.
+#[tactic(auto, using(definition::proofs::Demand3::demand3))]
 pub fn every_byte_has_one_owner()
     ensures { (form : Form) (text : List ℕ) (work : ℕ) (es : Entries) →
         called form (λ t. entries t work) text work ≡ Ok es → Kept form text work es }
@@ -74,6 +75,7 @@ pub fn alignment_takes_the_fewest_bytes()
 {}
 
 /// The owner of a byte is found among the entries of the listing, with no piece laid, and by a walk from row to row.
+#[tactic(auto, using(definition::proofs::Demand3::sought, definition::proofs::Demand3::walked))]
 pub fn owners_are_found_among_the_entries()
     ensures sought { (text : List ℕ) (f : Forest) (es : Entries) → layout text f ≡ Ok es → overlaid f ≡ false →
         (q : ℕ) → seek 0 0 es q ≡ owner_of (pieces text f) q }
@@ -91,18 +93,21 @@ pub fn the_owner_refuses_what_the_reader_refuses()
 
 /// For each entry of an accepted copybook, free text or cards, the reasons that are answered are those by which the
 /// layout rules placed it, and the bytes that they add are its first byte in the record.
+#[tactic(auto, using(definition::proofs::Why::explained))]
 pub fn every_place_has_its_reasons()
     ensures { (form : Form) (text : List ℕ) (work : ℕ) (es : Entries) →
         called form (λ t. entries t work) text work ≡ Ok es → Explained form text work es }
 {}
 
 /// The first byte of a member is its group's plus its offset, and that of an entry at the top is its offset.
+#[tactic(auto, using(definition::proofs::DetailLaws::inside))]
 pub fn first_bytes_add_up()
     ensures { (es : Entries) → FirstBytes [] (details_in 0 0 es) }
 {}
 
 /// Before folding, slack begins where the latest earlier item without REDEFINES ends, or where its list does; a
 /// redefiner has none.
+#[tactic(auto, using(definition::proofs::DetailLaws::following))]
 pub fn slack_follows_the_item_before()
     ensures { (text : List ℕ) (f : Forest) (es : Entries) → unfolded text f ≡ Ok es → Following 0 es }
 {}
@@ -121,12 +126,14 @@ pub fn details_have_47_bytes_an_entry()
 
 /// Every extract that is not refused is the heaviest fitting choice among the subsets looked at, the earliest if equal,
 /// and no choice outweighs it by more than the answer says; with all looked at, none does.
+#[tactic(auto, using(definition::proofs::ExtractLaws::extracted))]
 pub fn an_extract_is_the_heaviest_that_fits()
     ensures { (text : List ℕ) (work : ℕ) (weights : List ℕ) (limit budget : ℕ) (a : Extract) →
         extract_answer text work weights limit budget ≡ Ok a → Extracted text work weights limit budget a }
 {}
 
 /// The offset and width that are answered of a set of copybooks are those of one key that all of them have.
+#[tactic(auto, using(definition::proofs::KeyLaws::shared))]
 pub fn a_key_is_one_column_in_all()
     ensures { (texts lengths name : List ℕ) (work offset width : ℕ) →
         key_of_texts texts lengths name work ≡ Ok (record { offset = offset; width = width }) →
@@ -134,6 +141,7 @@ pub fn a_key_is_one_column_in_all()
 {}
 
 /// And where all copybooks of a set have one key, its offset and width are answered.
+#[tactic(auto, using(definition::proofs::KeyLaws::answered))]
 pub fn a_common_key_is_answered()
     ensures { (texts lengths name : List ℕ) (work : ℕ) (k : Key) → is_set lengths texts ≡ true →
         AllHave work name k (copybooks lengths texts) →
@@ -165,6 +173,7 @@ pub fn usages_come_down_while_reading()
 
 /// A copybook in which no group names a usage, no DISPLAY stands after another usage word and no word names a float has
 /// the entries that it had while each statement had its own usage alone.
+#[tactic(auto, using(definition::proofs::UngroupedLaws::same_entries))]
 pub fn plain_usages_have_the_entries_that_they_had()
     ensures { (text : List ℕ) (work : ℕ) → plain_usages text ≡ true → entries_alone text work ≡ entries text work }
 {}

@@ -74,7 +74,8 @@ fn is_refused(n: usize, b: u8, rest: &[u8]) -> bool
 }
 
 /// Refusal 51; where there is none, the first bytes of `view` are then the view of the cards.
-// Kept: byte by byte – no plainer: column and code go on from byte to byte, as the definition has it.
+// Kept: byte by byte, by its place – no plainer: what is shown of a byte depends on its column and on its line's
+// indicator, which go on from the byte before, and a refusal looks at the bytes behind it and tells the place.
 fn view_into(cards: &[u8], view: &mut [u8]) -> Result<(), Refusal>
     requires { ViewRoom cards.now view.old }
     ensures { Viewed cards.now result view.new }

@@ -3,26 +3,22 @@
 
 ghost use Rattle.std.specs.Prelude.{◌≡◌};
 ghost use Rattle.definition.specs.Basic.{uppers};
-ghost use Rattle.definition.specs.Statement.{no_clauses, go, begin as begin_of, on_clause, on_depending, on_times};
+ghost use Rattle.definition.specs.Statement.{go, begin as begin_of, on_clause, on_depending, on_times};
 ghost use Rattle.definition.specs.Statement.{on_sign, clause_step, separately as separately_of, step as step_of};
 ghost use Rattle.clauses.specs.Steps.{led, kept_on};
 
 use definition::{Clauses, Expect, ItemUsage, Keyword, Missing, SignWords, Span, Usage};
 
 /// What a statement says before its first clause.
-pub fn no_clauses() -> Clauses
-    ensures { result ≡ no_clauses }
-{
-    Clauses {
-        picture: Span::ABSENT,
-        usage: None,
-        sign: None,
-        sync: false,
-        occurs: None,
-        depending: Span::ABSENT,
-        redefines: Span::ABSENT,
-    }
-}
+pub const NO_CLAUSES: Clauses = Clauses {
+    picture: Span::ABSENT,
+    usage: None,
+    sign: None,
+    sync: false,
+    occurs: None,
+    depending: Span::ABSENT,
+    redefines: Span::ABSENT,
+};
 
 /// Where a clause begins: what is expected next.
 fn begin(k: Keyword, c: &mut Clauses) -> Expect

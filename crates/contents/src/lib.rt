@@ -8,8 +8,9 @@ ghost use Rattle.definition.specs.Layout.{by_picture, float as float_of, element
 
 use definition::{FieldKind, ItemUsage, Pictured, Refusal, SignKind, SignWords, Statement, Usage};
 
-// Kept: a function – no plainer: both types are `definition`'s, and no From can be written here.
 /// The sign that a picture is read with.
+// Kept: a function – no plainer: an Option is the library's, so that no From leads from one to another; a From between
+// what stands inside would be `definition`'s, and need a map here.
 fn sign_of(words: Option<SignWords>) -> Option<SignKind>
     ensures { result ≡ sign_of words }
 {

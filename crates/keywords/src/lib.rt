@@ -22,7 +22,8 @@ fn pick(word: &[u8], spelling: &[u8], k: Keyword, other: Keyword) -> Keyword
 }
 
 /// What the spellings with C say.
-// Kept: as `with_p`, `with_s`, `with_v` – no plainer: a table of spellings has a line for each too, and a loop.
+// Kept: spellings of one letter, as in `with_p`, `with_s` and `with_v` – no plainer: a table with one function over it
+// has a line for each spelling too, and a loop over the letter's part of the table besides.
 fn with_c(word: &[u8]) -> Keyword
     ensures { result ≡ meaning (uppers word.now) (starting 67 spellings) Other }
 {

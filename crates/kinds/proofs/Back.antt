@@ -1,11 +1,12 @@
--- What has a number is read back from it: kinds, usage clauses and what is said of a sign. Flags, signs, storages and
--- usages: `specs/Laws`.
+-- What has a number is read back from it: kinds and usage clauses. Flags, signs, storages, usages and what is said of
+-- a sign: `specs/Laws`.
 -- Assumes nothing.
 use Rattle.std.specs.Prelude.{Option, None, Some}
 use Prim.Native.Nat.{◌+◌, ◌*◌, ◌/◌, ◌%◌, ◌<◌}
 use mathlib.Core.Path.{◌≡◌, refl, ap, ap₂, ◌∙◌}
 use mathlib.Core.Bool.{Bool, true, false}
 use native.Mathlib.Omega.{arith}
+use borrow.Author.Tests.{ltb-true}
 use Rattle.definition.specs.declared.SignKind.{SignKind}
 use Rattle.definition.specs.declared.NumRepr.{NumRepr}
 use Rattle.definition.specs.declared.FieldKind.{FieldKind}
@@ -15,9 +16,9 @@ use Rattle.definition.specs.declared.SignWords.{SignWords}
 use Rattle.definition.specs.Listing.{flag, sign_byte, storage_byte}
 use Rattle.kinds.specs.declared.KindNumbers.{KindNumbers}
 use Rattle.kinds.specs.Kinds.{kind_numbers, numbers_of, kind_of, packed, unpacked, kind_code, kind_at, Bytes}
-use Rattle.kinds.specs.Usages.{item_usage_byte, usage_code, usage_clause_at, said, sign_code, sign_words_at}
-use Rattle.kinds.specs.Laws.{sign-back, storage-back}
-pub use Rattle.kinds.specs.Laws.{flag-back, usage-back}
+use Rattle.kinds.specs.Usages.{item_usage_byte, usage_code, usage_clause_at, sign_code}
+use Rattle.kinds.specs.Laws.{sign-back, storage-back, usage-few as usage-small, sign-words-few as sign-words-small}
+pub use Rattle.kinds.specs.Laws.{flag-back, usage-back, sign-words-back}
 
 -- the numbers of flags, signs and storages take one bit, two and two
 pub flag-few : (b : Bool) → flag b < 2
@@ -95,11 +96,7 @@ kind-back k h = ap kind_of (unpacked-back (numbers_of k) (numbers-few k h)) ∙ 
 -- ---------------------------------------------------------------- clauses
 
 pub usage-few : (u : ItemUsage) → item_usage_byte u < 7
-usage-few (ItemUsage.Picture Usage.Display) = omega arith
-usage-few (ItemUsage.Picture Usage.Comp3) = omega arith
-usage-few (ItemUsage.Picture Usage.Comp) = omega arith
-usage-few ItemUsage.Comp1 = omega arith
-usage-few ItemUsage.Comp2 = omega arith
+usage-few u = ltb-true (item_usage_byte u) 7 (usage-small u)
 
 pub usage-clause-back : (u : Option ItemUsage) → usage_clause_at (usage_code u) ≡ u
 usage-clause-back None = refl
@@ -113,22 +110,5 @@ pub usage-clause-few : (u : Option ItemUsage) → usage_code u < 8
 usage-clause-few None = omega arith
 usage-clause-few (Some u) = omega (arith, usage-few u)
 
-said-back : (leading separate : Bool) → sign_words_at (sign_code (said leading separate)) ≡ said leading separate
-said-back true true = refl
-said-back true false = refl
-said-back false true = refl
-said-back false false = refl
-
-said-few : (leading separate : Bool) → sign_code (said leading separate) < 8
-said-few true true = omega arith
-said-few true false = omega arith
-said-few false true = omega arith
-said-few false false = omega arith
-
-pub sign-words-back : (s : Option SignWords) → sign_words_at (sign_code s) ≡ s
-sign-words-back None = refl
-sign-words-back (Some s) = said-back s.leading s.separate
-
 pub sign-words-few : (s : Option SignWords) → sign_code s < 8
-sign-words-few None = omega arith
-sign-words-few (Some s) = said-few s.leading s.separate
+sign-words-few s = omega (arith, ltb-true (sign_code s) 7 (sign-words-small s))

@@ -1,15 +1,17 @@
-// The numbers of kinds, signs, storages and usages, both ways. What the listing writes, what a row holds and what C is
-// handed are these; no other crate has a number of its own for them. Leans on `definition`.
+//! The numbers of kinds, signs, storages and usages, both ways. What the listing writes, what a row holds and what C is
+//! handed are these; no other crate has a number of its own for them.
 #![tactic(auto)]
 
 ghost use Rattle.std.specs.Prelude.{ℕ, ◌≡◌, true, ltb};
 ghost use Rattle.definition.specs.Listing.{flag, sign_byte, storage_byte, kind_byte};
 ghost use Rattle.definition.specs.Picture.{is_alignable};
-ghost use Rattle.kinds.specs.Kinds.{sign_at, storage_at, numbers_of, kind_of, kind_code, kind_at, packed, unpacked, flag_at};
+ghost use Rattle.kinds.specs.Kinds.{sign_at, storage_at, numbers_of, kind_of, kind_code, kind_at, packed, unpacked};
+ghost use Rattle.kinds.specs.Kinds.{flag_at};
 ghost use Rattle.kinds.specs.Usages.{usage_byte, usage_at, item_usage_byte, item_usage_at, clause_code, clause_at};
 ghost use Rattle.kinds.specs.Usages.{sign_code, sign_words_at};
 ghost use Rattle.kinds.specs.Laws.{flag-back, flag-few, sign-back, sign-few, storage-back, storage-few};
 ghost use Rattle.kinds.specs.Laws.{picture-usage-back, picture-usage-few, usage-back, usage-few};
+ghost use Rattle.kinds.specs.Laws.{sign-words-back, sign-words-few};
 
 use definition::{FieldKind, ItemUsage, NumRepr, SignKind, SignWords, Usage};
 
@@ -163,6 +165,40 @@ impl Coded for ItemUsage {
     }
 }
 
+// What is said of the sign, or that nothing is: 0, and every number over 4.
+impl Coded for Option<SignWords> {
+    ghost code = { sign_code };
+
+    ghost at = { sign_words_at };
+
+    ghost back = { sign-words-back };
+
+    ghost few = { sign-words-few };
+
+    fn code(self) -> u8 {
+        match self {
+            None => 0,
+            Some(s) => match (s.leading, s.separate) {
+                (false, false) => 1,
+                (true, false) => 2,
+                (false, true) => 3,
+                (true, true) => 4,
+            },
+        }
+    }
+
+    fn at(n: u8) -> Self {
+        let (leading, separate) = match n {
+            1 => (false, false),
+            2 => (true, false),
+            3 => (false, true),
+            4 => (true, true),
+            _ => return None,
+        };
+        Some(SignWords { leading, separate })
+    }
+}
+
 // ---------------------------------------------------------------- what a clause says
 
 /// What a clause says as a number: 0 where it isn't there, or else the number and 1.
@@ -183,36 +219,6 @@ pub fn clause_at<T: Coded>(n: u8) -> Option<T>
         0 => None,
         _ => Some(T::at(n - 1)),
     }
-}
-
-/// What is said of the sign as a number: 0 where nothing is.
-// Kept: beside `clause_code` – no plainer: a number of no words says nothing, where one of no usage says COMP.
-pub fn sign_code(said: Option<SignWords>) -> u8
-    ensures { result ≡ sign_code said }
-{
-    match said {
-        None => 0,
-        Some(s) => match (s.leading, s.separate) {
-            (false, false) => 1,
-            (true, false) => 2,
-            (false, true) => 3,
-            (true, true) => 4,
-        },
-    }
-}
-
-/// What is said of the sign, from its number: nothing from 0 and from numbers over 4.
-pub fn sign_words_at(n: u8) -> Option<SignWords>
-    ensures { result ≡ sign_words_at n }
-{
-    let (leading, separate) = match n {
-        1 => (false, false),
-        2 => (true, false),
-        3 => (false, true),
-        4 => (true, true),
-        _ => return None,
-    };
-    Some(SignWords { leading, separate })
 }
 
 // ---------------------------------------------------------------- kinds

@@ -1,8 +1,8 @@
 -- The writing of a mask: what stands in the output after the mask of some symbols was written from a place on.
 -- Assumes nothing.
 use Rattle.std.specs.Prelude.{ℕ, ◌+◌, ◌≤◌, ◌≡◌, Bool, List, [], length, replicate, if◌then◌else◌}
-use Rattle.std.proofs.lemmas.List.Edits.{sets}
 use Rattle.definition.specs.declared.Usage.{Usage}
+use Rattle.std.proofs.lemmas.List.Edits.{sets}
 use Rattle.definition.specs.Basic.{among, Answer, Err, Ok, ◌>>=◌}
 use Rattle.definition.specs.Picture.{mask, symbols, is_masked}
 use Rattle.definition.specs.Calls.{fitting}
@@ -27,5 +27,5 @@ pub record Wrote (out : List ℕ) (k b n r : ℕ) (after : List ℕ) : Type 0 wh
   pub same : after ≡ sets out k (mask (replicate n b))
 
 -- the mask of a picture whose text was checked
-abbrev pub mask_in : Usage → List ℕ → ℕ → Answer (List ℕ)
+unfoldable pub mask_in : Usage → List ℕ → ℕ → Answer (List ℕ)
 mask_in usage bs room = symbols 0 usage bs >>= λ l. fitting room (if is_masked usage l then mask l else [])

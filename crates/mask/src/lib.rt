@@ -38,9 +38,10 @@ fn write_mask(picture: &[u8], out: &mut [u8])
 {
     let mut k = 0;
     let mut left = picture;
-    // Kept: a loop over what is left – no plainer: a run takes its own number of bytes, which no iterator's step does.
+    // Kept: a loop over what is left – no plainer: a symbol and its repeat take as many bytes as they have, and an
+    // iterator over bytes, or over chunks of them, takes the same number at each step.
     while let [first, rest @ ..] = left {
-        // Never refused, since the picture was read.
+        // Never refused: this repeat was read with the picture.
         let Ok((n, skip)) = symbols::repeat_at(rest, 0) else {
             return;
         };
@@ -52,6 +53,10 @@ fn write_mask(picture: &[u8], out: &mut [u8])
 /// Writes the mask of a picture whose text was checked, where it is edited under the usage, and answers its length; 0
 /// of any other picture. Refusals are the picture's, then 31, with the length of the mask, if it is longer than the
 /// output.
+// Kept: beside `write` of `listing` – no plainer: the reading of the picture says how long its mask is, so that nothing
+// is put on trial, and each run is one fill of the output.
+// Kept: parameters, as of `picture_mask` – the C interface: picture, usage and output are handed on as C lends them.
+#[tactic(auto, using(crate::proofs::Masking::mask_steps), unfolding(definition::specs::Basic::and_then))]
 pub fn mask_of(pic: &[u8], usage: Usage, out: &mut [u8]) -> Result<usize, Refusal>
     ensures { left result out.new [] ≡ after_writing (mask_in usage pic.now (length out.old)) out.old [] }
 {
@@ -67,6 +72,7 @@ pub fn mask_of(pic: &[u8], usage: Usage, out: &mut [u8]) -> Result<usize, Refusa
 }
 
 /// The mask of any picture: its text is checked first.
+#[tactic(auto, using(crate::proofs::Masking::checked_steps), unfolding(definition::specs::Basic::and_then))]
 pub fn picture_mask(pic: &[u8], usage: Usage, out: &mut [u8]) -> Result<usize, Refusal>
     ensures { left result out.new [] ≡ mask_call usage pic.now out.old }
 {

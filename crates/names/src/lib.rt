@@ -29,7 +29,8 @@ pub fn part_or<'a>(text: &'a [u8], w: Span, filler: &'a [u8]) -> &'a [u8]
 }
 
 /// Whether two names are the same, case aside; an absent one means FILLER.
-// Kept: a twin of `same_spellings` – no plainer: two relations of the definition, one line each.
+// Kept: a twin of `same_spellings` – no plainer: each is one call of its own comparison, and what both need of the names
+// is `part_or`; one function for both would take the comparison as a flag or a closure.
 pub fn same_names(text: &[u8], a: Span, b: Span) -> bool
     ensures { result ≡ same_name text.now a b }
 {

@@ -2,7 +2,8 @@
 //! writes to a lent slice (`specs/Numbers`). Leans on `definition` and `kinds`.
 #![tactic(auto)]
 
-ghost use Rattle.std.specs.Prelude.{ℕ, ◌-◌, ◌≡◌, ◌≤◌, true, ltb, refl, List, [], ◌∷◌, replicate};
+ghost use Rattle.std.specs.Prelude.{ℕ, ◌-◌, ◌≡◌, ◌<◌, ◌≤◌, List, [], ◌∷◌, replicate};
+ghost use Rattle.std.proofs.Common.{rules};
 ghost use Rattle.definition.specs.Refusals.{refusal_position, refusal_needed};
 ghost use Rattle.numbers.specs.Numbers.{no_usage, returned, told, answered};
 ghost use Rattle.numbers.specs.Numbers.{written_told, pictured_told, owner_told, extract_told, key_told};
@@ -30,18 +31,18 @@ pub trait Told<const N: usize>: Copy {
         ensures { result ≡ told self };
 
     // They have room for a refusal's position and needed length, and in memory.
-    ghost some: { ltb 1 N ≡ true };
+    ghost some: { 2 ≤ N };
 
-    ghost few: { ltb N 256 ≡ true };
+    ghost few: { N < 256 };
 }
 
 // The answer of a call that writes bytes: how many, and 0.
 impl Told<2> for usize {
     ghost told = { written_told };
 
-    ghost some = { refl };
+    ghost some = { Prim.search rules };
 
-    ghost few = { refl };
+    ghost few = { Prim.search rules };
 
     fn told(self) -> [u64; 2] {
         [self as u64, 0]
@@ -52,9 +53,9 @@ impl Told<2> for usize {
 impl Told<7> for Pictured {
     ghost told = { pictured_told };
 
-    ghost some = { refl };
+    ghost some = { Prim.search rules };
 
-    ghost few = { refl };
+    ghost few = { Prim.search rules };
 
     fn told(self) -> [u64; 7] {
         let k = KindNumbers::from(self.kind);
@@ -74,9 +75,9 @@ impl Told<7> for Pictured {
 impl Told<4> for Owner {
     ghost told = { owner_told };
 
-    ghost some = { refl };
+    ghost some = { Prim.search rules };
 
-    ghost few = { refl };
+    ghost few = { Prim.search rules };
 
     fn told(self) -> [u64; 4] {
         match self {
@@ -95,9 +96,9 @@ impl Told<4> for Owner {
 impl Told<4> for Extract {
     ghost told = { extract_told };
 
-    ghost some = { refl };
+    ghost some = { Prim.search rules };
 
-    ghost few = { refl };
+    ghost few = { Prim.search rules };
 
     fn told(self) -> [u64; 4] {
         [
@@ -113,9 +114,9 @@ impl Told<4> for Extract {
 impl Told<2> for KeyColumn {
     ghost told = { key_told };
 
-    ghost some = { refl };
+    ghost some = { Prim.search rules };
 
-    ghost few = { refl };
+    ghost few = { Prim.search rules };
 
     fn told(self) -> [u64; 2] {
         [self.offset as u64, self.width as u64]

@@ -1,4 +1,5 @@
--- Laws of the shape: by the tallies it is that of the symbols, and the checks of the shape are those of the symbols.
+-- Laws of the shape: by the tallies it is that of the symbols, the checks of the shape are those of the symbols, and kind
+-- and width are theirs.
 -- Assumes nothing.
 use Prim.Native.Nat.{ℕ, ◌+◌, ◌-◌}
 use mathlib.Core.Path.{◌≡◌, refl, sym, ap, ◌∙◌}
@@ -6,18 +7,20 @@ use mathlib.Core.Bool.{Bool, true, false, not}
 use mathlib.Core.List.{List}
 use native.Mathlib.Omega.{arith}
 use lib.ListN.{length}
+use Rattle.std.specs.Prelude.{Option}
 use Rattle.definition.specs.declared.Refusal.{Refusal}
+use Rattle.definition.specs.declared.SignKind.{SignKind}
 use Rattle.definition.specs.declared.Usage.{Usage}
 use Rattle.definition.specs.Basic.{Answer, Err, Ok, ◌>>=◌, and_then, refuse_if}
 use Rattle.definition.specs.Picture.{trim, expand, tally, before_point, fraction, all_digits, stored_digits, without, mask}
-use Rattle.definition.specs.Picture.{mixed, too_long, symbols}
+use Rattle.definition.specs.Picture.{mixed, too_long, symbols, picture, kinded}
 use Rattle.definition.proofs.Answers.{bound, through, given-same, map-refused}
 use Rattle.definition.proofs.PictureLaws.{tally-sides, without-length, mask-width}
 use Rattle.symbols.specs.declared.Tallies.{Tallies}
 use Rattle.symbols.specs.declared.Half.{Half}
 use Rattle.picture.specs.declared.PicShape.{PicShape}
 use Rattle.symbols.specs.Shape.{tallies, halves, nothing, counts}
-use Rattle.picture.specs.Kinds.{stored_of, shape_of, shape_for, mixed_by, long_by, checked, shaped}
+use Rattle.picture.specs.Kinds.{stored_of, shape_of, shape_for, mixed_by, long_by, kinded_by, checked, shaped, Fit}
 use Rattle.symbols.proofs.Halves.{legal-halves}
 use Rattle.symbols.proofs.Counting.{no_digit}
 
@@ -67,17 +70,18 @@ symbols-shape at usage bs {l} e p h = rw (p, h, e, legal-halves l) (go (not (not
     go false false true = refl
     go false false false = refl
 
--- what was counted
-module _ (at : ℕ) (usage : Usage) (bs : List ℕ) where
+-- what was counted of the trimmed picture
+module _ (at : ℕ) (usage : Usage) (bs : List ℕ) {w : List ℕ} (trimmed : w ≡ trim bs) where
   -- a refusal of the counting is that of the symbols
-  pub counts-refused : {r : Refusal} → Err r ≡ counts at (trim bs) → Err r ≡ shaped at usage bs
+  pub counts-refused : {r : Refusal} → Err r ≡ counts at w → shaped at usage bs ≡ Err r
   unfolding and_then symbols
-  counts-refused h = rw (map-refused (λ l. (tallies l, halves Half.Nothing l)) (expand at 0 0 (trim bs)) (sym h))
+  counts-refused h =
+      rw (map-refused (λ l. (tallies l, halves Half.Nothing l)) (expand at 0 0 (trim bs)) (sym (rw trimmed at h)))
 
-  module _ {t : Tallies} {half : Half} (h : ◌≡◌ {A = Answer (Tallies × Half)} (Ok (t, half)) (counts at (trim bs))) {s : PicShape} (is : s ≡ shape_of t) where
+  module _ {t : Tallies} {half : Half} (h : ◌≡◌ {A = Answer (Tallies × Half)} (Ok (t, half)) (counts at w)) {s : PicShape} (is : s ≡ shape_of t) where
     by-checks : shaped at usage bs ≡ (checked at usage s half >>= λ _. Ok s)
     unfolding and_then
-    by-checks = go (expand at 0 0 (trim bs)) refl h
+    by-checks = go (expand at 0 0 (trim bs)) refl (rw trimmed at h)
       where
         go : (x : Answer (List ℕ)) → expand at 0 0 (trim bs) ≡ x → ◌≡◌ {A = Answer (Tallies × Half)} (Ok (t, half)) (x >>= λ l. Ok (tallies l, halves Half.Nothing l)) → shaped at usage bs ≡ (checked at usage s half >>= λ _. Ok s)
         go (Err y) e h = absurd (let z : ◌≡◌ {A = ℕ} 0 1 = cc in omega arith)
@@ -87,16 +91,16 @@ module _ (at : ℕ) (usage : Usage) (bs : List ℕ) where
             let awaited : half ≡ halves Half.Nothing l = ap (λ (x : Tallies × Half). x.1) both in
             symbols-shape at usage bs e (is ∙ ap shape_of same ∙ shape_same l) awaited
 
-    pub checks-refused : {r : Refusal} → Err r ≡ checked at usage s half → Err r ≡ shaped at usage bs
+    pub checks-refused : {r : Refusal} → Err r ≡ checked at usage s half → shaped at usage bs ≡ Err r
     unfolding and_then
     checks-refused e = rw (by-checks, ← e)
 
-    pub checks-passed : Ok tt ≡ checked at usage s half → Ok s ≡ shaped at usage bs
+    pub checks-passed : Ok tt ≡ checked at usage s half → shaped at usage bs ≡ Ok s
     unfolding and_then
     checks-passed e = rw (by-checks, ← e)
 
 -- a shape that passed the checks is not too long
-pub not-long : (at : ℕ) (usage : Usage) (s : PicShape) (half : Half) → Ok tt ≡ checked at usage s half → long_by usage s ≡ false
+not-long : (at : ℕ) (usage : Usage) (s : PicShape) (half : Half) → Ok tt ≡ checked at usage s half → long_by usage s ≡ false
 unfolding and_then
 not-long at usage s half e = go (not (nothing half)) (mixed_by s) (long_by usage s) e
   where
@@ -105,6 +109,16 @@ not-long at usage s half e = go (not (nothing half)) (mixed_by s) (long_by usage
     go true y true e = absurd (let z : ◌≡◌ {A = ℕ} 0 1 = cc in omega arith)
     go false true true e = absurd (let z : ◌≡◌ {A = ℕ} 0 1 = cc in omega arith)
     go false false true e = absurd (let z : ◌≡◌ {A = ℕ} 0 1 = cc in omega arith)
+
+pub shape-fits :
+    (at : ℕ) (usage : Usage) (half : Half) (t : Tallies) {s : PicShape} →
+    s ≡ shape_of t →
+    Ok tt ≡ checked at usage s half →
+    Fit usage s
+shape-fits at usage half t {s} is e =
+    record { short = not-long at usage s half e; part = rw is (omega arith); held = rw is (omega arith) }
+
+pub ruleset shape_steps = (counts-refused, checks-passed, shape-fits)
 
 -- the checks, one after the other
 module _ (at : ℕ) (usage : Usage) (s : PicShape) (half : Half) where
@@ -154,3 +168,17 @@ behind at usage bs {s} given =
 -- a refusal that was read is the symbols'
 pub behind-refused : (at : ℕ) (usage : Usage) (bs : List ℕ) {x : Refusal} → Err x ≡ shaped at usage bs → symbols at usage bs ≡ Err x
 behind-refused at usage bs e = map-refused shape_for (symbols at usage bs) (sym e)
+
+-- ---------------------------------------------------------------- kind and width
+
+module _ (at : ℕ) (usage : Usage) (sign : Option SignKind) (bs : List ℕ) where
+  pub picture-refused : {x : Refusal} → Err x ≡ shaped at usage bs → picture at usage sign bs ≡ Err x
+  unfolding picture and_then
+  picture-refused e = rw (behind-refused at usage bs e)
+
+  pub picture-given :
+      {s : PicShape} → Ok s ≡ shaped at usage bs → picture at usage sign bs ≡ Ok (kinded_by usage sign s)
+  unfolding picture kinded and_then
+  picture-given e = let b = behind at usage bs e in rw b.are (ap Ok (sym (ap (kinded_by usage sign) b.shape)))
+
+pub ruleset picture_steps = (picture-refused, picture-given)

@@ -146,6 +146,7 @@ impl PicShape {
 }
 
 /// The shape of a picture, or its first refusal of 22 to 27, at `at`.
+#[tactic(auto, using(crate::proofs::Shapes::shape_steps))]
 pub fn read_shape(picture: &[u8], at: usize, usage: Usage) -> Result<PicShape, Refusal>
     ensures same { result ≡ shaped at usage picture.now }
     ensures fits { IfOk result (Fit usage) }
@@ -243,6 +244,7 @@ fn numeric(usage: Usage, precision: usize, scale: usize, signed: bool, sign: Sig
 }
 
 /// Kind and width of a picture whose text was checked; a refusal, 22 to 27, carries the position `at`.
+#[tactic(auto, using(crate::proofs::Shapes::picture_steps))]
 pub fn picture_at(
     picture: &[u8],
     at: usize,

@@ -42,3 +42,6 @@ module _ {t : List ℕ} {from place n : Stand} (inv : Reached t from place) wher
 -- where it goes on, it ends as from there
 pub ends_on : {t : List ℕ} {from place n : Stand} → Reached t from place → Ends t place n → Ends t from n
 ends_on inv e = record { up = omega arith; within = e.within; rest = inv.rest ∙ e.rest }
+
+-- the steps of a walk to the end of a statement
+pub ruleset end_steps = (reached-start, reached-word, ends-stop, ends-text)

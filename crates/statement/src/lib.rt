@@ -10,7 +10,8 @@ ghost use Rattle.statement.specs.Reading.{ClausesAre, Ends, NamedAre, FirstState
 use definition::{Clauses, Expect, ItemUsage, Missing, Refusal, Span, Statement, Usage};
 use tokens::{Next, Stand};
 
-// Kept: the text beside `&mut Stand` – no plainer: with `&mut WordReader` each contract has to say that its text stays.
+// Kept: the text beside `&mut Stand`, and the bound of `place.old.at` in each contract – no plainer: with the bound as
+// a ghost field of a `&mut WordReader` each of them has to say that its text stays, and so has each loop's invariant.
 
 /// The clauses of a statement that begins at `at` and ends where `e` is expected; or what it lacks, a count (11), a
 /// bound (12) or a name (13).
@@ -32,7 +33,7 @@ pub fn read_clauses(text: &[u8], at: usize, place: &mut Stand) -> Result<Clauses
     ensures { ClausesAre text.now at place.old result place.new }
 {
     let mut e = Expect::Clause;
-    let mut c = clauses::no_clauses();
+    let mut c = clauses::NO_CLAUSES;
     loop {
         match words::word_at(text, place) {
             Next::Word(w) => match clauses::step(e, w, &text[w.start..w.start + w.len], &mut c) {
@@ -46,6 +47,7 @@ pub fn read_clauses(text: &[u8], at: usize, place: &mut Stand) -> Result<Clauses
 }
 
 /// Moves a reader behind the statement that goes on there.
+#[tactic(auto, using(crate::proofs::EndLaws::end_steps))]
 fn skip_statement(text: &[u8], place: &mut Stand)
     requires { place.old.at ≤ length text.now }
     ensures { Ends text.now place.old place.new }
@@ -83,8 +85,8 @@ fn read_named(text: &[u8], at: usize, level: u8, place: &mut Stand) -> Result<St
             let c = read_clauses(text, at, place)?;
             Ok(statement_of(level, at, name, c))
         }
-        Next::Stop => Ok(statement_of(level, at, Span::ABSENT, clauses::no_clauses())),
-        Next::End => Ok(statement_of(level, at, Span::ABSENT, clauses::no_clauses())),
+        Next::Stop => Ok(statement_of(level, at, Span::ABSENT, clauses::NO_CLAUSES)),
+        Next::End => Ok(statement_of(level, at, Span::ABSENT, clauses::NO_CLAUSES)),
     }
 }
 

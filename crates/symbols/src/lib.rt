@@ -13,7 +13,8 @@ use definition::{MOST_SYMBOLS, Refusal};
 // ---------------------------------------------------------------- the repeat of a symbol
 
 /// A text without the white space in front of it.
-// Kept: a twin of `trim_end` – no plainer: they differ in a pattern, and the library's white space leaves byte 11 out.
+// Kept: a twin of `trim_end` – no plainer: one takes bytes off the front and one off the back, each by a pattern of its
+// own, and the library's `trim_ascii` leaves byte 11 where it stands, which is white space here.
 #[tactic(auto, unfolding(definition::specs::Picture::trim_start))]
 fn trim_start(mut s: &[u8]) -> &[u8]
     ensures { result.now ≡ trim_start s.now }
@@ -225,7 +226,8 @@ fn is_symbol(b: u8) -> bool
 }
 
 /// What is awaited of CR or DB: nothing, an R after the C, a B after the D; or a byte that is no symbol was seen.
-// Kept: `Wrong` among the states – no plainer: it is told at the end, after refusals 22 to 24 of later symbols.
+// Kept: `Wrong` among the states, and no Result in its place – no plainer: a byte that is no symbol (25) is refused only
+// when the whole picture was counted, since 22 to 24 of a later symbol come before it; until then it is a state.
 #[derive(Clone, Copy)]
 pub enum Half {
     Nothing,
@@ -282,7 +284,8 @@ pub fn count_symbols(picture: &[u8], at: usize) -> Result<(Tallies, Half), Refus
     let mut tallies = Tallies::NONE;
     let mut half = Half::Nothing;
     let mut left = picture;
-    // Kept: a loop over what is left – no plainer: a run takes its own number of bytes, which no iterator's step does.
+    // Kept: a loop over what is left – no plainer: each run takes as many bytes as it has, and an iterator over bytes, or
+    // over chunks of them, takes the same number at each step.
     while let [first, rest @ ..] = left {
         let (n, skip) = run_at(*first, rest, at)?;
         let room = (MOST_SYMBOLS - tallies.symbols) as usize;

@@ -1,18 +1,15 @@
 -- What a byte is by the bytes after it, where a reader stands, and what the end of the tokens says of refusal 50.
 -- Assumes nothing.
-use Prim.Native.Nat.{ℕ, ◌<◌, ◌+◌}
+use Prim.Native.Nat.{ℕ, ◌+◌}
 use mathlib.Core.Path.{◌≡◌, refl}
 use mathlib.Core.Bool.{Bool, true, false, ◌&&◌, not}
 use mathlib.Core.List.{List, [], ◌∷◌}
 use Rattle.std.specs.Prelude.{if◌then◌else◌}
 use Rattle.std.proofs.lemmas.Bool.Decides.{nat_tests}
-use native.Mathlib.Omega.{arith}
 use lib.Dec.{eqb}
 use lib.ListN.{get_or, drop}
-use borrow.Author.Tests.{eqb-true, ne_eqb}
+use borrow.Author.Tests.{eqb-true}
 use Rattle.definition.specs.declared.ByteKind.TheVariants.{Newline, Blank, Cut, Star, Period, Other}
-use Rattle.definition.specs.declared.Mode.{Mode}
-use Rattle.definition.specs.declared.Mode.TheVariants.{Between}
 use Rattle.definition.specs.declared.Said.{Said}
 use Rattle.definition.specs.declared.Said.TheVariants.{Before, Value, Literal}
 use Rattle.definition.specs.Calls.{literal_check}
@@ -64,17 +61,6 @@ not-literal (Literal m a) h = absurd (h m a refl)
 module _ (s : Stand) where
   pub mode-closed : closed s.said ≡ true → mode_at s ≡ between (eqb s.at 0)
   mode-closed h = rw h
-
-  pub mode-literal : closed s.said ≡ false → mode_at s ≡ Between
-  mode-literal h = rw h
-
-  -- behind a token its line has begun
-  pub mode-behind : 0 < s.at → mode_at s ≡ Between
-  mode-behind h = rw (ne_eqb s.at 0 (λ (e : s.at ≡ 0). omega arith)) (by-test (closed s.said))
-    where
-      by-test : (x : Bool) → ◌≡◌ {A = Mode} (if x then Between else Between) Between
-      by-test true = refl
-      by-test false = refl
 
 -- ---------------------------------------------------------------- refusal 50
 

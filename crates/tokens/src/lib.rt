@@ -334,8 +334,8 @@ fn look(text: &[u8], s: Stand) -> Ahead
     }
 }
 
-/// The first token from where a reader stands, which then stands behind it; after the last one, where the text has ended
-/// or the line of a literal has.
+/// The first token from where a reader stands, which then stands behind it; after the last one, where the text has
+/// ended or the line of a literal has.
 pub fn next_token(text: &[u8], s: &mut Stand) -> Next
     requires { s.old.at ≤ length text.now }
     ensures { First (tokens_at text.now s.old) text.now s.old.at result s.new }

@@ -6,6 +6,7 @@ ghost use Rattle.tokens.specs.Tokens.{tokens_at, First};
 
 use tokens::{Next, Stand};
 
+/// A text, and where a reader stands in it.
 #[derive(Clone, Copy)]
 pub struct WordReader<'a> {
     pub text: &'a [u8],

@@ -4,11 +4,11 @@ use mathlib.Core.Path.{◌≡◌, refl}
 use mathlib.Core.List.{List}
 use native.Mathlib.Omega.{arith}
 use lib.ListN.{length}
-use Rattle.std.proofs.lemmas.Result.{err_from_is_err_and}
 use Rattle.definition.specs.declared.Refusal.{Refusal}
 use Rattle.definition.specs.Limits.{most_bytes}
 use Rattle.definition.specs.Basic.{Answer, Ok, Err, and_then}
 use Rattle.definition.specs.Calls.{entry_checks, card_checks}
+use Rattle.definition.proofs.Answers.{handed_on}
 use Rattle.definition.proofs.CallsLaws.{passes}
 use Rattle.cards.specs.Viewed.{ViewRoom, Viewed, CardsRead}
 use Rattle.cards.proofs.read_cards.Goals as goal
@@ -35,8 +35,7 @@ view_into-requires c = let a = c.args in fits a.cards.now a.work_len c.in_ok-ent
 
 pub returns-in_err-entry_checks : goal.returns-in_err-entry_checks
 returns-in_err-entry_checks c =
-    let p = err_from_is_err_and c.from_residual.result c.from_residual.ensures.1 in
-    rw (p.1, p.2) (refuses c.args.cards.now c.args.work_len c.in_err-entry_checks.ensures)
+    rw (handed_on _ c.from_residual.ensures.1) (refuses c.args.cards.now c.args.work_len c.in_err-entry_checks.ensures)
 
 pub returns : goal.returns
 returns c = let a = c.args in then-viewed a.cards.now a.work_len c.in_ok-entry_checks.ensures c.view_into.result c.view_into.new.view c.view_into.ensures

@@ -1,17 +1,17 @@
 -- `mask::write_mask` meets its contract.
 use Prim.Native.Nat.{ℕ, ◌+◌, ◌-◌, ◌≤◌, ◌<◌}
-use mathlib.Core.Path.{◌≡◌, refl, sym, ap, subst, ◌∙◌}
+use mathlib.Core.Path.{◌≡◌, refl, sym, ap, ◌∙◌}
 use mathlib.Core.List.{List, [], ◌∷◌}
 use mathlib.Core.Logic.{⊎_elim}
-use native.Mathlib.Omega.{arith}
-use lib.ListN.{length, get_or, take, drop, replicate}
+use lib.ListN.{length, take, drop, replicate}
 use lib.Seq.{length-sets}
 use Rattle.definition.specs.declared.Refusal.{Refusal}
 use Rattle.definition.specs.Limits.{most_symbols}
 use Rattle.definition.specs.Basic.{upper, Answer, Err, Ok}
 use Rattle.definition.specs.Picture.{repeat, expand, without, mask}
-use Rattle.definition.proofs.Lists.{order, drop-next, rest_part}
+use Rattle.definition.proofs.Lists.{order, rest_part}
 use Rattle.definition.proofs.PictureLaws.{onto}
+use Rattle.symbols.proofs.Patterns.{first_rest, none-left}
 use Rattle.symbols.proofs.Repeating.{expand-refused, expand-many, expand-more}
 use Rattle.mask.specs.Masks.{MaskRoom, put, Wrote}
 use Rattle.mask.proofs.Masking.{room-run, room-rest, put-run}
@@ -22,43 +22,33 @@ start : (t out : List ℕ) → MaskRoom 0 (expand 0 0 0 t) (length out) → Left
 start t out h = record { kept = refl; seen = 0; room = h; same = refl }
 
 module _ {t out₀ out : List ℕ} {k : ℕ} {left : List ℕ} (inv : Left t out₀ out k left) where
-  done : length left < 1 → out ≡ put 0 (expand 0 0 0 t) out₀
+  done : left ≡ [] → out ≡ put 0 (expand 0 0 0 t) out₀
   unfolding expand without
-  done h = go left h inv.same
-    where
-      go : (l : List ℕ) → length l < 1 → put 0 (expand 0 0 0 t) out₀ ≡ put k (expand 0 inv.seen 0 l) out → out ≡ put 0 (expand 0 0 0 t) out₀
-      go [] h e = sym e
-      go (x ∷ xs) h e = absurd (omega arith)
+  done none = sym (inv.same ∙ ap (λ l. put k (expand 0 inv.seen 0 l) out) none)
 
-  -- what a pattern binds after the first
-  abbrev rest : List ℕ
-  rest = take (length left - 1) (drop 1 left)
-
-  module _ (h : 1 ≤ length left) where
-    whole : left ≡ get_or left 0 0 ∷ rest
-    whole = drop-next left 0 (omega arith) ∙ ap (λ l. get_or left 0 0 ∷ l) (sym (rest_part left 1))
-
-    room-here : MaskRoom k (expand 0 inv.seen 0 (get_or left 0 0 ∷ rest)) (length out)
-    room-here = subst (λ l. MaskRoom k (expand 0 inv.seen 0 l) (length out)) whole inv.room
+  -- the next symbol
+  module _ {first : ℕ} {rest : List ℕ} (whole : left ≡ first ∷ rest) where
+    room-here : MaskRoom k (expand 0 inv.seen 0 (first ∷ rest)) (length out)
+    room-here = rw whole at inv.room
 
     refused : {x : Refusal} → Err x ≡ repeat 0 rest → ⊥
-    refused e = rw (expand-refused 0 inv.seen (get_or left 0 0) rest (sym e)) at room-here
+    refused e = rw (expand-refused 0 inv.seen first rest (sym e)) at room-here
 
     module _ {n skip : ℕ} (e : ◌≡◌ {A = Answer (ℕ × ℕ)} (Ok (n, skip)) (repeat 0 rest)) where
       few : inv.seen + n ≤ most_symbols
       few =
           ⊎_elim
-          (λ (m : most_symbols < inv.seen + n). absurd (rw (expand-many 0 inv.seen (get_or left 0 0) rest (sym e) m) at room-here))
+          (λ (m : most_symbols < inv.seen + n). absurd (rw (expand-many 0 inv.seen first rest (sym e) m) at room-here))
           (λ (m : inv.seen + n ≤ most_symbols). m)
           (order most_symbols (inv.seen + n))
 
       after : Answer (List ℕ)
       after = expand 0 (inv.seen + n) 0 (drop skip rest)
 
-      module _ {b : ℕ} (p : b ≡ upper (get_or left 0 0)) where
+      module _ {b : ℕ} (p : b ≡ upper first) where
         grown : expand 0 inv.seen 0 left ≡ onto (replicate n b) after
         unfolding after
-        grown = ap (expand 0 inv.seen 0) whole ∙ expand-more 0 inv.seen (get_or left 0 0) rest (sym e) few ∙ rw (← p)
+        grown = ap (expand 0 inv.seen 0) whole ∙ expand-more 0 inv.seen first rest (sym e) few ∙ rw (← p)
 
         has_room : k + length (mask (replicate n b)) ≤ length out
         has_room = room-run k (replicate n b) after (rw grown at inv.room)
@@ -80,15 +70,17 @@ loop-left-init c = search start
 
 pub write_run-k-requires : goal.write_run-k-requires
 write_run-k-requires c =
-    has_room c.loop-left.invariant c.in-len1-up.len_at_least c.in-Ok.ensures.same c.upper.ensures
+    has_room c.loop-left.invariant (first_rest _ c.in-len1-up.len_at_least) c.in-Ok.ensures.same c.upper.ensures
 
 pub loop-left-preserved : goal.loop-left-preserved
 loop-left-preserved c =
-    go_on c.loop-left.invariant c.in-len1-up.len_at_least c.in-Ok.ensures.same c.upper.ensures c.write_run-k.ensures
+    go_on c.loop-left.invariant (first_rest _ c.in-len1-up.len_at_least) c.in-Ok.ensures.same c.upper.ensures
+    c.write_run-k.ensures
 
 pub returns-in_default-repeat_at : goal.returns-in_default-repeat_at
 returns-in_default-repeat_at c =
-    absurd (refused c.loop-left.invariant c.in-len1-up.len_at_least c.in_default-repeat_at.ensures.same)
+    absurd
+    (refused c.loop-left.invariant (first_rest _ c.in-len1-up.len_at_least) c.in_default-repeat_at.ensures.same)
 
 pub returns : goal.returns
-returns c = search done
+returns c = done c.loop-left.invariant (none-left _ c.in_default.len_below)

@@ -1,9 +1,9 @@
-use Prim.Native.Nat.{ℕ, ◌+◌, ◌-◌, ◌≤◌}
+use Prim.Native.Nat.{ℕ, ◌+◌, ◌-◌}
 use mathlib.Core.Path.{◌≡◌, refl, sym, ap, ◌∙◌}
 use mathlib.Core.List.{List}
 use native.Mathlib.Nat.{add-sub_cancel_left}
 use native.Mathlib.Omega.{arith}
-use lib.ListN.{length, take, drop}
+use lib.ListN.{take, drop}
 use Rattle.definition.specs.declared.Clauses.{Clauses}
 use Rattle.definition.specs.declared.Expect.{Expect}
 use Rattle.definition.specs.declared.Missing.{Missing}
@@ -16,17 +16,13 @@ use Rattle.definition.specs.Words.{first_words}
 use Rattle.definition.proofs.WordLaws.{end-words}
 use Rattle.tokens.specs.declared.Stand.{Stand}
 use Rattle.tokens.specs.Tokens.{tokens_at, FirstWord, FirstStop, FirstEnd}
-use Rattle.definition.proofs.SpanLaws.{none-spans, step-spans, AnswerSpans, finish-spans}
+use Rattle.definition.proofs.SpanLaws.{step-spans, AnswerSpans, finish-spans}
 use Rattle.clauses.specs.Places.{SpanInside}
 use Rattle.clauses.specs.Steps.{led, kept_on}
 use Rattle.statement.specs.Reading.{words_from, Ends, ClausesAre}
-use Rattle.statement.proofs.EndLaws.{reached-start, reached-word, ends-stop, ends-text}
+use Rattle.statement.proofs.EndLaws.{reached-word, ends-stop, ends-text}
 use Rattle.statement.proofs.read_clauses.Invariants.{Left}
 use Rattle.statement.proofs.read_clauses.Goals as goal
-
--- before the first word
-start : {t : List ℕ} {at : ℕ} {from : Stand} {c : Clauses} → from.at ≤ length t → c ≡ no_clauses → Left t at from from Expect.Clause c
-start {t} h p = record { reached = reached-start h; same = rw p; fits = rw p (none-spans (SpanInside t) (omega arith)) }
 
 -- a statement that ends before n, with this answer
 closes :
@@ -78,9 +74,6 @@ module _ {t : List ℕ} {at : ℕ} {from place : Stand} {e : Expect} {c : Clause
   ended : {n : Stand} {a : Answer Clauses} → FirstEnd (tokens_at t place) t place.at n → a ≡ finish at e c → ClausesAre t at from a n
   ended {n} f p =
       rw p (closes t at from n (finish at e c) (rest f.opens ∙ ap (clauses t at e c) (end-words n.said) ∙ clauses-none t at e c) (finish-spans (SpanInside t) at e inv.fits) (ends-text inv.reached f))
-
-pub loop-w-init : goal.loop-w-init
-loop-w-init c = search start
 
 pub returns-in-Stop : goal.returns-in-Stop
 returns-in-Stop c = stopped c.loop-w.invariant c.in-Stop.ensures c.finish.ensures

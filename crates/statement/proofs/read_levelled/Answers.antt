@@ -3,7 +3,6 @@ use Prim.Native.Nat.{ℕ, ◌+◌, ◌-◌}
 use mathlib.Core.Path.{◌≡◌, sym, ap, ◌∙◌}
 use mathlib.Core.List.{List, ◌∷◌}
 use Rattle.std.specs.Prelude.{Option, None, Some}
-use Rattle.std.proofs.lemmas.Result.{err_from_is_err_and}
 use native.Mathlib.Nat.{add-sub_cancel_left}
 use lib.ListN.{take, drop}
 use Rattle.definition.specs.declared.Refusal.{Refusal}
@@ -12,6 +11,7 @@ use Rattle.definition.specs.declared.Statement.{Statement}
 use Rattle.definition.specs.declared.Token.{Token}
 use Rattle.definition.specs.declared.Token.TheVariants.{Word}
 use Rattle.definition.specs.Basic.{part, number, Err}
+use Rattle.definition.proofs.Answers.{handed_on}
 use Rattle.definition.specs.Statement.{named}
 use Rattle.definition.specs.Words.{first_open, sentences, first_words}
 use Rattle.definition.proofs.StatementLaws.{statement-bad, statement-skipped, statement-kept, statement-refused}
@@ -71,9 +71,8 @@ returns-in_ok-s-in-Some c =
 
 pub returns-in_err-s-in-Some : goal.returns-in_err-s-in-Some
 returns-in_err-s-in-Some c =
-    let p = err_from_is_err_and c.from_residual.result c.from_residual.ensures.1 in
     let a = c.args in
-    rw (p.1, p.2) (refused a.text.now a.first a.place.now c.level_of.ensures c.in-Some.is c.in-Some.level-test.1 c.in_err-s-in-Some.ensures)
+    rw (handed_on _ c.from_residual.ensures.1) (refused a.text.now a.first a.place.now c.level_of.ensures c.in-Some.is c.in-Some.level-test.1 c.in_err-s-in-Some.ensures)
 
 pub returns-in-None : goal.returns-in-None
 returns-in-None c = let a = c.args in bad a.text.now a.first a.place.now c.level_of.ensures c.in-None.is

@@ -1,16 +1,16 @@
 -- `statement::read_named` meets its contract: a name and clauses, or the statement ends.
 use Prim.Native.Nat.{ℕ, ◌<◌, ◌≤◌}
-use mathlib.Core.Path.{◌≡◌, ap, ◌∙◌}
+use mathlib.Core.Path.{◌≡◌, refl, ap, ◌∙◌}
 use mathlib.Core.List.{List, []}
 use native.Mathlib.Omega.{arith}
 use lib.ListN.{length}
-use Rattle.std.proofs.lemmas.Result.{err_from_is_err_and}
 use Rattle.definition.specs.declared.Clauses.{Clauses}
 use Rattle.definition.specs.declared.Refusal.{Refusal}
 use Rattle.definition.specs.declared.Span.{Span}
 use Rattle.definition.specs.declared.Statement.{Statement}
 use Rattle.definition.specs.declared.Token.{Token}
 use Rattle.definition.specs.Basic.{absent, Err}
+use Rattle.definition.proofs.Answers.{handed_on}
 use Rattle.definition.specs.Statement.{no_clauses, clauses, statement_of, named}
 use Rattle.definition.specs.declared.Expect.{Expect}
 use Rattle.definition.proofs.StatementLaws.{named_none, named-given, named-refused}
@@ -63,9 +63,8 @@ module _ (t : List ℕ) (at level : ℕ) (from : Stand) (h : from.at ≤ length 
 
 pub returns-in_err-c-in-Word : goal.returns-in_err-c-in-Word
 returns-in_err-c-in-Word c =
-    let p = err_from_is_err_and c.from_residual.result c.from_residual.ensures.1 in
     let a = c.args in
-    rw (p.1, p.2) (refused a.text.now a.at a.level a.place.now c.requires.1 c.in-Word.ensures c.in_err-c-in-Word.ensures)
+    rw (handed_on _ c.from_residual.ensures.1) (refused a.text.now a.at a.level a.place.now c.requires.1 c.in-Word.ensures c.in_err-c-in-Word.ensures)
 
 pub returns-in_ok-c-in-Word : goal.returns-in_ok-c-in-Word
 returns-in_ok-c-in-Word c =
@@ -75,9 +74,9 @@ returns-in_ok-c-in-Word c =
 pub returns-in-Stop : goal.returns-in-Stop
 returns-in-Stop c =
     let a = c.args in
-    stopped a.text.now a.at a.level a.place.now c.requires.1 c.requires.0 c.no_clauses.ensures c.statement_of-in-Stop.ensures c.in-Stop.ensures
+    stopped a.text.now a.at a.level a.place.now c.requires.1 c.requires.0 refl c.statement_of-in-Stop.ensures c.in-Stop.ensures
 
 pub returns-in-End : goal.returns-in-End
 returns-in-End c =
     let a = c.args in
-    ended a.text.now a.at a.level a.place.now c.requires.1 c.requires.0 c.no_clauses-in-End.ensures c.statement_of-in-End.ensures c.in-End.ensures
+    ended a.text.now a.at a.level a.place.now c.requires.1 c.requires.0 refl c.statement_of-in-End.ensures c.in-End.ensures

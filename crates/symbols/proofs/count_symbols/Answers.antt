@@ -3,13 +3,13 @@ use Prim.Native.Nat.{ℕ, ◌+◌, ◌-◌, ◌≤◌, ◌<◌}
 use mathlib.Core.Path.{◌≡◌, refl, sym, ap, ◌∙◌}
 use mathlib.Core.List.{List, [], ◌∷◌, ◌++◌, append-nil}
 use native.Mathlib.Omega.{arith}
-use lib.ListN.{length, get_or, take, drop, replicate}
-use Rattle.std.proofs.lemmas.Result.{err_from_is_err_and}
+use lib.ListN.{length, take, drop, replicate}
 use Rattle.definition.specs.declared.Refusal.{Refusal}
 use Rattle.definition.specs.Limits.{most_symbols}
 use Rattle.definition.specs.Basic.{upper, Err, Ok, and_then}
 use Rattle.definition.specs.Picture.{expand, tally, before_point}
-use Rattle.definition.proofs.Lists.{drop-next, rest_part}
+use Rattle.definition.proofs.Answers.{handed_on}
+use Rattle.definition.proofs.Lists.{rest_part}
 use Rattle.definition.proofs.PictureLaws.{onto, onto-nil, onto-onto}
 use Rattle.symbols.specs.declared.Tallies.{Tallies}
 use Rattle.symbols.specs.declared.Half.{Half}
@@ -17,6 +17,7 @@ use Rattle.symbols.specs.Repeats.{Runs, Stops}
 use Rattle.symbols.specs.Shape.{tallies, run_of, joined, halves, counts, Small, Adds}
 use Rattle.symbols.proofs.Counting.{small, tallies-more}
 use Rattle.symbols.proofs.Halves.{halves-append}
+use Rattle.symbols.proofs.Patterns.{first_rest, none-left}
 use Rattle.symbols.proofs.count_symbols.Invariants.{Seen}
 use Rattle.symbols.proofs.count_symbols.Goals as goal
 
@@ -29,30 +30,20 @@ module _ {t : List ℕ} {at : ℕ} {s : Tallies} {half : Half} {left : List ℕ}
   small-s : Small s
   small-s = rw inv.counted (small inv.seen (omega (arith, ap (λ (x : Tallies). x.symbols) inv.counted)))
 
-  done : length left < 1 → Ok (s, half) ≡ counts at t
+  done : left ≡ [] → Ok (s, half) ≡ counts at t
   unfolding and_then expand
-  done h = go left h inv.same
-    where
-      go : (l : List ℕ) → length l < 1 → expand at 0 0 t ≡ onto inv.seen (expand at s.symbols 0 l) → Ok (s, half) ≡ counts at t
-      go [] h e = rw (e, append-nil, ← inv.counted, ← inv.halved)
-      go (x ∷ xs) h e = absurd (omega arith)
+  done none = rw (inv.same, none, append-nil, ← inv.counted, ← inv.halved)
 
-  -- what a pattern binds after the first
-  abbrev rest : List ℕ
-  rest = take (length left - 1) (drop 1 left)
-
-  module _ (h : 1 ≤ length left) where
-    whole : left ≡ get_or left 0 0 ∷ rest
-    whole = drop-next left 0 (omega arith) ∙ ap (λ l. get_or left 0 0 ∷ l) (sym (rest_part left 1))
-
-    same : expand at 0 0 t ≡ onto inv.seen (expand at s.symbols 0 (get_or left 0 0 ∷ rest))
+  -- the next run begins with this byte
+  module _ {first : ℕ} {rest : List ℕ} (whole : left ≡ first ∷ rest) where
+    same : expand at 0 0 t ≡ onto inv.seen (expand at s.symbols 0 (first ∷ rest))
     same = inv.same ∙ ap (λ l. onto inv.seen (expand at s.symbols 0 l)) whole
 
-    refused : {x : Refusal} → Stops at (get_or left 0 0 ∷ rest) x → Err x ≡ counts at t
+    refused : {x : Refusal} → Stops at (first ∷ rest) x → Err x ≡ counts at t
     unfolding and_then
-    refused {x} stops = rw (same, stops s.symbols)
+    refused stops = rw (same, stops s.symbols)
 
-    module _ {n : ℕ} (skip : ℕ) (run : Runs at (get_or left 0 0 ∷ rest) n (get_or left 0 0) (drop skip rest)) where
+    module _ {n : ℕ} (skip : ℕ) (run : Runs at (first ∷ rest) n first (drop skip rest)) where
       many : most_symbols - s.symbols < n → Err (Refusal.TooManySymbols at) ≡ counts at t
       unfolding and_then
       many m = rw (same, run.many s.symbols inv.few (omega (arith, inv.few)))
@@ -63,7 +54,7 @@ module _ {t : List ℕ} {at : ℕ} {s : Tallies} {half : Half} {left : List ℕ}
 
         go_on :
             {b : ℕ} →
-            b ≡ upper (get_or left 0 0) →
+            b ≡ upper first →
             {half' : Half} →
             half' ≡ halves half (replicate n b) →
             {s' : Tallies} →
@@ -89,23 +80,24 @@ loop-left-init c = start c.args.picture.now c.args.at
 
 pub returns-in_err-n-clause-same : goal.returns-in_err-n-clause-same
 returns-in_err-n-clause-same c =
-    let p = err_from_is_err_and c.from_residual.result c.from_residual.ensures.1 in
-    rw (p.1, p.2) (refused c.loop-left.invariant c.in-len1-up.len_at_least c.in_err-n.ensures.run)
+    handed_on _ c.from_residual.ensures.1
+    ∙ refused c.loop-left.invariant (first_rest _ c.in-len1-up.len_at_least) c.in_err-n.ensures.run
 
 pub returns-then-room-n-clause-same : goal.returns-then-room-n-clause-same
 returns-then-room-n-clause-same c =
-    many c.loop-left.invariant c.in-len1-up.len_at_least _ c.in_ok-n.ensures.run c.if-room-n.true
+    many c.loop-left.invariant (first_rest _ c.in-len1-up.len_at_least) _ c.in_ok-n.ensures.run c.if-room-n.true
 
 pub add-requires : goal.add-requires
-add-requires c = adds c.loop-left.invariant c.in-len1-up.len_at_least _ c.in_ok-n.ensures.run c.if-room-n.false
+add-requires c =
+    adds c.loop-left.invariant (first_rest _ c.in-len1-up.len_at_least) _ c.in_ok-n.ensures.run c.if-room-n.false
 
 pub loop-left-preserved : goal.loop-left-preserved
 loop-left-preserved c =
-    go_on c.loop-left.invariant c.in-len1-up.len_at_least _ c.in_ok-n.ensures.run c.if-room-n.false
+    go_on c.loop-left.invariant (first_rest _ c.in-len1-up.len_at_least) _ c.in_ok-n.ensures.run c.if-room-n.false
     c.upper-b.ensures c.after-half.ensures c.add.ensures
 
 pub returns-clause-same : goal.returns-clause-same
-returns-clause-same c = done c.loop-left.invariant c.in_default.len_below
+returns-clause-same c = done c.loop-left.invariant (none-left _ c.in_default.len_below)
 
 pub returns-clause-small : goal.returns-clause-small
 returns-clause-small c = small-s c.loop-left.invariant

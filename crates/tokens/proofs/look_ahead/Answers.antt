@@ -59,9 +59,6 @@ end-next : (f : Bool) (p : ℕ) → completed_end (between f) p ≡ []
 end-next true p = refl
 end-next false p = refl
 
-start : {t : List ℕ} {at : ℕ} {fresh : Bool} → at ≤ length t → Left t at fresh at fresh
-start h = record { up = omega arith; within = h; rest = λ q c. refl }
-
 module _ {t : List ℕ} {at : ℕ} {fresh : Bool} {i : ℕ} {f : Bool} (inv : Left t at fresh i f) where
   done : length t ≤ i → AheadEnd t at fresh i
   done h = record { last = omega (arith, inv.within); rest = λ q c. inv.rest q c ∙ tokens-end t q (between f) i h ∙ rw (end-next f i) (closed_on q Newline [] c) }
@@ -95,9 +92,6 @@ module _ {t : List ℕ} {at : ℕ} {fresh : Bool} {i : ℕ} {f : Bool} (inv : Le
 
     period : k ≡ Period → AheadStop t at fresh (i + 1)
     period d = record { up = omega arith; within = omega arith; rest = λ q c. stepped d q c ∙ period-next t q i f }
-
-pub loop-i-init : goal.loop-i-init
-loop-i-init c = search start
 
 pub loop-i-preserved-in-Newline : goal.loop-i-preserved-in-Newline
 loop-i-preserved-in-Newline c = search (newline c.loop-i.invariant)

@@ -1,5 +1,5 @@
 use Prim.Native.Nat.{ℕ, ◌+◌, ◌≤◌, ◌<◌}
-use mathlib.Core.Path.{◌≡◌, subst, refl, sym, ◌∙◌}
+use mathlib.Core.Path.{◌≡◌, subst, sym, ◌∙◌}
 use mathlib.Core.Bool.{Bool, true, false}
 use mathlib.Core.List.{List}
 use native.Mathlib.Omega.{arith}
@@ -10,9 +10,6 @@ use Rattle.definition.specs.Basic.{white}
 use Rattle.definition.proofs.WordLaws.{tokens-end, literal-newline, literal-blank, literal-word}
 use Rattle.tokens.specs.Tokens.{Skips, InsideWord, InsideEnd}
 use Rattle.tokens.proofs.look_inside.Goals as goal
-
-start : {t : List ℕ} {at : ℕ} → at ≤ length t → Skips t at at
-start h = record { up = omega arith; within = h; rest = λ m a. refl }
 
 module _ {t : List ℕ} {at i : ℕ} (inv : Skips t at i) where
   -- the text ends, or the line
@@ -35,9 +32,6 @@ module _ {t : List ℕ} {at i : ℕ} (inv : Skips t at i) where
 
       word : w ≡ false → InsideWord t at i
       word y = record { skips = inv; within = h; begins = λ m a. literal-word t m a i h (sym p ∙ y) }
-
-pub loop-i-init : goal.loop-i-init
-loop-i-init c = search start
 
 pub returns-then-b-eq10 : goal.returns-then-b-eq10
 returns-then-b-eq10 c = search newline

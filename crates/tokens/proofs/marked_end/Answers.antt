@@ -29,9 +29,6 @@ after-marked (Before n) p b h = absurd h
 after-marked Value p b h = after-either _ (Literal b p) Value tt tt
 after-marked (Literal m a) p b h = after-either _ Value (Literal m a) tt tt
 
-start : {t : List ℕ} {at : ℕ} {n : Said} → (at ≤ length t) × After n → Left t at n at n
-start h = record { up = omega arith; within = h.0; after = h.1; rest = λ a. refl }
-
 module _ {t : List ℕ} {at : ℕ} {n : Said} {i : ℕ} {q : Said} (inv : Left t at n i q) where
   done : length t ≤ i → WordEnd t at n (record { at = length t; said = q })
   done h =
@@ -61,9 +58,6 @@ module _ {t : List ℕ} {at : ℕ} {n : Said} {i : ℕ} {q : Said} (inv : Left t
           within = inv.within;
           rest = λ a. inv.rest a ∙ word-stop t q a i h (sym e ∙ y) ∙ rw (after-heard q (part t (span a (i - a))) inv.after);
         }
-
-pub loop-i-init : goal.loop-i-init
-loop-i-init c = search start
 
 pub loop-i-preserved : goal.loop-i-preserved
 loop-i-preserved c = search next

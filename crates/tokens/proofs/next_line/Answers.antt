@@ -1,5 +1,5 @@
 use Prim.Native.Nat.{ℕ, ◌+◌, ◌<◌, ◌≤◌}
-use mathlib.Core.Path.{◌≡◌, subst, refl, sym, ◌∙◌}
+use mathlib.Core.Path.{◌≡◌, subst, sym, ◌∙◌}
 use mathlib.Core.List.{List}
 use native.Mathlib.Omega.{arith}
 use lib.ListN.{length, get_or}
@@ -8,9 +8,6 @@ use Rattle.definition.proofs.WordLaws.{dropped-newline, dropped-next, tokens-end
 use Rattle.tokens.specs.Tokens.{NextLine}
 use Rattle.tokens.proofs.next_line.Invariants.{Left}
 use Rattle.tokens.proofs.next_line.Goals as goal
-
-start : {t : List ℕ} {at : ℕ} → at ≤ length t → Left t at at
-start h = record { up = omega arith; within = h; rest = λ q c. refl }
 
 module _ {t : List ℕ} {at i : ℕ} (inv : Left t at i) where
   done : length t ≤ i → NextLine t at (length t)
@@ -32,9 +29,6 @@ module _ {t : List ℕ} {at i : ℕ} (inv : Left t at i) where
           within = omega arith;
           rest = λ q c. inv.rest q c ∙ dropped-next t q c i h n;
         }
-
-pub loop-i-init : goal.loop-i-init
-loop-i-init c = search start
 
 pub returns-then-text-i-eq10 : goal.returns-then-text-i-eq10
 returns-then-text-i-eq10 c = search found

@@ -1,19 +1,15 @@
 use Prim.Native.Nat.{ℕ}
-use mathlib.Core.Path.{◌≡◌, refl, sym, ◌∙◌, ap}
+use mathlib.Core.Path.{◌≡◌, sym, ◌∙◌, ap}
 use mathlib.Core.List.{List}
-use native.Mathlib.Omega.{arith}
 use Rattle.definition.specs.Basic.{Answer}
 use Rattle.definition.specs.Calls.{literal_check}
 use Rattle.definition.specs.declared.Span.{Span}
 use Rattle.definition.specs.Words.{first_open}
 use Rattle.tokens.specs.declared.Stand.{Stand}
-use Rattle.tokens.specs.Tokens.{at_start, tokens_at, FirstWord, FirstStop, FirstEnd, open_check}
+use Rattle.tokens.specs.Tokens.{tokens_at, FirstWord, FirstStop, FirstEnd, open_check}
 use Rattle.tokens.proofs.TokenLaws.{ends_open}
 use Rattle.tokens.proofs.open_check.Invariants.{Left}
 use Rattle.tokens.proofs.open_check.Goals as goal
-
-start : {t : List ℕ} {s : Stand} → s ≡ at_start → Left t s
-start e = rw e (record { within = omega arith; rest = refl })
 
 module _ {t : List ℕ} {s n : Stand} (inv : Left t s) where
   word : {w : Span} → FirstWord (tokens_at t s) t s.at w n → Left t n
@@ -26,9 +22,6 @@ module _ {t : List ℕ} {s n : Stand} (inv : Left t s) where
 
   done : {a : Answer (Unit {0})} → FirstEnd (tokens_at t s) t s.at n → a ≡ open_check n → a ≡ literal_check t
   done f p = p ∙ sym (ends_open t n (inv.rest ∙ ap first_open f.opens))
-
-pub loop-s-init : goal.loop-s-init
-loop-s-init c = search start
 
 pub loop-s-preserved-in-Word : goal.loop-s-preserved-in-Word
 loop-s-preserved-in-Word c = word c.loop-s.invariant c.in-Word.ensures

@@ -1,5 +1,5 @@
 use Prim.Native.Nat.{ℕ, ◌+◌, ◌<◌, ◌≤◌}
-use mathlib.Core.Path.{◌≡◌, subst, refl, ◌∙◌}
+use mathlib.Core.Path.{◌≡◌, subst, ◌∙◌}
 use mathlib.Core.Bool.{Bool, true, false}
 use mathlib.Core.List.{List}
 use native.Mathlib.Omega.{arith}
@@ -10,9 +10,6 @@ use Rattle.definition.proofs.WordLaws.{kind_at, stays_within, word_next, word-st
 use Rattle.tokens.specs.Tokens.{PlainEnd}
 use Rattle.tokens.proofs.word_end.Invariants.{Left}
 use Rattle.tokens.proofs.word_end.Goals as goal
-
-start : {t : List ℕ} {at : ℕ} → at ≤ length t → Left t at at
-start h = record { up = omega arith; within = h; rest = λ n s. refl }
 
 module _ {t : List ℕ} {at i : ℕ} (inv : Left t at i) where
   done : length t ≤ i → PlainEnd t at (length t)
@@ -27,9 +24,6 @@ module _ {t : List ℕ} {at i : ℕ} (inv : Left t at i) where
 
     found : r ≡ false → PlainEnd t at i
     found y = record { up = inv.up; within = inv.within; rest = λ n s. inv.rest n s ∙ word-stop t (Before n) s i h (here ∙ y) }
-
-pub loop-i-init : goal.loop-i-init
-loop-i-init c = search start
 
 pub loop-i-preserved : goal.loop-i-preserved
 loop-i-preserved c = search next

@@ -13,7 +13,7 @@ use Rattle.std.specs.Prelude.{if◌then◌else◌}
 use Rattle.definition.specs.Fold.{Entries, end, entry, append, rebased, redefiners, widest, union, union_members}
 use Rattle.definition.specs.Fold.{with_redefiners, folded_below, folded_all}
 use Rattle.definition.specs.Search.{entries#}
-use Rattle.rows.specs.Columns.{OFFSET, NEXT}
+use Rattle.rows.specs.Columns.{OFFSET, BEFORE, NEXT}
 use Rattle.rows.specs.Table.{cell, row_of, row_code}
 use Rattle.rows.proofs.TableLaws.{row-none, row-some, code-back}
 use Rattle.redefines.specs.Targets.{bases_at, place_at}
@@ -21,12 +21,12 @@ use Rattle.places.specs.Places.{entry_in}
 use Rattle.places.specs.Children.{ChildrenEnd, Numbered}
 use Rattle.places.proofs.RowLaws.{children-end}
 use Rattle.unions.specs.declared.Standing.{Standing}
-use Rattle.unions.specs.Shown.{standing, shown_as, list_in, redefiners_in, folded_rest, shown_at, Tree, Base, SizedRow}
+use Rattle.unions.specs.Shown.{standing, shown_as, list_in, redefiners_in, folded_rest, shown_at, Known, Tree, Branch, Base}
 use Rattle.unions.proofs.FoldedLaws.{append-end, append-append, redefiners-below}
 use Rattle.unions.proofs.ShownLaws.{walking_here, walking-ends}
-use Rattle.unions.proofs.WidthLaws.{Along, along-starts, along-on, Next, Onward, Following, following-starts}
-use Rattle.unions.proofs.WidthLaws.{following-none, following-next, next-numbered, next-sized, next-tree, next-is}
-use Rattle.unions.proofs.WidthLaws.{next-on}
+use Rattle.unions.proofs.WidthLaws.{Along, along-starts, along-before, along-sibling, along-on, Next}
+use Rattle.unions.proofs.WidthLaws.{Onward, Following, following-starts, following-none, following-next}
+use Rattle.unions.proofs.WidthLaws.{next-numbered, next-sibling, next-is, next-on}
 use Rattle.entries.specs.declared.Block.{Block}
 use Rattle.table.specs.declared.Item.{Item}
 use Rattle.table.specs.Entered.{listed}
@@ -127,38 +127,64 @@ room_as e {out} {b} {d} {to} h = subst (λ (x : Entries). TableRoom out b d (ent
 -- ---------------------------------------------------------------- the list
 
 -- what the loop keeps: what is done is built
-pub record Listing (t w : List ℕ) (out₀ out : List Item) (from to : ℕ) (b₀ : Block) (d i last : ℕ) (b : Block) : Type 0 where
+pub record Listing (t w : List ℕ) (out₀ out : List Item) (from to : ℕ) (b₀ : Block) (d i : ℕ) (b : Block) : Type 0 where
+  pub last : ℕ
   pub done : Entries
   pub along : Along t w from to i last done
   pub room : TableRoom out₀ b₀ d (entries# (listed t w from to)) to
   pub built : Built from to w out₀ b₀ d done b out
 
 pub listing-starts :
-    (t w : List ℕ) (out : List Item) (from to : ℕ) (b : Block) (d : ℕ) → Tree t w from to → TableRoom out b d (entries# (listed t w from to)) to → Listing t w out out from to b d from 0 b
-listing-starts t w out from to b d h f = record { done = end; along = along-starts t w from to h; room = f; built = built-none w out b d f.narrow }
+    (t w : List ℕ) (out : List Item) (from to : ℕ) (b : Block) (d : ℕ) →
+    Tree t w from to →
+    TableRoom out b d (entries# (listed t w from to)) to →
+    {i : ℕ} →
+    i ≡ from →
+    Listing t w out out from to b d i b
+listing-starts t w out from to b d h f {i} e =
+    subst (λ (k : ℕ). Listing t w out out from to b d k b) (sym e)
+    (record { last = 0; done = end; along = along-starts t w from to h; room = f; built = built-none w out b d f.narrow })
 
-module _ {t w : List ℕ} {out₀ out : List Item} {from to : ℕ} {b₀ : Block} {d i last : ℕ} {b : Block} (inv : Listing t w out₀ out from to b₀ d i last b) where
+module _ {t w : List ℕ} {out₀ out : List Item} {from to : ℕ} {b₀ : Block} {d i : ℕ} {b : Block} (inv : Listing t w out₀ out from to b₀ d i b) where
   pub listing-ends : to ≤ i → Built from to w out₀ b₀ d (listed t w from to) b out
   listing-ends h = built-as (walking-ends inv.along.walk h) inv.built
 
-  module _ {j : ℕ} (h : ChildrenEnd w i to j) where
-    pub listing-room : TableRoom out b d (entries# (shown_at t w i j to last)) to
+  -- row i is the next sibling
+  module _ {row j : ℕ} (at : row ≡ i) (h : ChildrenEnd w i to j) where
+    pub listing-sibling : Branch t w row j to × Known t w row (cell w row BEFORE)
+    listing-sibling =
+        subst (λ (k : ℕ). Branch t w k j to × Known t w k (cell w k BEFORE)) (sym at) (along-sibling inv.along h)
+
+    pub listing-falls : to - row < suc (to - from)
+    listing-falls = omega (arith, at, inv.along.low)
+
+    shown-here : shown_at t w i j to inv.last ≡ shown_at t w row j to (cell w row BEFORE)
+    shown-here =
+        ap (shown_at t w i j to) (sym (along-before inv.along h))
+        ∙ ap (λ (k : ℕ). shown_at t w k j to (cell w k BEFORE)) (sym at)
+
+    pub listing-room : TableRoom out b d (entries# (shown_at t w row j to (cell w row BEFORE))) to
     listing-room =
-        let shown = shown_at t w i j to last in
+        let shown = shown_at t w i j to inv.last in
         let rest = folded_rest t w j to (suc i) in
-        first-room shown rest refl (second-room inv.done (append shown rest) (walking_here inv.along.walk h) inv.room inv.built)
+        room_as shown-here
+        (first-room shown rest refl (second-room inv.done (append shown rest) (walking_here inv.along.walk h) inv.room inv.built))
 
     pub listing-on :
         {r : Block} {after : List Item} →
-        Built i to w out b d (shown_at t w i j to last) r after →
-        Listing t w out₀ after from to b₀ d j (i + 1) r
-    listing-on p =
-        record {
-          done = append inv.done (shown_at t w i j to last);
+        Built row to w out b d (shown_at t w row j to (cell w row BEFORE)) r after →
+        {k : ℕ} →
+        k ≡ j →
+        Listing t w out₀ after from to b₀ d k r
+    listing-on {r} {after} p {k} q =
+        subst (λ (x : ℕ). Listing t w out₀ after from to b₀ d x r) (sym q)
+        (record {
+          last = i + 1;
+          done = append inv.done (shown_at t w i j to inv.last);
           along = along-on inv.along h;
           room = inv.room;
-          built = inv.built then built-wider from to inv.along.low (omega arith) p;
-        }
+          built = inv.built then built-wider from to (omega (arith, at, inv.along.low)) (omega arith) (built-as shown-here p);
+        })
 
 -- ---------------------------------------------------------------- the redefiners
 
@@ -218,12 +244,9 @@ module _ {t w : List ℕ} {out₀ out : List Item} {i j to : ℕ} {b₀ : Block}
     pub redefining-numbered : Numbered w row to
     redefining-numbered = next-numbered inv.following redefining-next
 
-    pub redefining-row : SizedRow w row
-    redefining-row = next-sized inv.following redefining-next
-
     module _ {m : ℕ} (h : ChildrenEnd w row to m) where
-      pub redefining-tree : Tree t w (row + 1) m
-      redefining-tree = next-tree inv.following redefining-next h
+      pub redefining-sibling : Branch t w row m to × Known t w row (cell w row BEFORE)
+      redefining-sibling = next-sibling inv.following redefining-next h
 
       module _ {start : ℕ} (z : start ≡ cell w i OFFSET) where
         next_built : redefined t w i inv.at to ≡ append (item_in t w row m (Some start)) (redefined t w i m to)

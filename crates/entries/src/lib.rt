@@ -8,14 +8,16 @@ ghost use Rattle.definition.specs.Fold.{total};
 ghost use Rattle.definition.specs.Listing.{members#};
 ghost use Rattle.definition.specs.Search.{entries#};
 ghost use Rattle.places.specs.Places.{entry_in};
-ghost use Rattle.unions.specs.Shown.{shown_at, Known, Tree, Branch, Base, SizedRow};
+ghost use Rattle.rows.specs.Columns.{BEFORE};
+ghost use Rattle.rows.specs.Table.{cell};
+ghost use Rattle.unions.specs.Shown.{shown_at, IsBase};
 ghost use Rattle.table.specs.Entered.{listed, Entered};
-ghost use Rattle.entries.specs.Building.{mark_of, item_in, redefined, union_in, own_member, TableRoom, Built, own_item};
-ghost use Rattle.entries.specs.Building.{union_item, ItemOpen, ItemClosed, Roomy};
+ghost use Rattle.entries.specs.Building.{mark_of, item_in, redefined, union_in, own_member, within, TableRoom, Built};
+ghost use Rattle.entries.specs.Building.{own_item, union_item, ItemOpen, ItemClosed, Roomy};
 
-use rows::Rows;
+use places::Sibling;
 use table::{Item, Mark};
-use unions::Standing;
+use unions::{MarkedRow, MarkedRows, Standing};
 
 /// What a part of the table comes to: the place after it, how many of its entries stand at its own depth, and the
 /// widest of them, in bytes.
@@ -27,6 +29,18 @@ pub struct Block {
 }
 
 impl Block {
+    // The members of the next entry begin.
+    fn within(self) -> Block
+        requires { self.next < 4294967296 }
+        ensures { result ≡ within self }
+    {
+        Block {
+            next: self.next + 1,
+            count: 0,
+            widest: 0,
+        }
+    }
+
     // The item x of that width, put before its members, which are there and end where `inner` does, counts in it.
     fn close(self, inner: Block, x: Item, width: usize, entries: &mut [Item]) -> Block
         requires { (self.next < length entries.old) × (self.count < 4294967296) × (self.widest ≤ largest)
@@ -53,49 +67,46 @@ fn mark_of(union: Option<usize>) -> Mark
     }
 }
 
-// Row i closed, by itself or as a member of the union that starts there.
+// Kept: the parameters row, entries, b and depth – no plainer: b and depth are new at each level, and the same entries
+// are lent through all levels, so that a struct of these three would be changed and changed back around each level.
+
+// A row closed, by itself or as a member of the union that starts there.
+// Kept: casts – no plainer: the contract bounds the numbers, so that no TryFrom can fail.
 fn close_item(
-    rows: Rows,
-    i: usize,
+    row: MarkedRow,
     union: Option<usize>,
     entries: &mut [Item],
     b: Block,
     inner: Block,
     depth: usize,
 ) -> Block
-    requires { (i < rows.count) × SizedRow rows.work.now i × ItemOpen entries.old b inner depth i }
-    ensures { ItemClosed entries.old b inner (own_item rows.entry.work.now i union b inner depth)
-        (total (entry_in rows.entry.work.now i)) result entries.new }
+    requires { ItemOpen entries.old b inner depth row.row }
+    ensures { ItemClosed entries.old b inner (own_item row.entry.rows.work.now row.entry.row union b inner depth)
+        (total (entry_in row.entry.rows.work.now row.entry.row)) result entries.new }
 {
     let x = Item {
-        row: i as u32,
+        row: row.row as u32,
         mark: mark_of(union),
-        offset: rows.offset(i).saturating_sub(union.unwrap_or(0)) as u32,
-        width: rows.width(i) as u32,
+        offset: row.rows.offset(row.row).saturating_sub(union.unwrap_or(0)) as u32,
+        width: row.rows.width(row.row) as u32,
         members: inner.count as u32,
         below: (inner.next - b.next - 1) as u32,
         depth: depth as u32,
     };
-    b.close(inner, x, unions::row_total(rows, i), entries)
+    b.close(inner, x, unions::row_total(row.rows, row.row), entries)
 }
 
-// The union of row i closed: it is as wide as its widest member.
-fn close_union(
-    rows: Rows,
-    i: usize,
-    entries: &mut [Item],
-    b: Block,
-    inner: Block,
-    depth: usize,
-) -> Block
-    requires { (i < rows.count) × ItemOpen entries.old b inner depth i }
-    ensures { ItemClosed entries.old b inner (union_item rows.entry.work.now i b inner depth)
+// The union of a row closed: it is as wide as its widest member.
+// Kept: casts – no plainer: the contract bounds the numbers, so that no TryFrom can fail.
+fn close_union(row: MarkedRow, entries: &mut [Item], b: Block, inner: Block, depth: usize) -> Block
+    requires { ItemOpen entries.old b inner depth row.row }
+    ensures { ItemClosed entries.old b inner (union_item row.entry.rows.work.now row.entry.row b inner depth)
         inner.widest result entries.new }
 {
     let x = Item {
-        row: i as u32,
+        row: row.row as u32,
         mark: Mark::Union,
-        offset: rows.offset(i) as u32,
+        offset: row.rows.offset(row.row) as u32,
         width: inner.widest as u32,
         members: inner.count as u32,
         below: (inner.next - b.next - 1) as u32,
@@ -106,179 +117,132 @@ fn close_union(
 
 // ---------------------------------------------------------------- the walk
 
-// Kept: text, rows, entries, b and depth side by side – no plainer: b and depth differ at each call, and a struct over
-// the rest would itself be lent to be changed, as it holds the table that is written.
-
-// Builds row i, whose members end at j, by itself or as a member of the union that starts there.
+// Builds a row with its members, by itself or as a member of the union that starts there.
 #[cycle(build)]
 fn build_item(
-    text: &[u8],
-    rows: Rows,
-    i: usize,
-    j: usize,
+    row: MarkedRow,
     union: Option<usize>,
     entries: &mut [Item],
     b: Block,
     depth: usize,
 ) -> Block
-    requires { (i < j) × (j ≤ rows.count) × SizedRow rows.work.now i × Tree text.now rows.work.now (i + 1) j
-        × TableRoom entries.old b depth (entries# (item_in text.now rows.work.now i j union)) j }
-    ensures { Built i j rows.entry.work.now entries.old b depth
-        (item_in text.now rows.entry.work.now i j union) result entries.new }
+    requires { TableRoom entries.old b depth (entries# (item_in row.text.now row.rows.work.now row.row row.end union))
+        row.end }
+    ensures { Built row.entry.row row.entry.end row.entry.rows.work.now entries.old b depth
+        (item_in row.entry.text.now row.entry.rows.work.now row.entry.row row.entry.end union) result entries.new }
 {
-    let below = Block {
-        next: b.next + 1,
-        count: 0,
-        widest: 0,
-    };
-    let inner = build_list(text, rows, i + 1, j, entries, below, depth + 1);
-    close_item(rows, i, union, entries, b, inner, depth)
+    let inner = build_list(row.children(), entries, b.within(), depth + 1);
+    close_item(row, union, entries, b, inner, depth)
 }
 
-// Builds the redefiners of row i among the rows from j up to `to`: each names the next.
+// Builds the redefiners of a base among its later siblings: each names the next.
 #[cycle(build)]
-fn build_redefiners(
-    text: &[u8],
-    rows: Rows,
-    i: usize,
-    j: usize,
-    to: usize,
-    entries: &mut [Item],
-    b: Block,
-    depth: usize,
-) -> Block
-    requires { (to ≤ rows.count) × Base text.now rows.work.now i j to
-        × TableRoom entries.old b depth (entries# (redefined text.now rows.work.now i j to)) to }
-    ensures { Built i to rows.entry.work.now entries.old b depth
-        (redefined text.now rows.entry.work.now i j to) result entries.new }
+fn build_redefiners(base: MarkedRow, entries: &mut [Item], b: Block, depth: usize) -> Block
+    requires { IsBase base.rows.work.now base.row
+        × TableRoom entries.old b depth
+        (entries# (redefined base.text.now base.rows.work.now base.row base.end base.rows.count)) base.rows.count }
+    ensures { Built base.entry.row base.entry.rows.count base.entry.rows.work.now entries.old b depth
+        (redefined base.entry.text.now base.entry.rows.work.now base.entry.row base.entry.end base.entry.rows.count)
+        result entries.new }
 {
-    let start = rows.offset(i);
+    let start = base.rows.offset(base.row);
     let mut r = b;
-    let mut next = rows.next(i);
-    // Kept: while let – no plainer: each redefiner's row names the next, and an iterator would need them all at once.
+    let first = base.rows.next(base.row);
+    let mut next = first;
+    // Kept: `while let` – no plainer: std's `successors` counts as endless, so that no `for` over it is proved to end,
+    // and an iterator of our own would serve this one loop alone.
     while let Some(row) = next {
-        let end = places::next_of(rows, row, to);
-        r = build_item(text, rows, row, end, Some(start), entries, r, depth);
-        next = rows.next(row);
+        let end = places::next_of(base.rows, row);
+        let redefiner = MarkedRow::new(base.text, base.rows, Sibling { row, end });
+        r = build_item(redefiner, Some(start), entries, r, depth);
+        next = base.rows.next(row);
     }
     r
 }
 
-// Whether row i, whose children end at j, has a member of its own name.
-fn has_own(text: &[u8], rows: Rows, i: usize, j: usize, to: usize) -> bool
-    requires { (to ≤ rows.count) × Base text.now rows.work.now i j to }
-    ensures { result ≡ own_member text.now rows.entry.work.now i j }
+// Whether a row has a member of its own name.
+fn has_own(row: MarkedRow) -> bool
+    ensures { result ≡ own_member row.entry.text.now row.entry.rows.work.now row.entry.row row.entry.end }
 {
-    unions::has_member(text, rows, i + 1, j, rows.name(i))
+    row.children().has_member(row.rows.name(row.row))
 }
 
-// Builds the members of the union of row i with its redefiners: those of row i, where one of them has its name, or row
-// i itself, and then the redefiners.
+// Builds the members of the union of a base with its redefiners: those of the base, where one of them has its name, or
+// the base itself, and then the redefiners.
 #[cycle(build)]
-fn build_members(
-    text: &[u8],
-    rows: Rows,
-    i: usize,
-    j: usize,
-    to: usize,
-    entries: &mut [Item],
-    b: Block,
-    depth: usize,
-) -> Block
-    requires { (to ≤ rows.count) × Base text.now rows.work.now i j to
-        × TableRoom entries.old b depth (entries# (union_in text.now rows.work.now i j to)) to }
-    ensures { Built i to rows.entry.work.now entries.old b depth
-        (union_in text.now rows.entry.work.now i j to) result entries.new }
+fn build_members(base: MarkedRow, entries: &mut [Item], b: Block, depth: usize) -> Block
+    requires { IsBase base.rows.work.now base.row
+        × TableRoom entries.old b depth
+        (entries# (union_in base.text.now base.rows.work.now base.row base.end base.rows.count)) base.rows.count }
+    ensures { Built base.entry.row base.entry.rows.count base.entry.rows.work.now entries.old b depth
+        (union_in base.entry.text.now base.entry.rows.work.now base.entry.row base.entry.end base.entry.rows.count)
+        result entries.new }
 {
-    if has_own(text, rows, i, j, to) {
-        let next = build_list(text, rows, i + 1, j, entries, b, depth);
-        return build_redefiners(text, rows, i, j, to, entries, next, depth);
+    if has_own(base) {
+        let next = build_list(base.children(), entries, b, depth);
+        return build_redefiners(base, entries, next, depth);
     }
-    let start = rows.offset(i);
-    let next = build_item(text, rows, i, j, Some(start), entries, b, depth);
-    build_redefiners(text, rows, i, j, to, entries, next, depth)
+    let start = base.rows.offset(base.row);
+    let next = build_item(base, Some(start), entries, b, depth);
+    build_redefiners(base, entries, next, depth)
 }
 
-// Builds what row i, whose children end at j, comes to in the folded list, after the sibling `last`.
+// Builds what a row comes to in the folded list.
 #[cycle(build)]
-fn build_shown(
-    text: &[u8],
-    rows: Rows,
-    i: usize,
-    j: usize,
-    to: usize,
-    last: usize,
-    entries: &mut [Item],
-    b: Block,
-    depth: usize,
-) -> Block
-    requires { (to ≤ rows.count) × Branch text.now rows.work.now i j to × Known text.now rows.work.now i last
-        × TableRoom entries.old b depth (entries# (shown_at text.now rows.work.now i j to last)) to }
-    ensures { Built i to rows.entry.work.now entries.old b depth
-        (shown_at text.now rows.entry.work.now i j to last) result entries.new }
+fn build_shown(row: MarkedRow, entries: &mut [Item], b: Block, depth: usize) -> Block
+    requires { TableRoom entries.old b depth
+        (entries# (shown_at row.text.now row.rows.work.now row.row row.end row.rows.count
+        (cell row.rows.work.now row.row BEFORE))) row.rows.count }
+    ensures { Built row.entry.row row.entry.rows.count row.entry.rows.work.now entries.old b depth
+        (shown_at row.entry.text.now row.entry.rows.work.now row.entry.row row.entry.end row.entry.rows.count
+        (cell row.entry.rows.work.now row.entry.row BEFORE)) result entries.new }
 {
-    match unions::standing_of(text, rows, i, last) {
+    match row.standing() {
         Standing::Under => b,
-        Standing::Alone => build_item(text, rows, i, j, None, entries, b, depth),
-        Standing::Base => match rows.next(i) {
-            None => build_item(text, rows, i, j, None, entries, b, depth),
+        Standing::Alone => build_item(row, None, entries, b, depth),
+        Standing::Base => match row.rows.next(row.row) {
+            None => build_item(row, None, entries, b, depth),
             Some(_) => {
-                let below = Block {
-                    next: b.next + 1,
-                    count: 0,
-                    widest: 0,
-                };
-                let inner = build_members(text, rows, i, j, to, entries, below, depth + 1);
-                close_union(rows, i, entries, b, inner, depth)
+                let inner = build_members(row, entries, b.within(), depth + 1);
+                close_union(row, entries, b, inner, depth)
             }
         },
     }
 }
 
-// Builds the folded list of the rows from `from` up to `to`, each entry with its members.
+// Builds the folded list of a list, each entry with its members.
 #[cycle(build)]
-fn build_list(
-    text: &[u8],
-    rows: Rows,
-    from: usize,
-    to: usize,
-    entries: &mut [Item],
-    b: Block,
-    depth: usize,
-) -> Block
-    requires { (to ≤ rows.count) × Tree text.now rows.work.now from to
-        × TableRoom entries.old b depth (entries# (listed text.now rows.work.now from to)) to }
-    ensures { Built from to rows.entry.work.now entries.old b depth
-        (listed text.now rows.entry.work.now from to) result entries.new }
+fn build_list(list: MarkedRows, entries: &mut [Item], b: Block, depth: usize) -> Block
+    requires { TableRoom entries.old b depth
+        (entries# (listed list.text.now list.rows.work.now list.from list.rows.count)) list.rows.count }
+    ensures { Built list.entry.from list.entry.rows.count list.entry.rows.work.now entries.old b depth
+        (listed list.entry.text.now list.entry.rows.work.now list.entry.from list.entry.rows.count)
+        result entries.new }
 {
     let mut r = b;
-    let mut i = from;
-    let mut last = 0;
-    // Kept: while – no plainer: a row's children end where the row says, and the next sibling begins there.
-    while i < to {
-        let j = places::next_of(rows, i, to);
-        r = build_shown(text, rows, i, j, to, last, entries, r, depth);
-        last = i + 1;
-        i = j;
+    for sibling in list.siblings() {
+        let row = MarkedRow::new(list.text, list.rows, sibling);
+        r = build_shown(row, entries, r, depth);
     }
     r
 }
 
 // ---------------------------------------------------------------- the table of a record
 
-/// Makes the table of the record in the rows from `from` up to `to`. Answers how many entries it has, how many of them
-/// stand at the top, and how wide the widest of those is.
-pub fn make_entries(text: &[u8], rows: Rows, from: usize, to: usize, entries: &mut [Item]) -> Block
-    requires { (to ≤ rows.count) × Tree text.now rows.work.now from to × (to ≤ most_statements)
-        × Roomy entries.old to }
+/// Makes the table of a record, whose fields are this list. Answers how many entries it has, how many of them stand at
+/// the top, and how wide the widest of those is.
+pub fn make_entries(list: MarkedRows, entries: &mut [Item]) -> Block
+    requires { (list.rows.count ≤ most_statements) × Roomy entries.old list.rows.count }
     ensures inside { result.next ≤ length entries.new }
-    ensures entered { Entered text.now rows.entry.work.now from to (take result.next entries.new) }
-    ensures count { result.count ≡ members# (listed text.now rows.entry.work.now from to) }
+    ensures entered { Entered list.entry.text.now list.entry.rows.work.now list.entry.from list.entry.rows.count
+        (take result.next entries.new) }
+    ensures count { result.count
+        ≡ members# (listed list.entry.text.now list.entry.rows.work.now list.entry.from list.entry.rows.count) }
 {
     let none = Block {
         next: 0,
         count: 0,
         widest: 0,
     };
-    build_list(text, rows, from, to, entries, none, 0)
+    build_list(list, entries, none, 0)
 }

@@ -8,6 +8,7 @@ use native.Mathlib.Omega.{arith}
 use lib.Dec.{eqb, leb, ltb}
 use lib.ListN.{length, replicate, length-append, length-replicate}
 use borrow.Author.Tests.{ltb-false}
+use Rattle.std.proofs.lemmas.Bool.{or_parts}
 use Rattle.definition.specs.declared.Usage.{Usage}
 use Rattle.definition.specs.declared.ItemUsage.{ItemUsage}
 use Rattle.definition.specs.declared.SignKind.{SignKind}
@@ -23,7 +24,7 @@ use Rattle.definition.specs.Picture.{expand, all_digits, stored_digits, fraction
 use Rattle.definition.specs.Picture.{is_embedded, sign_bytes, storage_width, display, numeric, kinded, too_long, symbols}
 use Rattle.definition.specs.Picture.{picture}
 use Rattle.definition.specs.Layout.{under_usage, content}
-use Rattle.definition.proofs.Answers.{through, given-same, not-refused, or-false}
+use Rattle.definition.proofs.Answers.{through, given-same, not-refused}
 use Rattle.definition.proofs.PictureLaws.{tally-le, without-length, mask-width}
 use Rattle.kinds.specs.Kinds.{Bytes}
 
@@ -84,7 +85,7 @@ module _ (u : Usage) (g : Option SignKind) (l : List ℕ) (h : length l ≤ most
   short : is_text l ≡ false → all_digits l ≤ most_digits
   short e =
       let q : (ltb most_digits (all_digits l) || is_masked u l && ltb longest_mask (length (mask l))) ≡ false = ap (λ (b : Bool). not b && (ltb most_digits (all_digits l) || is_masked u l && ltb longest_mask (length (mask l)))) (sym e) ∙ n in
-      ltb-false most_digits (all_digits l) (or-false (ltb most_digits (all_digits l)) (is_masked u l && ltb longest_mask (length (mask l))) q).0
+      ltb-false most_digits (all_digits l) (or_parts (ltb most_digits (all_digits l)) (is_masked u l && ltb longest_mask (length (mask l))) q).0
 
   kinded-bounded : Bounded (kinded u g l)
   unfolding kinded

@@ -164,11 +164,7 @@ pub list-none : (text w : List ℕ) (i to depth last cursor reach : ℕ) → to 
 unfolding lay put_places last_of
 list-none text w i to depth last cursor reach h = ap (λ (f : Forest). after text w i last (lay text depth (seen_at w last) cursor reach f)) (forest-empty w i to h)
 
--- the cursor and the ends stay within the limit
-pub record Kept (c e : ℕ) : Type 0 where
-  pub moves : c ≤ largest
-  pub ends : e ≤ largest
-
+-- the cursor stays within the limit
 advance-within : (cursor : ℕ) (e : Entry) → cursor ≤ largest → entry_end e ≤ largest → advance cursor e ≤ largest
 advance-within cursor e h l = go (given e.redefines)
   where
@@ -176,12 +172,12 @@ advance-within cursor e h l = go (given e.redefines)
     go true = h
     go false = l
 
-pub item-within : (text w : List ℕ) (i j depth last cursor : ℕ) {c e : ℕ} {w' : List ℕ} → cursor ≤ largest → lay_item text w i j depth last cursor ≡ placing c e w' → Kept c e
+pub item-within : (text w : List ℕ) (i j depth last cursor : ℕ) {c e : ℕ} {w' : List ℕ} → cursor ≤ largest → lay_item text w i j depth last cursor ≡ placing c e w' → c ≤ largest
 item-within text w i j depth last cursor h q =
     let g = item-given text w i last cursor (bare_item text depth (seen_at w last) cursor (statement_at w i) (rows_forest w (suc i) j)) q in
     let y = item-is text depth (seen_at w last) cursor (statement_at w i) (rows_forest w (suc i) j) g.is in
     let n = subst (λ (z : Entry). entry_end z ≤ largest) y.own (within (entry_of (statement_at w i) y.contents y.offset y.slack) y.fits).ends in
-    record { moves = subst (λ (z : ℕ). z ≤ largest) g.moves (advance-within cursor g.laid.own h n); ends = subst (λ (z : ℕ). z ≤ largest) g.ends n }
+    subst (λ (z : ℕ). z ≤ largest) g.moves (advance-within cursor g.laid.own h n)
 
 -- there is room to go on behind it
 pub item_room :

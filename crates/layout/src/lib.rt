@@ -1,5 +1,4 @@
-// Sibling lists laid out in the rows of work memory: the place of each item, and the checks of each list. Leans on
-// `rows`, `redefines`, `limits`, `places`, `unions` and `contents`.
+//! Sibling lists laid out in the rows of work memory: the place of each item, and the checks of each list.
 #![tactic(auto)]
 
 ghost use Rattle.std.specs.Prelude.{◌≡◌, ◌+◌, ◌*◌, ◌-◌, ◌≤◌, ◌<◌, length, if◌then◌else◌};
@@ -16,61 +15,81 @@ use definition::{FieldKind, Pictured, Refusal, Span, Statement};
 use redefines::{PrintedRows, Start};
 use rows::Rows;
 
-// The first multiple of the width from the cursor on.
-fn aligned(cursor: usize, width: usize) -> usize
-    requires { (cursor ≤ largest) × (width ≤ largest) }
-    ensures { result ≡ cursor + fewest width cursor }
-{
-    if width == 0 {
-        return cursor;
-    }
-    cursor.next_multiple_of(width)
-}
-
-// Where an item starts: over the sibling that it redefines (28), or at the cursor, or where SYNC aligns it from there.
-fn start_of(
-    printed: PrintedRows,
-    s: Statement,
-    c: Pictured,
+/// Where the next sibling of a list goes: after the siblings up to row `last`, and from the cursor on, unless it
+/// redefines one of them.
+#[derive(Clone, Copy)]
+struct NextPlace {
     last: usize,
     cursor: usize,
-) -> Result<Start, Refusal>
-    requires { (last ≤ printed.rows.count) × (cursor ≤ largest) × (c.width ≤ largest) }
-    ensures { (start_of result ≡ start printed.entry.text.now s c (seen_at printed.entry.rows.work.now last) cursor)
-        × (target_in result
-        ≡ row_of (target_from printed.entry.text.now s.clauses.redefines printed.entry.rows.work.now last))
-        × (target_from printed.entry.text.now s.clauses.redefines printed.entry.rows.work.now last ≤ last) }
-{
-    if s.clauses.redefines.is_given() {
-        return printed.start_over(s.clauses.redefines, s.at, last);
+    ghost within: { cursor ≤ largest },
+}
+
+impl NextPlace {
+    // After the siblings up to this row, and from this cursor on.
+    fn at(last: usize, cursor: usize) -> NextPlace
+        requires { cursor ≤ largest }
+        ensures { (result.last ≡ last) × (result.cursor ≡ cursor) }
+    {
+        NextPlace { last, cursor }
     }
-    if s.clauses.sync && kinds::is_alignable(c.kind) {
-        return Ok(Start {
+
+    // The first multiple of the width from the cursor on.
+    fn aligned(self, width: usize) -> usize
+        requires { width ≤ largest }
+        ensures { result ≡ self.cursor + fewest width self.cursor }
+    {
+        if width == 0 {
+            return self.cursor;
+        }
+        self.cursor.next_multiple_of(width)
+    }
+
+    // Where an item starts: over the sibling that it redefines (28), or at the cursor, or where SYNC aligns it from
+    // there.
+    fn start_of(self, printed: PrintedRows, s: Statement, c: Pictured) -> Result<Start, Refusal>
+        requires { (self.last ≤ printed.rows.count) × (c.width ≤ largest) }
+        ensures { (start_of result
+            ≡ start printed.entry.text.now s c (seen_at printed.entry.rows.work.now self.last) self.cursor)
+            × (target_in result
+            ≡ row_of (target_from printed.entry.text.now s.clauses.redefines printed.entry.rows.work.now self.last))
+            × (target_from printed.entry.text.now s.clauses.redefines printed.entry.rows.work.now self.last
+            ≤ self.last) }
+    {
+        if s.clauses.redefines.is_given() {
+            return printed.start_over(s.clauses.redefines, s.at, self.last);
+        }
+        if s.clauses.sync && kinds::is_alignable(c.kind) {
+            return Ok(Start {
+                target: None,
+                offset: self.aligned(c.width),
+            });
+        }
+        Ok(Start {
             target: None,
-            offset: aligned(cursor, c.width),
-        });
+            offset: self.cursor,
+        })
     }
-    Ok(Start {
-        target: None,
-        offset: cursor,
-    })
-}
 
-// The slack directly before an item: the bytes from the cursor to the item, and none before a redefiner.
-fn slack_from(cursor: usize, s: Statement, offset: usize) -> usize
-    ensures { result ≡ slack_from cursor s offset }
-{
-    if s.clauses.redefines.is_given() {
-        return 0;
+    // The slack directly before an item: the bytes from the cursor to the item, and none before a redefiner.
+    fn slack_to(self, s: Statement, offset: usize) -> usize
+        ensures { result ≡ slack_from self.cursor s offset }
+    {
+        if s.clauses.redefines.is_given() {
+            return 0;
+        }
+        offset.saturating_sub(self.cursor)
     }
-    offset.saturating_sub(cursor)
-}
 
-// The cursor after an entry: a REDEFINES never moves it.
-fn advanced(cursor: usize, redefines: Span, end: usize) -> usize
-    ensures { result ≡ (if given redefines then cursor else end) }
-{
-    if redefines.is_given() { cursor } else { end }
+    // The cursor after an entry: a REDEFINES never moves it.
+    fn advanced(self, redefines: Span, end: usize) -> usize
+        ensures { result ≡ (if given redefines then self.cursor else end) }
+    {
+        if redefines.is_given() {
+            self.cursor
+        } else {
+            end
+        }
+    }
 }
 
 /// The cursor after an item, and where the item ends.
@@ -88,37 +107,35 @@ pub struct LaidList {
 }
 
 // The item of row i placed, after the rows below it: 28, then 29.
-// Kept: the text beside work memory – no plainer: work memory is written, and a struct over a `&mut` asks more clauses.
+// Kept: the text beside work memory, as in `lay_item` – no plainer: the rows are written, and a struct of the text and
+// a `&mut` has to say in each contract that its text stays.
 fn place(
     text: &[u8],
     work: &mut [u32],
     i: usize,
-    last: usize,
-    cursor: usize,
+    next: NextPlace,
     c: Pictured,
 ) -> Result<LaidItem, Refusal>
-    requires { (ROW * i + ROW ≤ length work.old) × (last ≤ i) × (i < 65536)
-        × (cursor ≤ largest) × (c.width ≤ largest) × Printed text.now work.old i }
-    ensures { item_of result work.new
-        ≡ place_row text.now work.old i last cursor c }
+    requires { (ROW * i + ROW ≤ length work.old) × (next.last ≤ i) × (i < 65536) × (c.width ≤ largest)
+        × Printed text.now work.old i }
+    ensures { item_of result work.new ≡ place_row text.now work.old i next.last next.cursor c }
 {
     let s = Rows::new(work, i + 1).statement(i);
     let printed = PrintedRows::new(text, Rows::new(work, i));
-    let start = start_of(printed, s, c, last, cursor)?;
-    let e = places::entry_of(s, c, start.offset, slack_from(cursor, s, start.offset));
+    let start = next.start_of(printed, s, c)?;
+    let e = places::entry_of(s, c, start.offset, next.slack_to(s, start.offset));
     let end = limits::entry_end(e)?;
     let base = printed.base_of(s.clauses.redefines, start.target);
-    let placers = redefines::placers_of(printed.rows, last, start.target);
-    places::put_place(work, i, last, base, placers, e);
+    let placers = redefines::placers_of(printed.rows, next.last, start.target);
+    places::put_place(work, i, next.last, base, placers, e);
     Ok(LaidItem {
-        cursor: advanced(cursor, s.clauses.redefines, end),
+        cursor: next.advanced(s.clauses.redefines, end),
         end,
     })
 }
 
-// Lays out row i, whose children are the rows up to j, after the sibling `last`. 20 for an inner list that is too deep;
-// then the inner list and its check; then the item's own checks.
-// Kept: the text beside work memory – no plainer: work memory is written, and a struct over a `&mut` asks more clauses.
+// Lays out row i, whose children are the rows up to j, as the next sibling. 20 for an inner list that is too deep; then
+// the inner list and its check; then the item's own checks.
 #[cycle(layout)]
 fn lay_item(
     text: &[u8],
@@ -126,13 +143,11 @@ fn lay_item(
     i: usize,
     j: usize,
     depth_left: u32,
-    last: usize,
-    cursor: usize,
+    next: NextPlace,
 ) -> Result<LaidItem, Refusal>
-    requires { (i < j) × Room text.now work.old (i + 1) j × (depth_left ≤ deepest) × (last ≤ i)
-        × (cursor ≤ largest) }
+    requires { (i < j) × Room text.now work.old (i + 1) j × (depth_left ≤ deepest) × (next.last ≤ i) }
     ensures { item_of result work.new
-        ≡ lay_item text.now work.old i j (deepest - depth_left) last cursor }
+        ≡ lay_item text.now work.old i j (deepest - depth_left) next.last next.cursor }
 {
     let first = i + 1;
     if first < j {
@@ -141,20 +156,20 @@ fn lay_item(
             return Err(Refusal::TooDeep { position });
         }
         let inner = lay_list(text, work, first, j, depth_left - 1)?;
-        unions::fold_check(text, Rows::new(work, j), first, j)?;
+        unions::fold_check(text, Rows::new(work, j), first)?;
         let c = Pictured {
             kind: FieldKind::Group,
             width: inner.width,
         };
-        return place(text, work, i, last, cursor, c);
+        return place(text, work, i, next, c);
     }
     let c = contents::elementary(text, Rows::new(work, j).statement(i))?;
-    place(text, work, i, last, cursor, c)
+    place(text, work, i, next, c)
 }
 
-// Kept: the text and rows beside work memory – no plainer: a struct over a `&mut` asks more clauses.
 /// Lays out the siblings in the rows from `from` up to `to`: each starts where the cursor is, and the list is as wide
 /// as its largest end. The remaining depth falls at each group.
+// Kept: the text, `from` and `to` beside work memory – no plainer: the rows are written, and `Rows` lends them to read.
 #[cycle(layout)]
 pub fn lay_list(
     text: &[u8],
@@ -168,17 +183,18 @@ pub fn lay_list(
         ≡ lay_table text.now work.old from to (deepest - depth_left) }
 {
     let mut i = from;
-    let mut last = 0;
-    let mut cursor = 0;
+    let mut next = NextPlace::at(0, 0);
     let mut reach = 0;
-    // Kept: a `while` over rows – no plainer: a step goes behind the rows below the item, which no range says.
+    // Kept: a `while` – no plainer: the rows are written in its body, so that no iterator over siblings can hold them.
     while i < to {
-        let j = places::next_of(Rows::new(work, to), i, to);
-        let item = lay_item(text, work, i, j, depth_left, last, cursor)?;
-        last = i + 1;
-        cursor = item.cursor;
+        let j = places::next_of(Rows::new(work, to), i);
+        let item = lay_item(text, work, i, j, depth_left, next)?;
+        next = NextPlace::at(i + 1, item.cursor);
         reach = reach.max(item.end);
         i = j;
     }
-    Ok(LaidList { width: reach, last })
+    Ok(LaidList {
+        width: reach,
+        last: next.last,
+    })
 }

@@ -1,6 +1,7 @@
 -- The end of a row's children among the rows, and the rows that count the rows below them.
 -- Assumes nothing.
-use Rattle.std.specs.Prelude.{ℕ, suc, ◌+◌, ◌*◌, ◌-◌, ◌≤◌, ◌<◌, ◌≡◌, List, length}
+use Rattle.std.specs.Prelude.{ℕ, suc, ◌+◌, ◌*◌, ◌-◌, ◌≤◌, ◌<◌, ◌≡◌, refl, List, length}
+use Rattle.std.proofs.Props.{props}
 use Rattle.definition.specs.Tree.{Forest, leaf, item, higher}
 use Rattle.definition.specs.Owner.{size}
 use Rattle.rows.specs.Columns.{ROW, BELOW}
@@ -24,6 +25,22 @@ abbrev pub BelowCounted : List ℕ → ℕ → Forest → Type 0
 BelowCounted w k leaf = Unit {0}
 BelowCounted w k (item s kids later) =
     (cell w k BELOW ≡ size kids) × BelowCounted w (suc k) kids × BelowCounted w (suc k + size kids) later
+
+-- and in one way at most
+BelowCounted-prop : (w : List ℕ) (k : ℕ) (f : Forest) → IsProp (BelowCounted w k f)
+BelowCounted-prop w k leaf = λ x y. refl
+BelowCounted-prop w k (item s kids later) =
+    let own : IsProp (cell w k BELOW ≡ size kids) = hlevel props in
+    let below = BelowCounted-prop w (suc k) kids in
+    let rest = BelowCounted-prop w (suc k + size kids) later in
+    λ x y i. (own x.0 y.0 i, below x.1 y.1 i, rest x.2 y.2 i)
+
+-- the rows from `from` up to `to` are such a list
+abbrev pub ListCounted : List ℕ → ℕ → ℕ → Type 0
+ListCounted w from to = BelowCounted w from (rows_forest w from to)
+
+pub ListCounted-prop : (w : List ℕ) (from to : ℕ) → IsProp (ListCounted w from to)
+ListCounted-prop w from to = BelowCounted-prop w from (rows_forest w from to)
 
 -- the first n rows got their counts, and the columns of the statements stayed as they were
 pub record BelowPut (w : List ℕ) (n : ℕ) (w' : List ℕ) : Type 0 where

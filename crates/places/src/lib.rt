@@ -1,11 +1,12 @@
-// The rows as entries: the end of each row's children, the place of an item in its row, its entry read back. Leans on
-// `definition`, `kinds` and `rows`.
+//! The rows as entries: the siblings of a list, the end of each row's children, an item's entry and its place in its
+//! row. Leans on `definition`, `kinds` and `rows`.
 #![tactic(auto)]
 
-ghost use Rattle.std.specs.Prelude.{◌≡◌, ◌+◌, ◌*◌, ◌≤◌, ◌<◌, length};
+ghost use Rattle.std.specs.Prelude.{◌≡◌, ◌+◌, ◌-◌, ◌*◌, ◌≤◌, ◌<◌, length, MatchOption};
+ghost use Rattle.std.specs.Iterator.{at_most};
 ghost use Rattle.definition.specs.Layout.{entry_of};
-ghost use Rattle.places.specs.Places.{put_place, entry_in, rows_forest};
-ghost use Rattle.places.specs.Children.{ChildrenEnd, Numbered, BelowCounted, BelowPut};
+ghost use Rattle.places.specs.Places.{put_place};
+ghost use Rattle.places.specs.Children.{ChildrenEnd, Numbered, ListCounted, ListCounted-prop, BelowPut};
 ghost use Rattle.rows.specs.Columns.{ROW};
 ghost use Rattle.rows.specs.Table.{row_code};
 
@@ -13,36 +14,81 @@ use definition::{Entry, Pictured, Statement};
 use rows::{BELOW, OFFSET, ROW, Rows};
 
 /// The end of the children of row i, which counts the rows below it.
-pub fn next_of(rows: Rows, i: usize, to: usize) -> usize
-    requires { (to ≤ rows.count) × Numbered rows.work.now i to }
-    ensures { ChildrenEnd rows.entry.work.now i to result }
+pub fn next_of(rows: Rows, i: usize) -> usize
+    requires { Numbered rows.work.now i rows.count }
+    ensures { ChildrenEnd rows.entry.work.now i rows.entry.count result }
 {
     i + 1 + rows.below(i)
 }
 
-// The end of the children of row i, among the rows up to `to`, where the rows after it count the rows below them.
-fn end_of(rows: Rows, i: usize, to: usize) -> usize
-    requires { (i < to) × (to ≤ rows.count)
-        × BelowCounted rows.work.now (i + 1) (rows_forest rows.work.now (i + 1) to) }
-    ensures { ChildrenEnd rows.entry.work.now i to result }
-{
-    let level = rows.level(i);
-    let mut j = i + 1;
-    // Kept: a `while` – no plainer: a step goes behind the rows below row j, and no range says how far.
-    while j < to && level < rows.level(j) {
-        j = next_of(rows, j, to);
-    }
-    j
+/// A row of a list, and the end of its children.
+#[derive(Clone, Copy)]
+pub struct Sibling {
+    pub row: usize,
+    pub end: usize,
 }
 
-// Kept: work memory and how many rows – no plainer: a struct over a `&mut` asks three clauses a method.
+/// The siblings that are still to come: those in the rows from `from` on, each of which counts the rows below it.
+#[derive(Clone, Copy)]
+pub struct Siblings<'a> {
+    pub rows: Rows<'a>,
+    pub from: usize,
+    ghost counted: { ListCounted rows.work.now from rows.count } by { ListCounted-prop rows.work.now from rows.count },
+}
+
+impl<'a> Siblings<'a> {
+    /// The siblings in these rows from `from` on.
+    pub fn new(rows: Rows<'a>, from: usize) -> Self
+        requires { ListCounted rows.work.now from rows.count }
+        ensures { (result.rows ≡ rows.entry) × (result.from ≡ from) }
+    {
+        Siblings { rows, from }
+    }
+}
+
+impl<'a> Iterator for Siblings<'a> {
+    type Item = Sibling;
+
+    ghost next_gives = { λ s r t. MatchOption r ((s.rows.count ≤ s.from) × (t ≡ s))
+        (λ x. (s.from < s.rows.count) × (x.row ≡ s.from) × ChildrenEnd s.rows.work.now s.from s.rows.count x.end
+        × (t.rows ≡ s.rows) × (t.from ≡ x.end)) };
+
+    ghost remaining = { λ s. at_most (s.rows.count - s.from) };
+
+    fn next(&mut self) -> Option<Sibling> {
+        let row = self.from;
+        if self.rows.count <= row {
+            return None;
+        }
+        let end = next_of(self.rows, row);
+        self.from = end;
+        Some(Sibling { row, end })
+    }
+}
+
+// The end of the children of row i, where the rows after it count the rows below them.
+fn end_of(rows: Rows, i: usize) -> usize
+    requires { (i < rows.count) × ListCounted rows.work.now (i + 1) rows.count }
+    ensures { ChildrenEnd rows.entry.work.now i rows.entry.count result }
+{
+    let level = rows.level(i);
+    for sibling in Siblings::new(rows, i + 1) {
+        if rows.level(sibling.row) <= level {
+            return sibling.row;
+        }
+    }
+    rows.count
+}
+
+// Kept: work memory and how many rows – no plainer: each turn reads all rows as `Rows` and then writes one, so that a
+// struct over what is written would only hand the slice and n on.
 /// The number of the rows below it into each of the first n rows, from the last one back.
 pub fn count_below(work: &mut [u32], n: usize)
     requires { (ROW * n ≤ length work.old) × (n < 65536) }
     ensures { BelowPut work.old n work.new }
 {
     for row in (0..n).rev() {
-        let end = end_of(Rows::new(work, n), row, n);
+        let end = end_of(Rows::new(work, n), row);
         // Kept: a cast – no plainer: there are fewer than 65,536 rows, so that no TryFrom can fail.
         rows::put_cell(work, row, BELOW, (end - row - 1) as u32);
     }
@@ -100,16 +146,4 @@ pub fn entry_of(s: Statement, c: Pictured, offset: usize, slack: usize) -> Entry
         slack,
         folded: false,
     }
-}
-
-/// The entry in row k, as it is laid.
-pub fn entry_at(rows: Rows, k: usize) -> Entry
-    requires { k < rows.count }
-    ensures { result ≡ entry_in rows.entry.work.now k }
-{
-    let c = Pictured {
-        kind: rows.kind(k),
-        width: rows.width(k),
-    };
-    entry_of(rows.statement(k), c, rows.offset(k), rows.slack(k))
 }

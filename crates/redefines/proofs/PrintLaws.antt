@@ -1,24 +1,19 @@
 -- Laws of the fingerprints in the rows: a row with another one is not searched for, so a search may pass over it; what
 -- leaves them alone.
 -- Assumes nothing.
-use Prim.Native.Nat.{ℕ, zero, suc, ◌+◌, ◌*◌, ◌-◌, ◌≤◌, ◌<◌}
+use Prim.Native.Nat.{ℕ, zero, suc, ◌+◌, ◌-◌, ◌≤◌, ◌<◌}
 use mathlib.Core.Path.{◌≡◌, refl, sym, ap, subst, ◌∙◌}
 use mathlib.Core.Bool.{Bool, true, false}
 use mathlib.Core.List.{List}
-use mathlib.Core.Logic.{⊎_elim}
 use native.Mathlib.Omega.{arith}
-use lib.Dec.{lit<}
-use lib.ListN.{length, set, length-set}
-use lib.Seq.{get_or-set_other, get_or-set_same}
 use Rattle.definition.specs.declared.Span.{Span}
 use Rattle.std.specs.Prelude.{if◌then◌else◌}
-use Rattle.definition.proofs.Lists.{order}
 use Rattle.names.specs.Prints.{name_print}
 use Rattle.names.proofs.SameLaws.{print-apart}
-use Rattle.rows.specs.Columns.{ROW, NAME, BEFORE, PRINT}
+use Rattle.rows.specs.Columns.{NAME, BEFORE, PRINT}
 use Rattle.rows.specs.Table.{cell, span_at}
 use Rattle.redefines.specs.Targets.{left_out, is_target, row_from, looked_from}
-use Rattle.redefines.specs.Prints.{PrintedRow, Printed, PrintsPut, PassedBack}
+use Rattle.redefines.specs.Prints.{PrintedRow, Printed, PassedBack}
 use Rattle.redefines.proofs.SearchLaws.{row_here, looked-here}
 
 -- ---------------------------------------------------------------- where they stand
@@ -31,37 +26,6 @@ module _ {t w : List ℕ} {n : ℕ} (h : Printed t w n) where
   -- the same columns
   pub printed-same : {w' : List ℕ} → ((k : ℕ) → cell w' k NAME ≡ cell w k NAME) → ((k : ℕ) → cell w' k PRINT ≡ cell w k PRINT) → Printed t w' n
   printed-same names prints = record { rows = λ k l. prints k ∙ h.rows k l ∙ ap (λ (x : ℕ). name_print t (span_at x)) (sym (names k)) }
-
--- none yet, and one more
-pub prints-none : (t w : List ℕ) → PrintsPut t w 0 w
-prints-none t w = record { long = refl; same = λ k c l. refl; printed = record { rows = λ k l. absurd (omega arith) } }
-
-module _ {t w₀ w : List ℕ} {n : ℕ} (p : PrintsPut t w₀ n w) (fits : ROW * n + ROW ≤ length w) {v : ℕ} (e : v ≡ name_print t (span_at (cell w n NAME))) where
-  abbrev one-put : List ℕ
-  one-put = set w (ROW * n + PRINT) v
-
-  kept : (k c : ℕ) → c < PRINT → cell one-put k c ≡ cell w k c
-  kept k c l = get_or-set_other w (ROW * n + PRINT) (ROW * k + c) v 0 (λ q. omega arith)
-
-  pub prints-more : PrintsPut t w₀ (n + 1) one-put
-  prints-more =
-      record {
-        long = length-set w (ROW * n + PRINT) v ∙ p.long;
-        same = λ k c l. kept k c l ∙ p.same k c l;
-        printed = record { rows = λ k l. ⊎_elim (λ (q : k < n). before k q) (λ (q : n ≤ k). own k (omega arith)) (order k n) };
-      }
-    where
-      before : (k : ℕ) → k < n → PrintedRow t one-put k
-      before k q =
-          get_or-set_other w (ROW * n + PRINT) (ROW * k + PRINT) v 0 (λ z. omega arith)
-          ∙ p.printed.rows k q
-          ∙ ap (λ (x : ℕ). name_print t (span_at x)) (sym (kept k NAME (lit< tt)))
-
-      here : PrintedRow t one-put n
-      here = get_or-set_same w (ROW * n + PRINT) v 0 (omega arith) ∙ e ∙ ap (λ (x : ℕ). name_print t (span_at x)) (sym (kept n NAME (lit< tt)))
-
-      own : (k : ℕ) → n ≡ k → PrintedRow t one-put k
-      own k z = subst (PrintedRow t one-put) z here
 
 -- ---------------------------------------------------------------- what a search passes over
 

@@ -1,7 +1,6 @@
-// The search that a REDEFINES makes among the earlier siblings in the rows, backward from the item: for its target (28
-// where none has the name), with the count of names compared, and for its base; and the siblings that may place it.
-// Fingerprints of the names are put into the rows first: where they differ, the names do. Leans on `definition`,
-// `names` and `rows`.
+//! The search that a REDEFINES makes among the earlier siblings in the rows, backward from the item: for its target (28
+//! where none has the name), with the count of names compared, and for its base; and the siblings that may place it.
+//! Fingerprints of the names are put into the rows first: where they differ, the names do.
 #![tactic(auto)]
 
 ghost use Rattle.std.specs.Prelude.{◌≡◌, ◌+◌, ◌*◌, ◌≤◌, ◌<◌, length};
@@ -17,8 +16,8 @@ ghost use Rattle.rows.specs.Table.{row_of, row_code};
 use definition::{Refusal, Span};
 use rows::{PRINT, Rows};
 
-// Kept: work memory and how many rows – no plainer: a struct over a `&mut` asks three clauses a method.
 /// The fingerprints of their names into the first n rows.
+// Kept: the text, and how many rows, beside work memory – no plainer: rows are written, and `Rows` lends them to read.
 pub fn put_prints(text: &[u8], work: &mut [u32], n: usize)
     requires { ROW * n ≤ length work.old }
     ensures { PrintsPut text.now work.old n work.new }

@@ -55,10 +55,6 @@ row-none {n} e = sym (code-back n) ∙ ap row_code e
 pub row-some : {n k : ℕ} → row_of n ≡ Some k → n ≡ suc k
 row-some {n} e = sym (code-back n) ∙ ap row_code e
 
-mark-few : (o : Option ℕ) → mark_of o < 2
-mark-few None = omega arith
-mark-few (Some n) = omega arith
-
 -- a level that is a byte, and a usage
 module _ (level : ℕ) (u : ItemUsage) (h : level < 256) where
   level-back : level_code level u % 256 ≡ level
@@ -191,9 +187,6 @@ module _ (w : List ℕ) (a parent : ℕ) (s : Statement) where
   -- and the other rows are as before
   pub usage-other : (k : ℕ) → (k ≡ a → ⊥) → usage_in (put_row w a parent s) k ≡ usage_in w k
   usage-other k n = ap (λ (x : ℕ). item_usage_at (x / 256 % 8)) (cell_other w a parent s k n LEVEL (lit< tt))
-
-  pub statement-other : (k : ℕ) → (k ≡ a → ⊥) → statement_at (put_row w a parent s) k ≡ statement_at w k
-  statement-other k n = statement-same (put_row w a parent s) k w (λ c l. cell_other w a parent s k n c (omega arith))
 
 -- ---------------------------------------------------------------- a run of rows
 

@@ -1,5 +1,5 @@
-// Kept statements as rows in lent work memory: a statement written into its row, and a row read back, column by column.
-// Leans on `definition` and `kinds`.
+//! Kept statements as rows in lent work memory: a statement written into its row, and a row read back, column by
+//! column.
 #![tactic(auto)]
 
 ghost use Rattle.std.specs.Prelude.{◌≡◌, ◌+◌, ◌*◌, ◌/◌, ◌%◌, ◌≤◌, ◌<◌, length, set};
@@ -16,6 +16,8 @@ use definition::{Clauses, FieldKind, ItemUsage, Span, Statement};
 use kinds::Coded;
 
 // The columns of a row, as `specs/Columns` has them.
+
+/// How many columns a row has.
 pub const ROW: usize = 20;
 
 const LEVEL: usize = 0;
@@ -38,8 +40,10 @@ const LOW: usize = 8;
 
 const HIGH: usize = 9;
 
+/// The column with how many rows stand below a row.
 pub const BELOW: usize = 10;
 
+/// The column with where a row starts in its list.
 pub const OFFSET: usize = 11;
 
 const WIDTH: usize = 12;
@@ -54,8 +58,10 @@ const BASE: usize = 16;
 
 const PLACERS: usize = 17;
 
+/// The column with the next row of the union that a row stands in, and 1, or 0.
 pub const NEXT: usize = 18;
 
+/// The column with the fingerprint of a row's name.
 pub const PRINT: usize = 19;
 
 /// Work memory to zero.
@@ -124,7 +130,7 @@ fn said_code(c: Clauses) -> u32
     ensures { result ≡ said_code c }
 {
     let marks = u32::from(c.sync) + 2 * u32::from(c.occurs.is_some());
-    u32::from(kinds::clause_code(c.usage)) + 8 * (u32::from(kinds::sign_code(c.sign)) + 8 * marks)
+    u32::from(kinds::clause_code(c.usage)) + 8 * (u32::from(c.sign.code()) + 8 * marks)
 }
 
 // ---------------------------------------------------------------- a row written
@@ -294,7 +300,7 @@ impl<'a> Rows<'a> {
         Clauses {
             picture: self.picture(k),
             usage: kinds::clause_at((said % 8) as u8),
-            sign: kinds::sign_words_at((said / 8 % 8) as u8),
+            sign: Coded::at((said / 8 % 8) as u8),
             sync: said / 64 % 2 == 1,
             occurs: self.occurs(k),
             depending: self.depending(k),

@@ -42,6 +42,8 @@ fn usage_around(rows: Rows, row: Option<usize>) -> ItemUsage
 
 /// The levels that are open, the innermost last, and how many; and the row of the innermost, if any. The rows of the
 /// others follow by the parents.
+// Kept: an array and how many are open in place of a vector of the kit – a rule of the project names this form: the open
+// levels, at most 256, and how many they are travel as one value.
 #[derive(Clone, Copy)]
 pub struct OpenLevels {
     pub levels: [u8; 256],

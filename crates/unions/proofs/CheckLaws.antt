@@ -1,27 +1,26 @@
 -- Refusal 30: the check of a list, entry by entry, along the rows that hold it.
 -- Assumes nothing.
-use Prim.Native.Nat.{ℕ, suc, ◌*◌, ◌≤◌, ◌<◌}
+use Prim.Native.Nat.{ℕ, suc, ◌≤◌, ◌<◌}
 use mathlib.Core.Path.{◌≡◌, refl, sym, ap, ◌∙◌}
 use mathlib.Core.Bool.{Bool, true, false}
 use mathlib.Core.List.{List, [], ◌∷◌}
 use Rattle.std.specs.Prelude.{Option, None, Some}
 use native.Mathlib.Omega.{arith}
 use lib.Dec.{ltb}
-use lib.ListN.{length}
 use Rattle.definition.specs.declared.Refusal.{Refusal}
 use Rattle.definition.specs.declared.Entry.{Entry}
 use Rattle.std.specs.Prelude.{if◌then◌else◌}
 use Rattle.definition.specs.Basic.{given, Answer, Err, Ok, ◌>>=◌, and_then, refuse_if}
 use Rattle.definition.specs.Tree.{Forest}
 use Rattle.definition.specs.Fold.{Entries, entry, Place, place_of, find, fold_check}
-use Rattle.rows.specs.Columns.{ROW, AT, REDEFINES, OFFSET, BASE}
+use Rattle.rows.specs.Columns.{AT, REDEFINES, OFFSET, BASE}
 use Rattle.rows.specs.Table.{cell, span_at}
 use Rattle.redefines.specs.Targets.{seen_from, bases_at, offset_of, base_from, base_after}
 use Rattle.places.specs.Places.{entry_in, entries_in, Linked, rows_forest}
-use Rattle.places.specs.Children.{ChildrenEnd, Numbered}
+use Rattle.places.specs.Children.{ChildrenEnd}
 use Rattle.places.proofs.RowLaws.{forest-empty, children-end}
 use Rattle.redefines.proofs.SearchLaws.{if-most, row-most, row-found}
-use Rattle.places.proofs.EntriesLaws.{entries-step, linked-step, linked-numbered}
+use Rattle.places.proofs.EntriesLaws.{entries-step, linked-step}
 use Rattle.unions.specs.Checks.{check_base, check_entry, check_row}
 use Rattle.unions.specs.Shown.{bases_after}
 use Rattle.unions.proofs.BaseLaws.{bases-after}
@@ -106,15 +105,12 @@ module _ {t w : List ℕ} {from to i : ℕ} (inv : Checking t w from to i) where
   unfolding fold_check entries_in
   checking-ends h = sym (inv.same ∙ ap (λ (f : Forest). fold_check t (bases_at w inv.last) (entries_in w i f)) (forest-empty w i to h))
 
-  pub checking-numbered : i < to → {count : ℕ} → ROW * count ≤ length w → to ≤ count → (to ≤ count) × Numbered w i to
-  checking-numbered h fits l = (l, linked-numbered t w i to inv.last (omega arith) h inv.linked)
-
   -- row i
-  pub checking-row : i < to → {count : ℕ} → to ≤ count → (i < count) × (cell w i BASE ≤ i)
-  checking-row h l =
+  pub checking-row : i < to → (i < to) × (cell w i BASE ≤ i)
+  checking-row h =
       let r = span_at (cell w i REDEFINES) in
       let base = (linked-step w i to _ (children-end w i to h) t inv.last inv.linked).0.base in
-      (omega arith, omega (arith, base, inv.back, if-most (given r) (row-most t w r true inv.last inv.last) (let z : 0 ≤ inv.last = omega arith in z)))
+      (h, omega (arith, base, inv.back, if-most (given r) (row-most t w r true inv.last inv.last) (let z : 0 ≤ inv.last = omega arith in z)))
 
   module _ {j : ℕ} (h : ChildrenEnd w i to j) where
     pub checking-on : check_row w i ≡ Ok tt → Checking t w from to j

@@ -1,9 +1,10 @@
 -- How wide the rows are in the folded list, and where they end: a row alone, a base with its redefiners; and the parts
 -- of a table of rows.
 -- Assumes nothing.
-use Prim.Native.Nat.{ℕ, zero, suc, ◌+◌, ◌-◌, ◌≤◌, ◌<◌}
+use Prim.Native.Nat.{ℕ, zero, suc, ◌+◌, ◌-◌, ◌*◌, ◌≤◌, ◌<◌}
 use mathlib.Core.Path.{◌≡◌, refl, sym, ap, subst, ◌∙◌}
 use lib.Dec.{eqb}
+use lib.ListN.{length}
 use borrow.Author.Tests.{lt-ltb, le-ltb, eq-eqb, ne_eqb, eqb-true}
 use Rattle.definition.specs.declared.Span.{Span}
 use mathlib.Core.Bool.{Bool, true, false}
@@ -17,7 +18,7 @@ use Rattle.definition.specs.Fold.{Entries, end, entry, append, Place, find, same
 use Rattle.definition.proofs.Lists.{order}
 use Rattle.definition.specs.Tree.{Forest, leaf, item, higher}
 use Rattle.definition.specs.Owner.{size}
-use Rattle.rows.specs.Columns.{NAME, REDEFINES, OFFSET, BASE, NEXT}
+use Rattle.rows.specs.Columns.{ROW, NAME, REDEFINES, OFFSET, BEFORE, BASE, NEXT}
 use Rattle.rows.specs.Table.{cell, span_at, statement_at, statements_from}
 use Rattle.places.proofs.RowLaws.{children-end, forest-empty, forest-split}
 use Rattle.places.proofs.EntriesLaws.{next_row}
@@ -43,43 +44,64 @@ sized-part : {w : List ℕ} {a b : ℕ} → Sized w a b → (c d : ℕ) → a �
 sized-part s c d l h = record { totals = λ k p q. s.totals k (omega arith) (omega arith) }
 
 module _ {t w : List ℕ} {i j to : ℕ} (b : Branch t w i j to) where
-  -- its children
-  pub branch-tree : Tree t w (i + 1) j
-  branch-tree =
-      record {
-        fits = omega (arith, b.high, b.fits);
-        marked = subst (λ (n : ℕ). Marked t w n 0 (rows_forest w n j)) (sym (add-one i)) b.marked;
-        sized = sized-part b.sized (i + 1) j (omega arith) b.high;
-      }
-
   pub branch_row : SizedRow w i
   branch_row = record { fits = omega (arith, b.low, b.high, b.fits); small = b.sized.totals i (omega arith) (omega (arith, b.low, b.high)) }
 
-  -- it is a base
-  pub branch-base : {s : Standing} (bases : List Place) → s ≡ standing t bases (entry_in w i) → s ≡ Standing.Base → Base t w i j to
-  branch-base {s} bases p e =
-      let stands = stands-base (given (span_at (cell w i REDEFINES))) refl (sym p ∙ e) in
-      record { low = b.low; high = b.high; fits = b.fits; next = b.next stands; opened = b.opened stands; branch = b }
-    where
-      is_base : Standing → Bool
-      is_base Standing.Under = false
-      is_base Standing.Alone = false
-      is_base Standing.Base = true
+  -- as a base
+  pub branch-base : IsBase w i → Base t w i j to
+  branch-base g = record { low = b.low; high = b.high; fits = b.fits; next = b.next g; opened = b.opened g; branch = b }
 
-      not-either : (a : Bool) → (if a then Standing.Under else Standing.Alone) ≡ Standing.Base → ⊥
-      not-either true x = true-false (ap is_base x)
-      not-either false x = true-false (ap is_base x)
+-- a row that stands as a base is one
+pub stands-base :
+    (t w : List ℕ) (i : ℕ) (bases : List Place) {s : Standing} →
+    s ≡ standing t bases (entry_in w i) →
+    s ≡ Standing.Base →
+    IsBase w i
+stands-base t w i bases p e = go (given (span_at (cell w i REDEFINES))) refl (sym p ∙ e)
+  where
+    is_base : Standing → Bool
+    is_base Standing.Under = false
+    is_base Standing.Alone = false
+    is_base Standing.Base = true
 
-      stands-base : (g : Bool) → given (span_at (cell w i REDEFINES)) ≡ g → standing t bases (entry_in w i) ≡ Standing.Base → given (span_at (cell w i REDEFINES)) ≡ false
-      stands-base true q x =
-          let r = span_at (cell w i REDEFINES) in
-          let a = has_base (find t r bases) in
-          absurd (not-either a (sym (ap (λ (y : Bool). if y then (if a then Standing.Under else Standing.Alone) else Standing.Base) q) ∙ x))
-      stands-base false q x = q
+    not-either : (a : Bool) → (if a then Standing.Under else Standing.Alone) ≡ Standing.Base → ⊥
+    not-either true x = true-false (ap is_base x)
+    not-either false x = true-false (ap is_base x)
 
--- the children of a base
-pub own-tree : {t w : List ℕ} {i j to : ℕ} → Base t w i j to → Tree t w (i + 1) j
-own-tree b = branch-tree b.branch
+    go : (g : Bool) → given (span_at (cell w i REDEFINES)) ≡ g → standing t bases (entry_in w i) ≡ Standing.Base → given (span_at (cell w i REDEFINES)) ≡ false
+    go true q x =
+        let r = span_at (cell w i REDEFINES) in
+        let a = has_base (find t r bases) in
+        absurd (not-either a (sym (ap (λ (y : Bool). if y then (if a then Standing.Under else Standing.Alone) else Standing.Base) q) ∙ x))
+    go false q x = q
+
+-- a row of a list, after the sibling `last`, with its children and its later siblings
+module _ (t w : List ℕ) {i to last : ℕ} (fits : ROW * to ≤ length w) (before : last ≤ i) (sized : Sized w i to) (m : Marked t w i last (rows_forest w i to)) {j : ℕ} (h : ChildrenEnd w i to j) where
+  own-union : IsBase w i → cell w i BASE ≡ base_after t w i last → union_of w i ≡ suc i
+  own-union g e =
+      let r = span_at (cell w i REDEFINES) in
+      let none : cell w i BASE ≡ 0 = e ∙ ap (λ (b : Bool). if b then back t w r last else 0) g in
+      ap (λ (b : Bool). if b then cell w i BASE else suc i) (le-ltb 0 (cell w i BASE) (omega (arith, none)))
+
+  pub marked-branch : Branch t w i j to
+  marked-branch =
+      let row = marked_step w i to j h t last m in
+      record {
+        low = h.low;
+        high = h.high;
+        fits = fits;
+        next = λ g. row.0.chain ∙ ap (λ (u : ℕ). next_in w u j (rows_forest w j to)) (own-union g row.0.base);
+        opened = λ g. opens t w i i last row.0.before before refl g;
+        marked = row.1;
+        later = row.2;
+        sized = sized;
+      }
+
+  -- and whether it has a base is known, after the sibling that it names
+  pub named-known : Known t w i (cell w i BEFORE)
+  named-known =
+      subst (Known t w i) (sym (marked_step w i to j h t last m).0.before)
+      (marked-known t w i to last fits before (omega (arith, h.low, h.high)) m)
 
 -- ---------------------------------------------------------------- the loop
 
@@ -102,32 +124,17 @@ along-starts t w from to h =
     }
 
 module _ {t w : List ℕ} {from to i last : ℕ} {done : Entries} (inv : Along t w from to i last done) where
-  pub along-numbered : i < to → Numbered w i to
-  along-numbered h = marked-numbered t w i to last inv.tree.fits h inv.marked
-
-  pub along-known : i < to → Known t w i last
-  along-known h = marked-known t w i to last inv.tree.fits inv.back h inv.marked
-
   module _ {j : ℕ} (h : ChildrenEnd w i to j) where
-    own-union : IsBase w i → cell w i BASE ≡ base_after t w i last → union_of w i ≡ suc i
-    own-union g e =
-        let r = span_at (cell w i REDEFINES) in
-        let none : cell w i BASE ≡ 0 = e ∙ ap (λ (b : Bool). if b then back t w r last else 0) g in
-        ap (λ (b : Bool). if b then cell w i BASE else suc i) (le-ltb 0 (cell w i BASE) (omega (arith, none)))
+    -- the sibling before row i
+    pub along-before : cell w i BEFORE ≡ last
+    along-before = (marked_step w i to j h t last inv.marked).0.before
 
-    pub along-branch : Branch t w i j to
-    along-branch =
-        let row = marked_step w i to j h t last inv.marked in
-        record {
-          low = h.low;
-          high = h.high;
-          fits = inv.tree.fits;
-          next = λ g. row.0.chain ∙ ap (λ (u : ℕ). next_in w u j (rows_forest w j to)) (own-union g row.0.base);
-          opened = λ g. opens t w i i last row.0.before inv.back refl g;
-          marked = row.1;
-          later = row.2;
-          sized = sized-part inv.tree.sized i to inv.low (omega arith);
-        }
+    pub along-sibling : Branch t w i j to × Known t w i (cell w i BEFORE)
+    along-sibling =
+        let sized = sized-part inv.tree.sized i to inv.low (omega arith) in (
+          marked-branch t w inv.tree.fits inv.back sized inv.marked h,
+          named-known t w inv.tree.fits inv.back sized inv.marked h,
+        )
 
     pub along-on : Along t w from to j (i + 1) (append done (shown_at t w i j to last))
     along-on =
@@ -301,24 +308,14 @@ module _ {t w : List ℕ} {i j to k n : ℕ} (inv : Following t w i j to k n) {r
   pub next-numbered : Numbered w row to
   next-numbered = marked-numbered t w row to x.before inv.base.fits x.high x.marked
 
-  pub next-sized : SizedRow w row
-  next-sized =
-      record {
-        fits = omega (arith, inv.base.fits, x.high);
-        small = inv.base.branch.sized.totals row (omega (arith, inv.base.low, inv.low, x.low)) x.high;
-      }
-
   module _ {m : ℕ} (h : ChildrenEnd w row to m) where
     row_is : RowIs t w row m to x.before
     row_is = (marked_step w row to m h t x.before x.marked).0
 
-    pub next-tree : Tree t w (row + 1) m
-    next-tree =
-        record {
-          fits = omega (arith, h.high, inv.base.fits);
-          marked = subst (λ (n : ℕ). Marked t w n 0 (rows_forest w n m)) (sym (add-one row)) (marked_step w row to m h t x.before x.marked).1;
-          sized = sized-part inv.base.branch.sized (row + 1) m (omega (arith, inv.base.low, inv.low, x.low)) h.high;
-        }
+    pub next-sibling : Branch t w row m to × Known t w row (cell w row BEFORE)
+    next-sibling =
+        let later = sized-part inv.base.branch.sized row to (omega (arith, inv.base.low, inv.low, x.low)) (omega arith) in
+        (marked-branch t w inv.base.fits x.back later x.marked h, named-known t w inv.base.fits x.back later x.marked h)
 
     -- it redefines row i
     found : base_after t w row x.before ≡ suc i

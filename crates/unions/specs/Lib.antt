@@ -1,3 +1,4 @@
 pub mod Checks
 pub mod Shown
 pub mod Marks
+pub mod Single

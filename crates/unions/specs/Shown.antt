@@ -9,7 +9,7 @@ use Rattle.definition.specs.Tree.{Forest, leaf, item}
 use Rattle.definition.specs.Fold.{Entries, end, entry, total, same_name, same_spelling, Place, place_of, find, redefiners}
 use Rattle.definition.specs.Fold.{with_redefiners, has_base, folded_list, folded_below, folded_all}
 use Rattle.definition.specs.Owner.{size}
-use Rattle.rows.specs.Columns.{ROW, NAME, REDEFINES, BASE, NEXT}
+use Rattle.rows.specs.Columns.{ROW, NAME, REDEFINES, BEFORE, BASE, NEXT}
 use Rattle.rows.specs.Table.{cell, span_at}
 use Rattle.redefines.specs.Targets.{bases_at, base_from, place_at}
 use Rattle.places.specs.Places.{entry_in, entries_in, rows_forest, RowLinked}
@@ -78,6 +78,10 @@ Findable text w i last =
 -- row i has no REDEFINES
 abbrev pub IsBase : List ℕ → ℕ → Type 0
 IsBase w i = given (span_at (cell w i REDEFINES)) ≡ false
+
+-- how row i stands in the folded list, after the sibling that it names
+abbrev pub standing_at : List ℕ → List ℕ → ℕ → Standing
+standing_at text w i = standing text (bases_at w (cell w i BEFORE)) (entry_in w i)
 
 -- row i is there, after the sibling `last`, and a redefiner knows whether it has a base
 pub record Known (text w : List ℕ) (i last : ℕ) : Type 0 where

@@ -1,18 +1,21 @@
-// Unions: no redefiner starts before its base (30); each base of a laid table linked with its redefiners; how the rows
-// stand in the folded lists. Leans on `definition`, `rows`, `names`, `limits` and `places`.
+//! Unions: no redefiner starts before its base (30); each base of a laid table linked with its redefiners; how the rows
+//! stand in the folded lists. Leans on `definition`, `rows`, `names`, `limits` and `places`.
 #![tactic(auto)]
 
 ghost use Rattle.std.specs.Prelude.{◌≡◌, ◌+◌, ◌*◌, ◌≤◌, ◌<◌, [], length};
 ghost use Rattle.definition.specs.Fold.{total, same_spelling, fold_check, has_member, folded_all};
 ghost use Rattle.places.specs.Places.{entry_in, Linked, rows_forest};
 ghost use Rattle.redefines.specs.Targets.{bases_at};
-ghost use Rattle.rows.specs.Columns.{ROW, BASE};
+ghost use Rattle.rows.specs.Columns.{ROW, BEFORE, BASE};
 ghost use Rattle.rows.specs.Table.{cell};
 ghost use Rattle.unions.specs.Checks.{check_row};
 ghost use Rattle.unions.specs.Marks.{link_row, Unlinked, UnionsLinked};
-ghost use Rattle.unions.specs.Shown.{standing, list_in, shown_named, Known, Tree, SizedRow, Measured};
+ghost use Rattle.unions.specs.Shown.{standing, standing_at, list_in, shown_named, Known, Tree, Branch};
+ghost use Rattle.unions.specs.Shown.{SizedRow, Measured};
+ghost use Rattle.unions.specs.Single.{Tree-prop, Branch-prop};
 
 use definition::{Refusal, Span};
+use places::{Sibling, Siblings};
 use rows::{NEXT, Rows};
 
 // ---------------------------------------------------------------- refusal 30
@@ -32,18 +35,13 @@ fn check_row(rows: Rows, i: usize) -> Result<(), Refusal>
     Ok(())
 }
 
-/// Refusal 30 for the list that is laid in the rows from `from` up to `to`: its first redefiner that starts before its
-/// base.
-pub fn fold_check(text: &[u8], rows: Rows, from: usize, to: usize) -> Result<(), Refusal>
-    requires { (to ≤ rows.count)
-        × Linked text.now rows.work.now from 0 (rows_forest rows.work.now from to) }
-    ensures { result ≡ fold_check text.now [] (list_in rows.entry.work.now from to) }
+/// Refusal 30 for the list that is laid in the rows from `from` on: its first redefiner that starts before its base.
+pub fn fold_check(text: &[u8], rows: Rows, from: usize) -> Result<(), Refusal>
+    requires { Linked text.now rows.work.now from 0 (rows_forest rows.work.now from rows.count) }
+    ensures { result ≡ fold_check text.now [] (list_in rows.entry.work.now from rows.entry.count) }
 {
-    let mut i = from;
-    // Kept: a `while` – no plainer: a step goes behind the rows below row i, and no range says how far.
-    while i < to {
-        check_row(rows, i)?;
-        i = places::next_of(rows, i, to);
+    for sibling in Siblings::new(rows, from) {
+        check_row(rows, sibling.row)?;
     }
     Ok(())
 }
@@ -51,7 +49,8 @@ pub fn fold_check(text: &[u8], rows: Rows, from: usize, to: usize) -> Result<(),
 // ---------------------------------------------------------------- the redefiners linked
 
 // Row k before the rows of its union so far: its base names it then.
-// Kept: work memory and a row – no plainer: it is read as `Rows`, and a struct over a `&mut` asks more clauses.
+// Kept: work memory and a row – no plainer: two rows are read as `Rows` and then written, and the contract says of both
+// writes at once what work memory comes to.
 fn link_row(work: &mut [u32], k: usize)
     requires { (ROW * k + ROW ≤ length work.old) × (k < 4294967295) × (cell work.old k BASE ≤ k) }
     ensures { work.new ≡ link_row work.old k }
@@ -64,7 +63,8 @@ fn link_row(work: &mut [u32], k: usize)
     }
 }
 
-// Kept: work memory and the rows' ends – no plainer: a struct over a `&mut` asks three clauses a method.
+// Kept: the parameters, work memory and its rows' ends – no plainer: the contract compares each row with what work memory held before,
+// which a struct that is lent to be changed would say of every part that it has.
 /// Has each row from `from` up to `to` name the next row of its union: from the last row back, for a base is told of
 /// its redefiners by them.
 pub fn link_unions(work: &mut [u32], from: usize, to: usize)
@@ -102,44 +102,119 @@ pub fn standing_of(text: &[u8], rows: Rows, i: usize, last: usize) -> Standing
     }
 }
 
+/// A row of a record that was laid and whose unions are linked, with the text that the names stand in: its children are
+/// the rows up to `end`, and those behind them are its later siblings.
+#[derive(Clone, Copy)]
+pub struct MarkedRow<'a> {
+    pub text: &'a [u8],
+    pub rows: Rows<'a>,
+    pub row: usize,
+    pub end: usize,
+    ghost branch: { Branch text.now rows.work.now row end rows.count } by { Branch-prop },
+    ghost known: { Known text.now rows.work.now row (cell rows.work.now row BEFORE) },
+}
+
+impl<'a> MarkedRow<'a> {
+    /// This sibling in these rows.
+    pub fn new(text: &'a [u8], rows: Rows<'a>, sibling: Sibling) -> Self
+        requires { Branch text.now rows.work.now sibling.row sibling.end rows.count
+            × Known text.now rows.work.now sibling.row (cell rows.work.now sibling.row BEFORE) }
+        ensures { (result.text.now ≡ text.now) × (result.rows ≡ rows.entry) × (result.row ≡ sibling.row)
+            × (result.end ≡ sibling.end) }
+    {
+        MarkedRow {
+            text,
+            rows,
+            row: sibling.row,
+            end: sibling.end,
+        }
+    }
+
+    /// How its entry stands in the folded list.
+    pub fn standing(self) -> Standing
+        ensures { result ≡ standing_at self.entry.text.now self.entry.rows.work.now self.entry.row }
+    {
+        let last = self.rows.siblings_end(self.row);
+        standing_of(self.text, self.rows, self.row, last)
+    }
+
+    // Whether its entry stands in the folded list under that name.
+    fn is_shown_as(self, name: Span) -> bool
+        ensures { result
+            ≡ shown_named self.entry.text.now name
+            (standing_at self.entry.text.now self.entry.rows.work.now self.entry.row)
+            (entry_in self.entry.rows.work.now self.entry.row) }
+    {
+        match self.standing() {
+            Standing::Under => false,
+            Standing::Alone | Standing::Base => {
+                names::same_spellings(self.text, name, self.rows.name(self.row))
+            }
+        }
+    }
+
+    /// Its children, a list of their own.
+    pub fn children(self) -> MarkedRows<'a>
+        ensures { (result.text.now ≡ self.entry.text.now) × (result.rows.work.now ≡ self.entry.rows.work.now)
+            × (result.rows.count ≡ self.entry.end) × (result.from ≡ self.entry.row + 1) }
+    {
+        MarkedRows {
+            text: self.text,
+            rows: Rows::new(self.rows.work, self.end),
+            from: self.row + 1,
+        }
+    }
+}
+
+/// A list of such a record: the siblings in its rows from `from` on, and the text that the names stand in.
+#[derive(Clone, Copy)]
+pub struct MarkedRows<'a> {
+    pub text: &'a [u8],
+    pub rows: Rows<'a>,
+    pub from: usize,
+    ghost tree: { Tree text.now rows.work.now from rows.count } by { Tree-prop },
+}
+
+impl<'a> MarkedRows<'a> {
+    /// The list in these rows from `from` on.
+    pub fn new(text: &'a [u8], rows: Rows<'a>, from: usize) -> Self
+        requires { Tree text.now rows.work.now from rows.count }
+        ensures { (result.text.now ≡ text.now) × (result.rows ≡ rows.entry) × (result.from ≡ from) }
+    {
+        MarkedRows { text, rows, from }
+    }
+
+    /// Its siblings, one after the other.
+    pub fn siblings(self) -> Siblings<'a>
+        ensures { (result.rows ≡ self.entry.rows) × (result.from ≡ self.entry.from) }
+    {
+        Siblings::new(self.rows, self.from)
+    }
+
+    /// Whether its folded list has an entry spelled like that name.
+    pub fn has_member(self, name: Span) -> bool
+        ensures { result
+            ≡ has_member self.entry.text.now name
+            (folded_all self.entry.text.now
+            (list_in self.entry.rows.work.now self.entry.from self.entry.rows.count)) }
+    {
+        for sibling in self.siblings() {
+            if MarkedRow::new(self.text, self.rows, sibling).is_shown_as(name) {
+                return true;
+            }
+        }
+        false
+    }
+}
+
+// ---------------------------------------------------------------- bytes
+
 /// The bytes of all occurrences of row k.
-// Kept: a cast – no plainer: no From leads from u64 to usize.
+// Kept: row k below `rows.count`, and a cast – no plainer: a row's number is an index, as into a slice; and no From
+// leads from u64 to usize.
 pub fn row_total(rows: Rows, k: usize) -> usize
     requires { (k < rows.count) × SizedRow rows.work.now k }
     ensures { Measured (total (entry_in rows.entry.work.now k)) result }
 {
     rows.width(k) * limits::times_of(rows.occurs(k)) as usize
-}
-
-// Whether row i stands in the folded list under that name.
-fn shown_named(text: &[u8], rows: Rows, i: usize, last: usize, name: Span) -> bool
-    requires { (i < rows.count) × Known text.now rows.work.now i last }
-    ensures { result
-        ≡ shown_named text.now name
-        (standing text.now (bases_at rows.entry.work.now last) (entry_in rows.entry.work.now i))
-        (entry_in rows.entry.work.now i) }
-{
-    match standing_of(text, rows, i, last) {
-        Standing::Under => false,
-        Standing::Alone | Standing::Base => names::same_spellings(text, name, rows.name(i)),
-    }
-}
-
-/// Whether the folded list of the rows from `from` up to `to` has an entry spelled like that name.
-pub fn has_member(text: &[u8], rows: Rows, from: usize, to: usize, name: Span) -> bool
-    requires { (to ≤ rows.count) × Tree text.now rows.work.now from to }
-    ensures { result
-        ≡ has_member text.now name (folded_all text.now (list_in rows.entry.work.now from to)) }
-{
-    let mut i = from;
-    let mut last = 0;
-    // Kept: a `while` – no plainer: a step goes behind the rows below row i, and no range says how far.
-    while i < to {
-        if shown_named(text, rows, i, last, name) {
-            return true;
-        }
-        last = i + 1;
-        i = places::next_of(rows, i, to);
-    }
-    false
 }

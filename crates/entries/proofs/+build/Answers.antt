@@ -4,13 +4,13 @@ use Rattle.std.specs.Prelude.{Option, None, Some}
 use Rattle.std.proofs.Common.{◌≡◌, sym, ◌∙◌, ℕ, List, arith, rules}
 use Rattle.definition.specs.Fold.{Entries, end, entry, append, widest, union}
 use Rattle.definition.specs.Search.{entries#}
-use Rattle.rows.specs.Columns.{NEXT}
+use Rattle.rows.specs.Columns.{BEFORE, NEXT}
 use Rattle.rows.specs.Table.{cell, row_of}
+use Rattle.unions.specs.declared.Standing.{Standing}
+use Rattle.unions.specs.Shown.{shown_at, standing_at, Base, Branch}
 use Rattle.redefines.specs.Targets.{bases_at}
 use Rattle.places.specs.Places.{entry_in}
-use Rattle.unions.specs.declared.Standing.{Standing}
-use Rattle.unions.specs.Shown.{shown_at, standing, Base, Branch}
-use Rattle.unions.proofs.WidthLaws.{branch-tree, branch_row, branch-base, along-numbered, along-known, along-branch}
+use Rattle.unions.proofs.WidthLaws.{branch_row, branch-base, stands-base}
 use Rattle.entries.specs.Building.{item_in, redefined, union_in, TableRoom, Built}
 use Rattle.entries.specs.declared.Block.{Block}
 use Rattle.table.specs.declared.Item.{Item}
@@ -18,54 +18,78 @@ use Rattle.entries.proofs.BuildLaws.{built-none, built-as, built-wider, room-par
 use Rattle.entries.proofs.BuildLaws.{room_open, built-own, built-union}
 use Rattle.entries.proofs.WalkLaws.{shown-under, shown-alone, shown-base, shown-union, members-folded}
 use Rattle.entries.proofs.WalkLaws.{members-based, first-room, second-room, both-built, room_as}
-use Rattle.entries.proofs.WalkLaws.{listing-starts, listing-ends, listing-room, listing-on}
+use Rattle.entries.proofs.WalkLaws.{listing-starts, listing-ends, listing-sibling, listing-falls, listing-room, listing-on}
 use Rattle.entries.proofs.WalkLaws.{redefining-starts, redefining-ends, redefining-next}
-use Rattle.entries.proofs.WalkLaws.{redefining-numbered, redefining-row, redefining-tree, redefining-room}
+use Rattle.entries.proofs.WalkLaws.{redefining-numbered, redefining-sibling, redefining-room}
 use Rattle.entries.proofs.WalkLaws.{redefining-on, redefining-falls}
 use Rattle.entries.proofs.+build.Goals as goal
 
 -- ---------------------------------------------------------------- build_item
 
+pub build_item-build_list-inner-requires : goal.build_item-build_list-inner-requires
+build_item-build_list-inner-requires t c =
+    let n = c.children.ensures in
+    rw (n.0, n.1, n.2, n.3, c.within.ensures) (omega (arith, c.args.row.branch.low), room_within c.requires)
+
 pub build_item-close_item-requires : goal.build_item-close_item-requires
 build_item-close_item-requires t c =
     let a = c.args in
-    (omega arith, c.requires.2, room_open a.b a.depth c.build_list-inner.ensures a.i c.requires.0 c.requires.4)
+    let n = c.children.ensures in
+    let built = rw (n.0, n.1, n.2, n.3, c.within.ensures) at c.build_list-inner.ensures in
+    room_open a.b a.depth built a.row.row a.row.branch.low c.requires
 
 pub build_item-returns : goal.build_item-returns
 build_item-returns t c =
     let a = c.args in
+    let n = c.children.ensures in
+    let built = rw (n.0, n.1, n.2, n.3, c.within.ensures) at c.build_list-inner.ensures in
     built-own
     a.b
     a.depth
-    (built-wider a.i a.j (omega arith) (omega arith) c.build_list-inner.ensures)
-    a.i
+    (built-wider a.row.row a.row.end (omega arith) (omega arith) built)
+    a.row.row
     (omega arith)
-    c.requires.0
-    c.requires.2
+    a.row.branch.low
+    (branch_row a.row.branch)
     a.union
     c.close_item.ensures
 
 -- ---------------------------------------------------------------- build_list
 
-pub build_list-loop-i-init : goal.build_list-loop-i-init
-build_list-loop-i-init t c =
+pub build_list-loop-sibling-init : goal.build_list-loop-sibling-init
+build_list-loop-sibling-init t c =
     let a = c.args in
-    listing-starts a.text.now a.rows.work.now a.entries.now a.from a.to a.b a.depth c.requires.1 c.requires.2
+    let l = a.list in
+    let s = c.siblings-sibling-items.ensures in
+    rw c.into_iter-sibling-iterator.ensures.into_iter_gives
+    (tt, tt, s.0, listing-starts l.text.now l.rows.work.now a.entries.now l.from l.rows.count a.b a.depth l.tree c.requires s.1)
 
-pub build_list-next_of-j-requires : goal.build_list-next_of-j-requires
-build_list-next_of-j-requires t c = (c.requires.0, along-numbered c.loop-i.invariant.along c.loop-i-test.true)
+pub build_list-new-row-requires : goal.build_list-new-row-requires
+build_list-new-row-requires t c =
+    let inv = c.loop-sibling.invariant in
+    let s = c.in-Some.ensures.steps in
+    listing-sibling inv.3 s.1 (rw inv.2 at s.2)
 
 pub build_list-build_shown-r-requires : goal.build_list-build_shown-r-requires
 build_list-build_shown-r-requires t c =
-    let inv = c.loop-i.invariant in
-    let j = c.next_of-j.ensures in
-    (omega arith, (c.requires.0, along-branch inv.along j, along-known inv.along c.loop-i-test.true, listing-room inv j))
+    let inv = c.loop-sibling.invariant in
+    let s = c.in-Some.ensures.steps in
+    let h = rw inv.2 at s.2 in
+    let n = c.new-row.ensures in
+    rw (n.0, n.1, n.2, n.3) (omega (arith, listing-falls inv.3 s.1 h), listing-room inv.3 s.1 h)
 
-pub build_list-loop-i-preserved : goal.build_list-loop-i-preserved
-build_list-loop-i-preserved t c = listing-on c.loop-i.invariant c.next_of-j.ensures c.build_shown-r.ensures
+pub build_list-loop-sibling-preserved : goal.build_list-loop-sibling-preserved
+build_list-loop-sibling-preserved t c =
+    let inv = c.loop-sibling.invariant in
+    let s = c.in-Some.ensures.steps in
+    let n = c.new-row.ensures in
+    let built = rw (n.0, n.1, n.2, n.3) at c.build_shown-r.ensures in
+    (tt, tt, s.3 ∙ inv.2, listing-on inv.3 s.1 (rw inv.2 at s.2) built s.4)
 
 pub build_list-returns : goal.build_list-returns
-build_list-returns t c = listing-ends c.loop-i.invariant c.loop-i-test.false
+build_list-returns t c =
+    let inv = c.loop-sibling.invariant in
+    listing-ends inv.3 (rw inv.2 at c.in-None.ensures.steps.0)
 
 -- ---------------------------------------------------------------- build_members
 
@@ -83,92 +107,91 @@ module _ {t w : List ℕ} {i j to : ℕ} {es : Entries} (xs : Entries) (base : B
 
 pub build_members-build_list-next-requires : goal.build_members-build_list-next-requires
 build_members-build_list-next-requires t c =
-    let a = c.args in
-    let base = c.requires.1 in
-    let split = members-folded a.text.now a.rows.work.now a.i a.j a.to c.has_own.ensures c.if-has_own.true in
-    (omega arith, (omega (arith, base.high), branch-tree base.branch, part _ base split c.requires.2))
+    let x = c.args.base in
+    let base = branch-base x.branch c.requires.0 in
+    let split = members-folded x.text.now x.rows.work.now x.row x.end x.rows.count c.has_own.ensures c.if-has_own.true in
+    let n = c.children.ensures in
+    rw (n.0, n.1, n.2, n.3) (omega (arith, base.low, base.high), part _ base split c.requires.1)
 
 pub build_members-build_redefiners-requires : goal.build_members-build_redefiners-requires
 build_members-build_redefiners-requires t c =
-    let a = c.args in
-    let split = members-folded a.text.now a.rows.work.now a.i a.j a.to c.has_own.ensures c.if-has_own.true in
-    let built = built-wider a.i a.j (omega arith) (omega arith) c.build_list-next.ensures in
-    (omega arith, (c.requires.0, c.requires.1, after_part _ c.requires.1 split c.requires.2 built))
+    let x = c.args.base in
+    let base = branch-base x.branch c.requires.0 in
+    let split = members-folded x.text.now x.rows.work.now x.row x.end x.rows.count c.has_own.ensures c.if-has_own.true in
+    let n = c.children.ensures in
+    let built = built-wider x.row x.end (omega arith) (omega arith) (rw (n.0, n.1, n.2, n.3) at c.build_list-next.ensures) in
+    (omega (arith, base.low, base.high), (c.requires.0, after_part _ base split c.requires.1 built))
 
 pub build_members-returns-then-has_own : goal.build_members-returns-then-has_own
 build_members-returns-then-has_own t c =
-    let a = c.args in
-    let split = members-folded a.text.now a.rows.work.now a.i a.j a.to c.has_own.ensures c.if-has_own.true in
-    let built = built-wider a.i a.j (omega arith) (omega arith) c.build_list-next.ensures in
-    both _ c.requires.1 split c.requires.2 built c.build_redefiners.ensures
+    let x = c.args.base in
+    let base = branch-base x.branch c.requires.0 in
+    let split = members-folded x.text.now x.rows.work.now x.row x.end x.rows.count c.has_own.ensures c.if-has_own.true in
+    let n = c.children.ensures in
+    let built = built-wider x.row x.end (omega arith) (omega arith) (rw (n.0, n.1, n.2, n.3) at c.build_list-next.ensures) in
+    both _ base split c.requires.1 built c.build_redefiners.ensures
 
 pub build_members-build_item-next-requires : goal.build_members-build_item-next-requires
 build_members-build_item-next-requires t c =
-    let a = c.args in
-    let base = c.requires.1 in
-    let split = members-based a.text.now a.rows.work.now a.i a.j a.to c.has_own.ensures c.if-has_own.false c.offset-start.ensures.0 in (
-      omega (arith, base.low, base.high),
-      (
-        base.low,
-        omega (arith, base.high),
-        branch_row base.branch,
-        branch-tree base.branch,
-        part _ base split c.requires.2,
-      ),
-    )
+    let x = c.args.base in
+    let base = branch-base x.branch c.requires.0 in
+    let split = members-based x.text.now x.rows.work.now x.row x.end x.rows.count c.has_own.ensures c.if-has_own.false c.offset-start.ensures.0 in
+    (omega (arith, base.low, base.high), part _ base split c.requires.1)
 
 pub build_members-build_redefiners-requires-2 : goal.build_members-build_redefiners-requires-2
 build_members-build_redefiners-requires-2 t c =
-    let a = c.args in
-    let split =
-    members-based a.text.now a.rows.work.now a.i a.j a.to c.has_own.ensures c.if-has_own.false c.offset-start.ensures.0 in
-    (omega arith, (c.requires.0, c.requires.1, after_part _ c.requires.1 split c.requires.2 c.build_item-next.ensures))
+    let x = c.args.base in
+    let base = branch-base x.branch c.requires.0 in
+    let split = members-based x.text.now x.rows.work.now x.row x.end x.rows.count c.has_own.ensures c.if-has_own.false c.offset-start.ensures.0 in
+    (omega (arith, base.low, base.high), (c.requires.0, after_part _ base split c.requires.1 c.build_item-next.ensures))
 
 pub build_members-returns : goal.build_members-returns
 build_members-returns t c =
-    let a = c.args in
-    let split =
-    members-based a.text.now a.rows.work.now a.i a.j a.to c.has_own.ensures c.if-has_own.false c.offset-start.ensures.0 in
-    both _ c.requires.1 split c.requires.2 c.build_item-next.ensures c.build_redefiners-2.ensures
+    let x = c.args.base in
+    let base = branch-base x.branch c.requires.0 in
+    let split = members-based x.text.now x.rows.work.now x.row x.end x.rows.count c.has_own.ensures c.if-has_own.false c.offset-start.ensures.0 in
+    both _ base split c.requires.1 c.build_item-next.ensures c.build_redefiners-2.ensures
 
 -- ---------------------------------------------------------------- build_redefiners
 
 pub build_redefiners-loop-next-init : goal.build_redefiners-loop-next-init
 build_redefiners-loop-next-init t c =
     let a = c.args in
-    redefining-starts a.text.now a.rows.work.now a.entries.now a.i a.j a.to a.b a.depth c.requires.1 (search rules) c.requires.2
+    let x = a.base in
+    let base = branch-base x.branch c.requires.0 in
+    redefining-starts x.text.now x.rows.work.now a.entries.now x.row x.end x.rows.count a.b a.depth base (search rules) c.requires.1
 
 pub build_redefiners-next_of-end-requires : goal.build_redefiners-next_of-end-requires
-build_redefiners-next_of-end-requires t c = (c.requires.0, redefining-numbered c.loop-next.invariant c.in-Some.is)
+build_redefiners-next_of-end-requires t c = redefining-numbered c.loop-next.invariant c.in-Some.is
+
+pub build_redefiners-new-redefiner-requires : goal.build_redefiners-new-redefiner-requires
+build_redefiners-new-redefiner-requires t c = redefining-sibling c.loop-next.invariant c.in-Some.is c.next_of-end.ensures
 
 pub build_redefiners-build_item-r-requires : goal.build_redefiners-build_item-r-requires
 build_redefiners-build_item-r-requires t c =
     let inv = c.loop-next.invariant in
     let more = c.in-Some.is in
-    let m = c.next_of-end.ensures in (
+    let m = c.next_of-end.ensures in
+    let n = c.new-redefiner.ensures in
+    rw (n.0, n.1, n.2, n.3) (
       omega (arith, inv.following.low, (redefining-next inv more).low, m.low, m.high),
-      (
-        m.low,
-        omega (arith, m.high),
-        redefining-row inv more,
-        redefining-tree inv more m,
-        redefining-room inv more m c.offset-start.ensures.0,
-      ),
+      redefining-room inv more m c.offset-start.ensures.0,
     )
 
 pub build_redefiners-loop-next-smaller : goal.build_redefiners-loop-next-smaller
 build_redefiners-loop-next-smaller t c =
-    redefining-falls c.loop-next.invariant c.in-Some.is c.next_of-end.ensures c.next-next-in-Some.ensures.0
+    redefining-falls c.loop-next.invariant c.in-Some.is c.next_of-end.ensures c.next-next.ensures.0
 
 pub build_redefiners-loop-next-preserved : goal.build_redefiners-loop-next-preserved
 build_redefiners-loop-next-preserved t c =
+    let n = c.new-redefiner.ensures in
     redefining-on
     c.loop-next.invariant
     c.in-Some.is
     c.next_of-end.ensures
     c.offset-start.ensures.0
-    c.build_item-r.ensures
-    c.next-next-in-Some.ensures.0
+    (rw (n.0, n.1, n.2, n.3) at c.build_item-r.ensures)
+    c.next-next.ensures.0
 
 pub build_redefiners-returns : goal.build_redefiners-returns
 build_redefiners-returns t c = redefining-ends c.loop-next.invariant c.in_default.is
@@ -176,71 +199,73 @@ build_redefiners-returns t c = redefining-ends c.loop-next.invariant c.in_defaul
 -- ---------------------------------------------------------------- build_shown
 
 -- a base, where row i is known to be one
-module _ {t w : List ℕ} {i j to : ℕ} (last : ℕ) (h : Branch t w i j to) {s : Standing} (p : s ≡ standing t (bases_at w last) (entry_in w i)) (e : s ≡ Standing.Base) {next : Option ℕ} (n : next ≡ row_of (cell w i NEXT)) where
+module _ {t w : List ℕ} {i j to : ℕ} (h : Branch t w i j to) {s : Standing} (p : s ≡ standing_at t w i) (e : s ≡ Standing.Base) {next : Option ℕ} (n : next ≡ row_of (cell w i NEXT)) where
   based : Base t w i j to
-  based = branch-base h (bases_at w last) p e
+  based = branch-base h (stands-base t w i (bases_at w (cell w i BEFORE)) p e)
 
   -- with redefiners, and without
   unites :
       {row : ℕ} →
       next ≡ Some row →
-      shown_at t w i j to last ≡ entry (union (entry_in w i) (widest (union_in t w i j to))) (union_in t w i j to) end
-  unites x = shown-union t w i j to last p e based (sym n ∙ x)
+      shown_at t w i j to (cell w i BEFORE) ≡ entry (union (entry_in w i) (widest (union_in t w i j to))) (union_in t w i j to) end
+  unites x = shown-union t w i j to (cell w i BEFORE) p e based (sym n ∙ x)
 
-  stands : next ≡ None → shown_at t w i j to last ≡ item_in t w i j None
-  stands x = shown-base t w i j to last p e based (sym n ∙ x)
+  stands : next ≡ None → shown_at t w i j to (cell w i BEFORE) ≡ item_in t w i j None
+  stands x = shown-base t w i j to (cell w i BEFORE) p e based (sym n ∙ x)
 
 pub build_shown-returns-in-Under : goal.build_shown-returns-in-Under
 build_shown-returns-in-Under t c =
     let a = c.args in
+    let x = a.row in
+    let last = cell x.rows.work.now x.row BEFORE in
     built-as
-    (shown-under a.text.now a.rows.work.now a.i a.j a.to a.last c.standing_of.ensures c.in-Under.is)
-    (built-none a.rows.work.now a.entries.now a.b a.depth c.requires.3.narrow)
+    (shown-under x.text.now x.rows.work.now x.row x.end x.rows.count last c.standing.ensures c.in-Under.is)
+    (built-none x.rows.work.now a.entries.now a.b a.depth c.requires.narrow)
 
 pub build_shown-returns-in-Alone : goal.build_shown-returns-in-Alone
 build_shown-returns-in-Alone t c =
-    let a = c.args in
+    let x = c.args.row in
+    let last = cell x.rows.work.now x.row BEFORE in
     built-as
-    (shown-alone a.text.now a.rows.work.now a.i a.j a.to a.last c.standing_of.ensures c.in-Alone.is)
-    (built-wider a.i a.to (omega arith) c.requires.1.high c.build_item.ensures)
+    (shown-alone x.text.now x.rows.work.now x.row x.end x.rows.count last c.standing.ensures c.in-Alone.is)
+    (built-wider x.row x.rows.count (omega arith) x.branch.high c.build_item.ensures)
 
 pub build_shown-build_members-inner-requires : goal.build_shown-build_members-inner-requires
 build_shown-build_members-inner-requires t c =
-    let l = c.args.last in
-    let base = based l c.requires.1 c.standing_of.ensures c.in-Base.is c.next.ensures.0 in
-    let shown = unites l c.requires.1 c.standing_of.ensures c.in-Base.is c.next.ensures.0 c.in-Some.is in
-    (omega arith, (c.requires.0, base, room_within (room_as shown c.requires.3)))
+    let x = c.args.row in
+    let last = cell x.rows.work.now x.row BEFORE in
+    let base = stands-base x.text.now x.rows.work.now x.row (bases_at x.rows.work.now last) c.standing.ensures c.in-Base.is in
+    let shown = unites x.branch c.standing.ensures c.in-Base.is c.next.ensures.0 c.in-Some.is in
+    rw c.within.ensures (omega arith, (base, room_within (room_as shown c.requires)))
 
 pub build_shown-close_union-requires : goal.build_shown-close_union-requires
 build_shown-close_union-requires t c =
     let a = c.args in
-    let shown = unites a.last c.requires.1 c.standing_of.ensures c.in-Base.is c.next.ensures.0 c.in-Some.is in
-    (omega arith, room_open a.b a.depth c.build_members-inner.ensures a.i (omega arith) (room_as shown c.requires.3))
+    let x = a.row in
+    let shown = unites x.branch c.standing.ensures c.in-Base.is c.next.ensures.0 c.in-Some.is in
+    let built = rw c.within.ensures at c.build_members-inner.ensures in
+    room_open a.b a.depth built x.row (omega (arith, x.branch.low, x.branch.high)) (room_as shown c.requires)
 
 pub build_shown-returns-in-Some : goal.build_shown-returns-in-Some
 build_shown-returns-in-Some t c =
     let a = c.args in
+    let x = a.row in
     built-as
-    (unites a.last c.requires.1 c.standing_of.ensures c.in-Base.is c.next.ensures.0 c.in-Some.is)
-    (built-union a.b a.depth c.build_members-inner.ensures a.i (omega arith) (omega arith) c.close_union.ensures)
+    (unites x.branch c.standing.ensures c.in-Base.is c.next.ensures.0 c.in-Some.is)
+    (
+    built-union a.b a.depth (rw c.within.ensures at c.build_members-inner.ensures) x.row (omega arith)
+    (omega (arith, x.branch.low, x.branch.high)) c.close_union.ensures
+    )
 
 pub build_shown-build_item-requires-in-None : goal.build_shown-build_item-requires-in-None
 build_shown-build_item-requires-in-None t c =
-    let h = c.requires.1 in
-    let shown = stands c.args.last h c.standing_of.ensures c.in-Base.is c.next.ensures.0 c.in-None.is in (
-      omega arith,
-      (
-        h.low,
-        omega (arith, h.high),
-        branch_row h,
-        branch-tree h,
-        room-part c.args.j h.high (room_as shown c.requires.3),
-      ),
-    )
+    let x = c.args.row in
+    let shown = stands x.branch c.standing.ensures c.in-Base.is c.next.ensures.0 c.in-None.is in
+    (omega (arith, x.branch.high), room-part x.end x.branch.high (room_as shown c.requires))
 
 pub build_shown-returns-in-None : goal.build_shown-returns-in-None
 build_shown-returns-in-None t c =
-    let a = c.args in
+    let x = c.args.row in
     built-as
-    (stands a.last c.requires.1 c.standing_of.ensures c.in-Base.is c.next.ensures.0 c.in-None.is)
-    (built-wider a.i a.to (omega arith) c.requires.1.high c.build_item-in-None.ensures)
+    (stands x.branch c.standing.ensures c.in-Base.is c.next.ensures.0 c.in-None.is)
+    (built-wider x.row x.rows.count (omega arith) x.branch.high c.build_item-in-None.ensures)

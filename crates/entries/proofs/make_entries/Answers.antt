@@ -6,20 +6,20 @@ use Rattle.entries.proofs.make_entries.Goals as goal
 
 pub build_list-requires : goal.build_list-requires
 build_list-requires c =
-    let a = c.args in
-    (c.requires.0, c.requires.1, room-all a.text.now a.rows.work.now a.from a.to a.entries.now c.requires.2 c.requires.3)
+    let l = c.args.list in
+    room-all l.text.now l.rows.work.now l.from l.rows.count c.args.entries.now c.requires.0 c.requires.1
 
 pub returns-clause-inside : goal.returns-clause-inside
 returns-clause-inside c =
-    let a = c.args in
+    let l = c.args.list in
     omega (
       arith,
-      (room-all a.text.now a.rows.work.now a.from a.to a.entries.now c.requires.2 c.requires.3).fits,
+      (room-all l.text.now l.rows.work.now l.from l.rows.count c.args.entries.now c.requires.0 c.requires.1).fits,
       c.build_list.ensures.next,
       built-length c.build_list.ensures,
     )
 
 pub returns-clause-entered : goal.returns-clause-entered
 returns-clause-entered c =
-    let a = c.args in
-    entered a.text.now a.rows.work.now a.from a.to c.requires.2 c.requires.3 c.build_list.ensures
+    let l = c.args.list in
+    entered l.text.now l.rows.work.now l.from l.rows.count c.requires.0 c.requires.1 c.build_list.ensures

@@ -1,13 +1,12 @@
 use borrow.Author.Rules.{rules}
 use Prim.Native.Nat.{ℕ, suc, ◌+◌, ◌-◌, max, ◌≤◌, ◌<◌}
-use mathlib.Core.Path.{◌≡◌, refl, sym, ap, subst, ◌∙◌}
+use mathlib.Core.Path.{◌≡◌, sym, ap, subst, ◌∙◌}
 use mathlib.Core.List.{List, []}
 use native.Mathlib.Numerals.{add-one}
 use native.Mathlib.Omega.{arith}
 use lib.ListN.{length}
 use Rattle.std.specs.Ordering.{ord_max, nat_cmp}
 use Rattle.std.proofs.lemmas.Bool.Decides.{nat_tests}
-use Rattle.std.proofs.lemmas.Result.{err_from_is_err_and}
 use Rattle.definition.specs.declared.FieldKind.{FieldKind}
 use Rattle.definition.specs.declared.Pictured.{Pictured}
 use Rattle.definition.specs.declared.Refusal.{Refusal}
@@ -17,6 +16,7 @@ use Rattle.definition.specs.Tree.{leaf}
 use Rattle.definition.specs.Picture.{pictured}
 use Rattle.definition.specs.Layout.{content}
 use Rattle.definition.specs.Basic.{Answer, Err, Ok}
+use Rattle.definition.proofs.Answers.{handed_on}
 use Rattle.rows.specs.Columns.{AT}
 use Rattle.rows.specs.Table.{cell, statement_at}
 use Rattle.places.specs.Places.{entries_in, Linked, rows_forest}
@@ -41,31 +41,38 @@ larger a b e = grind (arith, nat_tests)
 
 -- ---------------------------------------------------------------- the list
 
-starting : (t w : List ℕ) (from to depth : ℕ) → Room t w from to → Laying t w w from to depth from 0 0 0
-starting t w from to depth h = record { same_length = refl; room = h; back = omega arith; moves = omega arith; rest = refl }
-
 module _ {t w₀ w : List ℕ} {from to depth i last cursor reach : ℕ} (inv : Laying t w₀ w from to depth i last cursor reach) where
-  numbered : i < to → {v : List ℕ} {count : ℕ} → (v ≡ w) × (count ≡ to) → (to ≤ count) × Numbered v i to
-  numbered h e = (omega (arith, e.1), rw (e.0) (counted-numbered w i to inv.room.fits h inv.room.counted))
+  numbered : i < to → {v : List ℕ} {count : ℕ} → (v ≡ w) × (count ≡ to) → Numbered v i count
+  numbered h e = rw (e.0, e.1) (counted-numbered w i to inv.room.fits h inv.room.counted)
+
+  -- the next item's cursor
+  cursor-low :
+      cursor ≤ largest →
+      {a : Answer LaidItem} {x : LaidItem} (j : ℕ) (w' : List ℕ) →
+      item_of a w' ≡ lay_item t w i j depth last cursor →
+      a ≡ Ok x →
+      x.cursor ≤ largest
+  cursor-low h j w' p q =
+      item-within t w i j depth last cursor h (sym p ∙ ap (λ (y : Answer LaidItem). item_of y w') q)
 
   going_on :
-      {a : Answer LaidItem} {x : LaidItem} {r j : ℕ} {w' : List ℕ} →
+      {a : Answer LaidItem} {x : LaidItem} {r j later moved : ℕ} {w' : List ℕ} →
       ChildrenEnd w i to j →
       item_of a w' ≡ lay_item t w i j depth last cursor →
       a ≡ Ok x →
       length w' ≡ length w →
+      (later ≡ i + 1) × (moved ≡ x.cursor) →
       r ≡ max reach x.end →
-      Laying t w₀ w' from to depth j (i + 1) x.cursor r
-  going_on {x = x} {j = j} {w' = w'} h p q l m =
+      Laying t w₀ w' from to depth j later moved r
+  going_on {x = x} {j = j} {w' = w'} h p q l n m =
       let laid = sym p ∙ ap (λ (y : Answer LaidItem). item_of y w') q in
-      let k = item-within t w i j depth last cursor inv.moves laid in
-      record {
+      rw (n.0, n.1)
+      (record {
         same_length = l ∙ inv.same_length;
         room = item_room t w i to j depth last cursor h laid l inv.room;
         back = omega (arith, h.low);
-        moves = k.moves;
         rest = rw (add-one i, m) (inv.rest ∙ list-step t w i to j depth last cursor reach h inv.room.fits inv.back laid);
-      }
+      })
 
   stopping :
       {a : Answer LaidItem} {r : Refusal} {j : ℕ} (w' : List ℕ) →
@@ -122,8 +129,8 @@ module _ (t w : List ℕ) (i j left last cursor : ℕ) where
       linked-here = subst (λ (x : ℕ). Linked t w₁ x 0 (rows_forest w₁ x j)) (sym (add-one i)) n.held.linked
 
       linked :
-          {v : List ℕ} {count : ℕ} → (v ≡ w₁) × (count ≡ j) → (j ≤ count) × Linked t v (i + 1) 0 (rows_forest v (i + 1) j)
-      linked e = (omega (arith, e.1), rw (e.0) (linked-here))
+          {v : List ℕ} {count : ℕ} → (v ≡ w₁) × (count ≡ j) → Linked t v (i + 1) 0 (rows_forest v (i + 1) count)
+      linked e = rw (e.0, e.1) linked-here
 
       fold-halts : {v : List ℕ} → v ≡ w₁ → {a : Answer (Unit {0})} {r : Refusal} → a ≡ fold_check t [] (entries_in v (i + 1) (rows_forest v (i + 1) j)) → a ≡ Err r → halted r ≡ lay_item t w i j (64 - left) last cursor
       fold-halts e p q =
@@ -165,61 +172,57 @@ narrow t s p q = leaf-narrow t s (sym q ∙ p)
 pub lay_item-returns-then-depth_left-eq0 : goal.lay_item-returns-then-depth_left-eq0
 lay_item-returns-then-depth_left-eq0 t c =
     let a = c.args in
-    deep a.text.now a.work.now a.i a.j a.depth_left a.last a.cursor c.if-first-j.true c.if-depth_left-eq0.true
+    deep a.text.now a.work.now a.i a.j a.depth_left a.next.last a.next.cursor c.if-first-j.true c.if-depth_left-eq0.true
     (rw (c.new.ensures.0) at c.at-position.ensures.0)
 
 -- the inner list, where it is known to be ready
 inner : (t : ℕ) (c : lay_item-In_ok-inner t) → LaidRows c.args.text.now c.args.work.now (suc c.args.i) c.args.j (suc (64 - c.args.depth_left)) c.in_ok-inner.inner.width c.lay_list.new.work
 inner t c =
     let a = c.args in
-    inner-list a.text.now a.work.now a.i a.j a.depth_left a.last a.cursor c.if-first-j.true c.if-depth_left-eq0.false c.requires.2 c.requires.1 c.lay_list.ensures c.in_ok-inner.was
+    inner-list a.text.now a.work.now a.i a.j a.depth_left a.next.last a.next.cursor c.if-first-j.true c.if-depth_left-eq0.false c.requires.2 c.requires.1 c.lay_list.ensures c.in_ok-inner.was
 
 pub lay_item-returns-in_err-inner : goal.lay_item-returns-in_err-inner
 lay_item-returns-in_err-inner t c =
     let a = c.args in
-    let p = err_from_is_err_and c.from_residual.result c.from_residual.ensures.1 in
-    rw (p.1, p.2)
-    (inner-halts a.text.now a.work.now a.i a.j a.depth_left a.last a.cursor c.if-first-j.true c.if-depth_left-eq0.false
+    rw (handed_on _ c.from_residual.ensures.1)
+    (inner-halts a.text.now a.work.now a.i a.j a.depth_left a.next.last a.next.cursor c.if-first-j.true c.if-depth_left-eq0.false
     c.requires.2 c.lay_list.new.work c.lay_list.ensures c.in_err-inner.was)
 
 pub lay_item-fold_check-requires : goal.lay_item-fold_check-requires
 lay_item-fold_check-requires t c =
     let a = c.args in
-    linked a.text.now a.work.now a.i a.j a.depth_left a.last a.cursor c.if-first-j.true c.if-depth_left-eq0.false
+    linked a.text.now a.work.now a.i a.j a.depth_left a.next.last a.next.cursor c.if-first-j.true c.if-depth_left-eq0.false
     c.requires.2 (inner t (goal.at.lay_item-fold_check-requires t c).In_ok-inner) c.new-then-first-j.ensures
 
 pub lay_item-returns-in_err-fold_check : goal.lay_item-returns-in_err-fold_check
 lay_item-returns-in_err-fold_check t c =
     let a = c.args in
-    let p = err_from_is_err_and c.from_residual-in_err-fold_check.result c.from_residual-in_err-fold_check.ensures.1 in
-    rw (p.1, p.2)
-    (fold-halts a.text.now a.work.now a.i a.j a.depth_left a.last a.cursor c.if-first-j.true c.if-depth_left-eq0.false
+    rw (handed_on _ c.from_residual-in_err-fold_check.ensures.1)
+    (fold-halts a.text.now a.work.now a.i a.j a.depth_left a.next.last a.next.cursor c.if-first-j.true c.if-depth_left-eq0.false
     c.requires.2 (inner t (goal.at.lay_item-returns-in_err-fold_check t c).In_ok-inner) c.new-then-first-j.ensures.0
-    c.fold_check.ensures c.in_err-fold_check.was)
+    (rw c.new-then-first-j.ensures.1 at c.fold_check.ensures) c.in_err-fold_check.was)
 
 pub lay_item-place-requires : goal.lay_item-place-requires
 lay_item-place-requires t c =
     let n = inner t (goal.at.lay_item-place-requires t c).In_ok-inner in
-    (search rules, search rules, search rules, search rules, n.narrow, laid-printed n (printed-less c.requires.1.printed (omega (arith, c.requires.0))))
+    (search rules, search rules, search rules, n.narrow, laid-printed n (printed-less c.requires.1.printed (omega (arith, c.requires.0))))
 
 pub lay_item-returns-then-first-j : goal.lay_item-returns-then-first-j
 lay_item-returns-then-first-j t c =
     let a = c.args in
-    grouped a.text.now a.work.now a.i a.j a.depth_left a.last a.cursor c.if-first-j.true c.if-depth_left-eq0.false c.requires.2
-    (inner t (goal.at.lay_item-returns-then-first-j t c).In_ok-inner) c.new-then-first-j.ensures.0 c.fold_check.ensures
+    grouped a.text.now a.work.now a.i a.j a.depth_left a.next.last a.next.cursor c.if-first-j.true c.if-depth_left-eq0.false c.requires.2
+    (inner t (goal.at.lay_item-returns-then-first-j t c).In_ok-inner) c.new-then-first-j.ensures.0 (rw c.new-then-first-j.ensures.1 at c.fold_check.ensures)
     c.in_ok-fold_check.was c.requires.3 c.place.ensures
 
 pub lay_item-returns-in_err-c : goal.lay_item-returns-in_err-c
 lay_item-returns-in_err-c t c =
     let a = c.args in
-    let p = err_from_is_err_and c.from_residual-in_err-c.result c.from_residual-in_err-c.ensures.1 in
-    rw (p.1, p.2)
-    (leaf-halts a.text.now a.work.now a.i a.j a.depth_left a.last a.cursor c.if-first-j.false
+    rw (handed_on _ c.from_residual-in_err-c.ensures.1)
+    (leaf-halts a.text.now a.work.now a.i a.j a.depth_left a.next.last a.next.cursor c.if-first-j.false
     (rw (c.new-2.ensures.0) at c.statement.ensures) c.elementary.ensures c.in_err-c.was)
 
 pub lay_item-place-requires-2 : goal.lay_item-place-requires-2
 lay_item-place-requires-2 t c = (
-  search rules,
   search rules,
   search rules,
   search rules,
@@ -230,34 +233,32 @@ lay_item-place-requires-2 t c = (
 pub lay_item-returns : goal.lay_item-returns
 lay_item-returns t c =
     let a = c.args in
-    leafed a.text.now a.work.now a.i a.j a.depth_left a.last a.cursor c.if-first-j.false
+    leafed a.text.now a.work.now a.i a.j a.depth_left a.next.last a.next.cursor c.if-first-j.false
     (rw (c.new-2.ensures.0) at c.statement.ensures) c.elementary.ensures c.in_ok-c.was c.place-2.ensures
 
 -- ---------------------------------------------------------------- the goals of `lay_list`
-
-pub lay_list-loop-i-init : goal.lay_list-loop-i-init
-lay_list-loop-i-init t c =
-    let a = c.args in
-    starting a.text.now a.work.now a.from a.to (64 - a.depth_left) c.requires.0
 
 pub lay_list-next_of-j-requires : goal.lay_list-next_of-j-requires
 lay_list-next_of-j-requires t c = numbered c.loop-i.invariant c.loop-i-test.true c.new.ensures
 
 pub lay_list-lay_item-requires : goal.lay_list-lay_item-requires
 lay_list-lay_item-requires t c =
-    let e = rw (c.new.ensures.0) at c.next_of-j.ensures in
-    (search rules, (omega (arith, e.low), room-part c.loop-i.invariant.room e, search rules, search rules, search rules))
+    let e = rw (c.new.ensures.0, c.new.ensures.1) at c.next_of-j.ensures in
+    (search rules, (omega (arith, e.low), room-part c.loop-i.invariant.room e, search rules, search rules))
+
+pub lay_list-at-next-requires-in-loop-i : goal.lay_list-at-next-requires-in-loop-i
+lay_list-at-next-requires-in-loop-i t c =
+    cursor-low c.loop-i.invariant c.loop-i.next.within _ c.lay_item.new.work c.lay_item.ensures c.in_ok-item.was
 
 pub lay_list-loop-i-preserved : goal.lay_list-loop-i-preserved
 lay_list-loop-i-preserved t c =
-    going_on c.loop-i.invariant (rw (c.new.ensures.0) at c.next_of-j.ensures) c.lay_item.ensures c.in_ok-item.was
-    c.lay_item.auto.work (larger c.loop-i.reach c.in_ok-item.item.end c.max-reach.ensures)
+    going_on c.loop-i.invariant (rw (c.new.ensures.0, c.new.ensures.1) at c.next_of-j.ensures) c.lay_item.ensures c.in_ok-item.was
+    c.lay_item.auto.work c.at-next-in-loop-i.ensures (larger c.loop-i.reach c.in_ok-item.item.end c.max-reach.ensures)
 
 pub lay_list-returns-in_err-item : goal.lay_list-returns-in_err-item
 lay_list-returns-in_err-item t c =
-    let p = err_from_is_err_and c.from_residual.result c.from_residual.ensures.1 in
-    rw (p.1, p.2)
-    (stopping c.loop-i.invariant c.lay_item.new.work (rw (c.new.ensures.0) at c.next_of-j.ensures) c.lay_item.ensures
+    rw (handed_on _ c.from_residual.ensures.1)
+    (stopping c.loop-i.invariant c.lay_item.new.work (rw (c.new.ensures.0, c.new.ensures.1) at c.next_of-j.ensures) c.lay_item.ensures
     c.in_err-item.was)
 
 pub lay_list-returns : goal.lay_list-returns

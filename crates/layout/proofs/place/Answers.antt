@@ -4,7 +4,6 @@ use mathlib.Core.Bool.{Bool, true, false}
 use mathlib.Core.Path.{◌≡◌, sym, ap, ◌∙◌}
 use mathlib.Core.List.{List}
 use native.Mathlib.Omega.{arith}
-use Rattle.std.proofs.lemmas.Result.{err_from_is_err_and}
 use Rattle.definition.specs.declared.Refusal.{Refusal}
 use Rattle.definition.specs.declared.Span.{Span}
 use Rattle.definition.specs.declared.Statement.{Statement}
@@ -14,6 +13,7 @@ use Rattle.definition.specs.Limits.{largest}
 use Rattle.std.specs.Prelude.{if◌then◌else◌, Option}
 use Rattle.definition.specs.Basic.{given, Answer, Err, Ok}
 use Rattle.definition.specs.Layout.{start, slack_from, entry_of, too_large}
+use Rattle.definition.proofs.Answers.{handed_on}
 use Rattle.rows.specs.Table.{statement_at, row_of, row_code}
 use Rattle.rows.proofs.TableLaws.{code-back}
 use Rattle.places.specs.Places.{put_place}
@@ -141,7 +141,7 @@ re-read i e p q = e ∙ ap (λ (x : List ℕ). statement_at x i) (p ∙ sym q)
 pub start_of-requires : goal.start_of-requires
 start_of-requires c =
     let p = c.requires in
-    (omega (arith, p.1, c.new-2.ensures.1, c.new-printed.ensures.2), p.3, p.4)
+    (omega (arith, p.1, c.new-2.ensures.1, c.new-printed.ensures.2), p.3)
 
 pub base_of-base-requires : goal.base_of-base-requires
 base_of-base-requires c =
@@ -149,9 +149,9 @@ base_of-base-requires c =
     let x = c.new-printed.result in
     let found = c.start_of.ensures in
     let name = c.statement-s.result.clauses.redefines in
-    let before = earlier x.text.now x.rows.work.now name c.args.last c.in_ok-start.was found.1 found.2 in (
+    let before = earlier x.text.now x.rows.work.now name c.args.next.last c.in_ok-start.was found.1 found.2 in (
       omega (arith, before, p.1, c.new-2.ensures.1, c.new-printed.ensures.2),
-      of-name x.text.now x.rows.work.now name c.args.last c.in_ok-start.was found.1,
+      of-name x.text.now x.rows.work.now name c.args.next.last c.in_ok-start.was found.1,
     )
 
 pub placers_of-placers-requires : goal.placers_of-placers-requires
@@ -160,7 +160,7 @@ placers_of-placers-requires c =
     let x = c.new-printed.result in
     let found = c.start_of.ensures in
     let name = c.statement-s.result.clauses.redefines in
-    let before = earlier x.text.now x.rows.work.now name c.args.last c.in_ok-start.was found.1 found.2 in
+    let before = earlier x.text.now x.rows.work.now name c.args.next.last c.in_ok-start.was found.1 found.2 in
     (omega (arith, p.1, c.new-2.ensures.1, c.new-printed.ensures.2), omega (arith, p.1, p.2), omega (arith, before, p.1, p.2))
 
 pub put_place-requires : goal.put_place-requires
@@ -169,14 +169,14 @@ put_place-requires c =
     let x = c.new-printed.result in
     let found = c.start_of.ensures in
     let s = c.statement-s.result in
-    let before = earlier x.text.now x.rows.work.now s.clauses.redefines c.args.last c.in_ok-start.was found.1 found.2 in
+    let before = earlier x.text.now x.rows.work.now s.clauses.redefines c.args.next.last c.in_ok-start.was found.1 found.2 in
     let d = c.entry_of-e in (
       p.0,
       omega (arith, p.1, p.2),
       based-low c.base_of-base.ensures.0 (omega (arith, c.base_of-base.ensures.1, before, p.1, p.2)),
       near d.result c.entry_end.ensures c.in_ok-end.was,
-      slim s d.ensures p.4,
-      close s d.ensures c.args.cursor c.slack_from.ensures c.entry_end.ensures c.in_ok-end.was,
+      slim s d.ensures p.3,
+      close s d.ensures c.args.next.cursor c.slack_to.ensures c.entry_end.ensures c.in_ok-end.was,
     )
 
 pub returns-in_err-start : goal.returns-in_err-start
@@ -184,9 +184,8 @@ returns-in_err-start c =
     let a = c.args in
     let x = c.new-printed in
     let same = x.ensures.1 ∙ c.new-2.ensures.0 in
-    let p = err_from_is_err_and c.from_residual.result c.from_residual.ensures.1 in
-    rw (p.1, p.2)
-    (no_start x.result.text.now x.result.rows.work.now x.ensures.0 same a.i a.last a.cursor a.c
+    rw (handed_on _ c.from_residual.ensures.1)
+    (no_start x.result.text.now x.result.rows.work.now x.ensures.0 same a.i a.next.last a.next.cursor a.c
     (re-read a.i c.statement-s.ensures c.new.ensures.0 same) c.start_of.ensures.0 c.in_err-start.was)
 
 pub returns-in_err-end : goal.returns-in_err-end
@@ -194,10 +193,9 @@ returns-in_err-end c =
     let a = c.args in
     let x = c.new-printed in
     let same = x.ensures.1 ∙ c.new-2.ensures.0 in
-    let p = err_from_is_err_and c.from_residual-in_err-end.result c.from_residual-in_err-end.ensures.1 in
-    rw (p.1, p.2)
-    (large x.result.text.now x.result.rows.work.now x.ensures.0 same a.i a.last a.cursor a.c
-    (re-read a.i c.statement-s.ensures c.new.ensures.0 same) c.start_of.ensures.0 c.in_ok-start.was c.slack_from.ensures
+    rw (handed_on _ c.from_residual-in_err-end.ensures.1)
+    (large x.result.text.now x.result.rows.work.now x.ensures.0 same a.i a.next.last a.next.cursor a.c
+    (re-read a.i c.statement-s.ensures c.new.ensures.0 same) c.start_of.ensures.0 c.in_ok-start.was c.slack_to.ensures
     c.entry_of-e.ensures c.entry_end.ensures c.in_err-end.was)
 
 pub returns : goal.returns
@@ -206,7 +204,7 @@ returns c =
     let x = c.new-printed in
     let same = x.ensures.1 ∙ c.new-2.ensures.0 in
     let over = c.start_of.ensures in
-    fits x.result.text.now x.result.rows.work.now x.ensures.0 same a.i a.last a.cursor a.c
-    (re-read a.i c.statement-s.ensures c.new.ensures.0 same) over.0 c.in_ok-start.was c.slack_from.ensures c.entry_of-e.ensures
+    fits x.result.text.now x.result.rows.work.now x.ensures.0 same a.i a.next.last a.next.cursor a.c
+    (re-read a.i c.statement-s.ensures c.new.ensures.0 same) over.0 c.in_ok-start.was c.slack_to.ensures c.entry_of-e.ensures
     over.1 c.entry_end.ensures c.in_ok-end.was c.base_of-base.ensures.0 c.placers_of-placers.ensures c.put_place.ensures
     c.advanced.ensures

@@ -82,23 +82,22 @@ module _ {w₀ w : List ℕ} {n k : ℕ} (inv : Counting w₀ n k w) where
       0 < k →
       {v : List ℕ} {count : ℕ} →
       (v ≡ w) × (count ≡ n) →
-      (k - 1 < n) × (n ≤ count) × BelowCounted v (k - 1 + 1) (rows_forest v (k - 1 + 1) n)
+      (k - 1 < count) × BelowCounted v (k - 1 + 1) (rows_forest v (k - 1 + 1) count)
   behind l e = (
     omega (arith, inv.within),
-    omega arith,
-    rw (e.0) (subst (λ (m : ℕ). BelowCounted w m (rows_forest w m n)) (let q : k ≡ k - 1 + 1 = omega arith in q) inv.counted),
+    rw (e.0, e.1) (subst (λ (m : ℕ). BelowCounted w m (rows_forest w m n)) (let q : k ≡ k - 1 + 1 = omega arith in q) inv.counted),
   )
 
   next :
       0 < k →
-      {v : List ℕ} {e : ℕ} →
-      v ≡ w →
-      ChildrenEnd v (k - 1) n e →
+      {v : List ℕ} {count e : ℕ} →
+      (v ≡ w) × (count ≡ n) →
+      ChildrenEnd v (k - 1) count e →
       Counting w₀ n (k - 1) (set w (ROW * (k - 1) + BELOW) (e - (k - 1) - 1))
-  next l {v} {e} q x =
+  next l {v} {count} {e} q x =
       let m = k - 1 in
       let at : suc m ≡ k = omega arith in
-      let c = rw q at x in
+      let c = rw (q.0, q.1) at x in
       let put : set w (ROW * m + BELOW) (e - suc m) ≡ set w (ROW * m + BELOW) (e - m - 1) =
       ap (set w (ROW * m + BELOW)) (let z : e - suc m ≡ e - m - 1 = omega arith in z) in
       subst (Counting w₀ n m) put
@@ -127,7 +126,7 @@ pub end_of-end-requires : goal.end_of-end-requires
 end_of-end-requires c = behind c.loop-row.invariant c.loop-row-test.true c.new.ensures
 
 pub loop-row-preserved : goal.loop-row-preserved
-loop-row-preserved c = rw (c.put_cell.ensures) (next c.loop-row.invariant c.loop-row-test.true c.new.ensures.0 c.end_of-end.ensures)
+loop-row-preserved c = rw (c.put_cell.ensures) (next c.loop-row.invariant c.loop-row-test.true c.new.ensures c.end_of-end.ensures)
 
 pub returns : goal.returns
 returns c = search done

@@ -4,8 +4,6 @@ use mathlib.Core.Path.{◌≡◌}
 use mathlib.Core.List.{List}
 use Rattle.definition.specs.Tree.{higher}
 use Rattle.rows.specs.Table.{statement_at, statements_from}
-use Rattle.places.specs.Places.{rows_forest}
-use Rattle.places.specs.Children.{BelowCounted}
 use Rattle.places.proofs.end_of.Given as goal
 
 -- the run goes on at j
@@ -13,11 +11,11 @@ pub record Left (w : List ℕ) (i to level j : ℕ) : Type 0 where
   pub same-level : level ≡ (statement_at w i).level
   pub low : i < j
   pub high : j ≤ to
-  pub counted : BelowCounted w j (rows_forest w j to)
   pub is : j + higher level (statements_from w j (to - j)) ≡ suc i + higher level (statements_from w (suc i) (to - suc i))
 
-abbrev pub invariant-loop-j : goal.invariant-loop-j
-invariant-loop-j l = Left l.rows.work.now l.i l.to l.level l.j
-
-abbrev pub decreases-loop-j : goal.decreases-loop-j
-decreases-loop-j l = l.to - l.j
+abbrev pub invariant-loop-sibling : goal.invariant-loop-sibling
+invariant-loop-sibling l =
+    (goal.iterator-loop-sibling).can_next l.sibling-iterator
+    × (goal.iterator-loop-sibling).is_finite l.sibling-iterator
+    × (l.sibling-iterator.rows ≡ l.rows)
+    × Left l.rows.work.now l.i l.rows.count l.level l.sibling-iterator.from

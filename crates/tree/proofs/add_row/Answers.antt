@@ -24,10 +24,6 @@ module _
     (w : List ℕ) (k : ℕ) (s : Statement) {o u : OpenLevels}
     (fits : ROW * k + ROW ≤ length w) (closed : Closed w k o s.level u)
   where
-    -- the row of the innermost level that stays open is there
-    row_in : row_code u.row ≤ k
-    row_in = closed.low
-
     -- its usage holds around the statement
     around-is : usage_around w u.row ≡ around (still_open s.level (stack_of w o))
     around-is = down-around w u.levels k u.count u.row closed.fit closed.row ∙ ap around closed.is

@@ -2,10 +2,10 @@
 use Prim.Native.Nat.{ℕ}
 use mathlib.Core.Path.{◌≡◌, refl, sym, ◌∙◌, subst}
 use mathlib.Core.List.{List}
-use Rattle.std.proofs.lemmas.Result.{err_from_is_err_and}
 use Rattle.definition.specs.declared.Refusal.{Refusal}
 use Rattle.definition.specs.declared.Statement.{Statement}
 use Rattle.definition.specs.Basic.{Answer, Err, Ok, and_then}
+use Rattle.definition.proofs.Answers.{handed_on}
 use Rattle.definition.specs.Calls.{literal_check, kept_statements}
 use Rattle.definition.specs.Statement.{statements}
 use Rattle.definition.specs.Words.{statement_words}
@@ -32,14 +32,12 @@ returns-in_ok-left_open-in-Ok c = let h = c.in-Ok.ensures in passed (c.in_ok-lef
 
 pub returns-in_err-left_open-in-Ok : goal.returns-in_err-left_open-in-Ok
 returns-in_err-left_open-in-Ok c =
-    let p = err_from_is_err_and c.from_residual.result c.from_residual.ensures.1 in
     let h = c.in-Ok.ensures in
-    rw (p.1, p.2) (bad (c.in_err-left_open-in-Ok.ensures ∙ sym h.end.1))
+    rw (handed_on _ c.from_residual.ensures.1) (bad (c.in_err-left_open-in-Ok.ensures ∙ sym h.end.1))
 
 pub returns-in_ok-open_check-in-Err : goal.returns-in_ok-open_check-in-Err
 returns-in_ok-open_check-in-Err c = let h = c.in-Err.ensures in passed c.in_ok-open_check-in-Err.ensures h.rows
 
 pub returns-in_err-open_check-in-Err : goal.returns-in_err-open_check-in-Err
 returns-in_err-open_check-in-Err c =
-    let p = err_from_is_err_and c.from_residual-in_err-open_check-in-Err.result c.from_residual-in_err-open_check-in-Err.ensures.1 in
-    rw (p.1, p.2) (bad c.in_err-open_check-in-Err.ensures)
+    rw (handed_on _ c.from_residual-in_err-open_check-in-Err.ensures.1) (bad c.in_err-open_check-in-Err.ensures)

@@ -1,16 +1,15 @@
-use Prim.Native.Nat.{ℕ, ◌+◌, ◌*◌, ◌≤◌, ◌<◌}
+use Prim.Native.Nat.{ℕ, ◌+◌, ◌≤◌, ◌<◌}
 use mathlib.Core.Path.{◌≡◌, refl, sym, ap, subst, ◌∙◌}
 use mathlib.Core.List.{List, [], ◌∷◌}
 use native.Mathlib.Nat.{add-zero}
 use native.Mathlib.Numerals.{add-one}
 use native.Mathlib.Omega.{arith}
 use lib.ListN.{length}
-use Rattle.std.proofs.lemmas.Result.{err_from_is_err_and}
 use Rattle.definition.specs.declared.Refusal.{Refusal}
-use Rattle.definition.specs.declared.Span.{Span}
 use Rattle.definition.specs.declared.Statement.{Statement}
 use Rattle.definition.specs.Limits.{most_bytes, least_work, most_statements}
 use Rattle.definition.specs.Basic.{Err, Ok, ◌>>=◌}
+use Rattle.definition.proofs.Answers.{handed_on}
 use Rattle.definition.specs.Tree.{Open}
 use Rattle.definition.specs.Words.{first_open, statement_words}
 use Rattle.definition.proofs.ParentLaws.{Fit}
@@ -23,12 +22,10 @@ use Rattle.tokens.specs.Tokens.{at_start, tokens_at}
 use Rattle.tokens.proofs.TokenLaws.{ends_open}
 use Rattle.statement.specs.declared.StatementRead.{StatementRead}
 use Rattle.statement.specs.declared.StatementRead.TheVariants.{Kept, Skipped, End}
-use Rattle.clauses.specs.Places.{SpanInside}
 use Rattle.statement.specs.Reading.{FirstKept, FirstSkipped, FirstRefused, FirstNone, FirstStatement}
 use Rattle.tree.specs.declared.OpenLevels.{OpenLevels}
 use Rattle.tree.specs.Levels.{top_down, stack_of, NoneOpen, Nested}
-use Rattle.rows.specs.Columns.{ROW}
-use Rattle.rows.specs.Table.{Short, Placed, put_rows, row_code}
+use Rattle.rows.specs.Table.{put_rows, row_code}
 use Rattle.tree.specs.Reading.{Added, outcome, StatementsAre}
 use Rattle.rows.proofs.TableLaws.{length-put_row}
 use Rattle.tree.proofs.LevelLaws.{down-none}
@@ -52,10 +49,6 @@ start {t} {w} {from} {o} s r b p =
       same = rw b (ap (λ (os : List Open). outcome w 0 os (whole t)) (sym none));
       held = rw b (λ h. h);
     }
-
--- a span in a short text is short
-short-inside : (t : List ℕ) (w : Span) → length t ≤ most_bytes → SpanInside t w → Short w
-short-inside t w h i = record { starts = omega arith; runs = omega arith }
 
 module _ {t w₀ w : List ℕ} {from : Stand} {n : ℕ} {o : OpenLevels} (inv : Left t w₀ w from n o) where
   -- a refusal of what is left is one of the whole
@@ -102,23 +95,6 @@ module _ {t w₀ w : List ℕ} {from : Stand} {n : ℕ} {o : OpenLevels} (inv : 
 
   -- the next statement is kept
   module _ {s : Statement} {next : Stand} (kept : FirstKept (tokens_at t from) t (from.at + 1) s next) where
-    -- it can be stored
-    placed : Placed s
-    placed =
-        let g = kept.fits in
-        record {
-          at = omega (arith, g.begins, inv.short);
-          name = short-inside t s.name inv.short g.name;
-          clauses = record {
-            picture = short-inside t s.clauses.picture inv.short g.clauses.picture;
-            depending = short-inside t s.clauses.depending inv.short g.clauses.depending;
-            redefines = short-inside t s.clauses.redefines inv.short g.clauses.redefines;
-          };
-        }
-
-    addable : n < most_statements → (ROW * n + ROW ≤ length w) × (n < most_statements) × Nested w n o × Placed s
-    addable l = (omega (arith, inv.room), l, inv.nested, placed)
-
     -- 800 were kept before it
     full : (m : Stand) → most_statements ≤ n → StatementsAre t w₀ (Err (Refusal.TooManyStatements s.at)) w m
     full m l = refused-so (Refusal.TooManyStatements s.at) m (rw kept.followed.all_are (statements-full t n _ _ kept.is l))
@@ -163,5 +139,4 @@ returns-in-End c = done c.loop-s.invariant (this c.args.text.now c.loop-s.from c
 
 pub returns-in_err-s : goal.returns-in_err-s
 returns-in_err-s c =
-    let p = err_from_is_err_and c.from_residual.result c.from_residual.ensures.1 in
-    rw (p.1, p.2) (bad c.loop-s.invariant _ c.in_err-s.ensures)
+    rw (handed_on _ c.from_residual.ensures.1) (bad c.loop-s.invariant _ c.in_err-s.ensures)

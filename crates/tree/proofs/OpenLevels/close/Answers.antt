@@ -1,5 +1,5 @@
 use Prim.Native.Nat.{ℕ, ◌-◌, ◌≤◌, ◌<◌}
-use mathlib.Core.Path.{◌≡◌, refl, sym, ap, subst, ◌∙◌}
+use mathlib.Core.Path.{◌≡◌, sym, ap, subst, ◌∙◌}
 use mathlib.Core.List.{List, [], ◌∷◌}
 use native.Mathlib.Omega.{arith}
 use lib.ListN.{length, get_or}
@@ -87,9 +87,6 @@ module _ {w : List ℕ} {k level : ℕ} {o₀ o : OpenLevels} (inv : Left w k le
       let none : (r : ℕ) → top_down w o.levels o.count r ≡ [] = λ r. ap (λ (m : ℕ). top_down w o.levels m r) e ∙ down-none w o.levels r in
       all_stay (record { levels = o.levels; count = o.count; row = None })
       (none 0 ∙ sym (open_none level) ∙ ap (still_open level) (sym (none (row_code o.row)))) (sym (ap innermost (none 0))) (omega arith)
-
-pub loop-self-init : goal.loop-self-init
-loop-self-init c = let r = c.requires in record { byte = omega arith; few = r.few; whole = r.fit; fit = r.fit; rest = refl }
 
 pub returns-then-self-level : goal.returns-then-self-level
 returns-then-self-level c = found c.loop-self.invariant c.loop-self-test.true c.if-self-level.true

@@ -1,4 +1,4 @@
--- `layout::start_of` meets its contract: over the sibling that it redefines.
+-- `layout::NextPlace::start_of` meets its contract: over the sibling that it redefines.
 use Prim.Native.Nat.{ℕ}
 use mathlib.Core.Path.{◌≡◌, ◌∙◌}
 use mathlib.Core.Bool.{Bool, true}
@@ -10,7 +10,7 @@ use Rattle.definition.specs.Basic.{given, Answer, or_refuse}
 use Rattle.definition.specs.Fold.{Place, find}
 use Rattle.definition.specs.Layout.{start}
 use Rattle.redefines.specs.Targets.{seen_at, target_search}
-use Rattle.layout.proofs.start_of.Goals as goal
+use Rattle.layout.proofs.NextPlace.start_of.Goals as goal
 
 over :
     (t : List ℕ) (s : Statement) (c : Pictured) (seen : List Place) (cursor : ℕ) {g : Bool} →
@@ -26,4 +26,4 @@ pub returns-then-is_given : goal.returns-then-is_given
 returns-then-is_given c =
     let a = c.args in
     let e = c.start_over.ensures in
-    (over a.printed.text.now a.s a.c (seen_at a.printed.rows.work.now a.last) a.cursor c.is_given.ensures c.if-is_given.true e.0, e.1, e.2)
+    (over a.printed.text.now a.s a.c (seen_at a.printed.rows.work.now a.self.last) a.self.cursor c.is_given.ensures c.if-is_given.true e.0, e.1, e.2)

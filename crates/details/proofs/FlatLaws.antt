@@ -15,10 +15,9 @@ use Rattle.definition.specs.Details.{Detail, detail, details_in, detail_bytes, d
 use Rattle.definition.proofs.DetailLaws.{bytes-both, details-length}
 use Rattle.unions.specs.Shown.{list_in}
 use Rattle.table.specs.declared.Item.{Item}
-use Rattle.table.proofs.ListedLaws.{table-sound}
 use Rattle.table.specs.Entered.{Shown, flat_in, shown_all}
 use Rattle.table.proofs.FlatLaws.{flat-length}
-use Rattle.details.specs.Detailed.{standing_bytes, clause_places, flat_details, Within, AllThere, details_of}
+use Rattle.details.specs.Detailed.{standing_bytes, clause_places, flat_details, Within, Shallow, details_of}
 use Rattle.details.specs.Detailed.{RecordTabled}
 
 -- the parts of an entry's details, in the order in which they are put
@@ -107,10 +106,9 @@ module _ {text w : List ℕ} {t : List Item} {from to : ℕ} (h : RecordTabled t
   abbrev es : Entries
   es = folded_all text (list_in w from to)
 
-  pub table_there : {n : ℕ} → to ≤ n → AllThere w n t
-  table_there m =
+  pub table_shallow : Shallow w t
+  table_shallow =
       record {
-        rows = table-sound h.table m;
         deep = subst Within (sym h.table.is) (within-flat es 0 (omega (arith, h.deep)));
         few = omega (arith, h.table.few, h.few);
       }

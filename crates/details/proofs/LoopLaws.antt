@@ -18,7 +18,7 @@ use Rattle.table.specs.declared.Item.{Item}
 use Rattle.table.specs.declared.Mark.{Mark}
 use Rattle.table.specs.Entered.{Shown, shown_of, shown_all}
 use Rattle.table.proofs.LoopLaws.{rest, none_left, rest-next}
-use Rattle.details.specs.Detailed.{detail_in, flat_details, Within, farthest, FirstByte, There, AllThere}
+use Rattle.details.specs.Detailed.{detail_in, flat_details, Within, farthest, FirstByte, Shallow}
 
 -- no list starts farther on than n
 abbrev Low : List ℕ → ℕ → Type 0
@@ -74,15 +74,15 @@ module _ {w : List ℕ} {t : List Item} {s : Sink} {lists : List ℕ} {k : ℕ} 
       inv.same ∙ ap (λ (l : List Shown). inv.done ++ flat_details lists l) (none_left w t k h) ∙ append-nil inv.done in
       subst (λ (bs : List ℕ). Puts s bs s') (sym whole) inv.put
 
-  pub place_small : {n : ℕ} → AllThere w n t → k < length t → s.at ≡ 0 → s'.at ≤ 4294967295
+  pub place_small : Shallow w t → k < length t → s.at ≡ 0 → s'.at ≤ 4294967295
   place_small all h z = omega (arith, inv.put.put.next, inv.many, all.few)
 
-  module _ {n : ℕ} (all : AllThere w n t) (d : Item) (h : k < length t) where
+  module _ (all : Shallow w t) (d : Item) (h : k < length t) where
     deep-next : ((get_or t k d).depth < 130) × Within (rest w t (k + 1))
     deep-next = subst Within (rest-next w t k d h) inv.deep
 
-    pub there : There w n (get_or t k d)
-    there = record { sound = all.rows k d h; deep = deep-next.0 }
+    pub there : (get_or t k d).depth < 130
+    there = deep-next.0
 
     pub near : get_or lists (get_or t k d).depth 0 ≤ farthest
     near = omega (arith, inv.low (get_or t k d).depth, all.few)

@@ -1,6 +1,6 @@
 -- The details of a table of entries, one after the other.
 -- Assumes nothing.
-use Rattle.std.specs.Prelude.{ℕ, ◌+◌, ◌≤◌, ◌<◌, ◌≡◌, List, [], ◌∷◌, ◌++◌, length, get_or, set, All}
+use Rattle.std.specs.Prelude.{ℕ, ◌+◌, ◌≤◌, ◌<◌, ◌≡◌, List, [], ◌∷◌, ◌++◌, length, get_or, set}
 use Rattle.definition.specs.declared.Entry.{Entry}
 use Rattle.definition.specs.Limits.{most_statements}
 use Rattle.definition.specs.Basic.{le4}
@@ -9,7 +9,7 @@ use Rattle.definition.specs.Listing.{flag, span_bytes}
 use Rattle.definition.specs.Details.{Detail, detail, detail_bytes, entries_details, height}
 use Rattle.unions.specs.Shown.{list_in}
 use Rattle.table.specs.declared.Item.{Item}
-use Rattle.table.specs.Entered.{Shown, shown_all, Sound, Entered}
+use Rattle.table.specs.Entered.{Shown, shown_all, Entered}
 
 -- ---------------------------------------------------------------- the parts of an entry's details
 
@@ -50,14 +50,8 @@ pub record FirstByte (starts : List ℕ) (x : Shown) (r : ℕ) : Type 0 where
   pub is : r ≡ first_byte_in starts x
   pub small : x.own.offset < 4294967296
 
--- an entry names one of the first n rows, and doesn't stand too deep
-pub record There (w : List ℕ) (n : ℕ) (x : Item) : Type 0 where
-  pub sound : Sound w n x
-  pub deep : x.depth < 130
-
--- all of them do
-pub record AllThere (w : List ℕ) (n : ℕ) (t : List Item) : Type 0 where
-  pub rows : All (Sound w n) t
+-- none of the entries stands too deep, and they are no more than a table has
+pub record Shallow (w : List ℕ) (t : List Item) : Type 0 where
   pub deep : Within (shown_all w t)
   pub few : length t ≤ 1200
 

@@ -1,20 +1,20 @@
-//! The details of a record's entries, written from its table of entries: 47 bytes for each, and nothing unless all of it
-//! has room. Leans on `listing` and `table`.
+//! The details of a record's entries, written from its table of entries: 47 bytes for each, and only where all of them
+//! have room. Leans on `listing`, `table` and `record`.
 #![tactic(auto)]
 
-ghost use Rattle.std.specs.Prelude.{◌≡◌, [], ◌≤◌, length, get_or, replicate};
+ghost use Rattle.std.specs.Prelude.{◌≡◌, [], ◌≤◌, ◌<◌, length, get_or, replicate};
 ghost use Rattle.definition.specs.Calls.{after_writing, fitting, left};
 ghost use Rattle.definition.specs.Details.{detail, detail_bytes};
-ghost use Rattle.listing.specs.Puts.{Countable, Put, Puts};
+ghost use Rattle.listing.specs.Puts.{Countable, Puts};
 ghost use Rattle.table.specs.Entered.{shown_of, shown_all};
 ghost use Rattle.details.specs.Detailed.{standing_bytes, clause_places, farthest, FirstByte, detail_in, flat_details};
-ghost use Rattle.details.specs.Detailed.{There, AllThere, details_of, RecordTabled};
+ghost use Rattle.details.specs.Detailed.{Shallow, details_of, RecordTabled};
 
 use definition::{Entry, Refusal};
 use kinds::Coded;
-use listing::Sink;
-use rows::Rows;
-use table::Item;
+use listing::{Sink, Written};
+use record::LaidRecord;
+use table::{RowItem, Table};
 
 // How many depths there are: the lists of a listing nest at most 130 deep, and each entry opens one more.
 const DEPTHS: usize = 131;
@@ -55,55 +55,78 @@ fn put_detail(sink: &mut Sink, e: Entry, depth: u8, below: usize, first: usize)
 // ---------------------------------------------------------------- the table
 
 // The first byte of an entry, by the starts of the open lists.
-fn first_of(rows: Rows, x: &Item, starts: &[usize; DEPTHS]) -> usize
-    requires { There rows.work.now rows.count x.now × (get_or starts.now x.now.depth 0 ≤ farthest) }
-    ensures { FirstByte starts.now (shown_of rows.entry.work.now x.now) result }
+fn first_of(x: RowItem, starts: &[usize; DEPTHS]) -> usize
+    requires { (x.item.now.depth < 130) × (get_or starts.now x.item.now.depth 0 ≤ farthest) }
+    ensures { FirstByte starts.now (shown_of x.entry.rows.work.now x.entry.item.now) result }
 {
-    starts[x.depth as usize] + x.start(rows)
+    starts[x.item.depth as usize] + x.start()
 }
 
 // Puts the details of an entry, whose first byte is given.
-fn put_own(rows: Rows, x: &Item, first: usize, sink: &mut Sink)
-    requires { There rows.work.now rows.count x.now × (sink.old.at ≤ 4294967295) }
-    ensures { Puts sink.old (detail_bytes (detail_in first (shown_of rows.entry.work.now x.now))) sink.new }
+fn put_own(x: RowItem, first: usize, sink: &mut Sink)
+    requires { (x.item.now.depth < 130) × (sink.old.at ≤ 4294967295) }
+    ensures { Puts sink.old (detail_bytes (detail_in first (shown_of x.entry.rows.work.now x.entry.item.now)))
+        sink.new }
 {
-    put_detail(sink, x.entry(rows), x.depth as u8, x.below as usize, first);
+    put_detail(
+        sink,
+        x.entry(),
+        x.item.depth as u8,
+        x.item.below as usize,
+        first,
+    );
 }
 
 // Puts the details of the entries.
-fn put_details(rows: Rows, entries: &[Item], sink: &mut Sink)
-    requires { AllThere rows.work.now rows.count entries.now × (sink.old.at ≡ 0) }
-    ensures { Puts sink.old (flat_details (replicate 131 0) (shown_all rows.entry.work.now entries.now)) sink.new }
+fn put_details(table: Table, sink: &mut Sink)
+    requires { Shallow table.rows.work.now table.items.now × (sink.old.at ≡ 0) }
+    ensures { Puts sink.old
+        (flat_details (replicate 131 0) (shown_all table.entry.rows.work.now table.entry.items.now)) sink.new }
 {
     let mut starts = [0usize; DEPTHS];
-    for x in entries {
-        let first = first_of(rows, x, &starts);
-        put_own(rows, x, first, sink);
-        starts[x.depth as usize + 1] = first;
+    for item in table.items {
+        let x = RowItem {
+            rows: table.rows,
+            item,
+        };
+        let first = first_of(x, &starts);
+        put_own(x, first, sink);
+        starts[item.depth as usize + 1] = first;
     }
 }
 
-/// Writes the details of the record in the rows from `from` up to `to`, whose table has these entries, if the output has
-/// room for them, and answers their length; 31, with their length, if not.
-pub fn write_details(
-    text: &[u8],
-    rows: Rows,
-    entries: &[Item],
-    from: usize,
-    to: usize,
-    out: &mut [u8],
-) -> Result<usize, Refusal>
-    requires { (to ≤ rows.count) × RecordTabled text.now rows.work.now entries.now from to }
+// The details of a record that was laid out.
+#[derive(Clone, Copy)]
+struct Details<'a> {
+    laid: LaidRecord<'a>,
+    ghost tabled: { RecordTabled laid.text.now laid.table.rows.work.now laid.table.items.now
+        laid.from laid.table.rows.count },
+}
+
+impl<'a> Written for Details<'a> {
+    ghost bytes = { λ d. details_of d.laid.text.now d.laid.table.rows.work.now d.laid.from d.laid.table.rows.count };
+
+    fn put(self, out: &mut [u8]) -> usize {
+        let mut sink = Sink::new(out);
+        put_details(self.laid.table, &mut sink);
+        sink.at
+    }
+
+    fn measure(self) -> usize {
+        47 * self.laid.table.items.len()
+    }
+}
+
+/// Writes the details of a record that was laid out, if the output has room for them, and answers their length; 31, with
+/// their length, if not.
+pub fn write_details(laid: LaidRecord, out: &mut [u8]) -> Result<usize, Refusal>
+    requires { RecordTabled laid.text.now laid.table.rows.work.now laid.table.items.now
+        laid.from laid.table.rows.count }
     ensures { left result out.new []
         ≡ after_writing
-        (fitting (length out.old) (details_of text.now rows.entry.work.now from to))
+        (fitting (length out.old)
+        (details_of laid.entry.text.now laid.entry.table.rows.work.now laid.entry.from laid.entry.table.rows.count))
         out.old [] }
 {
-    let needed = 47 * entries.len();
-    if out.len() < needed {
-        return Err(Refusal::OutputTooShort { needed });
-    }
-    let mut sink = Sink::new(out);
-    put_details(rows, entries, &mut sink);
-    Ok(needed)
+    listing::write(Details { laid }, out)
 }

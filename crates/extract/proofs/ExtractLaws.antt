@@ -1,4 +1,4 @@
--- Laws of the extract of a record: what is handed to the search, and each answer; then the call, by what was read.
+-- Laws of the extract of a record: what is handed to the search, and each answer.
 -- Assumes nothing.
 use Prim.Native.Nat.{ℕ, ◌+◌, ◌≤◌, ◌<◌}
 use mathlib.Core.Path.{◌≡◌, sym, ◌∙◌, ap, subst}
@@ -9,18 +9,14 @@ use lib.ListN.{length}
 use borrow.Author.Tests.{lt-ltb}
 use Rattle.definition.specs.declared.Refusal.{Refusal}
 use Rattle.definition.specs.Limits.{largest, most_items}
-use Rattle.definition.specs.Basic.{Answer, Err, Ok, ◌>>=◌, and_then}
-use Rattle.definition.specs.Calls.{record_fields, extract_of, extract_in, extract_answer}
+use Rattle.definition.specs.Basic.{Err, and_then}
+use Rattle.definition.specs.Calls.{extract_of, extract_in}
 use Rattle.definition.specs.Extract.{widths}
-use Rattle.definition.specs.Fold.{Entries, total, folded_all}
+use Rattle.definition.specs.Fold.{total, folded_all}
 use Rattle.definition.specs.Owner.{size, overlaid}
-use Rattle.definition.specs.Record.{layout, unfolded}
-use Rattle.definition.specs.Tree.{Forest}
-use Rattle.record.proofs.LaidLaws.{layout_is}
 use Rattle.places.specs.Places.{entry_in, rows_forest}
 use Rattle.places.proofs.EntriesLaws.{size-stretch}
 use Rattle.unions.specs.Shown.{list_in}
-use Rattle.record.specs.Laying.{laid_of, Listed}
 use Rattle.owner.proofs.OwnerLaws.{folded-plain, laid_out}
 use Rattle.subsets.specs.Sums.{Narrow}
 use Rattle.extract.specs.Gathered.{totals, Gatherable, Itemed}
@@ -85,37 +81,3 @@ module _ {text w : List ℕ} {from to long top : ℕ} (t : Itemed text w from to
       answers-chosen weights limit budget =
           ap (λ (xs : List ℕ). extract_of xs weights limit budget) (g ∙ gathered)
           ∙ sym (of-widths weights limit budget e)
-
--- ---------------------------------------------------------------- the call
-
-module _ (text weights : List ℕ) (limit budget : ℕ) where
-  -- a record that is not laid is refused
-  not-laid : (f : Forest) {r : Refusal} → unfolded text f ≡ Err r → extract_in text f weights limit budget ≡ Err r
-  unfolding extract_in and_then
-  not-laid f {r} h =
-      let e : layout text f ≡ Err r =
-      layout_is text f ∙ ap (λ (a : Answer Entries). a >>= λ es. Ok (folded_all text es)) h in
-      rw e
-
-  by-fields :
-      (a : Answer Forest) {r : Refusal} →
-      laid_of text a ≡ Err r →
-      (a >>= λ f. extract_in text f weights limit budget) ≡ Err r
-  unfolding and_then
-  by-fields (Err x) h = ap Err (cc)
-  by-fields (Ok f) h = not-laid f h
-
-  pub extract-refused :
-      (n : ℕ) {r : Refusal} →
-      laid_of text (record_fields text n) ≡ Err r →
-      extract_answer text n weights limit budget ≡ Err r
-  unfolding extract_answer
-  extract-refused n h = by-fields (record_fields text n) h
-
-  -- a record that is laid has the extract of its rows
-  pub extract-laid :
-      {w : List ℕ} (n : ℕ) {from to long : ℕ} →
-      Listed text (record_fields text n) w from to long →
-      extract_answer text n weights limit budget ≡ extract_in text (rows_forest w from to) weights limit budget
-  unfolding extract_answer and_then
-  extract-laid n l = ap (λ (a : Answer Forest). a >>= λ f. extract_in text f weights limit budget) l.fields

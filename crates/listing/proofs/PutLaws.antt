@@ -1,7 +1,7 @@
 -- Laws of bytes that were put: some after others, and what stands in the output then; the parts of an entry and of the
 -- listing.
 -- Assumes nothing.
-use Prim.Native.Nat.{ℕ, ◌+◌, ◌-◌, ◌≤◌, ◌<◌}
+use Prim.Native.Nat.{ℕ, ◌+◌, ◌-◌, ◌≤◌}
 use mathlib.Core.Path.{◌≡◌, refl, sym, ap, ◌∙◌}
 use mathlib.Core.List.{List, [], ◌++◌}
 use native.Mathlib.Nat.{zero-add}
@@ -9,10 +9,9 @@ use native.Mathlib.Omega.{arith}
 use lib.ListN.{length, drop, length-append}
 use lib.Seq.{sets, sets-eq, take_all}
 use borrow.Rule.Slice.PartMut.{put_mid}
-use borrow.Author.Tests.{lt-ltb, le-ltb}
+use borrow.Author.Tests.{le-ltb}
 use Rattle.definition.specs.declared.Entry.{Entry}
-use Rattle.definition.specs.declared.Refusal.{Refusal}
-use Rattle.definition.specs.Basic.{Ok, Err}
+use Rattle.definition.specs.Basic.{Ok}
 use Rattle.definition.specs.Calls.{fitting, left, after_writing}
 use Rattle.definition.specs.declared.FieldKind.{FieldKind}
 use Rattle.definition.specs.Fold.{Entries}
@@ -56,16 +55,11 @@ put_first {out} {bs} p h =
     let e : 0 + length bs ≡ length bs = zero-add (length bs) in
     p.same ∙ sets-eq bs out 0 (omega arith) ∙ rw e
 
-module _ (bs out : List ℕ) {n : ℕ} (e : n ≡ length bs) where
-  -- 31 where the bytes are more than the output has
-  pub no_room :
-      length out < n →
-      left (Err (Refusal.OutputTooShort n)) out [] ≡ after_writing (fitting (length out) bs) out []
-  no_room h = rw (lt-ltb (length out) (length bs) (omega arith), e)
-
-  -- else they stand in front of what was there
-  pub room : n ≤ length out → {m : ℕ} {o : List ℕ} → Put out 0 bs m o → left (Ok n) o [] ≡ after_writing (fitting (length out) bs) out []
-  room h p = rw (le-ltb (length out) (length bs) (omega arith), e, put_first p (omega arith))
+-- where they fit, that is what a call answers and leaves
+pub room :
+    (bs out : List ℕ) {n : ℕ} → n ≡ length bs → n ≤ length out → {m : ℕ} {o : List ℕ} → Put out 0 bs m o →
+    left (Ok n) o [] ≡ after_writing (fitting (length out) bs) out []
+room bs out e h p = rw (le-ltb (length out) (length bs) (omega arith), e, put_first p (omega arith))
 
 -- ---------------------------------------------------------------- the listing's parts
 

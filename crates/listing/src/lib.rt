@@ -1,34 +1,44 @@
-// The bytes of the layout listing, put into a lent output one after the other: numbers, places, the record's head, one
-// entry. A byte past the output's end is counted and not written, so that on an empty output the same methods only
-// count. Leans on `definition` and `kinds`.
+//! The bytes of the layout listing, put into a lent output one after the other: numbers, places, the record's head, one
+//! entry. A byte past the output's end is counted and not written, so that on an empty output the same methods only
+//! count; and what is written only where all of it has room. Leans on `definition` and `kinds`.
 #![tactic(auto)]
 
-ghost use Rattle.std.specs.Prelude.{◌≡◌, [], ◌∷◌, ◌++◌};
+ghost use Rattle.std.specs.Prelude.{ℕ, List, ◌≡◌, ◌≤◌, [], ◌∷◌, ◌++◌, length, IsTrue};
 ghost use Rattle.definition.specs.Basic.{le4, le8};
-ghost use Rattle.definition.specs.Fold.{union};
+ghost use Rattle.definition.specs.Calls.{after_writing, fitting, left};
 ghost use Rattle.definition.specs.Listing.{span_bytes, occurs_bytes, details};
+ghost use Rattle.listing.specs.Puts.{Put};
 
-use definition::{Entry, FieldKind, Span};
+use definition::{FieldKind, Refusal, Span};
 use kinds::Coded;
 
-/// What the listing says of an entry: its kind, name, offset and width, how often it stands, the names of DEPENDING ON
-/// and REDEFINES, and its picture.
+/// What the listing says of an entry.
 #[derive(Clone, Copy)]
 pub struct Line {
+    /// What it holds.
     pub kind: FieldKind,
+    /// Its name.
     pub name: Span,
+    /// Where it starts in its list, in bytes.
     pub offset: usize,
+    /// Its bytes.
     pub width: usize,
+    /// How often it stands, if OCCURS says so.
     pub occurs: Option<u64>,
+    /// The name of its DEPENDING ON.
     pub depending: Span,
+    /// The name of its REDEFINES.
     pub redefines: Span,
+    /// Its picture.
     pub picture: Span,
 }
 
 /// A lent output, and the place after the bytes that were put into it.
 #[derive(Drop)]
 pub struct Sink<'a> {
+    /// The output.
     pub out: &'a mut [u8],
+    /// The place after the bytes.
     pub at: usize,
 }
 
@@ -181,20 +191,43 @@ impl<'a> Sink<'a> {
     }
 }
 
-/// The group that stands for a base and its redefiners, as wide as the widest of them.
-pub fn union_of(e: Entry, width: usize) -> Entry
-    ensures { result ≡ union e width }
-{
-    Entry {
-        width,
-        kind: FieldKind::Group,
-        picture: Span::ABSENT,
-        occurs: None,
-        depending: Span::ABSENT,
-        redefines: Span::ABSENT,
-        over: Span::ABSENT,
-        slack: 0,
-        folded: true,
-        ..e
+// ---------------------------------------------------------------- what is written whole
+
+/// What is written into an output whole, or not at all.
+pub trait Written: Copy {
+    // Its bytes, the same each time.
+    ghost bytes: { Self → List ℕ };
+
+    /// Puts its bytes into the output, as far as it has places for them, and answers how many they are.
+    fn put(self, out: &mut [u8]) -> usize
+        ensures { Put out.old 0 (bytes self) result out.new };
+
+    /// How many they are: counted, if that isn't known.
+    fn measure(self) -> usize
+        ensures { result ≡ length (bytes self) }
+    {
+        self.put(&mut [])
     }
+
+    /// Whether an output of so many places is known to have room for them, so that they need not be counted.
+    fn has_ample(self, places: usize) -> bool
+        ensures { IsTrue result → length (bytes self) ≤ places }
+    {
+        false
+    }
+}
+
+/// Writes it if the output has room for it, and answers its length; 31, with its length, if not.
+pub fn write<W: Written>(what: W, out: &mut [u8]) -> Result<usize, Refusal>
+    ensures { left result out.new []
+        ≡ after_writing (fitting (length out.old) (W.bytes what)) out.old [] }
+{
+    if !what.has_ample(out.len()) {
+        let needed = what.measure();
+        let short = out.len() < needed;
+        if short {
+            return Err(Refusal::OutputTooShort { needed });
+        }
+    }
+    Ok(what.put(out))
 }

@@ -7,25 +7,26 @@ use mathlib.Core.Bool.{Bool, true, false, ◌||◌}
 use mathlib.Core.List.{List, [], ◌∷◌, ◌++◌}
 use mathlib.Core.Logic.{⊎_elim}
 use native.Mathlib.Numerals.{add-one}
-use native.Mathlib.Nat.{zero-add, add-zero, suc-add, div-add-mod', div-mul-le_self}
+use native.Mathlib.Nat.{zero-add, add-zero, suc-add, div-add-mod'}
 use native.Mathlib.Omega.{arith}
 use lib.ListN.{length}
 use Rattle.std.specs.List.{list_any, range_with_len}
+use Rattle.std.proofs.Math.Bool.{or_assoc}
 use Rattle.definition.specs.declared.Owner.{Owner}
 use Rattle.definition.specs.declared.Refusal.{Refusal}
 use Rattle.definition.specs.declared.Statement.{Statement}
 use Rattle.definition.specs.Basic.{given, Answer, Err, Ok, ◌>>=◌, and_then}
-use Rattle.definition.specs.Calls.{record_fields, owner_in, byte_owner}
-use Rattle.definition.specs.Fold.{Entries, entry, times, total, folded_list, folded_below, folded_all}
+use Rattle.definition.specs.Calls.{owner_in}
+use Rattle.definition.specs.Fold.{Entries, entry, total, folded_list, folded_below, folded_all}
 use Rattle.definition.specs.Owner.{size, overlaid}
-use Rattle.definition.specs.Record.{record_length, layout, unfolded}
+use Rattle.definition.specs.Record.{record_length, layout}
 use Rattle.definition.specs.Search.{entries#, Row, row_of, rows, walk}
 use Rattle.definition.specs.Tree.{Forest, leaf, item, above, not_above, forest}
 use Rattle.definition.proofs.Cover.{Plain, plain, Unfolded, fold-plain}
 use Rattle.definition.specs.Demand.{told}
 use Rattle.definition.proofs.Demand3.{refuses-40, refuses-41, one-owner, walked, computed}
 use Rattle.definition.proofs.Lists.{order, tested}
-use Rattle.definition.proofs.Pieces.{owned-someone, positive}
+use Rattle.definition.proofs.Pieces.{owned-someone}
 use Rattle.definition.proofs.Walk.{walk-slack, walk-piece, walk-in, walk-later, walk-skip}
 use Rattle.rows.specs.Columns.{ROW, OFFSET, WIDTH, BELOW}
 use Rattle.rows.specs.Table.{cell, statement_at, statements_from}
@@ -33,8 +34,8 @@ use Rattle.places.specs.Places.{entry_in, entries_in, rows_forest}
 use Rattle.record.proofs.LaidLaws.{layout_is}
 use Rattle.places.proofs.EntriesLaws.{size-stretch, Rows, rows-forest, linked-counted}
 use Rattle.unions.proofs.ShownLaws.{entries-size, marked-linked}
-use Rattle.record.specs.Laying.{laid_of, Listed}
-use Rattle.unions.specs.Shown.{list_in, SizedRow, Measured}
+use Rattle.record.specs.Laying.{Listed}
+use Rattle.unions.specs.Shown.{list_in, Measured}
 use Rattle.places.specs.Children.{BelowCounted}
 use Rattle.owner.specs.Walked.{overlays, row_at, table_rows, Walkable}
 
@@ -44,10 +45,6 @@ use Rattle.owner.specs.Walked.{overlays, row_at, table_rows, Walkable}
 unfoldable pub any_overlays : List Statement → Bool
 any_overlays [] = false
 any_overlays (s ∷ ss) = overlays s || any_overlays ss
-
-or_assoc : (a b c : Bool) → (a || b || c) ≡ (a || (b || c))
-or_assoc true b c = refl
-or_assoc false b c = refl
 
 -- a forest cut in two has what its parts have
 overlaid-sides : (n : ℕ) (f : Forest) → (overlaid (above n f) || overlaid (not_above n f)) ≡ overlaid f
@@ -176,11 +173,7 @@ walk-starts {w} {from} {to} {position} h =
     }
 
 module _ {w : List ℕ} {from to position k first q : ℕ} (a : At w from to position k first q) where
-  -- row k is there, and not too large
-  pub row_sized : k < to → SizedRow w k
-  row_sized h = record { fits = omega (arith, a.fits); small = a.held.sized.totals k a.low h }
-
-  -- and so are the rows below it
+  -- the rows below row k are there
   pub row-nested : k < to → k + 1 + cell w k BELOW ≤ to
   row-nested h =
       let many = size-stretch w from to in
@@ -249,15 +242,6 @@ module _ {w : List ℕ} {from to position k first q : ℕ} (a : At w from to pos
               ((q - offset) % width)) e);
           whole = omega (arith, a.whole, div-add-mod' (q - offset) width);
         }
-
-    -- what the code's sums and quotients need
-    pub width_positive : 0 < width
-    width_positive =
-        let n = times (entry_in w k).occurs in
-        positive width n (q - offset) (omega (arith, t.is, ap (λ (x : ℕ). x * n) d))
-
-    pub start_fits : first + (offset + (q - offset) / width * width) ≤ position
-    start_fits = omega (arith, a.whole, div-mul-le_self (q - offset) width)
 
   -- a byte behind the row
   pub go_on : all ≤ q - offset → At w from to position (k + (1 + below)) first q
@@ -375,34 +359,3 @@ module _ {text w : List ℕ} {from to length : ℕ} (l : Listed text (Ok (rows_f
             let free = sym p ∙ e in
             owned-someone (told 0 0 0 es) q (one-owner text F es laid_out free q below_length)
             (sym (walked text F es laid_out free q below_length) ∙ sym of-listing ∙ z)
-
--- ---------------------------------------------------------------- the call
-
--- a record that is not laid is refused
-not-laid : (text : List ℕ) (q : ℕ) (f : Forest) {r : Refusal} → unfolded text f ≡ Err r → owner_in text f q ≡ Err r
-unfolding owner_in and_then
-not-laid text q f {r} h =
-    let e : layout text f ≡ Err r = layout_is text f
-    ∙ ap (λ (a : Answer Entries). a >>= λ es. Ok (folded_all text es)) h in
-    rw e
-
-by-fields : (text : List ℕ) (q : ℕ) (a : Answer Forest) {r : Refusal} → laid_of text a ≡ Err r →
-    (a >>= λ f. owner_in text f q) ≡ Err r
-unfolding and_then
-by-fields text q (Err x) h = ap Err (cc)
-by-fields text q (Ok f) h = not-laid text q f h
-
-pub owner-refused : (text : List ℕ) (n q : ℕ) {r : Refusal} → laid_of text (record_fields text n) ≡ Err r →
-    byte_owner text n q ≡ Err r
-unfolding byte_owner
-owner-refused text n q h = by-fields text q (record_fields text n) h
-
-module _ {text w : List ℕ} (n : ℕ) {from to length : ℕ} (l : Listed text (record_fields text n) w from to length) where
-  -- a record that is laid has the owners of its rows
-  pub owner-laid : (q : ℕ) → byte_owner text n q ≡ owner_in text (rows_forest w from to) q
-  unfolding byte_owner and_then
-  owner-laid q = ap (λ (a : Answer Forest). a >>= λ f. owner_in text f q) l.fields
-
-  -- and its rows are the fields that were read
-  pub rows-listed : Listed text (Ok (rows_forest w from to)) w from to length
-  rows-listed = subst (λ (a : Answer Forest). Listed text a w from to length) l.fields l

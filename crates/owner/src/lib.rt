@@ -15,7 +15,7 @@ ghost use Rattle.unions.specs.Shown.{list_in};
 ghost use Rattle.owner.specs.Walked.{overlays, Walkable};
 
 use definition::{Owner, Refusal};
-use record::Record;
+use record::LaidRecord;
 use rows::Rows;
 
 // Whether row k has a REDEFINES or a DEPENDING ON.
@@ -52,7 +52,8 @@ pub fn walk_rows(rows: Rows, from: usize, position: usize) -> Owner
     let mut k = from;
     let mut first = 0;
     let mut q = position;
-    // Kept: a `while` over rows – no plainer: a step goes into a row or behind those below it, which no range says.
+    // Kept: a `while` over rows – no plainer: a byte in a row is sought in the first row below it, with `first` and `q`
+    // set anew, and another behind all of these; an iterator's step goes one way, and takes nothing from the body.
     while k < rows.count {
         let offset = rows.offset(k);
         let before = q < offset;
@@ -82,18 +83,19 @@ pub fn walk_rows(rows: Rows, from: usize, position: usize) -> Owner
 
 /// The byte owner of a position in a record that was laid: 40 for a REDEFINES or a DEPENDING ON, 41 for a position that
 /// is not below the record's length. Every byte below it has an owner.
-pub fn owner_of(text: &[u8], work: &[u32], laid: Record, position: usize) -> Result<Owner, Refusal>
-    requires { Listed text.now (Ok (rows_forest work.now laid.from laid.to)) work.now laid.from laid.to
-        laid.length }
-    ensures value { result ≡ owner_in text.now (rows_forest work.now laid.from laid.to) position }
+pub fn owner_of(laid: LaidRecord, position: usize) -> Result<Owner, Refusal>
+    requires { Listed laid.text.now (Ok (rows_forest laid.table.rows.work.now laid.from laid.table.rows.count))
+        laid.table.rows.work.now laid.from laid.table.rows.count laid.length }
+    ensures value { result
+        ≡ owner_in laid.entry.text.now
+        (rows_forest laid.entry.table.rows.work.now laid.entry.from laid.entry.table.rows.count) position }
     ensures owned { result ≢ Ok Owner.Unowned }
 {
-    let rows = Rows::new(work, laid.to);
-    if is_overlaid(rows, laid.from) {
+    if is_overlaid(laid.table.rows, laid.from) {
         return Err(Refusal::Overlaid);
     }
     if laid.length <= position {
         return Err(Refusal::OutsideRecord);
     }
-    Ok(walk_rows(rows, laid.from, position))
+    Ok(walk_rows(laid.table.rows, laid.from, position))
 }

@@ -1,7 +1,7 @@
 -- The answer of the reasons of an entry, by the rows and the table of a record; and what a laid record has for it.
 -- Assumes nothing.
 use Prim.Native.Nat.{ℕ, suc, ◌+◌, ◌-◌, ◌≤◌, ◌<◌}
-use mathlib.Core.Path.{◌≡◌, refl, sym, ap, subst, ◌∙◌}
+use mathlib.Core.Path.{◌≡◌, sym, ap, subst, ◌∙◌}
 use mathlib.Core.List.{List, []}
 use Rattle.std.specs.Prelude.{Option, None, Some}
 use native.Mathlib.Omega.{arith}
@@ -11,12 +11,11 @@ use Rattle.definition.specs.declared.Statement.{Statement}
 use Rattle.definition.specs.declared.Refusal.{Refusal}
 use Rattle.definition.specs.Basic.{Err, Answer, Ok, ◌>>=◌, and_then, or_refuse, given}
 use Rattle.definition.specs.Tree.{Forest, leaf, item}
-use Rattle.definition.specs.Fold.{Entries, folded_all}
 use Rattle.definition.specs.Record.{unfolded}
 use Rattle.definition.specs.Owner.{size}
-use Rattle.definition.specs.Calls.{record_fields, fitting, entry_reasons}
+use Rattle.definition.specs.Calls.{record_fields, fitting}
 use Rattle.definition.specs.Demand.{Among}
-use Rattle.definition.specs.Reasons.{Chain, chain, chains, chain_at, flat, numbered, reasons_in, reasons_bytes}
+use Rattle.definition.specs.Reasons.{Chain, chain, chains, chain_at, reasons_bytes}
 use Rattle.definition.proofs.Begins.{Rises, fields-begin}
 use Rattle.definition.proofs.Why.{went, chains-begin, chain-of}
 use Rattle.rows.specs.Columns.{AT}
@@ -124,23 +123,3 @@ module _ {text w : List ℕ} {from to long : ℕ} (work : ℕ)
       chain-of text (chains text [] [] tree) 0 c rise
       (subst (λ (cs : List Chain). Among c cs) (sym chains-are)
       (chain-among text w from f from k a (omega (arith, many))))
-
-  -- so the call answers with the reasons by the rows
-  pub reasons-laid : (number room : ℕ) → entry_reasons text work number room ≡ reasons_of text w from to number room
-  unfolding entry_reasons reasons_in and_then
-  reasons-laid number room =
-      ap (λ (a : Answer Forest). a >>= λ f. reasons_in text f number >>= λ rs. fitting room
-      (reasons_bytes rs)) fields-are
-      ∙ ap (λ (a : Answer Entries).
-      (a >>= λ es. or_refuse Refusal.NoSuchEntry (numbered number (flat (folded_all text es))) >>= λ e. Ok
-      (chain_at e.at (chains text [] [] es))) >>= λ rs. fitting room (reasons_bytes rs)) laid-is
-      ∙ by-entry (numbered number (flat (folded_all text (list_in w from to))))
-    where
-      by-entry :
-          (o : Option Entry) →
-          ((or_refuse Refusal.NoSuchEntry o >>= λ e. Ok (chain_at e.at (chains text [] [] (list_in w from to))))
-          >>= λ rs. fitting room (reasons_bytes rs))
-          ≡ (or_refuse Refusal.NoSuchEntry o >>= λ e. fitting room
-          (reasons_bytes (chain_at e.at (chains text [] [] (list_in w from to)))))
-      by-entry None = refl
-      by-entry (Some e) = refl

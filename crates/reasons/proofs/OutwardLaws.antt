@@ -222,15 +222,9 @@ module _ {w : List ℕ} {from to k : ℕ} {first now : Sink} {outer : Option ℕ
       pub going-in : RowIn w from to group
       going-in = record { low = l; high = omega (arith, g.high, number); settled = g.settled }
 
-      pub going-room : now.at + 26 ≤ 65536
-      going-room = omega (arith, g.room, number)
-
       module _ {next : Option ℕ} (n : next ≡ row_of (cell w group PARENT)) where
         outer-is : row_code next ≡ cell w group PARENT
         outer-is = ap row_code n ∙ code-back (cell w group PARENT)
-
-        pub going-falls : row_code next < row_code outer
-        going-falls = omega (arith, (g.settled.rows group l going-in.high).parent, outer-is, number)
 
         pub going_on : {then : Sink} → Puts now (reasons_bytes (group_at w group)) then →
             Going w from to k first then next

@@ -3,16 +3,15 @@
 #![tactic(auto)]
 
 ghost use Rattle.std.specs.Prelude.{◌≡◌, [], ◌+◌, ◌≤◌, ◌<◌, length};
-ghost use Rattle.definition.specs.Calls.{fitting, after_writing, left};
+ghost use Rattle.definition.specs.Calls.{after_writing, left};
 ghost use Rattle.definition.specs.Reasons.{reason_kind, reason_name, adds as adds_of, reason_bytes, reasons_bytes};
-ghost use Rattle.listing.specs.Puts.{Put, Puts};
+ghost use Rattle.listing.specs.Puts.{Puts};
 ghost use Rattle.reasons.specs.Chained.{placing_at, own_at, group_at, chain_of, Settled, reasons_of, ChainedTable};
 
 use definition::{Reason, Refusal, Span};
-use listing::Sink;
-use record::Record;
+use listing::{Sink, Written};
+use record::LaidRecord;
 use rows::Rows;
-use table::Item;
 
 // ---------------------------------------------------------------- bytes
 
@@ -58,20 +57,19 @@ impl<'a> Laid<'a> {
         requires { (self.from ≤ k) × (k < self.rows.count) }
         ensures { result ≡ placing_at self.entry.rows.work.now k }
     {
-        let rows = self.rows;
-        let adds = rows.offset(k) - rows.slack(k);
-        if rows.redefines(k).is_given() {
-            match rows.target(k) {
+        let adds = self.rows.offset(k) - self.rows.slack(k);
+        if self.rows.redefines(k).is_given() {
+            match self.rows.target(k) {
                 Some(target) => Reason::Over {
-                    name: rows.name(target),
+                    name: self.rows.name(target),
                     adds,
                 },
                 None => Reason::First,
             }
         } else {
-            match rows.plain(k) {
+            match self.rows.plain(k) {
                 Some(sibling) => Reason::After {
-                    name: rows.name(sibling),
+                    name: self.rows.name(sibling),
                     adds,
                 },
                 None => Reason::First,
@@ -114,6 +112,8 @@ impl<'a> Laid<'a> {
     {
         self.put_own(k, sink);
         let mut outer = self.rows.parent(k);
+        // Kept: `while let` – no plainer: `successors` would ask of its closure that the row it is given is one of the
+        // record's, and the loop would still have to show that each row names an earlier one.
         while let Some(group) = outer {
             if group < self.from {
                 break;
@@ -122,59 +122,49 @@ impl<'a> Laid<'a> {
             outer = self.rows.parent(group);
         }
     }
+}
 
-    // Puts that chain into an output from its first place on, as far as it has places, and answers its length.
-    fn put_into(self, k: usize, out: &mut [u8]) -> usize
-        requires { (self.from ≤ k) × (k < self.rows.count) }
-        ensures { Put out.old 0 (reasons_bytes (chain_of self.entry.rows.work.now self.entry.from k)) result
-            out.new }
-    {
+// The chain of a row of such a record.
+#[derive(Clone, Copy)]
+struct Chain<'a> {
+    laid: Laid<'a>,
+    row: usize,
+    ghost inside: { (laid.from ≤ row) × (row < laid.rows.count) },
+}
+
+impl<'a> Written for Chain<'a> {
+    ghost bytes = { λ c. reasons_bytes (chain_of c.laid.rows.work.now c.laid.from c.row) };
+
+    fn put(self, out: &mut [u8]) -> usize {
         let mut sink = Sink::new(out);
-        self.put_chain(k, &mut sink);
+        self.laid.put_chain(self.row, &mut sink);
         sink.at
-    }
-
-    // Writes that chain if the output has room for it; 31, with its length, if not. It is measured first.
-    fn write_chain(self, k: usize, out: &mut [u8]) -> Result<usize, Refusal>
-        requires { (self.from ≤ k) × (k < self.rows.count) }
-        ensures { left result out.new []
-            ≡ after_writing
-            (fitting (length out.old)
-            (reasons_bytes (chain_of self.entry.rows.work.now self.entry.from k)))
-            out.old [] }
-    {
-        let needed = self.put_into(k, &mut []);
-        if out.len() < needed {
-            return Err(Refusal::OutputTooShort { needed });
-        }
-        self.put_into(k, out);
-        Ok(needed)
     }
 }
 
 // ---------------------------------------------------------------- an entry
 
-/// Writes the reasons of entry `number` of a record that was laid, which has these entries: 53 past them; 31, with the
-/// length of the reasons, if the output has no room for them.
-pub fn write_reasons(
-    text: &[u8],
-    work: &[u32],
-    entries: &[Item],
-    laid: Record,
-    number: usize,
-    out: &mut [u8],
-) -> Result<usize, Refusal>
-    requires { ChainedTable text.now work.now entries.now laid.from laid.to }
+/// Writes the reasons of entry `number` of a record that was laid out: 53 past its entries; 31, with the length of the
+/// reasons, if the output has no room for them.
+pub fn write_reasons(laid: LaidRecord, number: usize, out: &mut [u8]) -> Result<usize, Refusal>
+    requires { ChainedTable laid.text.now laid.table.rows.work.now laid.table.items.now
+        laid.from laid.table.rows.count }
     ensures { left result out.new []
-        ≡ after_writing (reasons_of text.now work.now laid.from laid.to number (length out.old))
+        ≡ after_writing
+        (reasons_of laid.entry.text.now laid.entry.table.rows.work.now laid.entry.from laid.entry.table.rows.count
+        number (length out.old))
         out.old [] }
 {
-    let Some(item) = entries.get(number) else {
+    let Some(item) = laid.table.items.get(number) else {
         return Err(Refusal::NoSuchEntry);
     };
-    let laid = Laid {
-        rows: Rows::new(work, laid.to),
+    let rows = Laid {
+        rows: laid.table.rows,
         from: laid.from,
     };
-    laid.write_chain(item.row as usize, out)
+    let chain = Chain {
+        laid: rows,
+        row: item.row as usize,
+    };
+    listing::write(chain, out)
 }

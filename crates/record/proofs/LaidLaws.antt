@@ -9,6 +9,7 @@ use native.Mathlib.Omega.{arith}
 use lib.Dec.{lit<, ltb}
 use lib.ListN.{length}
 use borrow.Author.Tests.{ltb-false}
+use Rattle.std.proofs.lemmas.Bool.{or_parts}
 use Rattle.definition.specs.declared.Refusal.{Refusal}
 use Rattle.definition.specs.declared.Entry.{Entry}
 use Rattle.definition.specs.Limits.{least_work, most_statements, largest}
@@ -18,7 +19,7 @@ use Rattle.definition.specs.Tree.{Forest, leaf, item, forest, fields, parents_in
 use Rattle.definition.specs.Fold.{Entries, end, entry, times, total, entry_end, Place, place_of, fold_check, folded_all}
 use Rattle.definition.specs.Layout.{entry_of, too_large, advance, Laid, lay}
 use Rattle.definition.specs.Owner.{size}
-use Rattle.definition.proofs.Answers.{or-false, through, given-same}
+use Rattle.definition.proofs.Answers.{through, given-same}
 use Rattle.definition.proofs.Lists.{order}
 use Rattle.definition.specs.Calls.{kept_statements}
 use Rattle.definition.specs.Usages.{record_of, inherit_along}
@@ -27,7 +28,6 @@ use Rattle.rows.specs.Columns.{ROW, PARENT, BELOW, OFFSET, NEXT}
 use Rattle.rows.specs.Table.{cell, statement_at, statements_from, parents_from}
 use Rattle.rows.proofs.TableLaws.{statements-same}
 use Rattle.tree.proofs.ReadingLaws.{Stored}
-use Rattle.definition.specs.Calls.{record_fields}
 use Rattle.definition.specs.Record.{record_length, ends_fit, unfolded, layout}
 use Rattle.places.specs.Places.{put_places, entry_in, entries_in, rows_forest}
 use Rattle.redefines.specs.Targets.{seen_from}
@@ -43,7 +43,7 @@ use Rattle.unions.specs.Shown.{list_in}
 use Rattle.unions.specs.Marks.{UnionsLinked}
 use Rattle.unions.proofs.KeptLaws.{forest-kept, list-kept, Ready, marked-tree}
 use Rattle.record.proofs.ParentLaws.{under-parents, under_same}
-use Rattle.record.specs.Laying.{Under, FieldsFrom, fields_of, Read, laid_of, Listed}
+use Rattle.record.specs.Laying.{Under, FieldsFrom, fields_of, laid_of, Listed}
 
 -- ---------------------------------------------------------------- no entry is too large
 
@@ -54,8 +54,8 @@ SizedAll (entry e members later) = (total e ≤ largest) × SizedAll members × 
 
 total-within : (e : Entry) → too_large e ≡ false → total e ≤ largest
 total-within e h =
-    let a = or-false (ltb largest (times e.occurs) || ltb largest e.offset || ltb largest (total e)) (ltb largest (entry_end e)) h in
-    let b = or-false (ltb largest (times e.occurs) || ltb largest e.offset) (ltb largest (total e)) a.0 in
+    let a = or_parts (ltb largest (times e.occurs) || ltb largest e.offset || ltb largest (total e)) (ltb largest (entry_end e)) h in
+    let b = or_parts (ltb largest (times e.occurs) || ltb largest e.offset) (ltb largest (total e)) a.0 in
     ltb-false largest (total e) b.1
 
 bare-sized :
@@ -302,16 +302,3 @@ module _
         printed = p.printed;
         counted = counted-kept w₁ w₂ (λ k c l. sym (p.same k c (omega arith))) 0 n b.counted;
       }
-
--- the fields are the rows from `from` on
-pub fields-room : {text w : List ℕ} {n from : ℕ} → Read text w n → FieldsFrom w n from → Room text w from n
-fields-room h f =
-    let r = h.room in
-    record { fits = r.fits; small = r.small; printed = r.printed; counted = f.counted r.counted }
-
-pub fields_laid :
-    {text w : List ℕ} {n from : ℕ} →
-    Read text w n →
-    FieldsFrom w n from →
-    record_fields text (length w) ≡ Ok (rows_forest w from n)
-fields_laid h f = h.are ∙ ap Ok f.is

@@ -62,13 +62,14 @@ pub record Listed (text : List ℕ) (read : Answer Forest) (w : List ℕ) (from 
   pub long : bytes ≡ record_length (folded_all text (list_in w from to))
 
 -- a record of the fields that were read, with its rows and its entries
-pub record LaidOut (text : List ℕ) (read : Answer Forest) (w : List ℕ) (t : List Item) (a : Record) : Type 0 where
-  pub fits : ROW * a.to ≤ length w
-  pub listed : Listed text read w a.from a.to a.length
-  pub entered : Entered text w a.from a.to t
-  pub tops : a.top ≡ members# (folded_all text (list_in w a.from a.to))
+pub record LaidOut
+    (text : List ℕ) (read : Answer Forest) (w : List ℕ) (t : List Item) (from to long top : ℕ) : Type 0 where
+  pub fits : ROW * to ≤ length w
+  pub listed : Listed text read w from to long
+  pub entered : Entered text w from to t
+  pub tops : top ≡ members# (folded_all text (list_in w from to))
 
 -- the same, as a call leaves the table: its first items are the entries
 pub record LaidIn (text : List ℕ) (read : Answer Forest) (w : List ℕ) (t : List Item) (a : Record) : Type 0 where
   pub inside : a.count ≤ length t
-  pub laid : LaidOut text read w (take a.count t) a
+  pub laid : LaidOut text read w (take a.count t) a.from a.to a.length a.top

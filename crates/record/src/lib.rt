@@ -1,7 +1,7 @@
 //! A record laid out in work memory: a copybook read, laid and checked, its redefiners linked and its table made.
 #![tactic(auto)]
 
-ghost use Rattle.std.specs.Prelude.{MatchResult, ◌≡◌, ◌*◌, ◌≤◌, length};
+ghost use Rattle.std.specs.Prelude.{MatchResult, ◌≡◌, ◌*◌, ◌≤◌, length, take};
 ghost use Rattle.definition.specs.Limits.{most_statements};
 ghost use Rattle.definition.specs.Basic.{Ok, Err};
 ghost use Rattle.definition.specs.Calls.{record_fields};
@@ -9,11 +9,12 @@ ghost use Rattle.places.specs.Places.{rows_forest};
 ghost use Rattle.places.specs.Children.{BelowCounted};
 ghost use Rattle.layout.specs.Outcomes.{Room};
 ghost use Rattle.entries.specs.Building.{Roomy};
-ghost use Rattle.record.specs.Laying.{Under, FieldsFrom, LaidIn, laid_of, Read};
+ghost use Rattle.record.specs.Laying.{Under, FieldsFrom, LaidOut, LaidIn, laid_of, Read};
 
 use definition::{DEEPEST, Refusal};
 use rows::Rows;
-use table::Item;
+use table::{Item, Table};
+use unions::MarkedRows;
 
 // ---------------------------------------------------------------- the rows
 
@@ -51,6 +52,41 @@ pub struct Record {
     pub top: usize,
 }
 
+/// A record that was laid out: the text that describes it, its entries with the rows that they name, the first row of
+/// its fields, its length, and how many entries stand at the top.
+#[derive(Clone, Copy)]
+pub struct LaidRecord<'a> {
+    pub text: &'a [u8],
+    pub table: Table<'a>,
+    pub from: usize,
+    pub length: usize,
+    pub top: usize,
+}
+
+impl Record {
+    /// The same with its text, work memory that holds its rows, and a table that begins with its entries.
+    pub fn with<'a>(self, text: &'a [u8], work: &'a [u32], entries: &'a [Item]) -> LaidRecord<'a>
+        requires { LaidIn text.now (record_fields text.now (length work.now)) work.now entries.now self }
+        ensures laid { LaidOut result.text.now (record_fields result.text.now (length result.table.rows.work.now))
+            result.table.rows.work.now result.table.items.now
+            result.from result.table.rows.count result.length result.top }
+        ensures same { (result.text.now ≡ text.now) × (result.table.rows.work.now ≡ work.now)
+            × (result.table.items.now ≡ take self.count entries.now) × (result.from ≡ self.from)
+            × (result.table.rows.count ≡ self.to) × (result.length ≡ self.length) × (result.top ≡ self.top) }
+    {
+        LaidRecord {
+            text,
+            table: Table {
+                rows: Rows::new(work, self.to),
+                items: &entries[..self.count],
+            },
+            from: self.from,
+            length: self.length,
+            top: self.top,
+        }
+    }
+}
+
 /// The first row of the fields of a record: an only root with children is dropped.
 pub fn first_field(rows: Rows) -> usize
     requires { BelowCounted rows.work.now 0 (rows_forest rows.work.now 0 rows.count) }
@@ -60,14 +96,11 @@ pub fn first_field(rows: Rows) -> usize
     if n < 2 {
         return 0;
     }
-    if places::next_of(rows, 0, n) < n {
-        0
-    } else {
-        1
-    }
+    if places::next_of(rows, 0) < n { 0 } else { 1 }
 }
 
-// Kept: work memory and its rows – no plainer: a struct over a `&mut` asks three clauses a method.
+// Kept: text, from and to beside work memory – no plainer: the rows' places are written into it, and a struct over a
+// `&mut` asks three clauses a method.
 /// Lays out the fields in the rows from `from` up to `to`: their places, then 30, then 29 for an end in the folded
 /// list.
 pub fn lay_fields(
@@ -83,22 +116,26 @@ pub fn lay_fields(
         (λ r. laid_of text.now (Ok (rows_forest work.old from to)) ≡ Err r) }
 {
     layout::lay_list(text, work, from, to, DEEPEST)?;
-    unions::fold_check(text, Rows::new(work, to), from, to)?;
+    unions::fold_check(text, Rows::new(work, to), from)?;
     unions::link_unions(work, from, to);
     let rows = Rows::new(work, to);
-    let made = entries::make_entries(text, rows, from, to, entries);
-    let listed = &entries[..made.next];
-    table::ends_fit(rows, listed)?;
+    let fields = MarkedRows::new(text, rows, from);
+    let made = entries::make_entries(fields, entries);
+    let table = Table {
+        rows,
+        items: &entries[..made.next],
+    };
+    table.ends_fit()?;
     Ok(Record {
         from,
         to,
-        length: table::record_length(rows, listed),
+        length: table.length(),
         count: made.next,
         top: made.count,
     })
 }
 
-// Kept: work memory and how many rows – no plainer: a struct over a `&mut` asks three clauses a method.
+// Kept: text and n beside work memory – no plainer: it is written, so that `Rows`, which only reads, can't hold it.
 /// Lays out the record that was read into n rows, or says why not: 20 to 30 and 52. The table has room for the entries
 /// of so many rows.
 pub fn lay_record(

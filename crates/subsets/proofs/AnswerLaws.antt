@@ -1,4 +1,4 @@
--- Laws of the answer: what the search found makes the extract, and what each check says of the items.
+-- Laws of the answer: what the search found makes the extract, and the checks leave items whose sums are not too large.
 -- Assumes nothing.
 use Prim.Native.Nat.{ℕ, suc, ◌+◌, ◌*◌, ◌-◌, ◌^◌, ◌≤◌, ◌<◌, min}
 use mathlib.Core.Path.{◌≡◌, refl, sym, ◌∙◌, ap}
@@ -7,18 +7,16 @@ use mathlib.Core.List.{List, [], ◌∷◌}
 use native.Mathlib.Omega.{arith}
 use lib.Dec.{leb}
 use lib.ListN.{length, get_or}
-use borrow.Author.Tests.{le-ltb, leb-true, eq-eqb, ne_eqb}
-use Rattle.definition.specs.declared.Extract.{Extract}
-use Rattle.definition.specs.declared.Refusal.{Refusal}
-use Rattle.definition.specs.Limits.{largest, most_items, least_weight, most_weight}
+use borrow.Author.Tests.{leb-true}
+use Rattle.std.proofs.lemmas.Bool.Decides.{nat_tests}
+use Rattle.definition.specs.Limits.{largest, least_weight, most_weight}
 use Rattle.std.specs.Prelude.{if◌then◌else◌}
-use Rattle.definition.specs.Basic.{sum, Err, Ok, and_then}
+use Rattle.definition.specs.Basic.{sum}
 use Rattle.definition.specs.Extract.{Item, items, misweighed, weight_of, chosen, subsets#, up_from, examined}
 use Rattle.definition.specs.Extract.{heaviest, alone, off_by, extract}
-use Rattle.definition.specs.Calls.{extract_of}
-use Rattle.definition.proofs.ExtractLaws.{length-up_from, subsets-pos, off-all, off_less, alone-heavier}
+use Rattle.definition.proofs.ExtractLaws.{length-up_from, off-all, off_less, alone-heavier}
 use Rattle.subsets.specs.declared.Found.{Found}
-use Rattle.subsets.specs.Sums.{Narrow, Weighable, Budgeted, HasSubsets, FoundIs}
+use Rattle.subsets.specs.Sums.{Narrow, Weighable, FoundIs}
 
 -- ---------------------------------------------------------------- the answer
 
@@ -43,15 +41,6 @@ module _
 
     as_many : count ≡ min budget (subsets# (items bs ws))
     as_many = n ∙ ap (λ (k : ℕ). min budget k) every
-
-    -- there is one to look at, and no more than there are
-    pub some-to-see : 0 < budget → HasSubsets bs ws count
-    some-to-see h =
-        record {
-          items-are = w;
-          some = omega (arith, as_many, subsets-pos (items bs ws));
-          few = omega (arith, a, n);
-        }
 
     module _ {limit : ℕ} {f : Found} (found : FoundIs limit count bs ws f) where
       subset-is : f.subset ≡ top limit budget (items bs ws)
@@ -100,6 +89,8 @@ module _
             let less = off_less limit (items bs ws) _ _ part enough in
             answer-is (s - f.weight) (omega (arith, weight_is, less))
 
+pub ruleset extract_steps = (not-below, some-seen, all_seen)
+
 -- ---------------------------------------------------------------- the checks
 
 -- widths that are not too large do not sum up to too much,
@@ -125,52 +116,16 @@ light-sum (w ∷ ws) h = let ih = light-sum ws in go (leb least_weight w) (leb w
     go true false e ih h = absurd (let z : ◌≡◌ {A = ℕ} 0 1 = cc in omega arith)
     go false high e ih h = absurd (let z : ◌≡◌ {A = ℕ} 0 1 = cc in omega arith)
 
-module _ {bs : List ℕ} (ws : List ℕ) (n : Narrow bs) (p : length ws ≡ length bs) where
-  pub budgeted : {b : Bool} {budget : ℕ} → b ≡ misweighed ws → b ≡ false → (budget ≡ 0 → ⊥) → Budgeted bs ws budget
-  budgeted q e z =
-      record {
-        items-are =
-            record {
-              paired = p;
-              few = n.few;
-              narrow = omega (arith, n.few, narrow-sum bs n.each);
-              light = omega (arith, n.few, p, light-sum ws (sym q ∙ e));
-            };
-        some = omega arith;
-      }
+-- so the sums are not too large
+pub items-weighable :
+    {bs ws : List ℕ} {b : Bool} →
+    Narrow bs → length ws ≡ length bs → b ≡ misweighed ws → b ≡ false → Weighable bs ws
+items-weighable {bs} {ws} n p q e =
+    record {
+      paired = p;
+      few = n.few;
+      narrow = omega (arith, n.few, narrow-sum bs n.each);
+      light = omega (arith, n.few, p, light-sum ws (sym q ∙ e));
+    }
 
-module _ {bs : List ℕ} (ws : List ℕ) (limit budget : ℕ) (n : Narrow bs) where
-  pub answers-58 :
-      (length ws ≡ length bs → ⊥) →
-      Err Refusal.WrongItems
-      ≡ extract_of bs ws limit budget
-  unfolding extract_of and_then
-  answers-58 h = rw (le-ltb most_items (length bs) n.few, ne_eqb (length ws) (length bs) h)
-
-  module _ (p : length ws ≡ length bs) {b : Bool} (q : b ≡ misweighed ws) where
-    pub answers-59 :
-        b ≡ true →
-        Err Refusal.BadWeight
-        ≡ extract_of bs ws limit budget
-    unfolding extract_of and_then
-    answers-59 e = rw (le-ltb most_items (length bs) n.few, eq-eqb (length ws) (length bs) p, ← q, e)
-
-    module _ (e : b ≡ false) where
-      pub answers-60 :
-          budget ≡ 0 →
-          Err Refusal.NoBudget
-          ≡ extract_of bs ws limit budget
-      unfolding extract_of and_then
-      answers-60 z =
-          rw (le-ltb most_items (length bs) n.few, eq-eqb (length ws) (length bs) p, ← q, e, eq-eqb budget 0 z)
-
-      pub answers-chosen :
-          (budget ≡ 0 → ⊥) →
-          {a : Extract} →
-          a ≡ extract limit budget (items bs ws) →
-          Ok a ≡ extract_of bs ws limit budget
-      unfolding extract_of and_then
-      answers-chosen z f =
-          rw
-          (le-ltb most_items (length bs) n.few, eq-eqb (length ws) (length bs) p, ← q, e, ne_eqb budget 0 z)
-          (ap Ok f)
+pub ruleset choose_steps = (nat_tests, items-weighable)

@@ -5,19 +5,18 @@ use Prim.Native.Nat.{ℕ, suc, ◌+◌, ◌*◌, ◌-◌, ◌/◌, ◌%◌, ◌^
 use mathlib.Core.Path.{◌≡◌, refl, sym, ◌∙◌, ap, subst}
 use mathlib.Core.Bool.{Bool, true, false, ◌&&◌}
 use mathlib.Core.List.{List, [], ◌∷◌, ◌++◌}
+use mathlib.Core.Logic.{◌⊎◌, ⊎_elim}
 use native.Mathlib.Nat.{sub-zero}
 use native.Mathlib.Omega.{arith}
 use lib.Dec.{eqb, leb}
-use lib.ListN.{length, get_or, drop, drop_of_length-le}
+use lib.ListN.{length}
 use borrow.Author.Tests.{lt-ltb, le-ltb, le-leb, lt-leb}
 use Rattle.definition.specs.Limits.{most_weight}
 use Rattle.std.specs.Prelude.{if◌then◌else◌}
 use Rattle.definition.specs.Basic.{sum}
 use Rattle.definition.specs.Extract.{Item, items, bytes_of, weight_of}
 use Rattle.definition.specs.Extract.{chosen, up_from, heavier, heaviest, alone}
-use Rattle.definition.proofs.Lists.{drop-next}
 use Rattle.subsets.specs.declared.Sums.{Sums}
-use Rattle.subsets.proofs.SumLaws.{Turn}
 use Rattle.subsets.specs.Sums.{sum_in, SumsAre, Weighable, HasSubsets, FoundIs}
 
 -- ---------------------------------------------------------------- the items of a subset
@@ -112,7 +111,6 @@ module _ (limit : ℕ) (is : List Item) where
 
 -- so many subsets were looked at: the sums of the last one, and the best so far, with its weight
 pub record Looking (bs ws : List ℕ) (limit count best weighs width weight looked : ℕ) : Type 0 where
-  pub items-are : Weighable bs ws
   pub low : 0 < looked
   pub high : looked ≤ count
   pub few : count ≤ 2 ^ length bs
@@ -123,10 +121,9 @@ pub record Looking (bs ws : List ℕ) (limit count best weighs width weight look
       ≡ heaviest limit (items bs ws) best (up_from looked (count - looked))
 
 pub looking-starts :
-    {bs ws : List ℕ} {limit count : ℕ} → HasSubsets bs ws count → Looking bs ws limit count 0 0 0 0 1
+    {bs ws : List ℕ} {limit count : ℕ} → HasSubsets bs count → Looking bs ws limit count 0 0 0 0 1
 looking-starts {bs} {ws} {limit} {count} c =
     record {
-      items-are = c.items-are;
       low = omega arith;
       high = omega arith;
       few = c.few;
@@ -136,22 +133,22 @@ looking-starts {bs} {ws} {limit} {count} c =
     }
 
 module _
-    {bs ws : List ℕ} {limit count best weighs width weight looked : ℕ}
-    (l : Looking bs ws limit count best weighs width weight looked)
+    {bs ws : List ℕ} (are : Weighable bs ws)
+    {limit count best weighs width weight looked : ℕ} (l : Looking bs ws limit count best weighs width weight looked)
   where
     module _ (more : looked < count) {s : Sums} (is-next : SumsAre bs ws (suc (looked - 1)) s) where
       its-width : s.width ≡ bytes_of (chosen looked (items bs ws))
       its-width =
           let e : suc (looked - 1) ≡ looked = omega (arith, l.low) in
-          is-next.width ∙ ap (λ (n : ℕ). sum_in n bs) e ∙ sym (bytes-sum looked bs ws l.items-are.paired)
+          is-next.width ∙ ap (λ (n : ℕ). sum_in n bs) e ∙ sym (bytes-sum looked bs ws are.paired)
 
       its-weight : s.weight ≡ weight_of (chosen looked (items bs ws))
       its-weight =
           let e : suc (looked - 1) ≡ looked = omega (arith, l.low) in
-          is-next.weight ∙ ap (λ (n : ℕ). sum_in n ws) e ∙ sym (weight-sum looked bs ws l.items-are.paired)
+          is-next.weight ∙ ap (λ (n : ℕ). sum_in n ws) e ∙ sym (weight-sum looked bs ws are.paired)
 
       best-weighs : weighs ≡ weight_of (chosen best (items bs ws))
-      best-weighs = l.best-is ∙ sym (weight-sum best bs ws l.items-are.paired)
+      best-weighs = l.best-is ∙ sym (weight-sum best bs ws are.paired)
 
       -- the search goes on with the better one
       goes_on :
@@ -162,7 +159,6 @@ module _
       goes_on best' weighs' w e =
           let n : suc (looked - 1) ≡ looked + 1 - 1 = omega (arith, l.low) in
           record {
-            items-are = l.items-are;
             low = omega arith;
             high = omega arith;
             few = l.few;
@@ -189,7 +185,7 @@ module _
           s.width ≤ limit → weighs < s.weight →
           Looking bs ws limit count looked s.weight s.width s.weight (looked + 1)
       takes-heavy f h =
-          goes_on looked s.weight (its-weight ∙ weight-sum looked bs ws l.items-are.paired)
+          goes_on looked s.weight (its-weight ∙ weight-sum looked bs ws are.paired)
           (take-heavy limit (items bs ws) best looked
           (omega (arith, its-width))
           (omega (arith, its-weight, best-weighs)))
@@ -201,13 +197,13 @@ module _
         record {
           subset =
               sym (l.same ∙ ap (λ (l : List ℕ). heaviest limit (items bs ws) best l) (numbers-end looked count h));
-          weight = l.best-is ∙ sym (weight-sum best bs ws l.items-are.paired);
+          weight = l.best-is ∙ sym (weight-sum best bs ws are.paired);
         }
 
 -- ---------------------------------------------------------------- the items that fit alone
 
 -- they weigh no more than all
-alone-bound : (limit : ℕ) (bs ws : List ℕ) → weight_of (alone limit (items bs ws)) ≤ sum ws
+pub alone-bound : (limit : ℕ) (bs ws : List ℕ) → weight_of (alone limit (items bs ws)) ≤ sum ws
 unfolding alone sum
 alone-bound limit [] ws = omega arith
 alone-bound limit (b ∷ bs) [] = omega arith
@@ -220,51 +216,34 @@ alone-bound limit (b ∷ bs) (w ∷ ws) = go (leb b limit) (alone-bound limit bs
     go true h = omega arith
     go false h = omega arith
 
--- the first i items are summed up
-pub record Summing (bs ws : List ℕ) (limit s i : ℕ) : Type 0 where
-  pub items-are : Weighable bs ws
-  pub within : i ≤ length bs
-  pub same :
-      weight_of (alone limit (items bs ws)) ≡ s + weight_of (alone limit (items (drop i bs) (drop i ws)))
+-- what is summed up, and the items that are left
+pub record Summing (bs ws : List ℕ) (limit s : ℕ) (xs ys : List ℕ) : Type 0 where
+  pub same : weight_of (alone limit (items bs ws)) ≡ s + weight_of (alone limit (items xs ys))
 
-pub summing-starts : {bs ws : List ℕ} {limit : ℕ} → Weighable bs ws → Summing bs ws limit 0 0
-summing-starts w = record { items-are = w; within = omega arith; same = omega arith }
+module _ {bs ws : List ℕ} {limit s : ℕ} {xs ys : List ℕ} (l : Summing bs ws limit s xs ys) where
+  pub sum_fits : Weighable bs ws → s ≤ 16 * most_weight
+  sum_fits are = omega (arith, l.same, alone-bound limit bs ws, are.light)
 
-module _ {bs ws : List ℕ} {limit s i : ℕ} (l : Summing bs ws limit s i) where
-  pub sum_fits : s ≤ 16 * most_weight
-  sum_fits = omega (arith, l.same, alone-bound limit bs ws, l.items-are.light)
-
-  pub summing-ends : length bs ≤ i → s ≡ weight_of (alone limit (items bs ws))
+  pub summing-ends : (xs ≡ []) ⊎ (ys ≡ []) → s ≡ weight_of (alone limit (items bs ws))
   unfolding alone
-  summing-ends h = sym (l.same ∙ rw (drop_of_length-le bs h) (omega arith))
+  summing-ends e = go xs ys e l.same
+    where
+      go :
+          (xs ys : List ℕ) → (xs ≡ []) ⊎ (ys ≡ []) →
+          weight_of (alone limit (items bs ws)) ≡ s + weight_of (alone limit (items xs ys)) →
+          s ≡ weight_of (alone limit (items bs ws))
+      go [] ys e h = omega (arith, h)
+      go (x ∷ xs) [] e h = omega (arith, h)
+      go (x ∷ xs) (y ∷ ys) e h = absurd (⊎_elim (λ z. omega (arith, ap length z)) (λ z. omega (arith, ap length z)) e)
 
-  module _ {b w j : ℕ} (t : Turn bs ws i b w) (next : j ≡ i + 1) where
-    -- an item that does not fit alone is left out
-    pub sums-not : limit < b → Summing bs ws limit s j
+  -- the next item
+  module _ {b w : ℕ} {xs' ys' : List ℕ} (x : xs ≡ b ∷ xs') (y : ys ≡ w ∷ ys') where
+    -- one that does not fit alone is left out
+    pub sums-not : limit < b → Summing bs ws limit s xs' ys'
     unfolding alone
-    sums-not h =
-        let wide : limit < get_or bs i 0 = omega (arith, t.width) in
-        let here = t.width-there in
-        rw next
-        (record {
-          items-are = l.items-are;
-          within = omega arith;
-          same =
-              l.same
-              ∙ rw (drop-next bs i t.width-there, drop-next ws i t.weight-there, lt-leb (get_or bs i 0) limit wide) refl;
-        })
+    sums-not h = record { same = l.same ∙ rw (x, y, lt-leb b limit h) refl }
 
     -- and one that does is counted
-    pub sums-too : b ≤ limit → Summing bs ws limit (s + w) j
+    pub sums-too : b ≤ limit → Summing bs ws limit (s + w) xs' ys'
     unfolding alone
-    sums-too h =
-        let narrow : get_or bs i 0 ≤ limit = omega (arith, t.width) in
-        let here = t.width-there in
-        rw (next, t.weight)
-        (record {
-          items-are = l.items-are;
-          within = omega arith;
-          same =
-              l.same
-              ∙ rw (drop-next bs i t.width-there, drop-next ws i t.weight-there, le-leb (get_or bs i 0) limit narrow) (omega arith);
-        })
+    sums-too h = record { same = l.same ∙ rw (x, y, le-leb b limit h) (omega arith) }

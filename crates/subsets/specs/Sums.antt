@@ -32,18 +32,11 @@ pub record Weighable (bs ws : List ℕ) : Type 0 where
 
 -- the sums of a subset that is not the last one
 pub record HasNext (bs ws : List ℕ) (number : ℕ) (s : Sums) : Type 0 where
-  pub items-are : Weighable bs ws
   pub sums : SumsAre bs ws number s
   pub more : suc number < 2 ^ length bs
 
--- such items, and a budget that is not 0
-pub record Budgeted (bs ws : List ℕ) (budget : ℕ) : Type 0 where
-  pub items-are : Weighable bs ws
-  pub some : 0 < budget
-
 -- so many subsets are there to be looked at, one at least
-pub record HasSubsets (bs ws : List ℕ) (count : ℕ) : Type 0 where
-  pub items-are : Weighable bs ws
+pub record HasSubsets (bs : List ℕ) (count : ℕ) : Type 0 where
   pub some : 0 < count
   pub few : count ≤ 2 ^ length bs
 

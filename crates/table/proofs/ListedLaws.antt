@@ -8,7 +8,6 @@ use mathlib.Core.List.{List}
 use native.Mathlib.Omega.{arith}
 use lib.ListN.{length}
 use Rattle.definition.specs.Limits.{most_statements}
-use Rattle.std.specs.Prelude.{All}
 use Rattle.std.specs.List.{list_any}
 use Rattle.definition.specs.Basic.{Answer, given}
 use Rattle.definition.specs.Listing.{members#, entries_bytes, listing}
@@ -21,18 +20,13 @@ use Rattle.listing.proofs.PutLaws.{◌and◌, listing-parts}
 use Rattle.unions.specs.Shown.{list_in}
 use Rattle.unions.proofs.ShownLaws.{entries-size}
 use Rattle.table.specs.declared.Item.{Item}
-use Rattle.table.specs.Entered.{flat_bytes, flat_varies, flat_length, flat_fits, own_of, shown_all, Sound, Entered}
+use Rattle.table.specs.Entered.{flat_bytes, flat_varies, flat_length, flat_fits, own_of, shown_all, Entered}
 use Rattle.table.specs.Entered.{listed}
 use Rattle.table.proofs.SizeLaws.{listing-few}
 use Rattle.table.proofs.LoopLaws.{varies_any}
 use Rattle.table.proofs.FlatLaws.{flat-bytes, flat-varies, flat-long, flat-fits}
 
 module _ {text w : List ℕ} {from to : ℕ} {t : List Item} (h : Entered text w from to t) where
-  -- where there are more rows than the record's, the items name rows all the same
-  pub table-sound : {n : ℕ} → to ≤ n → All (Sound w n) t
-  table-sound m =
-      λ k x q. record { there = omega (arith, (h.rows k x q).there); small = (h.rows k x q).small }
-
   pub table-bytes : flat_bytes (shown_all w t) ≡ entries_bytes (listed text w from to)
   table-bytes = ap flat_bytes h.is ∙ flat-bytes (listed text w from to) 0
 

@@ -3,6 +3,7 @@
 -- Assumes nothing.
 use Rattle.std.specs.Prelude.{ℕ, ◌+◌, ◌*◌, max, ◌≤◌, ◌<◌, ◌≡◌, Bool, false, ◌||◌, List, [], ◌∷◌, ◌++◌, eqb, ltb, length, if◌then◌else◌, All}
 use Rattle.definition.specs.declared.Entry.{Entry}
+use Rattle.definition.specs.declared.Span.{Span}
 use Rattle.definition.specs.declared.Refusal.{Refusal}
 use Rattle.definition.specs.Limits.{largest}
 use Rattle.definition.specs.Basic.{absent, given, Answer, Ok, ◌>>=◌, refuse_if}
@@ -57,6 +58,10 @@ flat_fits (x ∷ xs) = do
   flat_fits xs
 
 -- ---------------------------------------------------------------- what an item says, by the rows
+
+-- what an entry says beside its line in the listing: its REDEFINES as written, its slack, and whether folding made it
+abbrev pub written_of : Entry → Span × ℕ × Bool
+written_of e = (e.over, e.slack, e.folded)
 
 -- an entry at another offset, as a member of a union
 abbrev pub moved : ℕ → Entry → Entry

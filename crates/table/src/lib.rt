@@ -1,16 +1,17 @@
-//! The table of entries: the folded listing, each entry as an item that names its row, in the order of the listing. What
-//! is asked of the folded listing is asked of the table. `entries` makes it. Leans on `rows`, `places`, `unions` and
+//! The table of entries: the folded listing, each entry as an item that names its row, in the order of the listing.
+//! What is asked of the folded listing is asked of the table. `entries` makes its items. Leans on `rows`, `unions` and
 //! `listing`.
 #![tactic(auto)]
 
 ghost use Rattle.std.specs.Prelude.{◌≡◌, ◌+◌, ◌≤◌, ◌<◌, length, All};
 ghost use Rattle.std.specs.List.{list_any};
-ghost use Rattle.definition.specs.Fold.{entry_end};
+ghost use Rattle.definition.specs.Fold.{entry_end, total};
 ghost use Rattle.definition.specs.Basic.{given};
 ghost use Rattle.definition.specs.Listing.{entry_bytes};
 ghost use Rattle.listing.specs.Puts.{Puts, line_of};
+ghost use Rattle.definition.specs.Limits.{largest};
 ghost use Rattle.table.specs.Entered.{flat_bytes, flat_varies, top_end, flat_length, flat_fits, own_of, shown_of};
-ghost use Rattle.table.specs.Entered.{shown_all, Sound};
+ghost use Rattle.table.specs.Entered.{shown_all, written_of, Sound};
 
 use definition::{Entry, FieldKind, LARGEST, Refusal, Span};
 use listing::{Line, Sink};
@@ -19,67 +20,78 @@ use rows::Rows;
 /// What an item stands for: its row's own entry, the same as a member of a union, or the union.
 #[derive(Clone, Copy)]
 pub enum Mark {
+    /// Its row's own entry.
     Own,
+    /// The same as a member of a union, at its offset there.
     Member,
+    /// The union of the row and its redefiners.
     Union,
 }
 
-/// An entry in the table: the row that it names and its mark; offset and width in bytes; how many members it has and
-/// how many entries stand below it; how deep it stands.
+/// An entry in the table.
 #[derive(Clone, Copy)]
 pub struct Item {
+    /// The row that it names.
     pub row: u32,
+    /// What it stands for.
     pub mark: Mark,
+    /// Where it starts in its list, in bytes.
     pub offset: u32,
+    /// Its bytes.
     pub width: u32,
+    /// How many members it has.
     pub members: u32,
+    /// How many entries stand below it.
     pub below: u32,
+    /// How deep it stands.
     pub depth: u32,
 }
 
-impl Item {
-    /// The entry that it stands for.
-    pub fn entry(&self, rows: Rows) -> Entry
-        requires { self.now.row < rows.count }
-        ensures { result ≡ own_of rows.entry.work.now self.now }
+// ---------------------------------------------------------------- an item
+
+/// An item, and the rows among which it names one.
+#[derive(Clone, Copy)]
+pub struct RowItem<'a> {
+    /// The rows.
+    pub rows: Rows<'a>,
+    /// The item.
+    pub item: &'a Item,
+    ghost there: { item.now.row < rows.count },
+}
+
+impl<'a> RowItem<'a> {
+    // The row that it names.
+    fn row(self) -> usize
+        ensures { (result ≡ self.entry.item.now.row) × (result < self.entry.rows.count) }
     {
-        let entry = places::entry_at(rows, self.row as usize);
-        match self.mark {
-            Mark::Own => entry,
-            Mark::Member => Entry {
-                offset: self.offset as usize,
-                redefines: Span::ABSENT,
-                ..entry
-            },
-            Mark::Union => listing::union_of(entry, self.width as usize),
-        }
+        self.item.row as usize
     }
 
-    // What the listing says of it: of the entry that it stands for, the columns that the listing names alone.
-    fn line(&self, rows: Rows) -> Line
-        requires { self.now.row < rows.count }
-        ensures { result ≡ line_of (own_of rows.entry.work.now self.now) }
+    // What the listing says of it.
+    fn line(self) -> Line
+        ensures { result ≡ line_of (own_of self.entry.rows.work.now self.entry.item.now) }
     {
+        let row = self.row();
         let line = Line {
-            kind: rows.kind(self.row as usize),
-            name: rows.name(self.row as usize),
-            offset: rows.offset(self.row as usize),
-            width: rows.width(self.row as usize),
-            occurs: rows.occurs(self.row as usize),
-            depending: rows.depending(self.row as usize),
-            redefines: rows.redefines(self.row as usize),
-            picture: rows.picture(self.row as usize),
+            kind: self.rows.kind(row),
+            name: self.rows.name(row),
+            offset: self.rows.offset(row),
+            width: self.rows.width(row),
+            occurs: self.rows.occurs(row),
+            depending: self.rows.depending(row),
+            redefines: self.rows.redefines(row),
+            picture: self.rows.picture(row),
         };
-        match self.mark {
+        match self.item.mark {
             Mark::Own => line,
             Mark::Member => Line {
-                offset: self.offset as usize,
+                offset: self.item.offset as usize,
                 redefines: Span::ABSENT,
                 ..line
             },
             Mark::Union => Line {
                 kind: FieldKind::Group,
-                width: self.width as usize,
+                width: self.item.width as usize,
                 occurs: None,
                 depending: Span::ABSENT,
                 redefines: Span::ABSENT,
@@ -89,103 +101,170 @@ impl Item {
         }
     }
 
-    // Puts its bytes.
-    fn put(&self, rows: Rows, sink: &mut Sink)
-        requires { Sound rows.work.now rows.count self.now × (sink.old.at ≤ 4294967295) }
-        ensures { Puts sink.old (entry_bytes (own_of rows.entry.work.now self.now) self.now.members) sink.new }
+    // Its REDEFINES as written, its slack, and whether folding made it.
+    fn written(self) -> (Span, usize, bool)
+        ensures { result ≡ written_of (own_of self.entry.rows.work.now self.entry.item.now) }
     {
-        sink.line(self.line(rows), self.members as usize);
+        let row = self.row();
+        match self.item.mark {
+            Mark::Union => (Span::ABSENT, 0, true),
+            _ => (self.rows.redefines(row), self.rows.slack(row), false),
+        }
+    }
+
+    /// The entry that it stands for: what the listing says of it, and what it doesn't say.
+    pub fn entry(self) -> Entry
+        ensures { result ≡ own_of self.entry.rows.work.now self.entry.item.now }
+    {
+        let line = self.line();
+        let (over, slack, folded) = self.written();
+        Entry {
+            at: self.rows.at(self.row()),
+            level: self.rows.level(self.row()),
+            name: line.name,
+            offset: line.offset,
+            width: line.width,
+            kind: line.kind,
+            picture: line.picture,
+            occurs: line.occurs,
+            depending: line.depending,
+            redefines: line.redefines,
+            over,
+            slack,
+            folded,
+        }
+    }
+
+    // Puts its bytes.
+    fn put(self, sink: &mut Sink)
+        requires { sink.old.at ≤ 4294967295 }
+        ensures { Puts sink.old
+            (entry_bytes (own_of self.entry.rows.work.now self.entry.item.now) self.entry.item.now.members)
+            sink.new }
+    {
+        sink.line(self.line(), self.item.members as usize);
     }
 
     // Whether it has a DEPENDING ON: that of its row, and none for a union.
-    fn depends(&self, rows: Rows) -> bool
-        requires { self.now.row < rows.count }
-        ensures { result ≡ given (own_of rows.entry.work.now self.now).depending }
+    fn depends(self) -> bool
+        ensures { result ≡ given (own_of self.entry.rows.work.now self.entry.item.now).depending }
     {
-        match self.mark {
+        match self.item.mark {
             Mark::Union => false,
-            _ => rows.depending(self.row as usize).is_given(),
+            _ => self.rows.depending(self.row()).is_given(),
         }
     }
 
     /// Where it starts in its list, in bytes.
-    pub fn start(&self, rows: Rows) -> usize
-        requires { Sound rows.work.now rows.count self.now }
-        ensures { (result ≡ (own_of rows.entry.work.now self.now).offset) × (result < 4294967296) }
+    pub fn start(self) -> usize
+        ensures { (result ≡ (own_of self.entry.rows.work.now self.entry.item.now).offset)
+            × (result < 4294967296) }
     {
-        match self.mark {
-            Mark::Member => self.offset as usize,
-            _ => rows.offset(self.row as usize),
+        match self.item.mark {
+            Mark::Member => self.item.offset as usize,
+            _ => self.rows.offset(self.row()),
         }
     }
 
     // Where it ends: its offset and what it reserves.
-    fn end(&self, rows: Rows) -> usize
-        requires { Sound rows.work.now rows.count self.now }
-        ensures { result ≡ entry_end (own_of rows.entry.work.now self.now) }
+    fn end(self) -> usize
+        requires { total (own_of self.rows.work.now self.item.now) ≤ largest }
+        ensures { result ≡ entry_end (own_of self.entry.rows.work.now self.entry.item.now) }
     {
-        let start = self.start(rows);
-        if self.depends(rows) {
+        let start = self.start();
+        if self.depends() {
             return start;
         }
         start
-            + match self.mark {
-                Mark::Union => self.width as usize,
-                _ => unions::row_total(rows, self.row as usize),
+            + match self.item.mark {
+                Mark::Union => self.item.width as usize,
+                _ => unions::row_total(self.rows, self.row()),
             }
     }
+}
 
-    // Where it ends, if it stands at the top; else 0.
-    fn top_end(&self, rows: Rows) -> usize
-        requires { Sound rows.work.now rows.count self.now }
-        ensures { result ≡ top_end (shown_of rows.entry.work.now self.now) }
+// ---------------------------------------------------------------- the table
+
+/// The entries of a listing in its order, and the rows that they name.
+#[derive(Clone, Copy)]
+pub struct Table<'a> {
+    /// The rows.
+    pub rows: Rows<'a>,
+    /// The entries, in the listing's order.
+    pub items: &'a [Item],
+    ghost sound: { All (Sound rows.work.now rows.count) items.now },
+}
+
+impl<'a> Table<'a> {
+    /// Puts the bytes of the entries.
+    #[tactic(auto, using(crate::proofs::LoopLaws::putting))]
+    pub fn put(self, sink: &mut Sink)
+        requires { sink.old.at + length (flat_bytes (shown_all self.rows.work.now self.items.now)) < 4294967296 }
+        ensures { Puts sink.old (flat_bytes (shown_all self.entry.rows.work.now self.entry.items.now)) sink.new }
     {
-        if self.depth == 0 { self.end(rows) } else { 0 }
-    }
-}
-
-/// Puts the bytes of the entries.
-#[tactic(auto, using(crate::proofs::LoopLaws::putting))]
-pub fn put_entries(rows: Rows, entries: &[Item], sink: &mut Sink)
-    requires { All (Sound rows.work.now rows.count) entries.now
-        × (sink.old.at + length (flat_bytes (shown_all rows.work.now entries.now)) < 4294967296) }
-    ensures { Puts sink.old (flat_bytes (shown_all rows.entry.work.now entries.now)) sink.new }
-{
-    for x in entries {
-        x.put(rows, sink);
-    }
-}
-
-/// Whether one of the entries has a DEPENDING ON.
-pub fn varies(rows: Rows, entries: &[Item]) -> bool
-    requires { All (Sound rows.work.now rows.count) entries.now }
-    ensures { result ≡ list_any (λ x. given (own_of rows.entry.work.now x).depending) entries.now }
-{
-    entries.iter().any(|x| x.depends(rows))
-}
-
-/// How long the record is, in bytes: the largest end at the top.
-pub fn record_length(rows: Rows, entries: &[Item]) -> usize
-    requires { All (Sound rows.work.now rows.count) entries.now }
-    ensures { result ≡ flat_length (shown_all rows.entry.work.now entries.now) }
-{
-    entries
-        .iter()
-        .fold(0, |long: usize, x| long.max(x.top_end(rows)))
-}
-
-/// 29 for the first entry at the top that ends above 2,147,483,647.
-#[tactic(auto, using(crate::proofs::LoopLaws::fitting))]
-pub fn ends_fit(rows: Rows, entries: &[Item]) -> Result<(), Refusal>
-    requires { All (Sound rows.work.now rows.count) entries.now }
-    ensures { result ≡ flat_fits (shown_all rows.entry.work.now entries.now) }
-{
-    for x in entries {
-        if LARGEST < x.top_end(rows) {
-            return Err(Refusal::TooLarge {
-                position: rows.at(x.row as usize),
-            });
+        for item in self.items {
+            let x = RowItem {
+                rows: self.rows,
+                item,
+            };
+            x.put(sink);
         }
     }
-    Ok(())
+
+    /// Whether one of the entries has a DEPENDING ON.
+    pub fn varies(self) -> bool
+        ensures { result ≡ list_any (λ x. given (own_of self.entry.rows.work.now x).depending)
+            self.entry.items.now }
+    {
+        self.items.iter().any(
+            |item|
+                requires { item.now.row < self.rows.count }
+            {
+                let x = RowItem {
+                    rows: self.rows,
+                    item,
+                };
+                x.depends()
+            },
+        )
+    }
+
+    // Where an entry ends, if it stands at the top; else 0.
+    fn top_end(self, item: &Item) -> usize
+        requires { Sound self.rows.work.now self.rows.count item.now }
+        ensures { result ≡ top_end (shown_of self.entry.rows.work.now item.now) }
+    {
+        if item.depth != 0 {
+            return 0;
+        }
+        let x = RowItem {
+            rows: self.rows,
+            item,
+        };
+        x.end()
+    }
+
+    /// How long the record is, in bytes: the largest end at the top.
+    pub fn length(self) -> usize
+        ensures { result ≡ flat_length (shown_all self.entry.rows.work.now self.entry.items.now) }
+    {
+        self.items
+            .iter()
+            .fold(0, |long: usize, item| long.max(self.top_end(item)))
+    }
+
+    /// 29 for the first entry at the top that ends above 2,147,483,647.
+    #[tactic(auto, using(crate::proofs::LoopLaws::fitting))]
+    pub fn ends_fit(self) -> Result<(), Refusal>
+        ensures { result ≡ flat_fits (shown_all self.entry.rows.work.now self.entry.items.now) }
+    {
+        for item in self.items {
+            if LARGEST < self.top_end(item) {
+                return Err(Refusal::TooLarge {
+                    position: self.rows.at(item.row as usize),
+                });
+            }
+        }
+        Ok(())
+    }
 }

@@ -1,99 +1,50 @@
-//! The listing of a record, written from its table of entries. A byte past the output's end is counted and not written,
-//! so that the same walk measures; nothing is written unless all of it has room. Leans on `listing` and `table`.
+//! The listing of a record, written from its table of entries, and only where all of it has room. Leans on `listing`,
+//! `table` and `record`.
 #![tactic(auto)]
 
-ghost use Rattle.std.specs.Prelude.{◌≡◌, [], ◌≤◌, length};
+ghost use Rattle.std.specs.Prelude.{◌≡◌, [], length};
 ghost use Rattle.definition.specs.Calls.{after_writing, fitting, left};
-ghost use Rattle.listing.specs.Puts.{Put};
 ghost use Rattle.writer.specs.Listed.{listing_of, Tabled};
 
 use definition::Refusal;
-use listing::Sink;
-use rows::Rows;
-use table::Item;
+use listing::{Sink, Written};
+use record::LaidRecord;
 
-// A record in the rows from `from` up to `to`: its table of entries, its length in bytes, and how many entries stand at
-// the top.
+// The listing of a record that was laid out.
 #[derive(Clone, Copy)]
-struct Table<'a> {
-    text: &'a [u8],
-    rows: Rows<'a>,
-    entries: &'a [Item],
-    from: usize,
-    to: usize,
-    length: usize,
-    top: usize,
-    ghost there: { to ≤ rows.count },
-    ghost tabled: { Tabled text.now rows.work.now entries.now from to length top },
+struct Listing<'a> {
+    laid: LaidRecord<'a>,
+    ghost tabled: { Tabled laid.text.now laid.table.rows.work.now laid.table.items.now
+        laid.from laid.table.rows.count laid.length laid.top },
 }
 
-impl<'a> Table<'a> {
-    // Puts its listing into the output, where it fits, and answers its length.
-    fn put(self, out: &mut [u8]) -> usize
-        ensures { Put out.old 0 (listing_of self.entry.text.now self.entry.rows.work.now self.entry.from self.entry.to)
-            result out.new }
-    {
+impl<'a> Written for Listing<'a> {
+    ghost bytes = { λ l. listing_of l.laid.text.now l.laid.table.rows.work.now l.laid.from l.laid.table.rows.count };
+
+    fn put(self, out: &mut [u8]) -> usize {
         let mut sink = Sink::new(out);
-        let variable = table::varies(self.rows, self.entries);
-        sink.head(self.length, variable, self.top);
-        table::put_entries(self.rows, self.entries, &mut sink);
+        let variable = self.laid.table.varies();
+        sink.head(self.laid.length, variable, self.laid.top);
+        self.laid.table.put(&mut sink);
         sink.at
     }
 
-    // How long its listing is.
-    fn measure(self) -> usize
-        ensures { result
-            ≡ length (listing_of self.entry.text.now self.entry.rows.work.now self.entry.from self.entry.to) }
-    {
-        self.put(&mut [])
-    }
-
-    // Writes its listing if the output has room for it; 31, with its length, if not. An output with 98 bytes for each
-    // row has room for every listing; for another it is measured first.
-    fn write(self, out: &mut [u8]) -> Result<usize, Refusal>
-        ensures { left result out.new []
-            ≡ after_writing
-            (fitting (length out.old)
-            (listing_of self.entry.text.now self.entry.rows.work.now self.entry.from self.entry.to))
-            out.old [] }
-    {
-        if out.len() < 98 * self.to + 10 {
-            let needed = self.measure();
-            if out.len() < needed {
-                return Err(Refusal::OutputTooShort { needed });
-            }
-        }
-        Ok(self.put(out))
+    // One with 98 bytes for each row, and the head's ten, has room for every listing.
+    fn has_ample(self, places: usize) -> bool {
+        98 * self.laid.table.rows.count + 10 <= places
     }
 }
 
-/// Writes the listing of the record in the rows from `from` up to `to` if the output has room for it, and answers its
-/// length; 31, with its length, if not. `long` is the record's length, and `top` how many of its entries stand at the
-/// top.
-pub fn write_listing(
-    text: &[u8],
-    rows: Rows,
-    entries: &[Item],
-    from: usize,
-    to: usize,
-    long: usize,
-    top: usize,
-    out: &mut [u8],
-) -> Result<usize, Refusal>
-    requires { (to ≤ rows.count) × Tabled text.now rows.work.now entries.now from to long top }
+/// Writes the listing of a record that was laid out, if the output has room for it, and answers its length; 31, with its
+/// length, if not.
+pub fn write_listing(laid: LaidRecord, out: &mut [u8]) -> Result<usize, Refusal>
+    requires { Tabled laid.text.now laid.table.rows.work.now laid.table.items.now
+        laid.from laid.table.rows.count laid.length laid.top }
     ensures { left result out.new []
         ≡ after_writing
-        (fitting (length out.old) (listing_of text.now rows.entry.work.now from to))
+        (fitting (length out.old)
+        (listing_of laid.entry.text.now laid.entry.table.rows.work.now laid.entry.from laid.entry.table.rows.count))
         out.old [] }
 {
-    let table = Table {
-        text,
-        rows,
-        entries,
-        from,
-        to,
-        length: long,
-        top,
-    };
-    table.write(out)
+    listing::write(Listing { laid }, out)
 }

@@ -2,5 +2,5 @@
 use Rattle.details.proofs.LoopLaws.{Detailing}
 use Rattle.details.proofs.put_details.Given as goal
 
-abbrev pub invariant-loop-x : goal.invariant-loop-x
-invariant-loop-x l = Detailing l.rows.work.now l.entries l.initial.sink l.starts l.x-index l.sink
+abbrev pub invariant-loop-item : goal.invariant-loop-item
+invariant-loop-item l = Detailing l.table.rows.work.now l.table.items.now l.initial.sink l.starts l.item-index l.sink

@@ -6,7 +6,7 @@ use Rattle.details.proofs.put_own.Goals as goal
 
 pub put_detail-requires : goal.put_detail-requires
 put_detail-requires c =
-    let x = c.args.x.now in
+    let x = c.args.x.item.now in
     omega (arith, detail-length (detail c.entry.result x.depth x.below c.args.first), c.requires.1)
 
 pub returns : goal.returns

@@ -6,4 +6,4 @@ pub row_total-requires : goal.row_total-requires
 row_total-requires c = gather-row c.loop-width.invariant (omega arith) _ (omega arith) (omega arith)
 
 pub next_of-k-requires : goal.next_of-k-requires
-next_of-k-requires c = (omega arith, gather-numbered c.loop-width.invariant (omega arith))
+next_of-k-requires c = gather-numbered c.loop-width.invariant (omega arith)

@@ -8,26 +8,20 @@ use Rattle.owner.proofs.owner_of.Goals as goal
 
 pub returns-then-is_overlaid-clause-value : goal.returns-then-is_overlaid-clause-value
 returns-then-is_overlaid-clause-value c =
-    let p = rw (c.new-rows.ensures.0, c.new-rows.ensures.1) at c.is_overlaid.ensures in
-    answers-40 c.requires p _ c.if-is_overlaid.true
+    answers-40 c.requires c.is_overlaid.ensures _ c.if-is_overlaid.true
 
 pub returns-then-laid-position-clause-value : goal.returns-then-laid-position-clause-value
 returns-then-laid-position-clause-value c =
-    let p = rw (c.new-rows.ensures.0, c.new-rows.ensures.1) at c.is_overlaid.ensures in
-    answers-41 c.requires p _ c.if-is_overlaid.false (omega arith)
+    answers-41 c.requires c.is_overlaid.ensures _ c.if-is_overlaid.false (omega arith)
 
 pub walk_rows-requires : goal.walk_rows-requires
-walk_rows-requires c = rw (c.new-rows.ensures.0, c.new-rows.ensures.1) (listed-walkable c.requires)
+walk_rows-requires c = listed-walkable c.requires
 
 pub returns-clause-value : goal.returns-clause-value
 returns-clause-value c =
-    let p = rw (c.new-rows.ensures.0, c.new-rows.ensures.1) at c.is_overlaid.ensures in
-    let f = rw (c.new-rows.ensures.0, c.new-rows.ensures.1) at c.walk_rows.ensures in
-    found c.requires p _ c.if-is_overlaid.false (omega arith) f
+    found c.requires c.is_overlaid.ensures _ c.if-is_overlaid.false (omega arith) c.walk_rows.ensures
 
 pub returns-clause-owned : goal.returns-clause-owned
 returns-clause-owned c = λ e.
-    let p = rw (c.new-rows.ensures.0, c.new-rows.ensures.1) at c.is_overlaid.ensures in
-    let f = rw (c.new-rows.ensures.0, c.new-rows.ensures.1) at c.walk_rows.ensures in
     let unowned : c.walk_rows.result ≡ Owner.Unowned = cc in
-    someone c.requires p _ c.if-is_overlaid.false (omega arith) f unowned
+    someone c.requires c.is_overlaid.ensures _ c.if-is_overlaid.false (omega arith) c.walk_rows.ensures unowned

@@ -13,12 +13,12 @@ pub returns-in_default : goal.returns-in_default
 returns-in_default c =
     ap (λ (x : Answer (List ℕ)). after_writing x c.args.out.now [])
     (sym (past-listing c.requires c.args.number (length c.args.out.now)
-    (slice_get_past c.args.entries.now c.args.number c.in_default.ensures.lookup.3)))
+    (slice_get_past c.args.laid.table.items.now c.args.number c.in_default.ensures.lookup.3)))
 
 pub returns : goal.returns
 returns c =
-    rw c.new.ensures.0 at c.write_chain.ensures
+    c.write.ensures
     ∙ ap (λ (x : Answer (List ℕ)). after_writing x c.args.out.now [])
     (sym (entry-chain c.requires c.args.number (length c.args.out.now)
-    (slice_get_read c.args.entries.now _ c.args.number c.in-Some.item.now refl
+    (slice_get_read c.args.laid.table.items.now _ c.args.number c.in-Some.item.now refl
     c.in-Some.ensures.lookup.3.0 c.in-Some.ensures.lookup.1)))

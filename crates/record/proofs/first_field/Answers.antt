@@ -10,7 +10,7 @@ returns-then-n-lt2 c = search few-rows
 pub next_of-requires : goal.next_of-requires
 next_of-requires c =
     let r = c.args.rows in
-    (omega arith, counted-numbered r.work.now 0 r.count r.fits (omega (arith, c.if-n-lt2.false)) c.requires)
+    counted-numbered r.work.now 0 r.count r.fits (omega (arith, c.if-n-lt2.false)) c.requires
 
 pub returns-then-next_of-n : goal.returns-then-next_of-n
 returns-then-next_of-n c = search roots_kept

@@ -16,14 +16,14 @@ pub fold_check-requires : goal.fold_check-requires
 fold_check-requires c =
     let a = c.args in
     let n = list-laid a.text.now a.work.now a.from a.to c.requires.0 c.requires.1 c.in_ok-lay_list.ensures in
-    (omega (arith, c.new.ensures.1), rw c.new.ensures.0 n.held.linked)
+    rw (c.new.ensures.0, c.new.ensures.1) n.held.linked
 
 pub returns-in_err-fold_check : goal.returns-in_err-fold_check
 returns-in_err-fold_check c =
     let a = c.args in
     let n = list-laid a.text.now a.work.now a.from a.to c.requires.0 c.requires.1 c.in_ok-lay_list.ensures in
     let p = err_from_is_err_and c.from_residual-in_err-fold_check.result c.from_residual-in_err-fold_check.ensures.1 in
-    rw (p.1, p.2) (fold-refused a.text.now a.work.now a.from a.to n (rw c.new.ensures.0 at c.in_err-fold_check.ensures) refl)
+    rw (p.1, p.2) (fold-refused a.text.now a.work.now a.from a.to n (rw (c.new.ensures.0, c.new.ensures.1) at c.in_err-fold_check.ensures) refl)
 
 pub link_unions-requires : goal.link_unions-requires
 link_unions-requires c =
@@ -32,22 +32,24 @@ link_unions-requires c =
     let ready = laid-ready a.text.now a.work.now a.from a.to 0 c.requires.0 c.requires.1.fits n in
     unlinked a.text.now a.from a.to c.requires.0 ready c.requires.2
 
-pub make_entries-made-requires : goal.make_entries-made-requires
-make_entries-made-requires c =
+pub new-fields-requires : goal.new-fields-requires
+new-fields-requires c =
     let a = c.args in
     let n = list-laid a.text.now a.work.now a.from a.to c.requires.0 c.requires.1 c.in_ok-lay_list.ensures in
     let ready = laid-ready a.text.now a.work.now a.from a.to 0 c.requires.0 c.requires.1.fits n in
     let tree = marked-tree a.text.now a.from a.to c.requires.0 ready c.link_unions.ensures in
-    (omega (arith, c.new-rows.ensures.1), rw c.new-rows.ensures.0 tree, c.requires.2, c.requires.3)
+    rw (c.new-rows.ensures.0, c.new-rows.ensures.1) tree
 
 pub returns-in_err-ends_fit : goal.returns-in_err-ends_fit
 returns-in_err-ends_fit c =
     let a = c.args in
     let n = list-laid a.text.now a.work.now a.from a.to c.requires.0 c.requires.1 c.in_ok-lay_list.ensures in
     let p = err_from_is_err_and c.from_residual-in_err-ends_fit.result c.from_residual-in_err-ends_fit.ensures.1 in
-    let ends = table-ends c.make_entries-made.ensures.entered c.in_err-ends_fit.ensures in
+    let f = c.new-fields.ensures in
+    let entered = rw (f.0, f.1, f.2, c.new-rows.ensures.1) at c.make_entries-made.ensures.entered in
+    let ends = table-ends entered c.in_err-ends_fit.ensures in
     rw (p.1, p.2)
-    (end_refused a.text.now a.work.now a.from a.to n (rw c.new.ensures.0 at c.in_ok-fold_check.ensures) refl c.link_unions.ensures
+    (end_refused a.text.now a.work.now a.from a.to n (rw (c.new.ensures.0, c.new.ensures.1) at c.in_ok-fold_check.ensures) refl c.link_unions.ensures
     (rw c.new-rows.ensures.0 at ends) refl)
 
 pub returns : goal.returns
@@ -55,17 +57,19 @@ returns c =
     let a = c.args in
     let n = list-laid a.text.now a.work.now a.from a.to c.requires.0 c.requires.1 c.in_ok-lay_list.ensures in
     let made = c.make_entries-made.ensures in
-    let ends = table-ends made.entered c.in_ok-ends_fit.ensures in
-    let long = table-long made.entered c.record_length.ensures in
+    let f = c.new-fields.ensures in
+    let entered = rw (f.0, f.1, f.2, c.new-rows.ensures.1) at made.entered in
+    let ends = table-ends entered c.in_ok-ends_fit.ensures in
+    let long = table-long entered c.length.ensures in
     record {
       inside = made.inside;
       laid =
           record {
             fits = omega (arith, c.requires.1.fits, c.link_unions.auto.work, c.lay_list.auto.work);
             listed =
-                laid-listed a.text.now a.work.now a.from a.to n (rw c.new.ensures.0 at c.in_ok-fold_check.ensures) refl c.link_unions.ensures
+                laid-listed a.text.now a.work.now a.from a.to n (rw (c.new.ensures.0, c.new.ensures.1) at c.in_ok-fold_check.ensures) refl c.link_unions.ensures
                 (rw c.new-rows.ensures.0 at ends) refl c.requires.0 c.requires.1.fits c.requires.2 c.requires.4 (rw c.new-rows.ensures.0 at long);
-            entered = rw c.new-rows.ensures.0 at made.entered;
-            tops = rw c.new-rows.ensures.0 at made.count;
+            entered = rw c.new-rows.ensures.0 at entered;
+            tops = rw (f.0, f.1, f.2, c.new-rows.ensures.0, c.new-rows.ensures.1) at made.count;
           };
     }

@@ -110,20 +110,20 @@ module _ (text : List ℕ) (work room : ℕ) where
       by-fields (Err r) = refl
       by-fields (Ok f) = by-laid f (unfolded text f)
 
-  extract-asked : (x : ExtractBy) → unwritten (extract_answer text work x.weights.now x.limit x.budget) ≡ asked (extract_given x) text work room
+  extract-asked : (x : ExtractBy) → unwritten (extract_answer text work x.terms.weights.now x.terms.limit x.terms.budget) ≡ asked (extract_given x) text work room
   unfolding asked extract_answer extract_in extract_asked layout and_then
   extract-asked x = by-fields (record_fields text work)
     where
       by-laid :
           (f : Forest) (a : Answer Entries) →
-          unwritten ((a >>= λ es. Ok (folded_all text es)) >>= λ es. refuse_if (overlaid f) Refusal.Overlaid >>= λ _. extract_of (widths es) x.weights.now x.limit x.budget)
-          ≡ (a >>= λ es. unwritten (extract_asked x.weights.now x.limit x.budget text f es))
+          unwritten ((a >>= λ es. Ok (folded_all text es)) >>= λ es. refuse_if (overlaid f) Refusal.Overlaid >>= λ _. extract_of (widths es) x.terms.weights.now x.terms.limit x.terms.budget)
+          ≡ (a >>= λ es. unwritten (extract_asked x.terms.weights.now x.terms.limit x.terms.budget text f es))
       by-laid f (Err r) = refl
       by-laid f (Ok es) = refl
 
       by-fields :
           (a : Answer Forest) →
-          unwritten (a >>= λ f. extract_in text f x.weights.now x.limit x.budget) ≡ (a >>= λ f. unfolded text f >>= λ es. unwritten (extract_asked x.weights.now x.limit x.budget text f es))
+          unwritten (a >>= λ f. extract_in text f x.terms.weights.now x.terms.limit x.terms.budget) ≡ (a >>= λ f. unfolded text f >>= λ es. unwritten (extract_asked x.terms.weights.now x.terms.limit x.terms.budget text f es))
       by-fields (Err r) = refl
       by-fields (Ok f) = by-laid f (unfolded text f)
 
@@ -172,5 +172,5 @@ owner-call form o text work h = silent-call (λ t. byte_owner t (length work) o.
 pub extract-call :
     (x : ExtractBy) (text work : List ℕ) {r : Answer Extract} {out w : List ℕ} →
     left r out w ≡ asked_call free_text (extract_given x) text [] work →
-    left r [] w ≡ extract_call text x.weights.now x.limit x.budget work
-extract-call x text work h = silent-call (λ t. extract_answer t (length work) x.weights.now x.limit x.budget) (λ t. asked (extract_given x) t (length work) 0) (λ t. extract-asked t (length work) 0 x) free_text text [] work h
+    left r [] w ≡ extract_call text x.terms.weights.now x.terms.limit x.terms.budget work
+extract-call x text work h = silent-call (λ t. extract_answer t (length work) x.terms.weights.now x.terms.limit x.terms.budget) (λ t. asked (extract_given x) t (length work) 0) (λ t. extract-asked t (length work) 0 x) free_text text [] work h

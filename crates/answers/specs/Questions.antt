@@ -62,4 +62,4 @@ extract_asked weights limit budget text f es = do
   extract_of (widths (folded_all text es)) weights limit budget
 
 abbrev pub extract_given : ExtractBy → List ℕ → Forest → Entries → ℕ → Answer (Given Extract)
-extract_given x text f es room = unwritten (extract_asked x.weights.now x.limit x.budget text f es)
+extract_given x text f es room = unwritten (extract_asked x.terms.weights.now x.terms.limit x.terms.budget text f es)

@@ -3,22 +3,23 @@
 //! lays out. `copybook` has the public entries over these. Leans on one crate for each question.
 #![tactic(auto)]
 
-ghost use Rattle.std.specs.Prelude.{◌≡◌, []};
+ghost use Rattle.std.specs.Prelude.{◌≡◌, ◌≢◌, []};
+ghost use Rattle.definition.specs.Basic.{Ok};
 ghost use Rattle.definition.specs.Cards.{Form.free_text, Form.card_text};
 ghost use Rattle.definition.specs.Calls.{left, report_call_in, owner_call_in, extract_call};
 ghost use Rattle.answers.specs.Questions.{report_given, owner_given, extract_given};
 
 use asking::Question;
 use definition::{Extract, Owner, Refusal, Report};
-use record::Record;
-use rows::Rows;
-use table::Item;
+use record::LaidRecord;
+use subsets::Terms;
 
 // ---------------------------------------------------------------- the three questions
 
 /// This report of the record: how many bytes were written.
 #[derive(Clone, Copy)]
 pub struct ReportOf {
+    /// Which report.
     pub what: Report,
 }
 
@@ -27,30 +28,11 @@ impl Question for ReportOf {
 
     ghost answers = { report_given };
 
-    fn answer(
-        self,
-        text: &[u8],
-        work: &[u32],
-        entries: &[Item],
-        laid: Record,
-        out: &mut [u8],
-    ) -> Result<usize, Refusal> {
-        let Record {
-            from,
-            to,
-            length,
-            top,
-            ..
-        } = laid;
-        let rows = Rows::new(work, to);
+    fn answer(self, laid: LaidRecord, out: &mut [u8]) -> Result<usize, Refusal> {
         match self.what {
-            Report::Listing => {
-                writer::write_listing(text, rows, entries, from, to, length, top, out)
-            }
-            Report::Details => details::write_details(text, rows, entries, from, to, out),
-            Report::Reasons(number) => {
-                reasons::write_reasons(text, work, entries, laid, number, out)
-            }
+            Report::Listing => writer::write_listing(laid, out),
+            Report::Details => details::write_details(laid, out),
+            Report::Reasons(number) => reasons::write_reasons(laid, number, out),
         }
     }
 }
@@ -58,6 +40,7 @@ impl Question for ReportOf {
 /// The owner of the byte at this position.
 #[derive(Clone, Copy)]
 pub struct OwnerAt {
+    /// The byte's place in the record, from 0.
     pub position: usize,
 }
 
@@ -67,24 +50,15 @@ impl Question for OwnerAt {
     ghost answers = { owner_given };
 
     #[tactic(auto, unfolding(crate::specs::Questions::owner_asked, definition::specs::Calls::owner_in, definition::specs::Record::layout, definition::specs::Basic::and_then))]
-    fn answer(
-        self,
-        text: &[u8],
-        work: &[u32],
-        _entries: &[Item],
-        laid: Record,
-        _out: &mut [u8],
-    ) -> Result<Owner, Refusal> {
-        owner::owner_of(text, work, laid, self.position)
+    fn answer(self, laid: LaidRecord, _out: &mut [u8]) -> Result<Owner, Refusal> {
+        owner::owner_of(laid, self.position)
     }
 }
 
-/// The heaviest of the first subsets that fits, as many as the budget says.
+/// The heaviest choice of the record's items that fits, by these terms.
 #[derive(Clone, Copy)]
 pub struct ExtractBy<'a> {
-    pub weights: &'a [u32],
-    pub limit: usize,
-    pub budget: usize,
+    pub terms: Terms<'a>,
 }
 
 impl<'a> Question for ExtractBy<'a> {
@@ -93,21 +67,16 @@ impl<'a> Question for ExtractBy<'a> {
     ghost answers = { extract_given };
 
     #[tactic(auto, unfolding(crate::specs::Questions::extract_asked, definition::specs::Calls::extract_in, definition::specs::Record::layout, definition::specs::Basic::and_then))]
-    fn answer(
-        self,
-        text: &[u8],
-        work: &[u32],
-        _entries: &[Item],
-        laid: Record,
-        _out: &mut [u8],
-    ) -> Result<Extract, Refusal> {
-        extract::extract_of(text, work, laid, self.weights, self.limit, self.budget)
+    fn answer(self, laid: LaidRecord, _out: &mut [u8]) -> Result<Extract, Refusal> {
+        extract::extract_of(laid, self.terms)
     }
 }
 
 // ---------------------------------------------------------------- the calls
 
 /// A report of free text: how many bytes were written.
+// Kept: parameters, as of `report_cards` – the C interface: text, work memory and output are handed on one by one, as C
+// lends them to the entries of `copybook`.
 pub fn report(text: &[u8], work: &mut [u32], what: Report, out: &mut [u8]) -> Result<usize, Refusal>
     ensures { left result out.new work.new
         ≡ report_call_in free_text what text.now out.old work.old }
@@ -128,37 +97,28 @@ pub fn report_cards(
     asking::answer_cards(ReportOf { what }, cards, work, out)
 }
 
-/// The owner of a byte of the record that free text describes.
+/// The owner of a byte of the record that free text describes: a piece or slack.
 pub fn owner(text: &[u8], position: usize, work: &mut [u32]) -> Result<Owner, Refusal>
-    ensures { left result [] work.new
+    ensures after { left result [] work.new
         ≡ owner_call_in free_text text.now position work.old }
+    ensures owned { result ≢ Ok Owner.Unowned }
 {
     asking::answer(OwnerAt { position }, text, work, &mut [])
 }
 
-/// The owner of a byte of the record that cards describe.
+/// The owner of a byte of the record that cards describe: a piece or slack.
 pub fn owner_cards(cards: &[u8], position: usize, work: &mut [u32]) -> Result<Owner, Refusal>
-    ensures { left result [] work.new
+    ensures after { left result [] work.new
         ≡ owner_call_in card_text cards.now position work.old }
+    ensures owned { result ≢ Ok Owner.Unowned }
 {
     asking::answer_cards(OwnerAt { position }, cards, work, &mut [])
 }
 
 /// The extract of the record that free text describes.
-pub fn extract(
-    text: &[u8],
-    weights: &[u32],
-    limit: usize,
-    budget: usize,
-    work: &mut [u32],
-) -> Result<Extract, Refusal>
+pub fn extract(text: &[u8], terms: Terms, work: &mut [u32]) -> Result<Extract, Refusal>
     ensures { left result [] work.new
-        ≡ extract_call text.now weights.now limit budget work.old }
+        ≡ extract_call text.now terms.entry.weights.now terms.entry.limit terms.entry.budget work.old }
 {
-    let chosen = ExtractBy {
-        weights,
-        limit,
-        budget,
-    };
-    asking::answer(chosen, text, work, &mut [])
+    asking::answer(ExtractBy { terms }, text, work, &mut [])
 }

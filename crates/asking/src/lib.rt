@@ -16,7 +16,7 @@ ghost use Rattle.record.specs.Laying.{Read, LaidOut};
 ghost use Rattle.asking.specs.Asking.{Given, after_given, asked, asked_call};
 
 use definition::{MOST_BYTES, Refusal};
-use record::{ENTRIES, FEW_ENTRIES, FEW_ROWS, Record};
+use record::{ENTRIES, FEW_ENTRIES, FEW_ROWS, LaidRecord};
 use table::{Item, Mark};
 
 // ---------------------------------------------------------------- a question
@@ -29,21 +29,16 @@ pub trait Question: Copy {
     // The answer, from a text, its fields, its entries before any list is folded, and the room of the output.
     ghost answers: { Self → List ℕ → Forest → Entries → ℕ → Answer (Given Self.Reply) };
 
-    /// The answer, from the record's text, its rows in work memory and the entries of its listing.
-    // Kept: text, work, entries and laid side by side – the proof didn't close: a struct that holds `Rows` beside other
-    // references is not covered by the borrow checker, and what holds of a record is no proposition for a ghost field.
-    fn answer(
-        self,
-        text: &[u8],
-        work: &[u32],
-        entries: &[Item],
-        laid: Record,
-        out: &mut [u8],
-    ) -> Result<Self::Reply, Refusal>
-        requires { LaidOut text.now (record_fields text.now (length work.now)) work.now entries.now laid }
+    /// The answer.
+    fn answer(self, laid: LaidRecord, out: &mut [u8]) -> Result<Self::Reply, Refusal>
+        requires { LaidOut laid.text.now (record_fields laid.text.now (length laid.table.rows.work.now))
+            laid.table.rows.work.now laid.table.items.now
+            laid.from laid.table.rows.count laid.length laid.top }
         ensures { left result out.new []
-            ≡ after_given (answers self text.now (rows_forest work.now laid.from laid.to)
-            (list_in work.now laid.from laid.to) (length out.old)) out.old [] };
+            ≡ after_given (answers self laid.entry.text.now
+            (rows_forest laid.entry.table.rows.work.now laid.entry.from laid.entry.table.rows.count)
+            (list_in laid.entry.table.rows.work.now laid.entry.from laid.entry.table.rows.count)
+            (length out.old)) out.old [] };
 }
 
 // ---------------------------------------------------------------- asking it
@@ -60,6 +55,10 @@ const EMPTY: Item = Item {
 };
 
 // The record that was read into n rows, laid out and asked, with a table for its entries.
+// Kept: parameters, as of `ask`, `answer` and `answer_cards` – no plainer: work memory and output are both written, and
+// a struct over two `&mut` asks each contract to say what becomes of each, and that its length stays.
+// Kept: work memory and how many rows – no plainer: their number chooses the table while they are still to be laid, and
+// `Rows`, which would hold both, only reads.
 #[tactic(auto, unfolding(crate::specs::Asking::asked, definition::specs::Basic::and_then))]
 fn ask_in<const N: usize, Q: Question>(
     question: Q,
@@ -74,7 +73,7 @@ fn ask_in<const N: usize, Q: Question>(
 {
     let mut entries = [EMPTY; N];
     let laid = record::lay_record(text, work, n, &mut entries)?;
-    question.answer(text, work, &entries[..laid.count], laid, out)
+    question.answer(laid.with(text, work, &entries), out)
 }
 
 /// The answer about free text, with work memory left as it comes. Few rows need a small table, which is sooner made.

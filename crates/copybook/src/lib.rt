@@ -14,6 +14,7 @@ ghost use Rattle.definition.specs.Calls.{extract_call, mask_call, picture_answer
 ghost use Rattle.definition.specs.Key.{key_call};
 
 use definition::{Extract, KeyColumn, Owner, Pictured, Refusal, Report, SignKind, Usage};
+use subsets::Terms;
 
 /// The layout listing of a copybook: how many bytes were written. Refusals, in this order: 1 text over 65,535 bytes; 2
 /// a byte over 127, at the first one; 3 work memory under 16,384 numbers; 50 a literal that its line does not close, at
@@ -148,7 +149,12 @@ pub fn extract(
     ensures { left result [] work.new
         ≡ extract_call text.now weights.now limit budget work.old }
 {
-    answers::extract(text, weights, limit, budget, work)
+    let terms = Terms {
+        weights,
+        limit,
+        budget,
+    };
+    answers::extract(text, terms, work)
 }
 
 /// One key for a family of records: the offset and width of the column of that name in a set of 2 to 16 copybooks, free

@@ -4,14 +4,15 @@ use Rattle.std.proofs.Common.{ℕ, ◌≡◌, ◌+◌, ◌≤◌, ◌<◌, refl,
 use Rattle.std.specs.Prelude.{if◌then◌else◌, Option, None, leb}
 use lib.ListN.{drop_of_length-le}
 use Rattle.std.proofs.lemmas.List.{take_all}
+use Rattle.std.proofs.Math.Bool.{and_assoc}
 use borrow.Author.Tests.{eqb-true, leb-true}
+use Rattle.std.proofs.lemmas.Bool.{and_parts}
 use Rattle.definition.specs.declared.KeyColumn.{KeyColumn}
 use Rattle.definition.specs.declared.Refusal.{Refusal}
 use Rattle.definition.specs.Limits.{fewest_in_set, most_in_set}
 use Rattle.definition.specs.Basic.{sum, Answer, Err, Ok, ◌>>=◌, and_then}
 use Rattle.definition.specs.Key.{Key, key_in, agree, all_agree, common, keys_in, copybooks, is_set}
 use Rattle.definition.proofs.Lists.{drop-next}
-use Rattle.definition.proofs.WordLaws.{and_both}
 use Rattle.family.specs.Sets.{all_agreed, Lent, place_of, keys_given}
 
 -- ---------------------------------------------------------------- the bytes lent
@@ -28,11 +29,15 @@ sum_none lengths i h = ap sum (drop_of_length-le lengths h)
 pub all_later : (lengths : List ℕ) → take (length lengths - 1) (drop 1 lengths) ≡ drop 1 lengths
 all_later lengths = take_all (length lengths - 1) (drop 1 lengths) (omega (arith, length-drop 1 lengths))
 
+-- the first copybook is there
+pub first_inside : {texts lengths : List ℕ} → Lent texts lengths → get_or lengths 0 0 ≤ length texts
+first_inside {texts} {lengths} l = omega (arith, l.all_there, sum_next lengths 0 l.some-there)
+
 -- a set has a first copybook, and its lengths add up
 pub lent : {texts lengths : List ℕ} → true ≡ is_set lengths texts → Lent texts lengths
 lent {texts} {lengths} e =
-    let a = and_both (leb fewest_in_set (length lengths)) _ (sym e) in
-    let b = and_both (leb (length lengths) most_in_set) _ a.1 in
+    let a = and_parts (leb fewest_in_set (length lengths)) _ (sym e) in
+    let b = and_parts (leb (length lengths) most_in_set) _ a.1 in
     record {
       some-there = omega (arith, leb-true fewest_in_set (length lengths) a.0);
       all_there = eqb-true (sum lengths) (length texts) b.1;
@@ -41,10 +46,6 @@ lent {texts} {lengths} e =
 -- ---------------------------------------------------------------- the later ones
 
 module _ (n : ℕ) (name : List ℕ) where
-  and_assoc : (a b c : Bool) → ((a && b) && c) ≡ (a && (b && c))
-  and_assoc true b c = refl
-  and_assoc false b c = refl
-
   -- those that agree one by one agree all
   all-agreed :
       (a : Option Key) (texts : List (List ℕ)) (b : Bool) →
@@ -187,3 +188,7 @@ module _ (n : ℕ) (name : List ℕ) where
               Err Refusal.NoCommonKey ≡ keys_given n name lengths texts
           unfolding and_then
           others_differ q e = sym (set_later ∙ rw (← q, e))
+
+pub ruleset agree_steps = (sum_next, agree_refused, agree_on, agree_last)
+
+pub ruleset set_steps = (first_inside, all_later, first_refused, others_refused, others_agree, others_differ)

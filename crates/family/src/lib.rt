@@ -13,15 +13,14 @@ ghost use Rattle.family.specs.Sets.{key_given, read_key, all_agreed, Lent, keys_
 use asking::Question;
 use definition::{FEWEST_IN_SET, KeyColumn, MOST_IN_SET, Refusal};
 use key::Sought;
-use record::Record;
-use rows::Rows;
-use table::Item;
+use record::LaidRecord;
 
 // ---------------------------------------------------------------- one copybook
 
 /// The key of this name.
 #[derive(Clone, Copy)]
 pub struct KeyNamed<'a> {
+    /// The name that is sought, case aside.
     pub name: &'a [u8],
 }
 
@@ -30,16 +29,8 @@ impl<'a> Question for KeyNamed<'a> {
 
     ghost answers = { key_given };
 
-    fn answer(
-        self,
-        text: &[u8],
-        work: &[u32],
-        entries: &[Item],
-        laid: Record,
-        _out: &mut [u8],
-    ) -> Result<Sought, Refusal> {
-        let rows = Rows::new(work, laid.to);
-        Ok(key::seek_key(text, rows, entries, self.name))
+    fn answer(self, laid: LaidRecord, _out: &mut [u8]) -> Result<Sought, Refusal> {
+        Ok(key::seek_key(laid.text, laid.table, self.name))
     }
 }
 
@@ -68,13 +59,6 @@ fn adds_up(lengths: &[u64], n: usize) -> bool
     left == 0
 }
 
-// Whether it is a set: 2 to 16 copybooks, whose lengths add up to the bytes lent.
-fn is_set(texts: &[u8], lengths: &[u64]) -> bool
-    ensures { result ≡ is_set lengths.now texts.now }
-{
-    matches!(lengths.len(), FEWEST_IN_SET..=MOST_IN_SET) && adds_up(lengths, texts.len())
-}
-
 // The place of what was found, or 57.
 #[tactic(auto, unfolding(definition::specs::Basic::and_then))]
 fn place_of(text: &[u8], found: Sought) -> Result<KeyColumn, Refusal>
@@ -89,68 +73,78 @@ fn place_of(text: &[u8], found: Sought) -> Result<KeyColumn, Refusal>
     }
 }
 
-// Whether the copybooks of these lengths, one after the other, all have the key of the first, found in its text.
-#[tactic(auto, unfolding(definition::specs::Basic::and_then))]
-fn later_agree(
-    text: &[u8],
-    first: Sought,
-    lengths: &[u64],
-    others: &[u8],
-    name: &[u8],
-    work: &mut [u32],
-) -> Result<bool, Refusal>
-    requires { sum lengths.now ≤ length others.now }
-    ensures { result ≡ all_agreed (length work.old) name.now (found_key text.now first) true
-        (copybooks lengths.now others.now) }
-{
-    let mut rest = others;
-    let mut agreed = true;
-    for len in lengths {
-        let (later, behind) = rest.split_at(*len as usize);
-        let found = key_of(later, work, name)?;
-        agreed = agreed && first.agrees(text, found, later);
-        rest = behind;
-    }
-    Ok(agreed)
+// Copybooks one after the other, by their lengths, and the name that is sought in each.
+#[derive(Clone, Copy)]
+struct Copybooks<'a> {
+    texts: &'a [u8],
+    lengths: &'a [u64],
+    name: &'a [u8],
 }
 
-// The key of a set: the first copybook, then the others.
-#[tactic(auto, unfolding(definition::specs::Basic::and_then))]
-fn key_of_set(
-    texts: &[u8],
-    lengths: &[u64],
-    name: &[u8],
-    work: &mut [u32],
-) -> Result<KeyColumn, Refusal>
-    requires { Lent texts.now lengths.now }
-    ensures { result ≡ keys_given (length work.old) name.now lengths.now texts.now }
-{
-    let (text, others) = texts.split_at(lengths[0] as usize);
-    let first = key_of(text, work, name)?;
-    if later_agree(text, first, &lengths[1..], others, name, work)? {
-        place_of(text, first)
-    } else {
-        Err(Refusal::NoCommonKey)
+impl<'a> Copybooks<'a> {
+    // Whether it is a set: 2 to 16 copybooks, whose lengths add up to the bytes lent.
+    fn is_set(self) -> bool
+        ensures { result ≡ is_set self.entry.lengths.now self.entry.texts.now }
+    {
+        matches!(self.lengths.len(), FEWEST_IN_SET..=MOST_IN_SET)
+            && adds_up(self.lengths, self.texts.len())
+    }
+
+    // Whether all of them have the key that was found in a text.
+    #[tactic(auto, using(crate::proofs::SetLaws::agree_steps), unfolding(definition::specs::Basic::and_then))]
+    fn all_agree(self, text: &[u8], first: Sought, work: &mut [u32]) -> Result<bool, Refusal>
+        requires { sum self.lengths.now ≤ length self.texts.now }
+        ensures { result ≡ all_agreed (length work.old) self.entry.name.now (found_key text.now first) true
+            (copybooks self.entry.lengths.now self.entry.texts.now) }
+    {
+        let mut rest = self.texts;
+        let mut agreed = true;
+        for len in self.lengths {
+            let (later, behind) = rest.split_at(*len as usize);
+            let found = key_of(later, work, self.name)?;
+            agreed = agreed && first.agrees(text, found, later);
+            rest = behind;
+        }
+        Ok(agreed)
+    }
+
+    // The key of a set: that of the first copybook, where the others have it too.
+    #[tactic(auto, using(crate::proofs::SetLaws::set_steps), unfolding(definition::specs::Basic::and_then))]
+    fn key_of_set(self, work: &mut [u32]) -> Result<KeyColumn, Refusal>
+        requires { Lent self.texts.now self.lengths.now }
+        ensures { result
+            ≡ keys_given (length work.old) self.entry.name.now self.entry.lengths.now self.entry.texts.now }
+    {
+        let (text, others) = self.texts.split_at(self.lengths[0] as usize);
+        let first = key_of(text, work, self.name)?;
+        let later = Copybooks {
+            texts: others,
+            lengths: &self.lengths[1..],
+            name: self.name,
+        };
+        if later.all_agree(text, first, work)? {
+            place_of(text, first)
+        } else {
+            Err(Refusal::NoCommonKey)
+        }
+    }
+
+    // The same of any of them: 56 before any reading.
+    #[tactic(auto, using(crate::proofs::SetLaws::lent), unfolding(definition::specs::Key::key_of_texts, definition::specs::Basic::and_then))]
+    fn key(self, work: &mut [u32]) -> Result<KeyColumn, Refusal>
+        ensures { result
+            ≡ key_of_texts self.entry.texts.now self.entry.lengths.now self.entry.name.now (length work.old) }
+    {
+        if self.is_set() {
+            self.key_of_set(work)
+        } else {
+            Err(Refusal::NotASet)
+        }
     }
 }
 
-// The same of any lent bytes and lengths: 56 before any reading.
-#[tactic(auto, using(crate::proofs::SetLaws::lent), unfolding(definition::specs::Key::key_of_texts, definition::specs::Basic::and_then))]
-fn key_of_texts(
-    texts: &[u8],
-    lengths: &[u64],
-    name: &[u8],
-    work: &mut [u32],
-) -> Result<KeyColumn, Refusal>
-    ensures { result ≡ key_of_texts texts.now lengths.now name.now (length work.old) }
-{
-    if is_set(texts, lengths) {
-        key_of_set(texts, lengths, name, work)
-    } else {
-        Err(Refusal::NotASet)
-    }
-}
-
+/// The key of that name that all copybooks of a set have, one after the other by their lengths; work memory is zero
+/// after it. 56 for what is no set; else the refusal of the first one that is refused, or 57 for no key common to all.
 pub fn set_key(
     texts: &[u8],
     lengths: &[u64],
@@ -159,7 +153,12 @@ pub fn set_key(
 ) -> Result<KeyColumn, Refusal>
     ensures { left result [] work.new ≡ key_call texts.now lengths.now name.now work.old }
 {
-    let answer = key_of_texts(texts, lengths, name, work);
+    let set = Copybooks {
+        texts,
+        lengths,
+        name,
+    };
+    let answer = set.key(work);
     rows::clear(work);
     answer
 }

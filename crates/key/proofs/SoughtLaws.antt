@@ -10,6 +10,7 @@ use native.Mathlib.Omega.{arith}
 use lib.Dec.{eqb}
 use lib.ListN.{length, drop, get_or}
 use Rattle.std.proofs.lemmas.List.{at_drop_more, at_drop_all}
+use Rattle.std.proofs.Math.Bool.{or_assoc, or-false}
 use borrow.Author.Tests.{ne_eqb}
 use Rattle.std.specs.Prelude.{if◌then◌else◌}
 use Rattle.definition.specs.Basic.{given}
@@ -55,25 +56,15 @@ found-one text (x ∷ y ∷ more) = by-test (may_be_key x)
 -- ---------------------------------------------------------------- the listing
 
 module _ (text name : List ℕ) where
-  or-none : (v : Bool) → (v || false) ≡ v
-  or-none true = refl
-  or-none false = refl
-
-  or_assoc : (v a b c : Bool) → (((v || a) || b) || c) ≡ (v || ((a || b) || c))
-  or_assoc true a b c = refl
-  or_assoc false true b c = refl
-  or_assoc false false b c = refl
-
-  or_once : (v a b : Bool) → ((v || a) || b) ≡ (v || (a || b))
-  or_once true a b = refl
-  or_once false a b = refl
+  or_inside : (v a b c : Bool) → (((v || a) || b) || c) ≡ (v || ((a || b) || c))
+  or_inside v a b c = ap (λ (x : Bool). x || c) (or_assoc v a b) ∙ or_assoc v (a || b) c
 
   -- what stands below the top counts for its DEPENDING ON alone
   below_top :
       (es : Entries) (d : ℕ) (v : Bool) (s : Sought) (l : List Shown) →
       sought_in text name v s (flat_in (d + 1) es ++ l) ≡ sought_in text name (v || variable es) s l
   unfolding sought_in flat_in variable
-  below_top end d v s l = ap (λ (b : Bool). sought_in text name b s l) (sym (or-none v))
+  below_top end d v s l = ap (λ (b : Bool). sought_in text name b s l) (sym (or-false v))
   below_top (entry e ms later) d v s l =
       let deep : eqb (d + 1) 0 ≡ false = ne_eqb (d + 1) 0 (λ z. omega arith) in
       ap
@@ -89,7 +80,7 @@ module _ (text name : List ℕ) where
       ∙ below_top later d ((v || given e.depending) || variable ms) s l
       ∙ ap
       (λ (b : Bool). sought_in text name b s l)
-      (or_assoc v (given e.depending) (variable ms) (variable later))
+      (or_inside v (given e.depending) (variable ms) (variable later))
 
   -- the search over the listing meets the entries of the name at the top
   at_top :
@@ -105,7 +96,7 @@ module _ (text name : List ℕ) where
       (if is_named text name e then met s (named e v) else s)
       ∙ ap
       (λ (b : Bool). met_all (if is_named text name e then met s (named e v) else s) (named_in text name b later))
-      (or_once v (given e.depending) (variable ms))
+      (or_assoc v (given e.depending) (variable ms))
       ∙ by-test (is_named text name e)
     where
       by-test :
@@ -144,3 +135,5 @@ module _ (text name w : List ℕ) (t : List Item) (k : ℕ) (b : Bool) (f : Soug
   seek-next x h p q =
       at_drop_more (λ xs. sought_in text name b f (shown_all w xs)) t k x h
       ∙ ap₂ (λ (y : Bool) (z : Sought). sought_in text name y z (shown_all w (drop (k + 1) t))) (sym q) (sym p)
+
+pub ruleset seeking = (seek-next, seek-none)

@@ -2,26 +2,29 @@
 //! whether two copybooks' keys agree. Leans on `table` for the entries and on `mask` for edited pictures.
 #![tactic(auto)]
 
-ghost use Rattle.std.specs.Prelude.{All, ◌≡◌, ◌||◌, ◌≤◌, length};
+ghost use Rattle.std.specs.Prelude.{◌≡◌, ◌||◌, ◌≤◌, length};
 ghost use Rattle.std.proofs.Math.Bool.{Bool.false};
 ghost use Rattle.definition.specs.Limits.{longest_mask};
 ghost use Rattle.definition.specs.Basic.{same, given};
 ghost use Rattle.definition.specs.Key.{is_named, named, may_be_key};
 ghost use Rattle.definition.specs.Key.{kind_details, same_key, agree};
-ghost use Rattle.table.specs.Entered.{own_of, shown_of, shown_all, Sound};
+ghost use Rattle.table.specs.Entered.{own_of, shown_of, shown_all};
 ghost use Rattle.key.specs.Sought.{column_of, key_at, found_key, met, sought_at, sought_in, Masked};
 
 use definition::{Entry, FieldKind, LONGEST_MASK, Span, Usage};
 use kinds::KindNumbers;
-use rows::Rows;
-use table::Item;
+use table::{RowItem, Table};
 
 /// A column that may be a key: its place, what it holds, and its picture in the text.
 #[derive(Clone, Copy)]
 pub struct Candidate {
+    /// Where it starts in the record.
     pub offset: usize,
+    /// How many bytes it takes.
     pub width: usize,
+    /// What it holds.
     pub kind: FieldKind,
+    /// Its picture's place in the text.
     pub picture: Span,
 }
 
@@ -38,11 +41,14 @@ impl From<Entry> for Candidate {
     }
 }
 
-/// What a search has found: no entry of the name; one, which may be a key; or one that may not, or several.
+/// What a search has found.
 #[derive(Clone, Copy)]
 pub enum Sought {
+    /// No entry of the name.
     Nothing,
+    /// One, which may be a key.
     One(Candidate),
+    /// One that may not, or several.
     Spoilt,
 }
 
@@ -77,14 +83,14 @@ impl Sought {
 // ---------------------------------------------------------------- the table
 
 // What is found with one more item, which counts where it stands at the top and has the name.
-fn sought_at(text: &[u8], rows: Rows, x: &Item, name: &[u8], behind: bool, found: Sought) -> Sought
-    requires { Sound rows.work.now rows.count x.now }
-    ensures { result ≡ sought_at text.now name.now behind found (shown_of rows.entry.work.now x.now) }
+fn sought_at(text: &[u8], x: RowItem, name: &[u8], behind: bool, found: Sought) -> Sought
+    ensures { result ≡ sought_at text.now name.now behind found
+        (shown_of x.entry.rows.work.now x.entry.item.now) }
 {
-    if 0 < x.depth {
+    if 0 < x.item.depth {
         return found;
     }
-    let e = x.entry(rows);
+    let e = x.entry();
     if is_named(text, name, e) {
         return found.with(e, behind);
     }
@@ -92,24 +98,27 @@ fn sought_at(text: &[u8], rows: Rows, x: &Item, name: &[u8], behind: bool, found
 }
 
 // Whether a DEPENDING ON stands before the item after this one.
-fn behind_at(rows: Rows, x: &Item, behind: bool) -> bool
-    requires { Sound rows.work.now rows.count x.now }
-    ensures { result ≡ («behind» || given (own_of rows.entry.work.now x.now).depending) }
+fn behind_at(x: RowItem, behind: bool) -> bool
+    ensures { result ≡ («behind» || given (own_of x.entry.rows.work.now x.entry.item.now).depending) }
 {
-    behind || x.entry(rows).depending.is_given()
+    behind || x.entry().depending.is_given()
 }
 
 /// The key of that name among the entries.
-pub fn seek_key(text: &[u8], rows: Rows, entries: &[Item], name: &[u8]) -> Sought
-    requires { All (Sound rows.work.now rows.count) entries.now }
+#[tactic(auto, using(crate::proofs::SoughtLaws::seeking))]
+pub fn seek_key(text: &[u8], table: Table, name: &[u8]) -> Sought
     ensures { result ≡ sought_in text.now name.now false Sought.Nothing
-        (shown_all rows.entry.work.now entries.now) }
+        (shown_all table.entry.rows.work.now table.entry.items.now) }
 {
     let mut found = Sought::Nothing;
     let mut behind = false;
-    for x in entries {
-        found = sought_at(text, rows, x, name, behind, found);
-        behind = behind_at(rows, x, behind);
+    for item in table.items {
+        let x = RowItem {
+            rows: table.rows,
+            item,
+        };
+        found = sought_at(text, x, name, behind, found);
+        behind = behind_at(x, behind);
     }
     found
 }

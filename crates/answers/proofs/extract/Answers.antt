@@ -4,4 +4,4 @@ use Rattle.answers.proofs.extract.Goals as goal
 
 pub returns : goal.returns
 returns c =
-    extract-call (record { weights = c.args.weights; limit = c.args.limit; budget = c.args.budget }) c.args.text.now c.args.work.now c.answer.ensures
+    extract-call (record { terms = c.args.terms }) c.args.text.now c.args.work.now c.answer.ensures

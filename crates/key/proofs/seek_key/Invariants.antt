@@ -5,7 +5,7 @@ use Rattle.key.specs.Sought.{sought_in}
 use Rattle.table.specs.Entered.{shown_all}
 use Rattle.key.proofs.seek_key.Given as goal
 
-abbrev pub invariant-loop-x : goal.invariant-loop-x
-invariant-loop-x l =
-    sought_in l.text l.name false Sought.Nothing (shown_all l.rows.work.now l.entries)
-    ≡ sought_in l.text l.name l.behind l.found (shown_all l.rows.work.now (drop l.x-index l.entries))
+abbrev pub invariant-loop-item : goal.invariant-loop-item
+invariant-loop-item l =
+    sought_in l.text l.name false Sought.Nothing (shown_all l.table.rows.work.now l.table.items.now)
+    ≡ sought_in l.text l.name l.behind l.found (shown_all l.table.rows.work.now (drop l.item-index l.table.items.now))

@@ -1,10 +1,10 @@
--- The byte owner names a piece or slack wherever it is accepted.
+-- The owner of a byte is a piece or slack, in each call that answers with one.
 -- Assumes nothing.
 use Prim.Native.Nat.{ℕ}
 use mathlib.Core.Path.{◌≡◌, refl, sym, ◌∙◌, ap}
 use Rattle.std.specs.Prelude.{◌≢◌}
 use mathlib.Core.Bool.{Bool, true, false, not}
-use mathlib.Core.List.{List}
+use mathlib.Core.List.{List, []}
 use native.Mathlib.Omega.{arith}
 use lib.ListN.{length}
 use borrow.Author.Tests.{ltb-true}
@@ -18,6 +18,10 @@ use Rattle.definition.specs.Tree.{Forest}
 use Rattle.definition.proofs.Answers.{through, given-same}
 use Rattle.definition.proofs.Demand3.{one-owner}
 use Rattle.definition.proofs.Pieces.{owned-someone}
+use Rattle.asking.specs.Asking.{asked_call}
+use Rattle.answers.specs.declared.OwnerAt.{OwnerAt}
+use Rattle.answers.specs.Questions.{owner_given}
+use Rattle.answers.proofs.Same.{owner-call}
 
 -- a test that let a call pass was false
 not_refused : (b : Bool) (r : Refusal) {u : Unit {0}} → refuse_if b r ≡ Ok u → b ≡ false
@@ -49,10 +53,16 @@ unfolding on_cards
 named free_text text work q h = in-text text (length work) q (sym (ap (λ (x : After Owner). x.answer) h))
 named card_text text work q h = through _ _ (sym (ap (λ (x : After Owner). x.answer) h)) λ _ _ h₁. in-text (view text) (length work) q h₁
 
--- what a call of either form answers
-pub owned :
+owned :
     (form : Form) (text work : List ℕ) (q : ℕ) (r : Answer Owner) {out w : List ℕ} →
     left r out w ≡ owner_call_in form text q work →
     r ≢ Ok Owner.Unowned
 owned form text work q r {out} {w} h e =
     named form text work q (ap (λ (x : Answer Owner). left x out w) (sym e) ∙ h) refl
+
+-- what a question for an owner answers, of either form
+pub asked-owned :
+    (form : Form) (o : OwnerAt) (text work : List ℕ) {r : Answer Owner} {out w : List ℕ} →
+    left r out w ≡ asked_call form (owner_given o) text [] work →
+    r ≢ Ok Owner.Unowned
+asked-owned form o text work {r} h = owned form text work o.position r (owner-call form o text work h)

@@ -3,7 +3,7 @@
 use Rattle.std.specs.Prelude.{ℕ, zero, suc, ◌+◌, ◌-◌, List, eqb, ltb, get_or, set, Option, None, Some, if◌then◌else◌}
 
 -- the innermost list, up to a depth, in which an entry is still to come, and the top list where there is none
-abbrev pub still_open : List ℕ → ℕ → ℕ
+unfoldable pub still_open : List ℕ → ℕ → ℕ
 still_open left zero = 0
 still_open left (suc d) = if eqb (get_or left (suc d) 0) 0 then still_open left d else suc d
 
@@ -15,7 +15,3 @@ taken left d = set left d (get_or left d 0 - 1)
 abbrev pub opened : List ℕ → ℕ → Option ℕ → List ℕ
 opened left d None = left
 opened left d (Some n) = if ltb d 255 then set left (d + 1) n else left
-
-abbrev pub deeper : ℕ → Option ℕ → ℕ
-deeper d None = d
-deeper d (Some n) = if ltb d 255 then d + 1 else d

@@ -1,6 +1,6 @@
 -- What the bytes of a listing say, where they are read back: numbers, places, and an entry's kind and body.
 -- Assumes nothing.
-use Rattle.std.specs.Prelude.{ℕ, ◌+◌, Bool, List, eqb, leb, ◌&&◌, get_or, take, drop, length}
+use Rattle.std.specs.Prelude.{ℕ, ◌+◌, Bool, List, eqb, leb, ◌&&◌, get_or, take, drop, length, codes}
 use Rattle.std.specs.Prelude.{Option, None, Some, if◌then◌else◌}
 use Rattle.std.specs.Int.{w32, from_le_bytes}
 use Rattle.definition.specs.declared.Span.{Span}
@@ -45,6 +45,16 @@ size Decimal = 42
 size Edited = 49
 size Group = 42
 size Float = 39
+
+-- what is printed of a kind
+abbrev pub name : Kind → List ℕ
+name Text = codes "text"
+name Int = codes "int"
+name Binary = codes "bin"
+name Decimal = codes "dec"
+name Edited = codes "edit"
+name Group = codes "group"
+name Float = codes "float"
 
 -- how many members a group has
 abbrev pub members : Kind → List ℕ → Option ℕ

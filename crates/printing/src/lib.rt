@@ -4,11 +4,12 @@
 
 pub mod depths;
 
-ghost use Rattle.std.specs.Prelude.{◌≡◌, false, true, length, get_or, MatchOption};
+ghost use Rattle.std.specs.Prelude.{◌≡◌, false, true, length, get_or, MatchOption, Some};
+ghost use Rattle.std.specs.Result.{result_ok};
 ghost use Rattle.std.specs.Io.{ReadsAtMost};
 ghost use Rattle.std.specs.Iterator.{at_most};
 ghost use Rattle.definition.specs.Basic.{part};
-ghost use Rattle.printing.specs.Read.{stands, four, span, kind, size, entry, first_entry, behind};
+ghost use Rattle.printing.specs.Read.{stands, four, span, kind, size, name, entry, first_entry, behind};
 
 use definition::Span;
 use std::io::Read;
@@ -20,15 +21,14 @@ use std::{fmt, io};
 pub fn read_full(input: &mut impl Read, buf: &mut [u8]) -> io::Result<usize>
     ensures { ReadsAtMost result buf.new }
 {
-    let mut n = 0;
-    while n < buf.len() {
-        let got = input.read(&mut buf[n..])?;
-        if got == 0 {
-            break;
+    let room = buf.len();
+    let mut rest = buf;
+    loop {
+        match input.read(rest)? {
+            0 => return Ok(room - rest.len()),
+            n => rest = &mut rest[n..],
         }
-        n += got;
     }
-    Ok(n)
 }
 
 // ---------------------------------------------------------------- parts of a text
@@ -94,23 +94,31 @@ pub enum Kind {
     Float,
 }
 
-impl Kind {
-    /// The kind that a byte of a listing stands for.
-    pub fn from_byte(b: u8) -> Option<Kind>
-        ensures { result ≡ kind b }
-    {
+/// A byte stands for no kind.
+#[derive(Clone, Copy)]
+pub struct NoKind;
+
+// The kind that a byte of a listing stands for.
+impl TryFrom<u8> for Kind {
+    type Error = NoKind;
+
+    ghost try_from_gives = { λ b r. result_ok r ≡ kind b };
+
+    fn try_from(b: u8) -> Result<Kind, NoKind> {
         match b {
-            1 => Some(Kind::Text),
-            2 => Some(Kind::Int),
-            3 => Some(Kind::Binary),
-            4 => Some(Kind::Decimal),
-            5 => Some(Kind::Edited),
-            6 => Some(Kind::Group),
-            7 => Some(Kind::Float),
-            _ => None,
+            1 => Ok(Kind::Text),
+            2 => Ok(Kind::Int),
+            3 => Ok(Kind::Binary),
+            4 => Ok(Kind::Decimal),
+            5 => Ok(Kind::Edited),
+            6 => Ok(Kind::Group),
+            7 => Ok(Kind::Float),
+            _ => Err(NoKind),
         }
     }
+}
 
+impl Kind {
     /// How many bytes an entry of this kind has, its kind's byte included.
     pub fn size(self) -> usize
         ensures { result ≡ size self }
@@ -128,6 +136,8 @@ impl Kind {
 }
 
 impl fmt::Display for Kind {
+    ghost output = { λ k. Some (name k) };
+
     fn fmt<W: fmt::Write>(&self, f: &mut fmt::Formatter<W>) -> fmt::Result {
         f.write_str(match self {
             Kind::Text => "text",
@@ -186,12 +196,10 @@ impl<'a> Iterator for Entries<'a> {
     ghost remaining = { λ s. at_most (length s.bytes.now) };
 
     fn next(&mut self) -> Option<Entry> {
-        let bytes = self.bytes;
-        let kind = Kind::from_byte(byte_at(bytes, 0))?;
-        if bytes.len() < kind.size() {
-            return None;
-        }
-        self.bytes = &bytes[kind.size()..];
-        Some(Entry::read(kind, bytes))
+        let kind = Kind::try_from(byte_at(self.bytes, 0)).ok()?;
+        let behind = self.bytes.get(kind.size()..)?;
+        let entry = Entry::read(kind, self.bytes);
+        self.bytes = behind;
+        Some(entry)
     }
 }

@@ -2,18 +2,22 @@
 //! weights, the limit, the budget, and the answer: 1, the subset, its weight, how many were looked at and how far off
 //! it is; or 0 and the refusal's number, position and needed length. Each answer is asked for over work memory that is
 //! not zero, and work memory must be zero afterwards.
+ghost use Rattle.std.specs.Prelude.{◌≡◌};
+
 use crate::take_all;
 use replay::case::{Case, Differs};
-use replay::lent::replay_call;
+use replay::lent::{Lent, replay_call};
 
 /// The most weights that a case has.
 const WEIGHTS: usize = 32;
 
-/// Goes on where the next words ask for an extract and answer, with so many blanks before the text.
-pub fn replay(case: &mut Case, before: usize, work: &mut [u32]) -> Result<(), Differs> {
+/// Goes on where the next words ask for an extract and answer, with blanks before the text.
+pub fn replay(case: &mut Case, lent: Lent) -> Result<(), Differs>
+    ensures { case.new.list ≡ case.old.list }
+{
     let mut room = [b' '; 65536];
     let mut all = [0; WEIGHTS];
-    let text = case.input(&mut room, before)?;
+    let text = case.input(&mut room, lent.before)?;
     let count = case.take_number()?;
     if count > WEIGHTS as u64 {
         return Err(Differs);
@@ -22,17 +26,18 @@ pub fn replay(case: &mut Case, before: usize, work: &mut [u32]) -> Result<(), Di
     take_all(case, weights)?;
     let limit = case.take_number()? as usize;
     let budget = case.take_number()? as usize;
-    replay_call(work, |work| {
-        match copybook::extract(text, weights, limit, budget, work) {
-            Ok(e) => case.numbers(&[
-                1,
-                e.subset as u64,
-                e.weight as u64,
-                e.examined as u64,
-                e.off as u64,
-            ]),
-            Err(r) => case.refusal(r),
-        }
-    })?;
+    match replay_call(
+        lent.work,
+        |work| copybook::extract(text, weights, limit, budget, work),
+    )? {
+        Ok(e) => case.numbers(&[
+            1,
+            e.subset as u64,
+            e.weight as u64,
+            e.examined as u64,
+            e.off as u64,
+        ])?,
+        Err(r) => case.refusal(r)?,
+    }
     case.end()
 }

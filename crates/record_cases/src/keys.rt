@@ -1,15 +1,19 @@
 //! Answers of `set_key`, in key/keys.txt and limits.txt. A case: the number of lengths and the lengths, the texts one
 //! after the other, the name, and the answer: 1, offset and width; or 0 and the refusal's number, position and needed
 //! length. Each answer is asked for over work memory that is not zero, and work memory must be zero afterwards.
+ghost use Rattle.std.specs.Prelude.{◌≡◌};
+
 use crate::take_all;
 use replay::case::{Case, Differs};
-use replay::lent::replay_call;
+use replay::lent::{Lent, replay_call};
 
 /// The most lengths that a case has.
 const LENGTHS: usize = 32;
 
-/// Goes on where the next words ask for a key and answer, with so many blanks before the texts.
-pub fn replay(case: &mut Case, before: usize, work: &mut [u32]) -> Result<(), Differs> {
+/// Goes on where the next words ask for a key and answer, with blanks before the texts.
+pub fn replay(case: &mut Case, lent: Lent) -> Result<(), Differs>
+    ensures { case.new.list ≡ case.old.list }
+{
     let mut all = [0; LENGTHS];
     let mut room = [b' '; 131072];
     let mut name_room = [0; 1000];
@@ -19,13 +23,14 @@ pub fn replay(case: &mut Case, before: usize, work: &mut [u32]) -> Result<(), Di
     }
     let lengths = &mut all[..count as usize];
     take_all(case, lengths)?;
-    let texts = case.input(&mut room, before)?;
+    let texts = case.input(&mut room, lent.before)?;
     let name = case.input(&mut name_room, 0)?;
-    replay_call(work, |work| {
-        match copybook::set_key(texts, lengths, name, work) {
-            Ok(key) => case.numbers(&[1, key.offset as u64, key.width as u64]),
-            Err(r) => case.refusal(r),
-        }
-    })?;
+    match replay_call(
+        lent.work,
+        |work| copybook::set_key(texts, lengths, name, work),
+    )? {
+        Ok(key) => case.numbers(&[1, key.offset as u64, key.width as u64])?,
+        Err(r) => case.refusal(r)?,
+    }
     case.end()
 }

@@ -4,36 +4,37 @@
 //! with one position and its answer: 1, entry, first byte and place inside; 2 and the entry of slack; or 0 and the
 //! refusal's number, position and needed length. Each answer is asked for over work memory that is not zero, and work
 //! memory must be zero afterwards.
-ghost use Rattle.std.specs.Prelude.{◌≤◌};
+ghost use Rattle.std.specs.Prelude.{◌≡◌, ◌≤◌, ◌↔◌, ◌+◌, min, IsTrue};
+ghost use Rattle.replay.specs.Tallies.{most};
+ghost use Rattle.replay.specs.Counting.{cases, Onward};
 
 use definition::{Owner, Refusal};
-use replay::case::{Case, Differs, only};
+use replay::case::{Case, Differs};
 use replay::cases::Cases;
-use replay::lent::replay_call;
+use replay::lent::{Lent, replay_call};
 use replay::tally::Tally;
 
 // ---------------------------------------------------------------- one position and its answer
 
-/// Goes on where the next words ask for the owner of a position and answer, with so many blanks before the text.
-pub fn replay(case: &mut Case, before: usize, work: &mut [u32]) -> Result<(), Differs> {
+/// Goes on where the next words ask for the owner of a position and answer, with blanks before the text.
+pub fn replay(case: &mut Case, lent: Lent) -> Result<(), Differs>
+    ensures { case.new.list ≡ case.old.list }
+{
     let mut room = [b' '; 65536];
-    let text = case.input(&mut room, before)?;
+    let text = case.input(&mut room, lent.before)?;
     let position = case.take_number()? as usize;
-    replay_call(
-        work,
-        |work| match copybook::byte_owner(text, position, work) {
-            Ok(
-                Owner::Piece {
-                    entry,
-                    first,
-                    place,
-                },
-            ) => case.numbers(&[1, entry as u64, first as u64, place as u64]),
-            Ok(Owner::Slack { entry }) => case.numbers(&[2, entry as u64]),
-            Ok(Owner::Unowned) => Err(Differs),
-            Err(r) => case.refusal(r),
-        },
-    )?;
+    match replay_call(lent.work, |work| copybook::byte_owner(text, position, work))? {
+        Ok(
+            Owner::Piece {
+                entry,
+                first,
+                place,
+            },
+        ) => case.numbers(&[1, entry as u64, first as u64, place as u64])?,
+        Ok(Owner::Slack { entry }) => case.numbers(&[2, entry as u64])?,
+        Ok(Owner::Unowned) => return Err(Differs),
+        Err(r) => case.refusal(r)?,
+    }
     case.end()
 }
 
@@ -101,40 +102,30 @@ impl Run {
     }
 }
 
-/// Goes on where the owner of a position passes a test, or its refusal does.
-fn asked<F: FnOnce(Result<Owner, Refusal>) -> bool>(
-    text: &[u8],
-    position: usize,
-    test: F,
-) -> Result<(), Differs>
-    requires { F.IsAlwaysCallable test }
-{
+/// What owns a position, if work memory is zero after the call.
+fn owner_of(text: &[u8], position: usize) -> Result<Result<Owner, Refusal>, Differs> {
     let mut work = [0; 16384];
-    replay_call(
-        &mut work,
-        |work| only(test(copybook::byte_owner(text, position, work))),
-    )
+    replay_call(&mut work, |work| copybook::byte_owner(text, position, work))
 }
 
 /// Whether the owner of a position is what the run says.
 fn is_owned(text: &[u8], position: usize, run: Run) -> bool {
-    asked(text, position, |answer| match answer {
-        Ok(owner) => run.owns(position, owner),
-        Err(_) => false,
-    })
-    .is_ok()
+    match owner_of(text, position) {
+        Ok(Ok(owner)) => run.owns(position, owner),
+        _ => false,
+    }
 }
 
 /// Whether a position is refused with 41.
 fn is_past(text: &[u8], position: usize) -> bool {
-    asked(text, position, |answer| {
-        matches!(answer, Err(Refusal::OutsideRecord))
-    })
-    .is_ok()
+    matches!(owner_of(text, position), Ok(Err(Refusal::OutsideRecord)))
 }
 
 /// Replays the positions past the end of a record of so many bytes, which is the end of the case.
-fn replay_end(case: Case, text: &[u8], length: usize, positions: &mut Tally) {
+#[tactic(auto, using(replay::proofs::TallyLaws::tally_steps))]
+fn replay_end(case: Case, text: &[u8], length: usize, positions: &mut Tally)
+    ensures { Onward positions.old positions.new }
+{
     positions.add(case.end().is_ok() && is_past(text, length));
     if length <= 65535 {
         for position in [length + 1, 1 << 32, 1 << 63, usize::MAX] {
@@ -144,7 +135,10 @@ fn replay_end(case: Case, text: &[u8], length: usize, positions: &mut Tally) {
 }
 
 /// Replays every position of a record: its runs, and the end.
-fn replay_record(case: &mut Case, positions: &mut Tally) -> Result<(), Differs> {
+#[tactic(auto, using(replay::proofs::TallyLaws::tally_steps))]
+fn replay_record(case: &mut Case, positions: &mut Tally) -> Result<(), Differs>
+    ensures { Onward positions.old positions.new }
+{
     let mut room = [0; 65536];
     let text = case.input(&mut room, 0)?;
     let mut first = 0;
@@ -159,6 +153,21 @@ fn replay_record(case: &mut Case, positions: &mut Tally) -> Result<(), Differs> 
     Ok(())
 }
 
+/// Replays a record, whose words count as a position that differs where they are other than they should be. Whether none
+/// of its positions differs.
+#[tactic(auto, using(replay::proofs::TallyLaws::tally_steps))]
+fn agrees(case: &mut Case, positions: &mut Tally) -> bool
+    ensures onward { Onward positions.old positions.new }
+    ensures agrees { IsTrue result
+        ↔ (positions.new.cases + positions.old.agree ≤ positions.old.cases + positions.new.agree) }
+{
+    let before = positions.differing();
+    if replay_record(case, positions).is_err() {
+        positions.add(false);
+    }
+    positions.differing() <= before
+}
+
 /// How many records and positions there were, and how many agreed.
 #[derive(Clone, Copy)]
 pub struct Counts {
@@ -168,15 +177,15 @@ pub struct Counts {
 
 /// Replays a list of records. A record agrees if none of its positions differs, and one with other words than it should
 /// have counts as a position that does.
-pub fn replay_records(list: &[u8]) -> Counts {
+pub fn replay_records(list: &[u8]) -> Counts
+    ensures records { result.records.cases ≡ min most (cases list.now) }
+    ensures differing { result.records.cases + result.positions.agree
+        ≤ result.positions.cases + result.records.agree }
+{
     let mut records = Tally::new();
     let mut positions = Tally::new();
     for mut case in Cases::of(list) {
-        let before = positions.differing();
-        if replay_record(&mut case, &mut positions).is_err() {
-            positions.add(false);
-        }
-        records.add(positions.differing() <= before);
+        records.add(agrees(&mut case, &mut positions));
     }
     Counts { records, positions }
 }

@@ -21,6 +21,18 @@ pub fn only(test: bool) -> Result<(), Differs>
     if test { Ok(()) } else { Err(Differs) }
 }
 
+/// What a list says of a refusal: 0, its number, its position and the needed length.
+fn refusal_numbers(r: Refusal) -> [u64; 4]
+    ensures { result ≡ refusal_numbers r }
+{
+    [
+        0,
+        u64::from(r.number()),
+        r.position() as u64,
+        r.needed() as u64,
+    ]
+}
+
 /// A case of a list, and how far its words are read.
 #[derive(Clone, Copy)]
 pub struct Case<'a> {
@@ -111,12 +123,7 @@ impl<'a> Case<'a> {
         ensures behind { ahead self.old.list.now self.new.stand
             ≡ behind_told self.old.list.now (refusal_numbers r) (ahead self.old.list.now self.old.stand) }
     {
-        self.numbers(&[
-            0,
-            u64::from(r.number()),
-            r.position() as u64,
-            r.needed() as u64,
-        ])
+        self.numbers(&refusal_numbers(r))
     }
 
     /// Takes the input that the next word stands for. So many bytes of the output are part of it as they stand, and it
@@ -135,6 +142,7 @@ impl<'a> Case<'a> {
         Ok(&out[..n])
     }
 
+    // Kept: the output and a length – no plainer: the bytes behind what was written are looked at too.
     /// Goes on where the next words are the length and the bytes of what was written to the start of an output, which
     /// is else untouched.
     pub fn written(&mut self, out: &[u8], n: usize) -> Result<(), Differs>

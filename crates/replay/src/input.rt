@@ -1,6 +1,7 @@
 //! The inputs that words of a list stand for.
 ghost use Rattle.std.specs.Prelude.{◌≡◌, ◌≤◌, length, take, Some, None, MatchOption, MatchResult, [], ◌∷◌};
-ghost use Rattle.replay.specs.Inputs.{hex, decoded};
+ghost use Rattle.std.specs.Iterator.{at_most};
+ghost use Rattle.replay.specs.Inputs.{hex, decoded, input};
 ghost use Rattle.replay.specs.Answers.{taken};
 
 use crate::case::Differs;
@@ -17,14 +18,41 @@ fn hex_value(b: u8) -> u8
     }
 }
 
-/// The first byte of an input, and what the rest of the word stands for.
-fn split_byte(word: &[u8]) -> Option<(u8, &[u8])>
-    ensures { MatchOption result (word.now ≡ []) (λ p. decoded word.now ≡ p.0 ∷ decoded p.1.now) }
-{
-    match word {
-        [] => None,
-        [b'%', high, low, rest @ ..] => Some((hex_value(*high) * 16 + hex_value(*low), rest)),
-        [b, rest @ ..] => Some((*b, rest)),
+/// The bytes that are still to come of the input that a word stands for.
+#[derive(Clone, Copy)]
+struct Bytes<'a> {
+    rest: &'a [u8],
+}
+
+impl<'a> Bytes<'a> {
+    /// All of them. The word % is the empty input.
+    fn of(word: &'a [u8]) -> Bytes<'a>
+        ensures { decoded result.rest.now ≡ input word.now }
+    {
+        match word {
+            b"%" => Bytes { rest: &[] },
+            rest => Bytes { rest },
+        }
+    }
+}
+
+impl<'a> Iterator for Bytes<'a> {
+    type Item = u8;
+
+    ghost next_gives = { λ s r t. MatchOption r
+        ((decoded s.rest.now ≡ []) × (t ≡ s))
+        (λ b. decoded s.rest.now ≡ b ∷ decoded t.rest.now) };
+
+    ghost remaining = { λ s. at_most (length (decoded s.rest.now)) };
+
+    fn next(&mut self) -> Option<u8> {
+        let (byte, behind) = match self.rest {
+            [] => return None,
+            [b'%', high, low, behind @ ..] => (hex_value(*high) * 16 + hex_value(*low), behind),
+            [byte, behind @ ..] => (*byte, behind),
+        };
+        self.rest = behind;
+        Some(byte)
     }
 }
 
@@ -38,18 +66,13 @@ pub fn decode(word: &[u8], out: &mut [u8], before: usize) -> Result<usize, Diffe
     if out.len() < before {
         return Err(Differs);
     }
-    if word == b"%".as_slice() {
-        return Ok(before);
-    }
     let mut n = before;
-    let mut rest = word;
-    while let Some((byte, behind)) = split_byte(rest) {
+    for byte in Bytes::of(word) {
         if out.len() <= n {
             return Err(Differs);
         }
         out[n] = byte;
         n += 1;
-        rest = behind;
     }
     Ok(n)
 }

@@ -1,10 +1,17 @@
-//! The memory that a call is lent.
-ghost use Rattle.std.specs.Prelude.{ℕ, ◌≡◌, ◌<◌, ◌%◌, ◌↔◌, true, is_ok, OnOk, IsTrue, All};
+//! What a case lends a call, and the memory that it is lent.
+ghost use Rattle.std.specs.Prelude.{ℕ, ◌≡◌, ◌<◌, ◌%◌, ◌↔◌, IsOk, IfOk, IsTrue, All};
 ghost use Rattle.std.specs.Prelude.{length, get_or, drop, replicate};
 ghost use Rattle.std.specs.Fn.{FnOnceReturnsAtMut};
 ghost use Rattle.replay.specs.Lent.{untouched};
 
 use crate::case::{Differs, only};
+
+/// What a case lends its call: work memory, and so many bytes before its text.
+#[derive(Drop)]
+pub struct Lent<'a> {
+    pub work: &'a mut [u32],
+    pub before: usize,
+}
 
 /// What stands in work memory before a call.
 const FILL: u32 = u32::MAX;
@@ -55,17 +62,18 @@ pub fn is_untouched(out: &[u8], from: usize) -> bool
     true
 }
 
-/// Makes a call over work memory that is not zero: goes on where the call does, and work memory is zero then.
-pub fn replay_call<F: FnOnce(&mut [u32]) -> Result<(), Differs>>(
+/// Makes a call over work memory that is not zero: what it answers, if work memory is zero then.
+pub fn replay_call<T: Drop, F: FnOnce(&mut [u32]) -> T>(
     work: &mut [u32],
     call: F,
-) -> Result<(), Differs>
+) -> Result<T, Differs>
     requires { F.IsAlwaysCallable call }
-    ensures zero { OnOk result (All (λ n. n ≡ 0) work.new) }
+    ensures zero { IsOk result ↔ All (λ n. n ≡ 0) work.new }
     ensures called { (r : _) × FnOnceReturnsAtMut F.FnOnce call (replicate (length work.old) 4294967295) r work.new
-        × (is_ok result ≡ true → is_ok r ≡ true) }
+        × IfOk result (λ answer. answer ≡ r) }
 {
     fill(work);
-    call(work)?;
-    only(is_cleared(work))
+    let answer = call(work);
+    only(is_cleared(work))?;
+    Ok(answer)
 }

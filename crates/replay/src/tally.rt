@@ -1,6 +1,6 @@
 //! How many cases agree.
-ghost use Rattle.std.specs.Prelude.{◌≡◌, ◌≤◌, ◌<◌, ◌+◌, nat_lt, if◌then◌else◌, None};
-ghost use Rattle.replay.specs.Tallies.{counted, agreeing, first_of};
+ghost use Rattle.std.specs.Prelude.{◌≡◌, ◌≤◌, ◌<◌, ◌+◌, nat_lt, if◌then◌else◌, Some, None};
+ghost use Rattle.replay.specs.Tallies.{counted, agreeing, first_of, printed};
 
 use std::fmt;
 
@@ -57,9 +57,9 @@ impl Tally {
 }
 
 impl fmt::Display for Tally {
+    ghost output = { λ t. Some (printed t.agree t.cases) };
+
     fn fmt<W: fmt::Write>(&self, f: &mut fmt::Formatter<W>) -> fmt::Result {
-        let agree = self.agree;
-        let cases = self.cases;
-        write!(f, "{agree} agree of {cases}")
+        write!(f, "{} agree of {}", self.agree, self.cases)
     }
 }

@@ -12,7 +12,7 @@ ghost use Rattle.std.specs.Prelude.{◌≡◌};
 
 use definition::{Refusal, Report};
 use replay::case::{Case, Differs, only};
-use replay::lent::{is_untouched, replay_call, write_pattern};
+use replay::lent::{Lent, is_untouched, replay_call, write_pattern};
 
 /// The most room that an output is given: more than any report needs.
 const ROOM: usize = 80000;
@@ -28,113 +28,146 @@ pub enum Kind {
     Reasons,
 }
 
-/// What a case asks for: a report on a text, that is cards or not.
+/// How a text is written: free, or on cards.
 #[derive(Clone, Copy)]
-struct Asked<'a> {
-    report: Report,
-    cards: bool,
-    text: &'a [u8],
+enum Form {
+    Free,
+    Cards,
 }
 
-impl<'a> Asked<'a> {
-    /// The answer.
-    fn answer(self, work: &mut [u32], out: &mut [u8]) -> Result<usize, Refusal> {
-        match (self.report, self.cards) {
-            (Report::Listing, false) => copybook::layout_listing(self.text, work, out),
-            (Report::Listing, true) => copybook::layout_cards(self.text, work, out),
-            (Report::Details, false) => copybook::layout_details(self.text, work, out),
-            (Report::Details, true) => copybook::layout_details_cards(self.text, work, out),
-            (Report::Reasons(n), false) => copybook::entry_reasons(self.text, n, work, out),
-            (Report::Reasons(n), true) => copybook::entry_reasons_cards(self.text, n, work, out),
+impl Form {
+    /// What the next word says: 1 for cards.
+    fn take(case: &mut Case) -> Result<Form, Differs>
+        ensures { case.new.list ≡ case.old.list }
+    {
+        match case.take_number()? {
+            1 => Ok(Form::Cards),
+            _ => Ok(Form::Free),
         }
     }
 }
 
-/// Goes on where the last words of the case are the answer with so much room.
-fn answered(case: Case, asked: Asked, work: &mut [u32], room: usize) -> Result<(), Differs> {
-    if ROOM < room {
-        return Err(Differs);
-    }
-    let mut case = case;
-    let mut out = [0; ROOM];
-    write_pattern(&mut out);
-    replay_call(work, |work| {
-        let answer = asked.answer(work, &mut out[..room]);
-        case.writing(answer, &out)
-    })?;
-    case.end()
+/// What a case asks for: a report on a text.
+#[derive(Clone, Copy)]
+struct Asked<'a> {
+    report: Report,
+    form: Form,
+    text: &'a [u8],
 }
 
-// ---------------------------------------------------------------- lengths of output
-
-/// Goes on where an output that is one byte short is refused with 31 and the needed length, and holds the pattern then.
-fn short(asked: Asked, work: &mut [u32], needed: usize) -> Result<(), Differs> {
-    if ROOM < needed {
-        return Err(Differs);
+impl<'a> Asked<'a> {
+    // Kept: a switch – the C interface has a call for each report, on free text and on cards, and one is picked here.
+    /// The answer.
+    fn answer(self, work: &mut [u32], out: &mut [u8]) -> Result<usize, Refusal> {
+        match (self.report, self.form) {
+            (Report::Listing, Form::Free) => copybook::layout_listing(self.text, work, out),
+            (Report::Listing, Form::Cards) => copybook::layout_cards(self.text, work, out),
+            (Report::Details, Form::Free) => copybook::layout_details(self.text, work, out),
+            (Report::Details, Form::Cards) => copybook::layout_details_cards(self.text, work, out),
+            (Report::Reasons(n), Form::Free) => copybook::entry_reasons(self.text, n, work, out),
+            (Report::Reasons(n), Form::Cards) => {
+                copybook::entry_reasons_cards(self.text, n, work, out)
+            }
+        }
     }
-    let Some(room) = needed.checked_sub(1) else {
-        return Ok(());
-    };
-    let mut out = [0; ROOM];
-    write_pattern(&mut out);
-    replay_call(work, |work| {
-        match asked.answer(work, &mut out[..room]) {
+
+    /// The answer in an output, if work memory is zero after the call.
+    fn ask(self, work: &mut [u32], out: &mut [u8]) -> Result<Result<usize, Refusal>, Differs> {
+        replay_call(work, |work| self.answer(work, out))
+    }
+}
+
+/// A case at its answer, what it asks for, and the work memory that it lends.
+#[derive(Drop)]
+struct Asking<'a, 'w> {
+    case: Case<'a>,
+    asked: Asked<'a>,
+    work: &'w mut [u32],
+}
+
+impl<'a, 'w> Asking<'a, 'w> {
+    /// Goes on where the last words of the case are the answer with so much room.
+    fn answered(&mut self, room: usize) -> Result<(), Differs> {
+        if ROOM < room {
+            return Err(Differs);
+        }
+        let mut case = self.case;
+        let mut out = [0; ROOM];
+        write_pattern(&mut out);
+        let answer = self.asked.ask(self.work, &mut out[..room])?;
+        case.writing(answer, &out)?;
+        case.end()
+    }
+
+    /// Goes on where an output that is one byte short is refused with 31 and the needed length, and holds the pattern
+    /// then.
+    fn short(&mut self, needed: usize) -> Result<(), Differs> {
+        if ROOM < needed {
+            return Err(Differs);
+        }
+        let Some(room) = needed.checked_sub(1) else {
+            return Ok(());
+        };
+        let mut out = [0; ROOM];
+        write_pattern(&mut out);
+        match self.asked.ask(self.work, &mut out[..room])? {
             Err(Refusal::OutputTooShort { needed: n }) => only(
                 n == needed && is_untouched(&out, 0),
             ),
             _ => Err(Differs),
         }
-    })
-}
+    }
 
-/// Goes on where an answer of this length is written to an output that has room to spare, its length, or one byte more,
-/// and one byte less is refused.
-fn written(case: Case, asked: Asked, work: &mut [u32], n: u64) -> Result<(), Differs> {
-    if n >= ROOM as u64 {
-        return Err(Differs);
+    /// Goes on where an answer of this length is written to an output that has room to spare, its length, or one byte
+    /// more, and one byte less is refused.
+    fn written(&mut self, n: u64) -> Result<(), Differs> {
+        if n >= ROOM as u64 {
+            return Err(Differs);
+        }
+        let needed = n as usize;
+        for room in [ROOM, needed, needed + 1] {
+            self.answered(room)?;
+        }
+        self.short(needed)
     }
-    let needed = n as usize;
-    for room in [ROOM, needed, needed + 1] {
-        answered(case, asked, work, room)?;
-    }
-    short(asked, work, needed)
-}
 
-/// Goes on where the next words are the answer, with every length of output: a refusal comes with room and with none.
-fn replay_asked(case: Case, asked: Asked, work: &mut [u32]) -> Result<(), Differs> {
-    let mut told = case;
-    let mark = told.take_number()?;
-    let number = told.take_number()?;
-    if mark == 1 {
-        return written(case, asked, work, number);
+    /// Goes on where the next words are the answer, with every length of output: a refusal comes with room and with
+    /// none.
+    fn replay(&mut self) -> Result<(), Differs> {
+        let mut told = self.case;
+        let mark = told.take_number()?;
+        let number = told.take_number()?;
+        if mark == 1 {
+            return self.written(number);
+        }
+        for room in [ROOM, 0] {
+            self.answered(room)?;
+        }
+        Ok(())
     }
-    for room in [ROOM, 0] {
-        answered(case, asked, work, room)?;
-    }
-    Ok(())
 }
 
 // ---------------------------------------------------------------- cases
 
-/// Goes on where the next words ask for a report of a kind and answer, with so many blanks before the text.
-pub fn replay(case: &mut Case, kind: Kind, before: usize, work: &mut [u32]) -> Result<(), Differs>
+/// Goes on where the next words ask for a report of a kind and answer, with blanks before the text.
+pub fn replay(case: &mut Case, kind: Kind, lent: Lent) -> Result<(), Differs>
     ensures { case.new.list ≡ case.old.list }
 {
     let mut room = [b' '; 65536];
-    let (report, cards) = match kind {
-        Kind::Listing => (Report::Listing, false),
-        Kind::CardListing => (Report::Listing, true),
-        Kind::Details => (Report::Details, case.take_number()? == 1),
+    let (report, form) = match kind {
+        Kind::Listing => (Report::Listing, Form::Free),
+        Kind::CardListing => (Report::Listing, Form::Cards),
+        Kind::Details => (Report::Details, Form::take(case)?),
         Kind::Reasons => {
-            let cards = case.take_number()? == 1;
-            (Report::Reasons(case.take_number()? as usize), cards)
+            let form = Form::take(case)?;
+            (Report::Reasons(case.take_number()? as usize), form)
         }
     };
-    let text = case.input(&mut room, before)?;
-    let asked = Asked {
-        report,
-        cards,
-        text,
+    let text = case.input(&mut room, lent.before)?;
+    let mut asking = Asking {
+        case: *case,
+        asked: Asked { report, form, text },
+        work: lent.work,
     };
-    replay_asked(*case, asked, work)
+    asking.replay()
 }

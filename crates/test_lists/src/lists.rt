@@ -1,12 +1,14 @@
 //! Lists of questions: a list is read from its file and replayed, case by case. In a list of limits each case begins
 //! with two numbers more: how much work memory is lent, and how many bytes stand before the text: blanks, or X before a
 //! picture.
-ghost use Rattle.std.specs.Prelude.{◌≡◌};
+ghost use Rattle.std.specs.Prelude.{ℕ, ◌≡◌, take, IfOk};
+ghost use Rattle.replay.specs.Counting.{Onward, Counted};
 
 use record_cases::owners::Counts;
 use record_cases::{extracts, keys, owners};
 use replay::case::{Case, Differs};
 use replay::cases::Cases;
+use replay::lent::Lent;
 use replay::lists::read_list;
 use replay::tally::Tally;
 use report_cases::Kind;
@@ -79,34 +81,30 @@ impl<'a> List<'a> {
     }
 }
 
-/// Goes on where the next words ask and answer a question, with so many bytes before its text.
-fn answered(
-    case: &mut Case,
-    question: Question,
-    before: usize,
-    work: &mut [u32],
-) -> Result<(), Differs> {
-    match question {
-        Question::Picture(source) => pictures::replay(case, source, before),
-        Question::Reading => readings::replay(case, before, work),
-        Question::Report(kind) => report_cases::replay(case, kind, before, work),
-        Question::Owner => owners::replay(case, before, work),
-        Question::Extract => extracts::replay(case, before, work),
-        Question::Key => keys::replay(case, before, work),
-    }
-}
-
-/// Goes on where a case agrees.
-fn agrees(case: &mut Case, question: Question, form: Form) -> Result<(), Differs> {
-    let mut work = [0; MOST_WORK];
-    let (lent, before) = match form {
+/// Goes on where a case agrees: its words ask and answer the question.
+fn agrees(case: &mut Case, question: Question, form: Form) -> Result<(), Differs>
+    ensures { case.new.list ≡ case.old.list }
+{
+    let mut room = [0; MOST_WORK];
+    let (work, before) = match form {
         Form::Plain => (WORK as u64, 0),
         Form::Limits => (case.take_number()?, case.take_number()?),
     };
-    if lent > MOST_WORK as u64 {
+    if work > MOST_WORK as u64 {
         return Err(Differs);
     }
-    answered(case, question, before as usize, &mut work[..lent as usize])
+    let lent = Lent {
+        work: &mut room[..work as usize],
+        before: before as usize,
+    };
+    match question {
+        Question::Picture(source) => pictures::replay(case, source, lent.before),
+        Question::Reading => readings::replay(case, lent),
+        Question::Report(kind) => report_cases::replay(case, kind, lent),
+        Question::Owner => owners::replay(case, lent),
+        Question::Extract => extracts::replay(case, lent),
+        Question::Key => keys::replay(case, lent),
+    }
 }
 
 /// Prints which case was the first that differed, if one did after those that were counted before.
@@ -123,18 +121,29 @@ fn print_difference(
 }
 
 impl<'a> List<'a> {
+    /// Counts the cases of the list, which was read, after those of others.
+    fn count(self, list: &[u8], counted: &mut Tally)
+        ensures { Counted list.now counted.old counted.new }
+    {
+        for mut case in Cases::of(list) {
+            counted.add(agrees(&mut case, self.question, self.form).is_ok());
+        }
+    }
+
     /// Reads the list and replays it, after the cases of others.
+    #[tactic(auto, using(replay::proofs::TallyLaws::tally_steps))]
     pub fn replay(
         self,
         rt: &(impl Files + Print),
         room: &mut [u8],
         counted: &mut Tally,
-    ) -> io::Result<()> {
+    ) -> io::Result<()>
+        ensures onward { Onward counted.old counted.new }
+        ensures all { IfOk result (λ _. (n : ℕ) × Counted (take n room.new) counted.old counted.new) }
+    {
         let n = read_list(rt, self.file, room)?;
         let before = counted.first_difference;
-        for mut case in Cases::of(&room[..n]) {
-            counted.add(agrees(&mut case, self.question, self.form).is_ok());
-        }
+        self.count(&room[..n], counted);
         print_difference(rt, self.what, before, *counted)
     }
 

@@ -5,7 +5,7 @@
 //! refusal's number, position and needed length. Usage and sign are numbered as in tools/oracle.
 ghost use Rattle.std.specs.Prelude.{◌≡◌};
 
-use definition::{FieldKind, SignKind, Usage};
+use definition::{FieldKind, Refusal, SignKind, Usage};
 use kinds::Coded;
 use replay::case::{Case, Differs, only};
 use replay::lent::{is_untouched, write_pattern};
@@ -64,25 +64,23 @@ fn lent_output() -> [u8; ROOM] {
 
 /// Goes on where the mask is the one of the next words, if the picture is edited under DISPLAY, and has length 0 if
 /// not.
-fn rust_mask(case: &mut Case, asked: Asked, edited: bool) -> Result<(), Differs>
+fn rust_mask(case: &mut Case, asked: Asked, kind: FieldKind) -> Result<(), Differs>
     ensures { case.new.list ≡ case.old.list }
 {
     let mut out = lent_output();
-    match copybook::mask(asked.picture, asked.usage, &mut out) {
-        Ok(n) if edited => case.written(&out, n),
-        Ok(n) => only(n == 0 && is_untouched(&out, 0)),
-        Err(_) => Err(Differs),
+    match (copybook::mask(asked.picture, asked.usage, &mut out), kind) {
+        (Ok(n), FieldKind::Edited { .. }) => case.written(&out, n),
+        (Ok(n), _) => only(n == 0 && is_untouched(&out, 0)),
+        (Err(_), _) => Err(Differs),
     }
 }
 
-/// Goes on where the mask is refused with this number at position 0, and the output is untouched.
-fn mask_refused(asked: Asked, number: u32) -> Result<(), Differs> {
+/// Goes on where the mask has the same refusal, and the output is untouched.
+fn mask_refused(asked: Asked, refusal: Refusal) -> Result<(), Differs> {
     let mut out = lent_output();
     match copybook::mask(asked.picture, asked.usage, &mut out) {
         Ok(_) => Err(Differs),
-        Err(r) => only(
-            r.number() == number && r.position() == 0 && r.needed() == 0 && is_untouched(&out, 0),
-        ),
+        Err(r) => only(r == refusal && is_untouched(&out, 0)),
     }
 }
 
@@ -94,12 +92,12 @@ fn rust_answer(case: &mut Case, asked: Asked) -> Result<(), Differs>
         Ok(a) => {
             case.numbers(&[1, a.width as u64])?;
             kind(case, a.kind)?;
-            rust_mask(case, asked, matches!(a.kind, FieldKind::Edited { .. }))
+            rust_mask(case, asked, a.kind)
         }
         Err(r) => {
             case.numbers(&[0, u64::from(r.number())])?;
             only(r.position() == 0 && r.needed() == 0)?;
-            mask_refused(asked, r.number())
+            mask_refused(asked, r)
         }
     }
 }

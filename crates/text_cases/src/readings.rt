@@ -6,6 +6,7 @@ ghost use Rattle.rows.specs.Columns.{ROW};
 use definition::{Clauses, ItemUsage, Refusal, Span, Usage};
 use kinds::Coded;
 use replay::case::{Case, Differs};
+use replay::lent::Lent;
 use rows::{Rows, row_code};
 
 // ---------------------------------------------------------------- one row
@@ -47,7 +48,7 @@ fn clauses(case: &mut Case, c: Clauses) -> Result<(), Differs>
     span(case, c.picture)?;
     case.numbers(&[
         usage_number(c.usage),
-        u64::from(kinds::sign_code(c.sign)),
+        u64::from(c.sign.code()),
         u64::from(c.sync),
     ])?;
     occurs(case, c.occurs)?;
@@ -101,13 +102,13 @@ fn answer(case: &mut Case, text: &[u8], work: &mut [u32]) -> Result<(), Differs>
     }
 }
 
-/// Goes on where the next words ask and answer, with so many blanks before the text.
-pub fn replay(case: &mut Case, before: usize, work: &mut [u32]) -> Result<(), Differs>
+/// Goes on where the next words ask and answer, with blanks before the text.
+pub fn replay(case: &mut Case, lent: Lent) -> Result<(), Differs>
     ensures { case.new.list ≡ case.old.list }
 {
     let mut room = [b' '; 65536];
-    let text = case.input(&mut room, before)?;
-    replay::lent::fill(work);
-    answer(case, text, work)?;
+    let text = case.input(&mut room, lent.before)?;
+    replay::lent::fill(lent.work);
+    answer(case, text, lent.work)?;
     case.end()
 }

@@ -1,4 +1,4 @@
--- `decode` meets its contract: the bytes that were written, and what the rest of the word stands for, are the input.
+-- `decode` meets its contract: the bytes that were written, and those that are still to come, are the input.
 use Rattle.std.proofs.Common.{ℕ, List, ◌≡◌, ◌≤◌, ◌++◌, length, take}
 use Rattle.replay.specs.Inputs.{decoded, input}
 use Rattle.replay.proofs.input.decode.Given as goal
@@ -10,7 +10,4 @@ pub record Written (word rest : List ℕ) (before n : ℕ) (out old : List ℕ) 
   pub front : take n out ++ decoded rest ≡ take before old ++ input word
 
 abbrev pub invariant-loop-byte : goal.invariant-loop-byte
-invariant-loop-byte l = Written l.fn.word l.rest l.before l.n l.out l.initial.out
-
-abbrev pub decreases-loop-byte : goal.decreases-loop-byte
-decreases-loop-byte l = length (decoded l.rest)
+invariant-loop-byte l = Written l.fn.word l.byte-iterator.rest.now l.before l.n l.out l.initial.out

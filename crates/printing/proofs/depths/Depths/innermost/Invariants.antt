@@ -3,5 +3,5 @@ use Rattle.std.proofs.Common.{◌≡◌}
 use Rattle.printing.specs.Depths.{still_open}
 use Rattle.printing.proofs.depths.Depths.innermost.Given as goal
 
-abbrev pub invariant-loop-d : goal.invariant-loop-d
-invariant-loop-d l = still_open l.self.left l.d ≡ still_open l.self.left l.self.depth
+abbrev pub invariant-loop-depth : goal.invariant-loop-depth
+invariant-loop-depth l = still_open l.self.left l.depth ≡ still_open l.self.left 255

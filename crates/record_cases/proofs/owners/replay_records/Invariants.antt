@@ -1,0 +1,13 @@
+-- `owners::replay_records` meets its contract: the cases that were counted, and those that are still to come, are all
+-- cases of the list, and no more records differ than positions.
+use Rattle.std.proofs.Common.{◌≡◌, ◌≤◌, ◌+◌, min, false}
+use Rattle.replay.specs.Tallies.{most}
+use Rattle.replay.specs.Words.{ahead}
+use Rattle.replay.specs.Counting.{begun, cases}
+use Rattle.record_cases.proofs.owners.replay_records.Given as goal
+
+abbrev pub invariant-loop-case : goal.invariant-loop-case
+invariant-loop-case l =
+    (min most (l.records.cases + begun false (ahead l.case-iterator.rest.list.now l.case-iterator.rest.stand))
+    ≡ min most (cases l.fn.list))
+    × (l.records.cases + l.positions.agree ≤ l.positions.cases + l.records.agree)

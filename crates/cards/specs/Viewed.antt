@@ -16,12 +16,8 @@ abbrev pub Viewed : List ℕ → Answer (Unit {0}) → List ℕ → Type 0
 Viewed text (Ok u) seen = (indicator_check text ≡ Ok tt) × (take (length text) seen ≡ view text)
 Viewed text (Err r) seen = indicator_check text ≡ Err r
 
--- the checks of cards are passed, and the first bytes of what is lent are the view
-pub record Seen (text : List ℕ) (work : ℕ) (seen : List ℕ) : Type 0 where
+-- the checks of cards are passed, and this is the view
+pub record CardsSeen (text : List ℕ) (work : ℕ) (seen : List ℕ) : Type 0 where
   pub passed : card_checks text work ≡ Ok tt
   pub short : length text ≤ most_bytes
-  pub bytes : take (length text) seen ≡ view text
-
-abbrev pub CardsRead : List ℕ → ℕ → Answer (Unit {0}) → List ℕ → Type 0
-CardsRead text work (Ok u) seen = Seen text work seen
-CardsRead text work (Err r) seen = card_checks text work ≡ Err r
+  pub bytes : seen ≡ view text

@@ -2,11 +2,13 @@
 //! first indicator that is none of the four. Leans on `text` and `definition`.
 #![tactic(auto)]
 
-ghost use Rattle.std.specs.Prelude.{◌≡◌, ◌≤◌, ◌&&◌, eqb, length};
+ghost use Rattle.std.specs.Prelude.{◌≡◌, ◌≤◌, ◌&&◌, eqb, length, MatchResult};
+ghost use Rattle.definition.specs.Basic.{Err};
+ghost use Rattle.definition.specs.Calls.{card_checks};
 ghost use Rattle.definition.specs.Limits.{most_bytes};
 ghost use Rattle.definition.specs.Cards.{indicator_column, column_next, code_next, shown as shown_as, line_ends};
 ghost use Rattle.definition.specs.Cards.{other_indicator};
-ghost use Rattle.cards.specs.Viewed.{ViewRoom, Viewed, CardsRead};
+ghost use Rattle.cards.specs.Viewed.{ViewRoom, Viewed, CardsSeen};
 
 use definition::Refusal;
 
@@ -16,6 +18,9 @@ const INDICATOR: usize = 7;
 const LAST: usize = 72;
 
 /// The column of the byte after b, which stands in column n.
+// Kept: a column, whether its line is code, and a byte, as in `code_next`, `shown`, `is_refused` and `view_into` – no
+// plainer: the definition takes each on by a function of its own, and of a struct of them each contract would name its
+// parts again.
 fn column_next(n: usize, b: u8) -> usize
     requires { n ≤ most_bytes }
     ensures { result ≡ column_next n b }
@@ -74,8 +79,8 @@ fn is_refused(n: usize, b: u8, rest: &[u8]) -> bool
 }
 
 /// Refusal 51; where there is none, the first bytes of `view` are then the view of the cards.
-// Kept: byte by byte, by its place – no plainer: what is shown of a byte depends on its column and on its line's
-// indicator, which go on from the byte before, and a refusal looks at the bytes behind it and tells the place.
+// Kept: byte by byte, by its place – no plainer: the bytes behind, which a refusal looks at, are cut from the cards by
+// that place, so that a `zip` of cards and view, counted, would index the cards all the same.
 fn view_into(cards: &[u8], view: &mut [u8]) -> Result<(), Refusal>
     requires { ViewRoom cards.now view.old }
     ensures { Viewed cards.now result view.new }
@@ -94,12 +99,20 @@ fn view_into(cards: &[u8], view: &mut [u8]) -> Result<(), Refusal>
     Ok(())
 }
 
-/// The checks of cards, 1 to 3 of the whole text and then 51; where they pass, the first bytes of `view` are then what
-/// the reader sees. Every entry for cards starts so, and goes on as the one for free text.
-pub fn read_cards(cards: &[u8], work_len: usize, view: &mut [u8]) -> Result<(), Refusal>
-    requires { most_bytes ≤ length view.old }
-    ensures { CardsRead cards.now work_len result view.new }
+/// What the reader sees of cards, made in the room that is lent, where the checks pass: 1 to 3 of the whole text and
+/// then 51. Every entry for cards starts so, and goes on as the one for free text.
+#[tactic(auto, unfolding(definition::specs::Calls::card_checks, definition::specs::Basic::and_then))]
+pub fn read_cards<'a>(
+    cards: &[u8],
+    work_len: usize,
+    room: &'a mut [u8],
+) -> Result<&'a [u8], Refusal>
+    requires { most_bytes ≤ length room.old }
+    ensures { MatchResult result
+        (λ seen. CardsSeen cards.now work_len seen.now)
+        (λ r. card_checks cards.now work_len ≡ Err r) }
 {
     text::entry_checks(cards, work_len)?;
-    view_into(cards, view)
+    view_into(cards, room)?;
+    Ok(&room[..cards.len()])
 }

@@ -61,7 +61,6 @@ same_columns (c ∷ cs) (d ∷ ds) = same c d && same_columns cs ds
 abbrev pub owner_shown : Owner → List ℕ
 owner_shown (Owner.Piece k first place) = 1 ∷ k ∷ first ∷ place ∷ []
 owner_shown (Owner.Slack k) = 2 ∷ k ∷ []
-owner_shown Owner.Unowned = 0 ∷ []
 
 -- an extract in numbers
 abbrev pub extract_shown : Extract → List ℕ

@@ -7,7 +7,10 @@ ghost use Rattle.definition.specs.Statement.{go, begin as begin_of, on_clause, o
 ghost use Rattle.definition.specs.Statement.{on_sign, clause_step, separately as separately_of, step as step_of};
 ghost use Rattle.clauses.specs.Steps.{led, kept_on};
 
-use definition::{Clauses, Expect, ItemUsage, Keyword, Missing, SignWords, Span, Usage};
+use definition::{Clauses, Expect, Keyword, Missing, SignWords, Span};
+
+// Kept: a word, its place and the clauses beside one another – no plainer: the definition's `step` takes them so, and
+// the clauses are lent to change, so that each contract is one equation with the definition's.
 
 /// What a statement says before its first clause.
 pub const NO_CLAUSES: Clauses = Clauses {
@@ -21,53 +24,37 @@ pub const NO_CLAUSES: Clauses = Clauses {
 };
 
 /// Where a clause begins: what is expected next.
-fn begin(k: Keyword, c: &mut Clauses) -> Expect
+fn begin(k: Option<Keyword>, c: &mut Clauses) -> Expect
     ensures { go result c.new ≡ begin_of k c.old }
 {
     match k {
-        Keyword::Picture => {
+        Some(Keyword::Picture) => {
             c.picture = Span::ABSENT;
             Expect::IsPicture
         }
-        Keyword::Redefines => {
+        Some(Keyword::Redefines) => {
             c.redefines = Span::ABSENT;
             Expect::Target
         }
-        Keyword::Occurs => Expect::ACount,
-        Keyword::Usage => Expect::UsageIs,
-        Keyword::Display => {
-            c.usage = Some(ItemUsage::Picture(Usage::Display));
+        Some(Keyword::Occurs) => Expect::ACount,
+        Some(Keyword::Usage) => Expect::UsageIs,
+        Some(Keyword::Names(usage)) => {
+            c.usage = Some(usage);
             Expect::Clause
         }
-        Keyword::Comp3 => {
-            c.usage = Some(ItemUsage::Picture(Usage::Comp3));
-            Expect::Clause
-        }
-        Keyword::Comp => {
-            c.usage = Some(ItemUsage::Picture(Usage::Comp));
-            Expect::Clause
-        }
-        Keyword::Comp1 => {
-            c.usage = Some(ItemUsage::Comp1);
-            Expect::Clause
-        }
-        Keyword::Comp2 => {
-            c.usage = Some(ItemUsage::Comp2);
-            Expect::Clause
-        }
-        Keyword::Sign => {
+        Some(Keyword::Sign) => {
             c.sign = Some(SignWords {
                 leading: false,
                 separate: false,
             });
             Expect::SignIs
         }
-        Keyword::Sync => {
+        Some(Keyword::Sync) => {
             c.sync = true;
             Expect::Side
         }
-        Keyword::Value => Expect::Nothing,
-        Keyword::Other => Expect::Clause,
+        Some(Keyword::Value) => Expect::Nothing,
+        None => Expect::Clause,
     }
 }
 
@@ -79,7 +66,8 @@ fn on_clause(word: &[u8], c: &mut Clauses) -> Expect
 }
 
 /// A word where DEPENDING or a clause may stand.
-// Kept: alike, as `on_times` – no plainer: each is a function of the definition, and one goes on as the other.
+// Kept: alike, as `on_times` – no plainer: one function for both would take the keyword, what is expected after it and,
+// as a closure that lends the clauses, what hears any other word, all for one test.
 fn on_depending(word: &[u8], c: &mut Clauses) -> Expect
     ensures { go result c.new ≡ on_depending (uppers word.now) c.old }
 {
@@ -112,22 +100,16 @@ fn on_sign(word: &[u8], c: &mut Clauses) -> Expect
 
 /// What is expected after a word that stands at `w`, and the clauses with what it says, SEPARATE aside; or what the
 /// statement lacks.
+// Kept: a `match` on what is expected – no plainer: `Expect` is the definition's, and the arms are those of its
+// `clause_step`; closures in their place would have no equation with it.
 #[tactic(auto, using(crate::proofs::StepLaws::count_steps), unfolding(definition::specs::Statement::clause_step))]
 fn clause_step(e: Expect, w: Span, word: &[u8], c: &mut Clauses) -> Result<Expect, Missing>
     ensures { (result ≡ led (clause_step e w (uppers word.now) c.old))
         × (c.new ≡ kept_on (clause_step e w (uppers word.now) c.old) c.old) }
 {
     let next = match e {
-        Expect::Clause => on_clause(word, c),
-        Expect::IsPicture => {
-            if text::same_key(word, b"IS") {
-                Expect::APicture
-            } else {
-                c.picture = w;
-                Expect::Clause
-            }
-        }
-        Expect::APicture => {
+        Expect::IsPicture if text::same_key(word, b"IS") => Expect::APicture,
+        Expect::IsPicture | Expect::APicture => {
             c.picture = w;
             Expect::Clause
         }
@@ -139,53 +121,25 @@ fn clause_step(e: Expect, w: Span, word: &[u8], c: &mut Clauses) -> Result<Expec
             c.occurs = Some(text::count_of(word).ok_or(Missing::Count)?);
             Expect::To
         }
-        Expect::To => {
-            if text::same_key(word, b"TO") {
-                Expect::Bound
-            } else {
-                on_times(word, c)
-            }
-        }
+        Expect::To if text::same_key(word, b"TO") => Expect::Bound,
+        Expect::To | Expect::Times => on_times(word, c),
         Expect::Bound => {
             c.occurs = Some(text::count_of(word).ok_or(Missing::Bound)?);
             Expect::Times
         }
-        Expect::Times => on_times(word, c),
         Expect::DependingOn => on_depending(word, c),
-        Expect::OnName => {
-            if text::same_key(word, b"ON") {
-                Expect::AName
-            } else {
-                c.depending = w;
-                Expect::Clause
-            }
-        }
-        Expect::AName => {
+        Expect::OnName if text::same_key(word, b"ON") => Expect::AName,
+        Expect::OnName | Expect::AName => {
             c.depending = w;
             Expect::Clause
         }
-        Expect::UsageIs => {
-            if text::same_key(word, b"IS") {
-                Expect::Clause
-            } else {
-                on_clause(word, c)
-            }
+        Expect::SignIs if text::same_key(word, b"IS") => Expect::SignWord,
+        Expect::SignIs | Expect::SignWord => on_sign(word, c),
+        Expect::UsageIs if text::same_key(word, b"IS") => Expect::Clause,
+        Expect::Side if text::same_key(word, b"LEFT") || text::same_key(word, b"RIGHT") => {
+            Expect::Clause
         }
-        Expect::SignIs => {
-            if text::same_key(word, b"IS") {
-                Expect::SignWord
-            } else {
-                on_sign(word, c)
-            }
-        }
-        Expect::SignWord => on_sign(word, c),
-        Expect::Side => {
-            if text::same_key(word, b"LEFT") || text::same_key(word, b"RIGHT") {
-                Expect::Clause
-            } else {
-                on_clause(word, c)
-            }
-        }
+        Expect::Clause | Expect::UsageIs | Expect::Side => on_clause(word, c),
         Expect::Nothing => Expect::Nothing,
     };
     Ok(next)
@@ -195,13 +149,10 @@ fn clause_step(e: Expect, w: Span, word: &[u8], c: &mut Clauses) -> Result<Expec
 fn separately(s: Option<SignWords>) -> Option<SignWords>
     ensures { result ≡ separately_of s }
 {
-    match s {
-        Some(w) => Some(SignWords {
-            separate: true,
-            ..w
-        }),
-        None => None,
-    }
+    s.map(|w| SignWords {
+        separate: true,
+        ..w
+    })
 }
 
 /// One word of a statement after its name, that stands at `w`: what is expected next, with what the word says put into

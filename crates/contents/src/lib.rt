@@ -2,25 +2,10 @@
 //! `definition`, `picture` and `names`.
 #![tactic(auto)]
 
-ghost use Rattle.std.specs.Prelude.{◌≡◌, ◌*◌};
-ghost use Rattle.definition.specs.Statement.{sign_of};
+ghost use Rattle.std.specs.Prelude.{◌≡◌, ◌<◌};
 ghost use Rattle.definition.specs.Layout.{by_picture, float as float_of, elementary as elementary_of};
 
-use definition::{FieldKind, ItemUsage, Pictured, Refusal, SignKind, SignWords, Statement, Usage};
-
-/// The sign that a picture is read with.
-// Kept: a function – no plainer: an Option is the library's, so that no From leads from one to another; a From between
-// what stands inside would be `definition`'s, and need a map here.
-fn sign_of(words: Option<SignWords>) -> Option<SignKind>
-    ensures { result ≡ sign_of words }
-{
-    let said = words?;
-    Some(match (said.separate, said.leading) {
-        (false, _) => SignKind::Embedded,
-        (true, true) => SignKind::LeadingSeparate,
-        (true, false) => SignKind::TrailingSeparate,
-    })
-}
+use definition::{FieldKind, ItemUsage, Pictured, Refusal, SignKind, Statement, Usage};
 
 /// Kind and width by the picture: 21 where there is none, and the picture's own refusals.
 #[tactic(auto, unfolding(definition::specs::Basic::and_then))]
@@ -31,21 +16,21 @@ fn by_picture(text: &[u8], s: Statement, usage: Usage) -> Result<Pictured, Refus
         return Err(Refusal::NoPicture { position: s.at });
     }
     let picture = names::part_of(text, s.clauses.picture);
-    picture::picture_at(picture, s.at, usage, sign_of(s.clauses.sign))
+    picture::picture_at(picture, s.at, usage, s.clauses.sign.map(SignKind::from))
 }
 
-/// A float of so many bits and bytes: 52 where there is a picture.
+/// A float of so many bytes: 52 where there is a picture.
 #[tactic(auto, unfolding(definition::specs::Basic::and_then))]
-fn float(s: Statement, bits: u8, width: usize) -> Result<Pictured, Refusal>
-    requires { bits ≡ 8 * width }
+fn float(s: Statement, width: u8) -> Result<Pictured, Refusal>
+    requires { width < 32 }
     ensures { result ≡ float_of s width }
 {
     if s.clauses.picture.is_given() {
         return Err(Refusal::FloatWithPicture { position: s.at });
     }
     Ok(Pictured {
-        kind: FieldKind::Float { bits },
-        width,
+        kind: FieldKind::Float { bits: 8 * width },
+        width: usize::from(width),
     })
 }
 
@@ -55,7 +40,7 @@ pub fn elementary(text: &[u8], s: Statement) -> Result<Pictured, Refusal>
 {
     match s.usage {
         ItemUsage::Picture(u) => by_picture(text, s, u),
-        ItemUsage::Comp1 => float(s, 32, 4),
-        ItemUsage::Comp2 => float(s, 64, 8),
+        ItemUsage::Comp1 => float(s, 4),
+        ItemUsage::Comp2 => float(s, 8),
     }
 }

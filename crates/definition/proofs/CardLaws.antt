@@ -14,6 +14,7 @@ use lib.Dec.{eqb}
 use lib.ListN.{length, get_or, drop, length-drop}
 use lib.Seq.{get_or-drop}
 use Rattle.std.proofs.lemmas.Bool.{or_parts}
+use Rattle.std.proofs.lemmas.List.{take_more}
 use Rattle.definition.specs.declared.Span.{Span}
 use Rattle.definition.specs.declared.ByteKind.{ByteKind}
 use Rattle.definition.specs.declared.ByteKind.TheVariants.{Newline}
@@ -29,7 +30,7 @@ use Rattle.definition.specs.Words.{unless_open, tokens, tokens_of, on_first, sen
 use Rattle.definition.specs.Cards.{column_next, code_next, view_from, view, Form, free_text}
 use Rattle.definition.specs.Cards.{card_text, view_in}
 use Rattle.definition.specs.Calls.{first_wide, text_checks, entry_checks}
-use Rattle.definition.proofs.Lists.{order, take_next}
+use Rattle.definition.proofs.Lists.{order}
 use Rattle.definition.proofs.SpanLaws.{Sentences}
 use Rattle.definition.proofs.WordLaws.{kind_at, stays_within, tokens-next, tokens-end}
 
@@ -100,8 +101,8 @@ module _
         let at : s + (p - s) ≡ p = omega arith in
         rw (
           n,
-          take_next (drop s v) (p - s) (omega (arith, length-drop s v)),
-          take_next (drop s t) (p - s) (omega (arith, length-drop s t)),
+          take_more (drop s v) (p - s) 0 (omega (arith, length-drop s v)),
+          take_more (drop s t) (p - s) 0 (omega (arith, length-drop s t)),
           get_or-drop s v (p - s) 0,
           get_or-drop s t (p - s) 0,
           at,

@@ -8,7 +8,7 @@ use mathlib.Core.Bool.{true, false}
 use mathlib.Core.List.{List, [], append-nil}
 use native.Mathlib.Omega.{arith}
 use lib.ListN.{length}
-use borrow.Author.Tests.{lt-ltb, le-ltb}
+use Rattle.std.specs.Prelude.{Some}
 use Rattle.definition.specs.declared.Refusal.{Refusal}
 use Rattle.definition.specs.declared.Span.{Span}
 use Rattle.definition.specs.declared.Owner.{Owner}
@@ -27,7 +27,7 @@ use Rattle.definition.proofs.Answers.{through, given-same, refused-through}
 use Rattle.definition.proofs.CallsLaws.{called-as}
 use Rattle.definition.proofs.SpanLaws.{ForestSpans, statements-spans, record-spans, layout-spans}
 use Rattle.definition.proofs.CardLaws.{view-words}
-use Rattle.definition.proofs.Pieces.{Found, found, owned-someone, join-cut}
+use Rattle.definition.proofs.Pieces.{Found, found, owner_none, join-cut}
 use Rattle.definition.proofs.Cover.{plain, layout-placed, placed-length}
 use Rattle.definition.proofs.Seek.{seek-owner}
 use Rattle.definition.proofs.Walk.{walk-seek}
@@ -67,14 +67,14 @@ module _ (text : List ℕ) (f : Forest) (es : Entries) (laid_out : layout text f
       (subst (λ (n : ℕ). Found (spots 0 (pieces text f)) q (owner_from 0 (pieces text f) n)) here (found (pieces text f) 0 q (omega arith) (omega (arith, cover))))
 
   -- and the byte owner call answers with it
-  pub answers : (q : ℕ) → q < record_length es → owner_in text f q ≡ Ok (owner_of (pieces text f) q)
+  pub answers : (q : ℕ) {o : Owner} → owner_of (pieces text f) q ≡ Some o → owner_in text f q ≡ Ok o
   unfolding owner_in and_then
-  answers q h = rw (laid_out, free, lt-ltb q (record_length es) h)
+  answers q h = rw (laid_out, free, h)
 
   -- a position that is not below it is refused
   pub refuses-41 : (q : ℕ) → record_length es ≤ q → owner_in text f q ≡ Err Refusal.OutsideRecord
   unfolding owner_in and_then
-  refuses-41 q h = rw (laid_out, free, le-ltb q (record_length es) h)
+  refuses-41 q h = rw (laid_out, free, owner_none 0 (pieces text f) q (omega (arith, cover)))
 
   -- A record of that length, cut into the pieces and joined again, is itself.
   pub whole : (bs : List ℕ) → length bs ≡ record_length es → join (cut (pieces text f) bs) ≡ bs
@@ -91,12 +91,12 @@ module _ (text : List ℕ) (f : Forest) (es : Entries) (laid_out : layout text f
   pub walked : (q : ℕ) → q < record_length es → walk 0 0 0 (rows es) q ≡ owner_of (pieces text f) q
   walked q h =
       ap (λ (l : List Row). walk 0 0 0 l q) (sym (append-nil (rows es)))
-      ∙ walk-seek es 0 0 q [] (λ u. owned-someone (told 0 0 0 es) q (one-owner q h) (sym (sought q) ∙ u))
-      ∙ sought q
+      ∙ walk-seek es 0 0 q [] (sought q ∙ (one-owner q h).names)
+      ∙ sym (one-owner q h).names
 
   -- this is what the code of the byte owner computes, after the reader's refusals, 40 and 41.
-  pub computed : (q : ℕ) → q < record_length es → owner_in text f q ≡ Ok (walk 0 0 0 (rows es) q)
-  computed q h = answers q h ∙ ap Ok (sym (walked q h))
+  pub computed : (q : ℕ) {o : Owner} → q < record_length es → walk 0 0 0 (rows es) q ≡ Some o → owner_in text f q ≡ Ok o
+  computed q h w = answers q (sym (walked q h) ∙ w)
 
 -- ---------------------------------------------------------------- a copybook
 
@@ -152,7 +152,7 @@ demanded text owner f es asked laid_out free =
       in_order = in_order text f es laid_out free;
       covered = sym (cover text f es laid_out free);
       one-owner = λ q l. (one q l).one;
-      named = λ q l. asked q ∙ answers text f es laid_out free q l ∙ ap Ok (one q l).names;
+      named = λ q l. asked q ∙ answers text f es laid_out free q (one q l).names;
       whole = whole text f es laid_out free;
     }
 
@@ -175,5 +175,6 @@ demand3 form text work es h =
       laid_out = laid_out;
       spelt = view-spans form text work f es read laid_out;
       demand = demanded seen (owner_on form text work) f es asked laid_out;
+      outside = λ o q l. asked q ∙ refuses-41 seen f es laid_out o q l;
       refuses = λ o q. asked q ∙ refuses-40 seen f es laid_out o q;
     }

@@ -1,15 +1,14 @@
--- Small facts on numbers and lists that many proofs cite: an order decided, one more element of a list.
+-- Small facts on numbers and lists that many proofs cite: an order decided, parts of a list.
 -- Assumes nothing.
 use Prim.Native.Nat.{ℕ, zero, suc, ◌+◌, ◌-◌, ◌≤◌, ◌<◌}
 use mathlib.Core.Path.{◌≡◌, refl, ◌∙◌, ap}
 use mathlib.Core.Bool.{Bool, true, false}
 use mathlib.Core.List.{List, [], ◌∷◌, ◌++◌}
-use native.Mathlib.Numerals.{add-one}
 use native.Mathlib.Nat.{zero-add, add-zero}
 use native.Mathlib.Omega.{arith}
 use lib.Dec.{ltb}
-use lib.ListN.{length, get_or, take, drop, set, length-drop}
-use lib.Seq.{drop-cons, take-suc, take-nil, take_all, sets}
+use lib.ListN.{length, take, drop, set, length-drop}
+use lib.Seq.{take-nil, take_all, sets}
 use borrow.Author.Tests.{ltb-true, ltb-false}
 -- one of two numbers is the smaller
 pub use Rattle.std.proofs.lemmas.Bool.{cases_lt as order}
@@ -22,13 +21,6 @@ by_cases false so not_so = not_so refl
 -- by the two results of a test
 pub tested {ℓ} : {P : Type ℓ} (n m : ℕ) → (ltb n m ≡ true → n < m → P) → (ltb n m ≡ false → m ≤ n → P) → P
 tested n m less not_less = by_cases (ltb n m) (λ e. less e (ltb-true n m e)) (λ e. not_less e (ltb-false n m e))
-
--- one more element, at the code's i + 1
-pub drop-next : (t : List ℕ) (i : ℕ) → i < length t → drop i t ≡ get_or t i 0 ∷ drop (i + 1) t
-drop-next t i h = rw (add-one, drop-cons t i 0)
-
-pub take_next : (t : List ℕ) (i : ℕ) → i < length t → take (i + 1) t ≡ take i t ++ get_or t i 0 ∷ []
-take_next t i h = rw (add-one, take-suc t i 0 h)
 
 -- what `&t[i..]` is
 pub rest_part : (t : List ℕ) (i : ℕ) → take (length t - i) (drop i t) ≡ drop i t

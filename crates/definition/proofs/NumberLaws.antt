@@ -8,7 +8,7 @@ use Rattle.std.specs.Prelude.{None, Some}
 use native.Mathlib.Omega.{arith}
 use lib.ListN.{length, get_or, drop, drop_of_length-le}
 use Rattle.definition.specs.Basic.{uppers, digits, numeral, below, number}
-use Rattle.definition.proofs.Lists.{drop-next}
+use Rattle.std.proofs.lemmas.List.{drop_more}
 
 -- the digits from i on, after n was read
 module _ (w : List ℕ) (i n : ℕ) where
@@ -19,18 +19,18 @@ module _ (w : List ℕ) (i n : ℕ) where
   module _ (h : i < length w) where
     pub digits_low : get_or w i 0 < 48 → digits n (drop i w) ≡ None
     unfolding digits
-    digits_low l = rw (drop-next w i h) (grind arith)
+    digits_low l = rw (drop_more w i 0 h) (grind arith)
 
     pub digits-high : 57 < get_or w i 0 → digits n (drop i w) ≡ None
     unfolding digits
-    digits-high l = rw (drop-next w i h) (grind arith)
+    digits-high l = rw (drop_more w i 0 h) (grind arith)
 
     pub digits-next :
         48 ≤ get_or w i 0 →
         get_or w i 0 ≤ 57 →
         digits n (drop i w) ≡ digits (n * 10 + (get_or w i 0 - 48)) (drop (i + 1) w)
     unfolding digits
-    digits-next l m = rw (drop-next w i h) (grind arith)
+    digits-next l m = rw (drop_more w i 0 h) (grind arith)
 
 -- too large a number stays too large, whatever follows
 pub too_large : (limit : ℕ) (bs : List ℕ) (n : ℕ) → limit ≤ n → below limit (digits n bs) ≡ None
@@ -43,7 +43,7 @@ pub numeral-none : (w : List ℕ) (i : ℕ) → length w ≤ i → numeral (drop
 numeral-none w i h = rw (drop_of_length-le w h)
 
 pub numeral-some : (w : List ℕ) (i : ℕ) → i < length w → numeral (drop i w) ≡ digits 0 (drop i w)
-numeral-some w i h = rw (drop-next w i h)
+numeral-some w i h = rw (drop_more w i 0 h)
 
 -- the first byte is a plus, or not
 pub number-none : (limit : ℕ) (w : List ℕ) → length w ≡ 0 → number limit w ≡ None

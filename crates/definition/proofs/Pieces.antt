@@ -9,6 +9,7 @@ use native.Mathlib.Omega.{arith}
 use native.Mathlib.Nat.{mod-eq_of_lt, div-eq_of_lt, div-eq-sub-div, mod-eq-sub-mod, mul-suc, mul-zero, zero-mul}
 use native.Mathlib.Nat.{add-mul}
 use lib.ListN.{length, take, drop, length-drop, take-append-drop}
+use Rattle.std.specs.Prelude.{Option, None, Some}
 use Rattle.definition.specs.declared.Owner.{Owner}
 use Rattle.definition.specs.Owner.{Holder, Piece, extent, repeated, answer, owner_from, cut}
 use Rattle.definition.specs.Owner.{join}
@@ -25,7 +26,7 @@ extent-repeated (suc n) ps = rw extent-append (omega (arith, extent-repeated n p
 
 -- the two clauses of the search
 module _ (first : ℕ) (p : Piece) (ps : List Piece) (q : ℕ) where
-  pub owner_here : q < p.width → owner_from first (p ∷ ps) q ≡ answer p.holder first q
+  pub owner_here : q < p.width → owner_from first (p ∷ ps) q ≡ Some (answer p.holder first q)
   unfolding owner_from
   owner_here h = grind arith
 
@@ -76,9 +77,9 @@ spot_of-listed : (h : Holder) (b w : ℕ) → 0 < w → Among (spot h b w) (spot
 spot_of-listed h b w l = grind arith
 
 -- exactly one spot has the byte, and the search names it
-pub record Found (xs : List Spot) (q : ℕ) (o : Owner) : Type 0 where
+pub record Found (xs : List Spot) (q : ℕ) (o : Option Owner) : Type 0 where
   pub one : One xs q
-  pub names : o ≡ naming one.owner.holder one.owner.first q
+  pub names : o ≡ Some (naming one.owner.holder one.owner.first q)
 
 answer-naming : (h : Holder) (b q : ℕ) → answer h b (q - b) ≡ naming h b q
 answer-naming h b q = grind arith
@@ -101,7 +102,7 @@ found (p ∷ ps) b q g h =
         has = record { starts = omega arith; ends = omega arith };
         only = λ y a y-has. grind (arith, split y a, own y, laid-after ps (b + w) y);
       };
-      names = owner_here b p ps (q - b) (omega arith) ∙ answer-naming p.holder b q;
+      names = owner_here b p ps (q - b) (omega arith) ∙ ap Some (answer-naming p.holder b q);
     })
     (λ (l : b + w ≤ q).
     let f = ih l (omega arith) in
@@ -117,12 +118,11 @@ found (p ∷ ps) b q g h =
     })
     (order q (b + w))
 
--- so a byte that is laid has an owner
-named-owned : (h : Holder) (first q : ℕ) → naming h first q ≡ Owner.Unowned → ⊥
-named-owned h first q e = grind arith
-
-pub owned-someone : (xs : List Spot) (q : ℕ) {o : Owner} → Found xs q o → o ≡ Owner.Unowned → ⊥
-owned-someone xs q f e = named-owned f.one.owner.holder f.one.owner.first q (sym f.names ∙ e)
+-- and a byte behind the pieces has none
+pub owner_none : (first : ℕ) (ps : List Piece) (q : ℕ) → extent ps ≤ q → owner_from first ps q ≡ None
+unfolding owner_from
+owner_none first [] q h = refl
+owner_none first (p ∷ ps) q h = owner-later first p ps q (omega arith) ∙ owner_none (first + p.width) ps (q - p.width) (omega arith)
 
 -- ---------------------------------------------------------------- cut and join
 

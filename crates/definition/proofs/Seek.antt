@@ -6,6 +6,7 @@ use mathlib.Core.List.{List, ◌++◌}
 use mathlib.Core.Logic.{⊎_elim}
 use native.Mathlib.Omega.{arith}
 use native.Mathlib.Nat.{mod-lt}
+use Rattle.std.specs.Prelude.{Some}
 use Rattle.definition.specs.declared.Statement.{Statement}
 use Rattle.definition.specs.declared.Entry.{Entry}
 use Rattle.definition.specs.declared.Owner.{Owner}
@@ -22,7 +23,7 @@ use Rattle.definition.proofs.Cover.{once-width}
 
 -- the three cases of the search
 module _ (k first : ℕ) (e : Entry) (members later : Entries) (q : ℕ) where
-  pub seek-slack : q < e.offset → seek k first (entry e members later) q ≡ Owner.Slack k
+  pub seek-slack : q < e.offset → seek k first (entry e members later) q ≡ Some (Owner.Slack k)
   unfolding seek
   seek-slack h = grind arith
 
@@ -56,7 +57,7 @@ module _ (text : List ℕ) where
   slack-owner :
       (k place first : ℕ) (s : Statement) (kids : Forest) (q : ℕ) →
       q < extent (slack_before text k place s kids) →
-      owner_from first (slack_before text k place s kids) q ≡ Owner.Slack k
+      owner_from first (slack_before text k place s kids) q ≡ Some (Owner.Slack k)
   slack-owner k place first s kids q h = grind (arith, owner_here)
 
   -- in one occurrence

@@ -29,7 +29,7 @@ use Rattle.std.specs.Prelude.{if◌then◌else◌}
 use Rattle.definition.specs.Basic.{bytes, same, uppers, part, digits, number, count}
 use Rattle.definition.specs.Basic.{Answer, Err, Ok, ◌>>=◌, and_then, refuse_if, or_refuse}
 use Rattle.definition.specs.Words.{statement_words}
-use Rattle.definition.specs.Statement.{key, Spelling, spellings, pick, meaning, keyword_of, clauses_of, no_clauses}
+use Rattle.definition.specs.Statement.{key, Spelling, spellings, meaning, keyword_of, clauses_of, no_clauses}
 use Rattle.definition.specs.Statement.{with_picture, with_usage, with_sign, with_depending, with_redefines, counted}
 use Rattle.definition.specs.Statement.{Step, go, missing, sign_words, begin}
 use Rattle.definition.specs.Statement.{on_clause, on_depending, on_times, on_sign, clause_step, separated}
@@ -81,53 +81,43 @@ second_part h p = grind arith
 
 -- ---------------------------------------------------------------- a word that is none of the new ones
 
-abbrev is_old : Keyword → Bool
-is_old Keyword.Display = false
-is_old Keyword.Comp1 = false
-is_old Keyword.Comp2 = false
-is_old Keyword.Picture = true
-is_old Keyword.Redefines = true
-is_old Keyword.Occurs = true
-is_old Keyword.Usage = true
-is_old Keyword.Comp3 = true
-is_old Keyword.Comp = true
-is_old Keyword.Sign = true
-is_old Keyword.Sync = true
-is_old Keyword.Value = true
-is_old Keyword.Other = true
+abbrev is_old : Option Keyword → Bool
+is_old (Some (Keyword.Names (ItemUsage.Picture Usage.Display))) = false
+is_old (Some (Keyword.Names ItemUsage.Comp1)) = false
+is_old (Some (Keyword.Names ItemUsage.Comp2)) = false
+is_old (Some Keyword.Picture) = true
+is_old (Some Keyword.Redefines) = true
+is_old (Some Keyword.Occurs) = true
+is_old (Some Keyword.Usage) = true
+is_old (Some (Keyword.Names (ItemUsage.Picture Usage.Comp3))) = true
+is_old (Some (Keyword.Names (ItemUsage.Picture Usage.Comp))) = true
+is_old (Some Keyword.Sign) = true
+is_old (Some Keyword.Sync) = true
+is_old (Some Keyword.Value) = true
+is_old None = true
 
 -- of these spellings the new words alone mean what is new
 abbrev new_alone : List Spelling → Bool
 new_alone [] = true
-new_alone (s ∷ ss) = (is_old s.means || is_one_of new_words (bytes s.word)) && new_alone ss
+new_alone (s ∷ ss) = (is_old (Some s.means) || is_one_of new_words (bytes s.word)) && new_alone ss
 
 module _ (u : List ℕ) (h : is_one_of new_words u ≡ false) where
-  pick-old :
-      (s : Spelling) (k : Keyword) →
-      (is_old s.means || is_one_of new_words (bytes s.word)) ≡ true →
-      is_old k ≡ true →
-      is_old (pick u (bytes s.word) s.means k) ≡ true
-  unfolding pick
-  pick-old s k t n =
-      by_cases (same u (bytes s.word))
-      (λ e. rw e (first_part t (ap (is_one_of new_words) (sym (same-equal u (bytes s.word) e)) ∙ h)))
-      (λ e. rw e n)
-
-  meaning-old :
-      (ss : List Spelling) (k : Keyword) → new_alone ss ≡ true → is_old k ≡ true → is_old (meaning u ss k) ≡ true
-  meaning-old [] k t n = n
-  meaning-old (s ∷ ss) k t n =
-      let both = and_parts (is_old s.means || is_one_of new_words (bytes s.word)) (new_alone ss) t in
-      meaning-old ss (pick u (bytes s.word) s.means k) both.1 (pick-old s k both.0 n)
+  meaning-old : (ss : List Spelling) → new_alone ss ≡ true → is_old (meaning u ss) ≡ true
+  meaning-old [] t = refl
+  meaning-old (s ∷ ss) t =
+      let both = and_parts (is_old (Some s.means) || is_one_of new_words (bytes s.word)) (new_alone ss) t in
+      by_cases (key s.word u)
+      (λ e. rw e (first_part both.0 (ap (is_one_of new_words) (sym (same-equal u (bytes s.word) e)) ∙ h)))
+      (λ e. rw e (meaning-old ss both.1))
 
   keyword-old : is_old (keyword_of u) ≡ true
   unfolding keyword_of same
-  keyword-old = meaning-old spellings Keyword.Other refl refl
+  keyword-old = meaning-old spellings refl
 
 -- ---------------------------------------------------------------- one word
 
 module _ (c : Clauses) where
-  begin-forget : (k : Keyword) → is_old k ≡ true → begin k (forget c) ≡ forget_step (begin k c)
+  begin-forget : (k : Option Keyword) → is_old k ≡ true → begin k (forget c) ≡ forget_step (begin k c)
   begin-forget k n = grind arith
 
   counted-forget : (m : Missing) (e : Expect) (o : Option ℕ) → counted m e (forget c) o ≡ forget_step (counted m e c o)
@@ -247,7 +237,7 @@ Lasts c (Err m) = Unit {0}
 
 -- the empty word does nothing where a clause may begin
 empty-step : (e : Expect) (w : Span) (c : Clauses) → step e w [] c ≡ silently e w c (go Clause c)
-unfolding keyword_of pick same number digits
+unfolding keyword_of same number digits
 empty-step e w c = silent-step (record { no-onward = refl; no-count = refl }) e w c
 
 module _ (c : Clauses) where
@@ -293,7 +283,7 @@ module _ (c : Clauses) where
       (none_other c.usage (grind arith))
 
   new-forget : Each Forgets new_words
-  unfolding keyword_of pick same number digits
+  unfolding keyword_of same number digits
   new-forget = (
     names-forget (bytes "DISPLAY") (ItemUsage.Picture Usage.Display) refl refl refl display-leaves,
     (

@@ -6,6 +6,7 @@ use mathlib.Core.List.{List, [], ◌∷◌, ◌++◌, append_assoc}
 use mathlib.Core.Logic.{⊎_elim}
 use native.Mathlib.Omega.{arith}
 use lib.ListN.{length, length-append}
+use Rattle.std.specs.Prelude.{Some}
 use Rattle.definition.specs.declared.Entry.{Entry}
 use Rattle.definition.specs.declared.Owner.{Owner}
 use Rattle.definition.specs.Fold.{Entries, end, entry, total}
@@ -15,7 +16,7 @@ use Rattle.definition.proofs.Seek.{seek-slack, seek-in, seek-later}
 
 -- the cases of one row
 module _ (k first : ℕ) (r : Row) (rs : List Row) (q : ℕ) where
-  pub walk-slack : q < r.offset → walk 0 k first (r ∷ rs) q ≡ Owner.Slack k
+  pub walk-slack : q < r.offset → walk 0 k first (r ∷ rs) q ≡ Some (Owner.Slack k)
   unfolding walk
   walk-slack h = grind arith
 
@@ -23,7 +24,7 @@ module _ (k first : ℕ) (r : Row) (rs : List Row) (q : ℕ) where
       r.offset ≤ q →
       q < r.offset + r.width * r.count →
       r.below ≡ 0 →
-      walk 0 k first (r ∷ rs) q ≡ Owner.Piece k (first + r.offset + (q - r.offset) / r.width * r.width) ((q - r.offset) % r.width)
+      walk 0 k first (r ∷ rs) q ≡ Some (Owner.Piece k (first + r.offset + (q - r.offset) / r.width * r.width) ((q - r.offset) % r.width))
   unfolding walk
   walk-piece h l z = grind arith
 
@@ -58,37 +59,35 @@ rows-length (entry e members later) =
 
 -- in an occurrence: of an elementary entry, and of a group, whose members come next
 in_entry :
-    (e : Entry) (members later : Entries) (k first q : ℕ) (rs : List Row) →
+    (e : Entry) (members later : Entries) (k first q : ℕ) (rs : List Row) {o : Owner} →
     e.offset ≤ q →
     q < e.offset + total e →
-    ((seek (suc k) (start_in first e q) members (place_in e q) ≡ Owner.Unowned → ⊥) →
-    walk 0 (suc k) (start_in first e q) (rows members ++ (rows later ++ rs)) (place_in e q) ≡ seek (suc k) (start_in first e q) members (place_in e q)) →
-    (inside k (start_in first e q) (place_in e q) members (seek (suc k) (start_in first e q) members (place_in e q)) ≡ Owner.Unowned → ⊥) →
-    walk 0 k first (row_of e (entries# members) ∷ (rows members ++ (rows later ++ rs))) q
-    ≡ inside k (start_in first e q) (place_in e q) members (seek (suc k) (start_in first e q) members (place_in e q))
+    (seek (suc k) (start_in first e q) members (place_in e q) ≡ Some o →
+    walk 0 (suc k) (start_in first e q) (rows members ++ (rows later ++ rs)) (place_in e q) ≡ Some o) →
+    inside k (start_in first e q) (place_in e q) members (seek (suc k) (start_in first e q) members (place_in e q)) ≡ Some o →
+    walk 0 k first (row_of e (entries# members) ∷ (rows members ++ (rows later ++ rs))) q ≡ Some o
 unfolding rows seek
 in_entry e members later k first q rs g l ih h = grind (arith, walk-piece, walk-in, ih)
 
--- where the search among the entries finds an owner, the walk finds it, whatever rows stand behind
+-- the owner that the search among the entries finds is what the walk finds, whatever rows stand behind
 pub walk-seek :
-    (es : Entries) (k first q : ℕ) (rs : List Row) →
-    (seek k first es q ≡ Owner.Unowned → ⊥) →
-    walk 0 k first (rows es ++ rs) q ≡ seek k first es q
+    (es : Entries) (k first q : ℕ) (rs : List Row) {o : Owner} →
+    seek k first es q ≡ Some o →
+    walk 0 k first (rows es ++ rs) q ≡ Some o
 unfolding rows walk seek
-walk-seek end k first q rs h = absurd (h refl)
-walk-seek (entry e members later) k first q rs h =
+walk-seek end k first q rs {o} h = absurd (cc)
+walk-seek (entry e members later) k first q rs {o} h =
     let r = row_of e (entries# members) in
     let behind = rows members ++ (rows later ++ rs) in
-    let ih = walk-seek members (suc k) (start_in first e q) (place_in e q) (rows later ++ rs) in
-    let ihs = walk-seek later (suc k + entries# members) first q rs in
+    let ih = walk-seek members (suc k) (start_in first e q) (place_in e q) (rows later ++ rs) {o = o} in
+    let ihs = walk-seek later (suc k + entries# members) first q rs {o = o} in
     ap (λ (l : List Row). walk 0 k first (r ∷ l) q) (append_assoc (rows members) (rows later) rs)
     ∙ ⊎_elim
-    (λ (l : q < e.offset). walk-slack k first r behind q l ∙ sym (seek-slack k first e members later q l))
+    (λ (l : q < e.offset). walk-slack k first r behind q l ∙ sym (seek-slack k first e members later q l) ∙ h)
     (λ (g : e.offset ≤ q).
     ⊎_elim
     (λ (l : q < e.offset + total e).
-    let found = seek-in k first e members later q g l in
-    in_entry e members later k first q rs g l ih (λ u. h (found ∙ u)) ∙ sym found)
+    in_entry e members later k first q rs g l ih (sym (seek-in k first e members later q g l) ∙ h))
     (λ (l : e.offset + total e ≤ q).
     grind (
       arith,

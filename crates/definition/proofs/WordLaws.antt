@@ -7,6 +7,7 @@ use mathlib.Core.List.{List, [], ◌∷◌, ◌++◌}
 use native.Mathlib.Omega.{arith}
 use lib.ListN.{length, get_or, drop, drop_of_length-le}
 use borrow.Author.Tests.{eq-eqb, ne_eqb}
+use Rattle.std.proofs.lemmas.List.{drop_more}
 use Rattle.definition.specs.declared.Span.{Span}
 use Rattle.definition.specs.declared.ByteKind.{ByteKind}
 use Rattle.definition.specs.declared.ByteKind.TheVariants.{Newline, Blank, Cut, Star, Period, Other}
@@ -21,7 +22,6 @@ use Rattle.definition.specs.Words.{ends, byte_kind, next, up_to, completed, comp
 use Rattle.definition.specs.Words.{heard, said_next, unless_open, tokens, first_open, first_words, after_stop}
 use Rattle.definition.specs.Words.{on_first, sentences}
 use Rattle.definition.specs.Unquoted.{closed}
-use Rattle.definition.proofs.Lists.{drop-next}
 
 pub never {ℓ} : {A : Type ℓ} → false ≡ true → A
 never h = absurd (cc)
@@ -81,7 +81,7 @@ module _ (t : List ℕ) (q : Said) (m : Mode) (i : ℕ) where
       ≡ completed m i (seen_at t q i)
       ++ unless_open q (seen_at t q i) (tokens t (said_next t q m i (get_or t i 0) (seen_at t q i)) (next m i (seen_at t q i)) (i + 1) (drop (i + 1) t))
   unfolding tokens
-  tokens-next h = rw (drop-next t i h)
+  tokens-next h = rw (drop_more t i 0 h)
 
   pub tokens-end : length t ≤ i → tokens t q m i (drop i t) ≡ completed_end m i ++ unless_open q Newline []
   unfolding tokens

@@ -14,7 +14,7 @@ use Rattle.definition.specs.declared.Extract.{Extract}
 use Rattle.definition.specs.declared.Report.{Report}
 use Rattle.definition.specs.declared.Refusal.{Refusal}
 use Rattle.definition.specs.Limits.{most_bytes, least_work, most_items}
-use Rattle.definition.specs.Basic.{Answer, Err, Ok, ◌>>=◌, refuse_if}
+use Rattle.definition.specs.Basic.{Answer, Err, Ok, ◌>>=◌, refuse_if, or_refuse}
 use Rattle.definition.specs.Words.{tokens_of, first_open, statement_words}
 use Rattle.definition.specs.Cards.{view, first_other, Form, free_text, card_text}
 use Rattle.definition.specs.Statement.{statements}
@@ -22,7 +22,7 @@ use Rattle.definition.specs.Tree.{Forest}
 use Rattle.definition.specs.Usages.{record_of}
 use Rattle.definition.specs.Picture.{picture, symbols, is_masked, mask}
 use Rattle.definition.specs.Fold.{Entries}
-use Rattle.definition.specs.Record.{record_length, layout}
+use Rattle.definition.specs.Record.{layout}
 use Rattle.definition.specs.Listing.{listing}
 use Rattle.definition.specs.Owner.{pieces, owner_of, overlaid}
 use Rattle.definition.specs.Details.{entries_details}
@@ -116,14 +116,13 @@ picture_mask usage bs room = do
   l ← symbols 0 usage bs
   fitting room (if is_masked usage l then mask l else [])
 
--- the owner of a position in a record of these fields: 40 for a kept REDEFINES or DEPENDING ON, 41 for a position not
--- below record length
+-- the owner of a position in a record of these fields: 40 for a kept REDEFINES or DEPENDING ON, 41 for a position that no
+-- piece has, so for one not below record length (`refuses-41`, of the proofs, says so)
 unfoldable pub owner_in : List ℕ → Forest → ℕ → Answer Owner
 owner_in text f position = do
-  es ← layout text f
+  _ ← layout text f
   _ ← refuse_if (overlaid f) Refusal.Overlaid
-  _ ← refuse_if (not (ltb position (record_length es))) Refusal.OutsideRecord
-  Ok (owner_of (pieces text f) position)
+  or_refuse Refusal.OutsideRecord (owner_of (pieces text f) position)
 
 -- the byte owner
 unfoldable pub byte_owner : List ℕ → ℕ → ℕ → Answer Owner

@@ -2,7 +2,7 @@
 -- Assumes nothing.
 use Rattle.definition.specs.Basic.{same, digits, number, sum, and_then}
 use Rattle.definition.specs.Words.{byte_kind, said_next, tokens, first_open, sentences, statement_words}
-use Rattle.definition.specs.Statement.{pick, keyword_of, clause_step, step, clauses, named, statement, statements}
+use Rattle.definition.specs.Statement.{keyword_of, clause_step, step, clauses, named, statement, statements}
 use Rattle.definition.specs.Tree.{above, not_above, forest, higher, still_open, parents, parents_in, fields}
 use Rattle.definition.specs.Usages.{inherit, inherit_along}
 use Rattle.definition.specs.Picture.{trim_start, trim, before_close, repeat, expand, legal, tally, before_point}
@@ -27,7 +27,7 @@ use Rattle.definition.specs.Key.{named_in, key_in, all_agree, keys_in, copybooks
 
 unfoldable pub computing : Unit {0}
 unfolding
-    same digits number and_then byte_kind said_next tokens first_open sentences statement_words pick keyword_of clause_step
+    same digits number and_then byte_kind said_next tokens first_open sentences statement_words keyword_of clause_step
     step clauses named statement statements
     above not_above forest higher still_open parents parents_in fields
     inherit inherit_along

@@ -163,12 +163,14 @@ pub record Demand (text : List ℕ) (owner : ℕ → Answer Owner) (f : Forest) 
   pub whole : (bs : List ℕ) → length bs ≡ record_length es → join (cut (pieces text f) bs) ≡ bs
 
 -- what holds of every accepted copybook: the reader finds the fields of its record in what it sees, and the layout
--- their entries; what an entry names stands so in the copybook's own text; the demand is kept, unless a kept statement,
--- a dropped root aside, has a REDEFINES or a DEPENDING ON; then the byte owner refuses every position
+-- their entries; what an entry names stands so in the copybook's own text; the demand is kept, and the byte owner
+-- refuses each position not below the record length, unless a kept statement, a dropped root aside, has a REDEFINES or a
+-- DEPENDING ON; then it refuses every position
 pub record Kept (form : Form) (text : List ℕ) (work : ℕ) (es : Entries) : Type 0 where
   pub of : Forest
   pub read : record_fields (view_in form text) work ≡ Ok of
   pub laid_out : layout (view_in form text) of ≡ Ok es
   pub spelt : EachSpan (λ w. part (view_in form text) w ≡ part text w) es
   pub demand : overlaid of ≡ false → Demand (view_in form text) (owner_on form text work) of es
+  pub outside : overlaid of ≡ false → (q : ℕ) → record_length es ≤ q → owner_on form text work q ≡ Err Refusal.OutsideRecord
   pub refuses : overlaid of ≡ true → (q : ℕ) → owner_on form text work q ≡ Err Refusal.Overlaid

@@ -4,7 +4,7 @@
 -- multiple of its width. Then each item is laid count times: an elementary item as one piece of its width, a group as
 -- its whole list, slack and all. With OCCURS 0 no piece is laid, but the slack stays.
 -- Assumes nothing.
-use Rattle.std.specs.Prelude.{ℕ, zero, suc, ◌+◌, ◌-◌, Bool, false, ◌&&◌, ◌||◌, List, [], ◌∷◌, ◌++◌, ltb, take, drop, if◌then◌else◌}
+use Rattle.std.specs.Prelude.{ℕ, zero, suc, ◌+◌, ◌-◌, Bool, false, ◌&&◌, ◌||◌, Option, None, Some, List, [], ◌∷◌, ◌++◌, ltb, take, drop, if◌then◌else◌}
 use Rattle.definition.specs.declared.FieldKind.{FieldKind}
 use Rattle.definition.specs.declared.Pictured.{Pictured}
 use Rattle.definition.specs.declared.Statement.{Statement}
@@ -94,14 +94,15 @@ abbrev pub answer : Holder → ℕ → ℕ → Owner
 answer (occurrence k) first place = Owner.Piece k first place
 answer (slack k) first place = Owner.Slack k
 
--- the owner of the byte before which q bytes of the pieces are laid, and `first` bytes before the pieces
-unfoldable pub owner_from : ℕ → List Piece → ℕ → Owner
-owner_from first [] q = Owner.Unowned
+-- the owner of the byte before which q bytes of the pieces are laid, and `first` bytes before the pieces; none where the
+-- pieces end before it
+unfoldable pub owner_from : ℕ → List Piece → ℕ → Option Owner
+owner_from first [] q = None
 owner_from first (p ∷ ps) q =
-    if ltb q p.width then answer p.holder first q else owner_from (first + p.width) ps (q - p.width)
+    if ltb q p.width then Some (answer p.holder first q) else owner_from (first + p.width) ps (q - p.width)
 
 -- a byte's owner is the piece or slack that laid it
-abbrev pub owner_of : List Piece → ℕ → Owner
+abbrev pub owner_of : List Piece → ℕ → Option Owner
 owner_of ps q = owner_from 0 ps q
 
 -- some statement, at any depth, has a REDEFINES or a DEPENDING ON

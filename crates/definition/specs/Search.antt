@@ -2,7 +2,7 @@
 -- entries, and by a walk over their rows. (`Seek` and `Walk`, of the proofs, say that both find the owner that the laid
 -- pieces have.)
 -- Assumes nothing.
-use Rattle.std.specs.Prelude.{ℕ, zero, suc, ◌+◌, ◌*◌, ◌-◌, ◌/◌, ◌%◌, List, [], ◌∷◌, ◌++◌, eqb, ltb, if◌then◌else◌}
+use Rattle.std.specs.Prelude.{ℕ, zero, suc, ◌+◌, ◌*◌, ◌-◌, ◌/◌, ◌%◌, Option, None, Some, List, [], ◌∷◌, ◌++◌, eqb, ltb, if◌then◌else◌}
 use Rattle.definition.specs.declared.Entry.{Entry}
 use Rattle.definition.specs.declared.Owner.{Owner}
 use Rattle.definition.specs.Fold.{Entries, end, entry, times, total}
@@ -22,17 +22,17 @@ place_in e q = (q - e.offset) % e.width
 
 -- in an occurrence that starts at the byte `first`: an elementary entry is one piece, in a group it is what was found
 -- among its members
-abbrev pub inside : ℕ → ℕ → ℕ → Entries → Owner → Owner
-inside k first place end found = Owner.Piece k first place
+abbrev pub inside : ℕ → ℕ → ℕ → Entries → Option Owner → Option Owner
+inside k first place end found = Some (Owner.Piece k first place)
 inside k first place (entry e members later) found = found
 
 -- the owner of the byte at place q of a list of entries, whose first has number k, and which starts at the byte `first`
 -- of the record: what stands before an entry's offset, and after the earlier items, is its slack; in an entry, a
 -- division finds the occurrence
-unfoldable pub seek : ℕ → ℕ → Entries → ℕ → Owner
-seek k first end q = Owner.Unowned
+unfoldable pub seek : ℕ → ℕ → Entries → ℕ → Option Owner
+seek k first end q = None
 seek k first (entry e members later) q =
-    if ltb q e.offset then Owner.Slack k
+    if ltb q e.offset then Some (Owner.Slack k)
     else if ltb q (e.offset + total e)
     then inside k (start_in first e q) (place_in e q) members (seek (suc k) (start_in first e q) members (place_in e q))
     else seek (suc k + entries# members) first later q
@@ -55,13 +55,13 @@ rows end = []
 rows (entry e members later) = row_of e (entries# members) ∷ (rows members ++ rows later)
 
 -- the search as a walk from row to row: `skip` rows are passed over
-unfoldable pub walk : ℕ → ℕ → ℕ → List Row → ℕ → Owner
-walk skip k first [] q = Owner.Unowned
+unfoldable pub walk : ℕ → ℕ → ℕ → List Row → ℕ → Option Owner
+walk skip k first [] q = None
 walk (suc skip) k first (r ∷ rs) q = walk skip (suc k) first rs q
 walk zero k first (r ∷ rs) q =
     let start = first + r.offset + (q - r.offset) / r.width * r.width in
     let place = (q - r.offset) % r.width in
-    if ltb q r.offset then Owner.Slack k
+    if ltb q r.offset then Some (Owner.Slack k)
     else if ltb q (r.offset + r.width * r.count)
-    then (if eqb r.below 0 then Owner.Piece k start place else walk zero (suc k) start rs place)
+    then (if eqb r.below 0 then Some (Owner.Piece k start place) else walk zero (suc k) start rs place)
     else walk r.below (suc k) first rs q

@@ -47,21 +47,21 @@ spellings =
     ∷ spelt "REDEFINES" Keyword.Redefines
     ∷ spelt "OCCURS" Keyword.Occurs
     ∷ spelt "USAGE" Keyword.Usage
-    ∷ spelt "DISPLAY" Keyword.Display
-    ∷ spelt "COMP-3" Keyword.Comp3
-    ∷ spelt "COMPUTATIONAL-3" Keyword.Comp3
-    ∷ spelt "PACKED-DECIMAL" Keyword.Comp3
-    ∷ spelt "COMP" Keyword.Comp
-    ∷ spelt "COMPUTATIONAL" Keyword.Comp
-    ∷ spelt "COMP-4" Keyword.Comp
-    ∷ spelt "COMPUTATIONAL-4" Keyword.Comp
-    ∷ spelt "COMP-5" Keyword.Comp
-    ∷ spelt "COMPUTATIONAL-5" Keyword.Comp
-    ∷ spelt "BINARY" Keyword.Comp
-    ∷ spelt "COMP-1" Keyword.Comp1
-    ∷ spelt "COMPUTATIONAL-1" Keyword.Comp1
-    ∷ spelt "COMP-2" Keyword.Comp2
-    ∷ spelt "COMPUTATIONAL-2" Keyword.Comp2
+    ∷ spelt "DISPLAY" (Keyword.Names (ItemUsage.Picture Usage.Display))
+    ∷ spelt "COMP-3" (Keyword.Names (ItemUsage.Picture Usage.Comp3))
+    ∷ spelt "COMPUTATIONAL-3" (Keyword.Names (ItemUsage.Picture Usage.Comp3))
+    ∷ spelt "PACKED-DECIMAL" (Keyword.Names (ItemUsage.Picture Usage.Comp3))
+    ∷ spelt "COMP" (Keyword.Names (ItemUsage.Picture Usage.Comp))
+    ∷ spelt "COMPUTATIONAL" (Keyword.Names (ItemUsage.Picture Usage.Comp))
+    ∷ spelt "COMP-4" (Keyword.Names (ItemUsage.Picture Usage.Comp))
+    ∷ spelt "COMPUTATIONAL-4" (Keyword.Names (ItemUsage.Picture Usage.Comp))
+    ∷ spelt "COMP-5" (Keyword.Names (ItemUsage.Picture Usage.Comp))
+    ∷ spelt "COMPUTATIONAL-5" (Keyword.Names (ItemUsage.Picture Usage.Comp))
+    ∷ spelt "BINARY" (Keyword.Names (ItemUsage.Picture Usage.Comp))
+    ∷ spelt "COMP-1" (Keyword.Names ItemUsage.Comp1)
+    ∷ spelt "COMPUTATIONAL-1" (Keyword.Names ItemUsage.Comp1)
+    ∷ spelt "COMP-2" (Keyword.Names ItemUsage.Comp2)
+    ∷ spelt "COMPUTATIONAL-2" (Keyword.Names ItemUsage.Comp2)
     ∷ spelt "SIGN" Keyword.Sign
     ∷ spelt "SYNC" Keyword.Sync
     ∷ spelt "SYNCHRONIZED" Keyword.Sync
@@ -69,17 +69,14 @@ spellings =
     ∷ spelt "VALUES" Keyword.Value
     ∷ []
 
--- k where the word is the spelling, else the other
-unfoldable pub pick : List ℕ → List ℕ → Keyword → Keyword → Keyword
-pick u spelling k other = if same u spelling then k else other
+-- what the spelling says that is the word u in upper case
+abbrev pub meaning : List ℕ → List Spelling → Option Keyword
+meaning u [] = None
+meaning u (s ∷ ss) = if key s.word u then Some s.means else meaning u ss
 
--- what the spelling says that is the word u in upper case, and k where none is
-abbrev pub meaning : List ℕ → List Spelling → Keyword → Keyword
-meaning u [] k = k
-meaning u (s ∷ ss) k = meaning u ss (pick u (bytes s.word) s.means k)
-
-unfoldable pub keyword_of : List ℕ → Keyword
-keyword_of u = meaning u spellings Keyword.Other
+-- the clause that a word begins, if it is a spelling
+unfoldable pub keyword_of : List ℕ → Option Keyword
+keyword_of u = meaning u spellings
 
 -- ---------------------------------------------------------------- the clauses, one replaced at a time
 
@@ -135,21 +132,17 @@ abbrev pub counted : Missing → Expect → Clauses → Option ℕ → Step
 counted m e c None = Err m
 counted m e c (Some k) = go e (with_occurs k c)
 
--- where a clause begins, what the next word may be
-abbrev pub begin : Keyword → Clauses → Step
-begin Keyword.Picture c = go IsPicture (with_picture absent c)
-begin Keyword.Redefines c = go Target (with_redefines absent c)
-begin Keyword.Occurs c = go ACount c
-begin Keyword.Usage c = go UsageIs c
-begin Keyword.Display c = go Clause (with_usage (ItemUsage.Picture Usage.Display) c)
-begin Keyword.Comp3 c = go Clause (with_usage (ItemUsage.Picture Usage.Comp3) c)
-begin Keyword.Comp c = go Clause (with_usage (ItemUsage.Picture Usage.Comp) c)
-begin Keyword.Comp1 c = go Clause (with_usage ItemUsage.Comp1 c)
-begin Keyword.Comp2 c = go Clause (with_usage ItemUsage.Comp2 c)
-begin Keyword.Sign c = go SignIs (with_sign (Some (sign_words false false)) c)
-begin Keyword.Sync c = go Side (with_sync true c)
-begin Keyword.Value c = go Nothing c
-begin Keyword.Other c = go Clause c
+-- where a clause begins, what the next word may be; a word that begins none is passed over
+abbrev pub begin : Option Keyword → Clauses → Step
+begin (Some Keyword.Picture) c = go IsPicture (with_picture absent c)
+begin (Some Keyword.Redefines) c = go Target (with_redefines absent c)
+begin (Some Keyword.Occurs) c = go ACount c
+begin (Some Keyword.Usage) c = go UsageIs c
+begin (Some (Keyword.Names u)) c = go Clause (with_usage u c)
+begin (Some Keyword.Sign) c = go SignIs (with_sign (Some (sign_words false false)) c)
+begin (Some Keyword.Sync) c = go Side (with_sync true c)
+begin (Some Keyword.Value) c = go Nothing c
+begin None c = go Clause c
 
 -- a word where a clause may begin: u is the word in upper case
 abbrev pub on_clause : List ℕ → Clauses → Step

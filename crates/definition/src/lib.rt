@@ -1,15 +1,19 @@
 //! The types that the definition speaks of, and that the code hands from one stage to the next: the reader's states,
-//! what statements and pictures say, the entries of the listing, what is asked of a record, and the refusals. A place
-//! in the copybook text is a span, its first byte and its length; length 0 means absent. Positions count bytes from 0.
+//! what statements and pictures say, the entries of the listing, what is asked of a record, and the refusals. Two of
+//! them, `Mode` and `Token`, no code holds: specs and proofs name them. A place in the copybook text is a span, its
+//! first byte and its length; length 0 means absent. Positions count bytes from 0.
 
 #![tactic(auto)]
 
-ghost use Rattle.std.specs.Prelude.{◌≡◌};
-ghost use Rattle.definition.specs.Basic.{given};
+ghost use Rattle.std.specs.Prelude.{◌≡◌, ◌+◌, ◌≤◌, length, Some};
+ghost use Rattle.definition.specs.Basic.{given, part};
+ghost use Rattle.definition.specs.Picture.{is_alignable};
 ghost use Rattle.definition.specs.Refusals.{refusal_number, refusal_position, refusal_needed};
-ghost use Rattle.definition.specs.Statement.{missing};
+ghost use Rattle.definition.specs.Statement.{missing, sign_of};
 
 // ---------------------------------------------------------------- limits, as `specs/Limits` has them
+
+// In brackets stands the refusal of what is past them.
 
 /// The most bytes of a text (1).
 pub const MOST_BYTES: usize = 65535;
@@ -66,6 +70,9 @@ pub struct Span {
 
 impl Span {
     /// No place in the text.
+    // Kept: length 0 for an absent place – no plainer: a row, the listing and what C is handed have 0 and 0 for it, and
+    // what is read there is no byte, as at any place of length 0; an Option would be taken apart at each of these
+    // first.
     pub const ABSENT: Span = Span { start: 0, len: 0 };
 
     /// Whether it is a place in the text.
@@ -73,6 +80,14 @@ impl Span {
         ensures { result ≡ given self }
     {
         0 < self.len
+    }
+
+    /// The part of a text that it is.
+    pub fn part_of(self, text: &[u8]) -> &[u8]
+        requires { self.start + self.len ≤ length text.now }
+        ensures { result.now ≡ part text.now self }
+    {
+        &text[self.start..self.start + self.len]
     }
 }
 
@@ -94,6 +109,8 @@ pub enum ByteKind {
 }
 
 /// Where the reader is.
+// Kept: declared here, as `Token`, though no code holds one – no plainer: they stand beside `ByteKind` and `Said`,
+// which the definition takes and gives with them; as `data` of specs they would have the same arms.
 #[derive(Clone, Copy)]
 pub enum Mode {
     /// Before the first non-blank of a line.
@@ -107,6 +124,8 @@ pub enum Mode {
 }
 
 /// What a statement has said so far, as far as its literals go.
+// Kept: a number of words that ends at 2 – no plainer: variants for none, one and more would be three arms where one
+// number is counted up and compared; and in `FieldKind` `signed` beside `sign` – the C interface: a listing tells both.
 #[derive(Clone, Copy)]
 pub enum Said {
     /// This many words, 2 standing for more, and no VALUE from the third on.
@@ -133,8 +152,11 @@ pub enum Token {
 /// The usage that a picture is read with.
 #[derive(Clone, Copy)]
 pub enum Usage {
+    /// DISPLAY: a byte for each character or digit.
     Display,
+    /// COMP-3: two digits a byte.
     Comp3,
+    /// COMP: a binary number.
     Comp,
 }
 
@@ -150,7 +172,7 @@ pub enum ItemUsage {
 }
 
 /// Where a number has its sign.
-#[derive(Clone, Copy)]
+#[derive(Clone, Copy, PartialEq, Eq)]
 pub enum SignKind {
     /// Nowhere: it has none.
     Unsigned,
@@ -160,6 +182,19 @@ pub enum SignKind {
     LeadingSeparate,
     /// In a byte of its own after them.
     TrailingSeparate,
+}
+
+/// The sign that the words of SIGN say: one that is not separate is embedded, whether leading or trailing.
+impl From<SignWords> for SignKind {
+    ghost from_gives = { λ w s. sign_of (Some w) ≡ Some s };
+
+    fn from(w: SignWords) -> SignKind {
+        match (w.separate, w.leading) {
+            (false, _) => SignKind::Embedded,
+            (true, true) => SignKind::LeadingSeparate,
+            (true, false) => SignKind::TrailingSeparate,
+        }
+    }
 }
 
 /// What SIGN says.
@@ -172,7 +207,7 @@ pub struct SignWords {
 }
 
 /// How the digits of a decimal are stored.
-#[derive(Clone, Copy)]
+#[derive(Clone, Copy, PartialEq, Eq)]
 pub enum NumRepr {
     /// A digit a byte.
     Display,
@@ -184,7 +219,7 @@ pub enum NumRepr {
 
 /// What an item holds. A precision counts digits and a scale those after the point, both with P; `signed` is true
 /// where the picture has a sign.
-#[derive(Clone, Copy)]
+#[derive(Clone, Copy, PartialEq, Eq)]
 pub enum FieldKind {
     /// Characters.
     Text,
@@ -216,6 +251,15 @@ pub enum FieldKind {
     Float {
         bits: u8,
     },
+}
+
+impl FieldKind {
+    /// Whether SYNC aligns it: binary, or a float.
+    pub fn is_alignable(self) -> bool
+        ensures { result ≡ is_alignable self }
+    {
+        matches!(self, FieldKind::Binary { .. } | FieldKind::Float { .. })
+    }
 }
 
 /// What a picture says.
@@ -251,20 +295,22 @@ pub struct Clauses {
 /// The clause that a word begins, where one may begin.
 #[derive(Clone, Copy)]
 pub enum Keyword {
+    /// PIC.
     Picture,
+    /// REDEFINES.
     Redefines,
+    /// OCCURS.
     Occurs,
+    /// USAGE.
     Usage,
-    Display,
-    Comp3,
-    Comp,
-    Comp1,
-    Comp2,
+    /// The name of a usage, with or without USAGE before it.
+    Names(ItemUsage),
+    /// SIGN.
     Sign,
+    /// SYNC.
     Sync,
+    /// VALUE.
     Value,
-    /// None.
-    Other,
 }
 
 /// What the reader of a statement expects.
@@ -395,7 +441,7 @@ pub enum Reason {
 // ---------------------------------------------------------------- what is asked of a record
 
 /// What a byte of a record belongs to.
-#[derive(Clone, Copy)]
+#[derive(Clone, Copy, PartialEq, Eq)]
 pub enum Owner {
     /// A piece: one occurrence of the elementary item that is this entry of the listing, with the piece's first byte in
     /// the record and the byte's place inside it.
@@ -408,8 +454,6 @@ pub enum Owner {
     Slack {
         entry: usize,
     },
-    /// Nothing.
-    Unowned,
 }
 
 /// A choice among the top-level items.
@@ -435,6 +479,8 @@ pub struct KeyColumn {
 }
 
 /// What is written of a copybook's record.
+// Kept: an enum that says which, told apart in one place, by `answer` of `answers` – no plainer: the definition's calls
+// take it, and one entry for each report hands it on.
 #[derive(Clone, Copy)]
 pub enum Report {
     /// The layout listing.
@@ -519,6 +565,7 @@ pub enum Refusal {
 
 impl Refusal {
     /// Its number.
+    // Kept: a number for a refusal, by a `match` – the C interface: C is told these, which docs/REFUSALS.md lists.
     pub fn number(self) -> u32
         ensures { result ≡ refusal_number self }
     {
@@ -559,6 +606,7 @@ impl Refusal {
     }
 
     /// The position that it is about, 0 where there is none.
+    // Kept: 0 for none, as in `needed` – the C interface: an answer has a number there for each refusal.
     pub fn position(self) -> usize
         ensures { result ≡ refusal_position self }
     {

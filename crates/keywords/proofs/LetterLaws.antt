@@ -4,45 +4,60 @@ use Prim.Native.Nat.{ℕ, ◌≤◌, ◌<◌}
 use mathlib.Core.Path.{◌≡◌, refl, ap, ◌∙◌}
 use mathlib.Core.Bool.{Bool, true, false}
 use mathlib.Core.List.{List, [], ◌∷◌}
+use Rattle.std.specs.Prelude.{Option, None, Some, if◌then◌else◌}
+use Rattle.std.specs.Borrow.{Bor}
 use native.Mathlib.Omega.{arith}
+use Rattle.std.specs.List.{find}
+use Rattle.std.specs.Option.{option_map}
 use lib.ListN.{length, get_or}
 use Rattle.definition.specs.declared.Keyword.{Keyword}
 use Rattle.definition.specs.Basic.{bytes, same, upper, uppers}
-use Rattle.definition.specs.Statement.{Spelling, pick, meaning, spellings, keyword_of}
-use Rattle.keywords.specs.Letters.{first, kept, starting}
+use Rattle.definition.specs.Statement.{key, Spelling, meaning, spellings, keyword_of}
+use Rattle.keywords.specs.Letters.{first, kept, starting, first_said}
+
+module _ (u : List ℕ) where
+  -- what the first spelling says that is the word is what the one says that is found
+  pub found-said :
+      (t : List (Bor (List ℕ) × Keyword)) →
+      option_map (λ (s : Bor (List ℕ) × Keyword). s.1) (find (λ (s : Bor (List ℕ) × Keyword). same u s.0.now) t)
+      ≡ first_said u t
+  found-said [] = refl
+  found-said (s ∷ t) = grind (arith, found-said t)
 
 module _ (b : ℕ) (u : List ℕ) where
   -- a spelling with another first letter is not the word
-  passed : (s : List ℕ) (k o : Keyword) → first b s ≡ false → pick (b ∷ u) s k o ≡ o
-  unfolding pick same
-  passed [] k o h = refl
-  passed (x ∷ xs) k o h = rw h
+  passed : (s : List ℕ) → first b s ≡ false → same (b ∷ u) s ≡ false
+  unfolding same
+  passed [] h = refl
+  passed (x ∷ xs) h = rw h
 
   -- so the spellings of its letter say what all say
-  letter-says : (ss : List Spelling) (k : Keyword) → meaning (b ∷ u) ss k ≡ meaning (b ∷ u) (starting b ss) k
-  letter-says [] k = refl
-  letter-says (s ∷ ss) k = by-letter (first b (bytes s.word)) refl (letter-says ss)
+  letter-says : (ss : List Spelling) → meaning (b ∷ u) ss ≡ meaning (b ∷ u) (starting b ss)
+  letter-says [] = refl
+  letter-says (s ∷ ss) = by-letter (first b (bytes s.word)) refl (letter-says ss)
     where
       by-letter :
           (t : Bool) →
           first b (bytes s.word) ≡ t →
-          ((o : Keyword) → meaning (b ∷ u) ss o ≡ meaning (b ∷ u) (starting b ss) o) →
-          meaning (b ∷ u) (s ∷ ss) k ≡ meaning (b ∷ u) (kept t s (starting b ss)) k
-      by-letter true h rest = rest (pick (b ∷ u) (bytes s.word) s.means k)
-      by-letter false h rest = ap (meaning (b ∷ u) ss) (passed (bytes s.word) s.means k h) ∙ rest k
+          meaning (b ∷ u) ss ≡ meaning (b ∷ u) (starting b ss) →
+          meaning (b ∷ u) (s ∷ ss) ≡ meaning (b ∷ u) (kept t s (starting b ss))
+      by-letter true h rest =
+          ap (λ (k : Option Keyword). if key s.word (b ∷ u) then Some s.means else k) rest
+      by-letter false h rest =
+          ap (λ (t : Bool). if t then Some s.means else meaning (b ∷ u) ss) (passed (bytes s.word) h) ∙ rest
 
 -- an empty word begins no clause
-pub empty-word : (w : List ℕ) → length w < 1 → keyword_of (uppers w) ≡ Keyword.Other
-unfolding keyword_of pick same
+pub empty-word : (w : List ℕ) → length w < 1 → keyword_of (uppers w) ≡ None
+unfolding keyword_of same
 empty-word [] h = refl
 empty-word (x ∷ w) h = absurd (omega arith)
 
 -- any other word begins what the spellings of its first letter say
 pub lettered-word :
     (w : List ℕ) → 1 ≤ length w →
-    keyword_of (uppers w) ≡ meaning (uppers w) (starting (upper (get_or w 0 0)) spellings) Keyword.Other
+    keyword_of (uppers w) ≡ meaning (uppers w) (starting (upper (get_or w 0 0)) spellings)
 unfolding keyword_of
 lettered-word [] h = absurd (omega arith)
-lettered-word (x ∷ w) h = letter-says (upper x) (uppers w) spellings Keyword.Other
+lettered-word (x ∷ w) h = letter-says (upper x) (uppers w) spellings
 
 pub ruleset letter_steps = (empty-word, lettered-word)

@@ -1,7 +1,9 @@
--- The definition's spellings by their first letter.
+-- The definition's spellings by their first letter, and what a table of spellings says.
 -- Assumes nothing.
-use Rattle.std.specs.Prelude.{ℕ, Bool, true, false, List, [], ◌∷◌, eqb}
-use Rattle.definition.specs.Basic.{bytes}
+use Rattle.std.specs.Prelude.{ℕ, Bool, true, false, Option, None, Some, List, [], ◌∷◌, eqb, if◌then◌else◌}
+use Rattle.std.specs.Borrow.{Bor}
+use Rattle.definition.specs.declared.Keyword.{Keyword}
+use Rattle.definition.specs.Basic.{bytes, same}
 use Rattle.definition.specs.Statement.{Spelling}
 
 -- the bytes begin with b
@@ -18,3 +20,8 @@ kept false s ss = ss
 abbrev pub starting : ℕ → List Spelling → List Spelling
 starting b [] = []
 starting b (s ∷ ss) = kept (first b (bytes s.word)) s (starting b ss)
+
+-- what the first spelling of a table says that is the word u in upper case
+abbrev pub first_said : List ℕ → List (Bor (List ℕ) × Keyword) → Option Keyword
+first_said u [] = None
+first_said u (s ∷ t) = if same u s.0.now then Some s.1 else first_said u t

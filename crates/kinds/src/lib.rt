@@ -1,10 +1,9 @@
 //! The numbers of kinds, signs, storages and usages, both ways. What the listing writes, what a row holds and what C is
-//! handed are these; no other crate has a number of its own for them.
+//! handed are these.
 #![tactic(auto)]
 
 ghost use Rattle.std.specs.Prelude.{ℕ, ◌≡◌, true, ltb};
 ghost use Rattle.definition.specs.Listing.{flag, sign_byte, storage_byte, kind_byte};
-ghost use Rattle.definition.specs.Picture.{is_alignable};
 ghost use Rattle.kinds.specs.Kinds.{sign_at, storage_at, numbers_of, kind_of, kind_code, kind_at, packed, unpacked};
 ghost use Rattle.kinds.specs.Kinds.{flag_at};
 ghost use Rattle.kinds.specs.Usages.{usage_byte, usage_at, item_usage_byte, item_usage_at, clause_code, clause_at};
@@ -18,6 +17,8 @@ use definition::{FieldKind, ItemUsage, NumRepr, SignKind, SignWords, Usage};
 // ---------------------------------------------------------------- one byte for a value
 
 /// A value that has a number of one byte, and is read back from it.
+// Kept: a trait of its own – no plainer: a From can't be written here between a number and another crate's type, and a
+// TryFrom would refuse numbers that a row may hold before it is written.
 pub trait Coded: Copy {
     ghost code: { Self → ℕ };
 
@@ -31,8 +32,10 @@ pub trait Coded: Copy {
     fn at(n: u8) -> Self
         ensures { result ≡ at n };
 
+    // a number gives its value back
     ghost back: { (x : Self) → at (code x) ≡ x };
 
+    // a number, and that of a clause, which is one more, fit into three bits
     ghost few: { (x : Self) → ltb (code x) 7 ≡ true };
 }
 
@@ -166,6 +169,8 @@ impl Coded for ItemUsage {
 }
 
 // What is said of the sign, or that nothing is: 0, and every number over 4.
+// Kept: an impl for the Option, beside `clause_code` and `clause_at` – no plainer: a number over 4 says nothing of a
+// sign, where `clause_at` takes each number but 0 for something said.
 impl Coded for Option<SignWords> {
     ghost code = { sign_code };
 
@@ -205,60 +210,52 @@ impl Coded for Option<SignWords> {
 pub fn clause_code<T: Coded>(said: Option<T>) -> u8
     ensures { result ≡ clause_code T.code said }
 {
-    match said {
-        None => 0,
-        Some(x) => x.code() + 1,
-    }
+    said.map_or(0, |x| x.code() + 1)
 }
 
 /// What a clause says, from its number.
 pub fn clause_at<T: Coded>(n: u8) -> Option<T>
     ensures { result ≡ clause_at T.at n }
 {
-    match n {
-        0 => None,
-        _ => Some(T::at(n - 1)),
-    }
+    Some(T::at(n.checked_sub(1)?))
 }
 
 // ---------------------------------------------------------------- kinds
 
 /// A kind's own number, and those of what it holds, each 0 where it has none; a float's precision is its bits.
 // Kept: numbers for kinds – the C interface: these are what C is handed, the listing writes and a row holds.
-#[derive(Clone, Copy, PartialEq, Eq)]
+#[derive(Clone, Copy, Default)]
 pub struct KindNumbers {
+    /// The kind's own, 1 to 7, or 0 where there is none.
     pub kind: u8,
+    /// Whether a number is signed, 1 for yes.
     pub signed: u8,
+    /// Where it has its sign.
     pub sign: u8,
+    /// How many digits it has, or a float's bits.
     pub precision: u8,
+    /// How many of the digits stand after the point.
     pub scale: u8,
+    /// How the digits of a decimal are stored.
     pub storage: u8,
 }
 
-impl KindNumbers {
-    // No number at all.
-    const NONE: KindNumbers = KindNumbers {
-        kind: 0,
-        signed: 0,
-        sign: 0,
-        precision: 0,
-        scale: 0,
-        storage: 0,
-    };
+// The six in one number, the kind's own the lowest.
+impl From<KindNumbers> for u32 {
+    ghost from_gives = { λ n c. c ≡ packed n };
 
-    /// The six in one number, the kind's own the lowest.
-    pub fn packed(self) -> u32
-        ensures { result ≡ packed self }
-    {
-        let digits = u32::from(self.precision) + 256 * u32::from(self.scale);
-        let stored = u32::from(self.sign) + 4 * (u32::from(self.storage) + 4 * digits);
-        u32::from(self.kind) + 8 * (u32::from(self.signed) + 2 * stored)
+    fn from(n: KindNumbers) -> u32 {
+        let digits = u32::from(n.precision) + 256 * u32::from(n.scale);
+        let stored = u32::from(n.sign) + 4 * (u32::from(n.storage) + 4 * digits);
+        u32::from(n.kind) + 8 * (u32::from(n.signed) + 2 * stored)
     }
+}
 
-    /// The six that a number holds.
-    pub fn unpacked(code: u32) -> KindNumbers
-        ensures { result ≡ unpacked code }
-    {
+// The six that a number holds.
+impl From<u32> for KindNumbers {
+    ghost from_gives = { λ c n. n ≡ unpacked c };
+
+    fn from(code: u32) -> KindNumbers {
         KindNumbers {
             kind: (code % 8) as u8,
             signed: (code / 8 % 2) as u8,
@@ -277,18 +274,18 @@ impl From<FieldKind> for KindNumbers {
         match k {
             FieldKind::Text => KindNumbers {
                 kind: 1,
-                ..KindNumbers::NONE
+                ..KindNumbers::default()
             },
             FieldKind::Int { signed, sign } => KindNumbers {
                 kind: 2,
                 signed: signed.code(),
                 sign: sign.code(),
-                ..KindNumbers::NONE
+                ..KindNumbers::default()
             },
             FieldKind::Binary { signed } => KindNumbers {
                 kind: 3,
                 signed: signed.code(),
-                ..KindNumbers::NONE
+                ..KindNumbers::default()
             },
             FieldKind::Decimal {
                 precision,
@@ -312,16 +309,16 @@ impl From<FieldKind> for KindNumbers {
                 signed: signed.code(),
                 precision,
                 scale,
-                ..KindNumbers::NONE
+                ..KindNumbers::default()
             },
             FieldKind::Group => KindNumbers {
                 kind: 6,
-                ..KindNumbers::NONE
+                ..KindNumbers::default()
             },
             FieldKind::Float { bits } => KindNumbers {
                 kind: 7,
                 precision: bits,
-                ..KindNumbers::NONE
+                ..KindNumbers::default()
             },
         }
     }
@@ -358,7 +355,8 @@ impl From<KindNumbers> for FieldKind {
 }
 
 /// A kind's own number, which its entry in the listing begins with.
-// Kept: functions, as the next three – no plainer: `FieldKind` is `definition`'s, and no method can be added here.
+// Kept: functions, as the next two – no plainer: no From can be written here between a number and `FieldKind`, which is
+// another crate's.
 pub fn kind_byte(k: FieldKind) -> u8
     ensures { result ≡ kind_byte k }
 {
@@ -369,19 +367,12 @@ pub fn kind_byte(k: FieldKind) -> u8
 pub fn kind_code(k: FieldKind) -> u32
     ensures { result ≡ kind_code k }
 {
-    KindNumbers::from(k).packed()
+    u32::from(KindNumbers::from(k))
 }
 
 /// The kind that a number holds.
 pub fn kind_at(code: u32) -> FieldKind
     ensures { result ≡ kind_at code }
 {
-    FieldKind::from(KindNumbers::unpacked(code))
-}
-
-/// Whether SYNC aligns a kind, binary or a float.
-pub fn is_alignable(k: FieldKind) -> bool
-    ensures { result ≡ is_alignable k }
-{
-    matches!(k, FieldKind::Binary { .. } | FieldKind::Float { .. })
+    FieldKind::from(KindNumbers::from(code))
 }

@@ -41,6 +41,8 @@ pub fn entry_end(e: Entry) -> Result<usize, Refusal>
 
 /// Whether a record of `len` bytes is long enough for a layout of `record_len` bytes: 42 where it is shorter and the
 /// record is not variable.
+// Kept: a length beside whether it varies – the C interface: both are handed over as numbers, and the definition's
+// `record_check` takes them so.
 pub fn check_record_len(record_len: usize, variable: bool, len: usize) -> Result<(), Refusal>
     ensures { result ≡ record_check record_len variable len }
 {

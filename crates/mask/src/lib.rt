@@ -12,14 +12,13 @@ use definition::{Refusal, Usage};
 fn is_hidden(b: u8) -> bool
     ensures { result ≡ hidden b }
 {
-    match b {
-        b'P' => false,
-        b'S' | b'V' => true,
-        _ => false,
-    }
+    matches!(b, b'S' | b'V')
 }
 
 /// Writes the mask of a symbol that stands n times, from k on, and answers the place after it.
+// Kept: a place beside the output – no plainer: a run that took what is left of the output and answered what is left
+// behind it would lend the output, and its contract would have to say what the whole of it becomes when the loan ends.
+// Here that is one equation, with the definition's mask set at k.
 fn write_run(out: &mut [u8], k: usize, n: usize, b: u8) -> usize
     requires { k + length (mask_of (replicate n b)) ≤ length out.old }
     ensures { Wrote out.old k b n result out.new }
@@ -38,10 +37,10 @@ fn write_mask(picture: &[u8], out: &mut [u8])
 {
     let mut k = 0;
     let mut left = picture;
-    // Kept: a loop over what is left – no plainer: a symbol and its repeat take as many bytes as they have, and an
-    // iterator over bytes, or over chunks of them, takes the same number at each step.
+    // Kept: a loop over what is left – no plainer: a symbol and its repeat take as many bytes as they have, so that
+    // `windows` and `chunks` don't fit, and an iterator of symbols, of its own, would do what this loop does.
     while let [first, rest @ ..] = left {
-        // Never refused: this repeat was read with the picture.
+        // Never refused, though `repeat_at` answers a Result: this repeat was read with the picture.
         let Ok((n, skip)) = symbols::repeat_at(rest, 0) else {
             return;
         };
@@ -53,8 +52,9 @@ fn write_mask(picture: &[u8], out: &mut [u8])
 /// Writes the mask of a picture whose text was checked, where it is edited under the usage, and answers its length; 0
 /// of any other picture. Refusals are the picture's, then 31, with the length of the mask, if it is longer than the
 /// output.
-// Kept: beside `write` of `listing` – no plainer: the reading of the picture says how long its mask is, so that nothing
-// is put on trial, and each run is one fill of the output.
+// Kept: beside `write` of `listing` – no plainer: `Written::put` puts into an output of any length, as far as it has
+// places, and a mask's runs are fills, which need room for all of it.
+// Kept: 0 where there is no mask – the C interface: an answer has a length there, and writes no byte.
 // Kept: parameters, as of `picture_mask` – the C interface: picture, usage and output are handed on as C lends them.
 #[tactic(auto, using(crate::proofs::Masking::mask_steps), unfolding(definition::specs::Basic::and_then))]
 pub fn mask_of(pic: &[u8], usage: Usage, out: &mut [u8]) -> Result<usize, Refusal>

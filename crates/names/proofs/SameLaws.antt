@@ -11,11 +11,8 @@ use borrow.Author.Tests.{eqb-true, eqb-false, eq-eqb, ne_eqb}
 use Rattle.definition.specs.declared.Span.{Span}
 use Rattle.definition.specs.Basic.{same, uppers}
 use Rattle.definition.specs.Fold.{name_of, same_name}
-use Rattle.definition.proofs.WordLaws.{same-equal}
+use Rattle.definition.proofs.WordLaws.{never, same-equal}
 use Rattle.names.specs.Prints.{print_of, name_print}
-
-pub never : {A : Type 0} → false ≡ true → A
-never e = absurd (let z : ◌≡◌ {A = ℕ} 0 1 = cc in omega arith)
 
 -- ---------------------------------------------------------------- the same bytes
 

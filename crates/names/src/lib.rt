@@ -4,10 +4,13 @@
 
 ghost use Rattle.std.specs.Prelude.{◌≡◌, ◌+◌, ◌<◌, if◌then◌else◌};
 ghost use Rattle.definition.specs.Basic.{given, part, uppers};
-ghost use Rattle.definition.specs.Fold.{same_name, same_spelling};
+ghost use Rattle.definition.specs.Fold.{name_of, same_name, same_spelling};
 ghost use Rattle.names.specs.Prints.{byte_back, print_of, name_print};
 
 use definition::Span;
+
+// Kept: a text beside a span in each – no plainer: spans are kept in rows and clauses without their text, and the
+// definition's `part`, `name_of` and `same_name` take them so; a struct of both would be made for one call.
 
 /// The part of the text that a span fills, cut off at the text's end.
 pub fn part_of(text: &[u8], w: Span) -> &[u8]
@@ -28,20 +31,27 @@ pub fn part_or<'a>(text: &'a [u8], w: Span, filler: &'a [u8]) -> &'a [u8]
     }
 }
 
+/// The name that a span fills; an absent one means FILLER.
+pub fn name_of(text: &[u8], w: Span) -> &[u8]
+    ensures { result.now ≡ name_of text.now w }
+{
+    part_or(text, w, b"FILLER")
+}
+
 /// Whether two names are the same, case aside; an absent one means FILLER.
-// Kept: a twin of `same_spellings` – no plainer: each is one call of its own comparison, and what both need of the names
-// is `part_or`; one function for both would take the comparison as a flag or a closure.
+// Kept: a twin of `same_spellings` – no plainer: each is one call of its own comparison, and what both need of the
+// names is `name_of`; one function for both would take the comparison as a flag or a closure.
 pub fn same_names(text: &[u8], a: Span, b: Span) -> bool
     ensures { result ≡ same_name text.now a b }
 {
-    text::same_name(part_or(text, a, b"FILLER"), part_or(text, b, b"FILLER"))
+    text::same_name(name_of(text, a), name_of(text, b))
 }
 
 /// Whether two names are spelled the same; an absent one means FILLER.
 pub fn same_spellings(text: &[u8], a: Span, b: Span) -> bool
     ensures { result ≡ same_spelling text.now a b }
 {
-    text::same_spelling(part_or(text, a, b"FILLER"), part_or(text, b, b"FILLER"))
+    text::same_spelling(name_of(text, a), name_of(text, b))
 }
 
 // ---------------------------------------------------------------- fingerprints
@@ -73,5 +83,5 @@ fn print_word(w: &[u8]) -> u32
 pub fn print_of(text: &[u8], w: Span) -> u32
     ensures { result ≡ name_print text.now w }
 {
-    print_word(part_or(text, w, b"FILLER"))
+    print_word(name_of(text, w))
 }

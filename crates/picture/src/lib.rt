@@ -24,21 +24,29 @@ fn is_display(usage: Usage) -> bool
     matches!(usage, Usage::Display)
 }
 
-/// What kind and width depend on: the number of X and A, of digits, of digits without P, of digits of the fraction,
-/// whether there is a sign symbol, whether there is an editing symbol, and the length of the mask with P and without
-/// it.
+/// What kind and width depend on.
 #[derive(Clone, Copy)]
 pub struct PicShape {
+    /// How many X and A there are.
     pub text: usize,
+    /// How many digits, with P.
     pub digits: usize,
+    /// How many digits without P.
     pub stored: usize,
+    /// How many digits of the fraction, with P.
     pub scale: usize,
+    /// Whether there is a sign symbol.
     pub signed: bool,
+    /// Whether there is an editing symbol.
     pub edited: bool,
+    /// The length of the mask, with P.
     pub mask: usize,
+    /// The length of the mask without P.
     pub width: usize,
 }
 
+// Kept: bounds of digits in three contracts – no plainer: `is_long` asks no bound of a shape with text, so that the
+// shape itself can't hold them; each asks those that it needs, and `pictured` has all of `Fit`.
 impl PicShape {
     /// The shape by the tallies: each of `$`, `+`, `-` adds its count less one to the digits; P is a digit of the
     /// fraction that holds no byte.
@@ -88,6 +96,9 @@ impl PicShape {
     }
 
     /// The last checks, in order: 25 a byte that is no symbol, 26 text mixed with a digit or editing, 27 too long.
+    // Kept: a position beside the shape, as in `read_shape` and `picture_at` beside the picture – no plainer: all of 22
+    // to 27 stand at one position, known before the picture is read, and the definition's `symbols` and `picture` take
+    // it too, so that `read_shape` and `picture_at` are each equal to one of them. What is `Missing` has none there.
     #[tactic(auto, using(crate::proofs::Shapes::check_steps))]
     fn check(self, half: Half, usage: Usage, at: usize) -> Result<(), Refusal>
         ensures { result ≡ checked at usage self half }
@@ -116,6 +127,49 @@ impl PicShape {
         }
     }
 
+    /// The kind of a number in DISPLAY.
+    fn display(self, sign: SignKind) -> FieldKind
+        requires { (self.digits ≤ most_digits) × (self.scale ≤ most_digits) }
+        ensures { result ≡ display_of self.digits self.scale self.signed sign }
+    {
+        let zoned = is_zoned(self.signed, sign);
+        if self.scale == 0 && !zoned {
+            return FieldKind::Int {
+                signed: self.signed,
+                sign,
+            };
+        }
+        FieldKind::Decimal {
+            precision: self.digits as u8,
+            scale: self.scale as u8,
+            repr: if zoned {
+                NumRepr::Zoned
+            } else {
+                NumRepr::Display
+            },
+            sign,
+        }
+    }
+
+    /// The kind of a number.
+    fn numeric(self, usage: Usage, sign: SignKind) -> FieldKind
+        requires { (self.digits ≤ most_digits) × (self.scale ≤ most_digits) }
+        ensures { result ≡ numeric_of usage self.digits self.scale self.signed sign }
+    {
+        match usage {
+            Usage::Display => self.display(sign),
+            Usage::Comp3 => FieldKind::Decimal {
+                precision: self.digits as u8,
+                scale: self.scale as u8,
+                repr: NumRepr::Comp3,
+                sign: SignKind::Embedded,
+            },
+            Usage::Comp => FieldKind::Binary {
+                signed: self.signed,
+            },
+        }
+    }
+
     /// Kind and width of a shape that passed the checks.
     fn pictured(self, usage: Usage, clause: Option<SignKind>) -> Pictured
         requires { Fit usage self }
@@ -139,7 +193,7 @@ impl PicShape {
         }
         let sign = resolve_sign(self.signed, clause);
         Pictured {
-            kind: numeric(usage, self.digits, self.scale, self.signed, sign),
+            kind: self.numeric(usage, sign),
             width: self.storage_width(usage, sign),
         }
     }
@@ -203,44 +257,6 @@ fn is_zoned(signed: bool, sign: SignKind) -> bool
     ensures { result ≡ (signed && is_embedded sign) }
 {
     signed && matches!(sign, SignKind::Embedded)
-}
-
-/// The kind of a number in DISPLAY.
-fn display(precision: usize, scale: usize, signed: bool, sign: SignKind) -> FieldKind
-    requires { (precision ≤ most_digits) × (scale ≤ most_digits) }
-    ensures { result ≡ display_of precision scale signed sign }
-{
-    let zoned = is_zoned(signed, sign);
-    if scale == 0 && !zoned {
-        return FieldKind::Int { signed, sign };
-    }
-    FieldKind::Decimal {
-        precision: precision as u8,
-        scale: scale as u8,
-        repr: if zoned {
-            NumRepr::Zoned
-        } else {
-            NumRepr::Display
-        },
-        sign,
-    }
-}
-
-/// The kind of a number.
-fn numeric(usage: Usage, precision: usize, scale: usize, signed: bool, sign: SignKind) -> FieldKind
-    requires { (precision ≤ most_digits) × (scale ≤ most_digits) }
-    ensures { result ≡ numeric_of usage precision scale signed sign }
-{
-    match usage {
-        Usage::Display => display(precision, scale, signed, sign),
-        Usage::Comp3 => FieldKind::Decimal {
-            precision: precision as u8,
-            scale: scale as u8,
-            repr: NumRepr::Comp3,
-            sign: SignKind::Embedded,
-        },
-        Usage::Comp => FieldKind::Binary { signed },
-    }
 }
 
 /// Kind and width of a picture whose text was checked; a refusal, 22 to 27, carries the position `at`.

@@ -6,10 +6,11 @@ use mathlib.Core.List.{List}
 use native.Mathlib.Omega.{arith}
 use lib.ListN.{length}
 use Rattle.definition.specs.declared.Span.{Span}
+use Rattle.tokens.specs.declared.Next.{Next}
 use Rattle.tokens.specs.declared.Stand.{Stand}
 use Rattle.definition.proofs.WordLaws.{end_after}
 use Rattle.definition.specs.Words.{after_stop}
-use Rattle.tokens.specs.Tokens.{tokens_at, FirstWord, FirstStop, FirstEnd}
+use Rattle.tokens.specs.Tokens.{tokens_at, First, FirstWord, FirstStop, FirstEnd}
 use Rattle.statement.specs.Reading.{Ends}
 
 -- the statement that goes on at `from` goes on at `place`
@@ -39,9 +40,15 @@ module _ {t : List ℕ} {from place n : Stand} (inv : Reached t from place) wher
         rest = inv.rest ∙ ap after_stop f.opens ∙ end_after n.said ∙ sym f.opens ∙ f.all_are;
       }
 
+  -- it ends where no word is next
+  pub ends-there : (x : Next) → First (tokens_at t place) t place.at x n → ((w : Span) → x ≡ Next.Word w → ⊥) → Ends t from n
+  ends-there (Next.Word w) f h = absurd (h w refl)
+  ends-there Next.Stop f h = ends-stop f
+  ends-there Next.End f h = ends-text f
+
 -- where it goes on, it ends as from there
 pub ends_on : {t : List ℕ} {from place n : Stand} → Reached t from place → Ends t place n → Ends t from n
 ends_on inv e = record { up = omega arith; within = e.within; rest = inv.rest ∙ e.rest }
 
 -- the steps of a walk to the end of a statement
-pub ruleset end_steps = (reached-start, reached-word, ends-stop, ends-text)
+pub ruleset end_steps = (reached-start, reached-word, ends-there)

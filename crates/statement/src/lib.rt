@@ -10,8 +10,10 @@ ghost use Rattle.statement.specs.Reading.{ClausesAre, Ends, NamedAre, FirstState
 use definition::{Clauses, Expect, ItemUsage, Missing, Refusal, Span, Statement, Usage};
 use tokens::{Next, Stand};
 
-// Kept: the text beside `&mut Stand`, and the bound of `place.old.at` in each contract – no plainer: with the bound as
-// a ghost field of a `&mut WordReader` each of them has to say that its text stays, and so has each loop's invariant.
+// Kept: the text beside `&mut Stand`, and the bound of `place.old.at` in each contract – no plainer: a `WordReader`
+// that is lent could change its text too, so each contract and each loop's invariant would say that it stays, and the
+// bound would stand there still: as a ghost field it would ask more of `WordReader::at`, which is public and asks
+// nothing. So a reader is made for one word, by `word_at`.
 
 /// The clauses of a statement that begins at `at` and ends where `e` is expected; or what it lacks, a count (11), a
 /// bound (12) or a name (13).
@@ -34,16 +36,14 @@ pub fn read_clauses(text: &[u8], at: usize, place: &mut Stand) -> Result<Clauses
 {
     let mut e = Expect::Clause;
     let mut c = clauses::NO_CLAUSES;
-    loop {
-        match words::word_at(text, place) {
-            Next::Word(w) => match clauses::step(e, w, &text[w.start..w.start + w.len], &mut c) {
-                Ok(next) => e = next,
-                Err(missing) => return Err(missing.at(at)),
-            },
-            Next::Stop => return finish(at, e, c),
-            Next::End => return finish(at, e, c),
+    while let Next::Word(w) = words::word_at(text, place) {
+        // Kept: a `match` – the proof didn't close: with `map_err` and `?` it is open which refusal its closure made.
+        match clauses::step(e, w, w.part_of(text), &mut c) {
+            Ok(next) => e = next,
+            Err(missing) => return Err(missing.at(at)),
         }
     }
+    finish(at, e, c)
 }
 
 /// Moves a reader behind the statement that goes on there.
@@ -52,13 +52,7 @@ fn skip_statement(text: &[u8], place: &mut Stand)
     requires { place.old.at ≤ length text.now }
     ensures { Ends text.now place.old place.new }
 {
-    loop {
-        match words::word_at(text, place) {
-            Next::Word(_) => continue,
-            Next::Stop => return,
-            Next::End => return,
-        }
-    }
+    while let Next::Word(_) = words::word_at(text, place) {}
 }
 
 /// The statement of a level at a position, with a name and clauses, by itself.
@@ -85,16 +79,20 @@ fn read_named(text: &[u8], at: usize, level: u8, place: &mut Stand) -> Result<St
             let c = read_clauses(text, at, place)?;
             Ok(statement_of(level, at, name, c))
         }
-        Next::Stop => Ok(statement_of(level, at, Span::ABSENT, clauses::NO_CLAUSES)),
-        Next::End => Ok(statement_of(level, at, Span::ABSENT, clauses::NO_CLAUSES)),
+        Next::Stop | Next::End => Ok(statement_of(level, at, Span::ABSENT, clauses::NO_CLAUSES)),
     }
 }
 
 /// What a reader finds: a statement that is kept, one that is skipped, or the end of the tokens.
+// Kept: an `End` of its own – no plainer: its one caller tells the three apart in one `match`; with an `Option` around
+// the two statements it would open that first, and with two around the kept one each `None` would mean another thing.
 #[derive(Clone, Copy)]
 pub enum StatementRead {
+    /// A statement that is kept.
     Kept(Statement),
+    /// One that is skipped.
     Skipped,
+    /// The end of the tokens.
     End,
 }
 
@@ -104,7 +102,7 @@ fn read_levelled(text: &[u8], first: Span, place: &mut Stand) -> Result<Statemen
         × (place.old.at ≤ length text.now) }
     ensures { FirstStatement (Word first ∷ tokens_at text.now place.old) text.now place.old.at result place.new }
 {
-    match text::level_of(&text[first.start..first.start + first.len]) {
+    match text::level_of(first.part_of(text)) {
         Some(88) => {
             skip_statement(text, place);
             Ok(StatementRead::Skipped)

@@ -2,28 +2,26 @@
 -- Assumes nothing.
 use Prim.Native.Nat.{ℕ, suc, ◌+◌, ◌*◌, ◌-◌, ◌^◌, ◌≤◌, ◌<◌, min}
 use mathlib.Core.Path.{◌≡◌, refl, sym, ◌∙◌, ap}
-use mathlib.Core.Bool.{Bool, true, false, ◌&&◌}
+use mathlib.Core.Bool.{Bool, true, false, ◌&&◌, ◌||◌}
 use mathlib.Core.List.{List, [], ◌∷◌}
 use native.Mathlib.Omega.{arith}
 use lib.Dec.{leb}
 use lib.ListN.{length, get_or}
-use borrow.Author.Tests.{leb-true}
+use borrow.Author.Tests.{leb-true, lt-ltb, le-ltb}
+use Rattle.std.proofs.lemmas.Bool.{leb-false}
 use Rattle.std.proofs.lemmas.Bool.Decides.{nat_tests}
 use Rattle.definition.specs.Limits.{largest, least_weight, most_weight}
+use Rattle.std.specs.List.{list_any}
 use Rattle.std.specs.Prelude.{if◌then◌else◌}
-use Rattle.definition.specs.Basic.{sum}
-use Rattle.definition.specs.Extract.{Item, items, misweighed, weight_of, chosen, subsets#, up_from, examined}
+use Rattle.definition.specs.Extract.{Item, items, misweighed, bytes_of, weight_of, chosen, subsets#, up_from, examined}
 use Rattle.definition.specs.Extract.{heaviest, alone, off_by, extract}
 use Rattle.definition.proofs.ExtractLaws.{length-up_from, off-all, off_less, alone-heavier}
 use Rattle.subsets.specs.declared.Found.{Found}
-use Rattle.subsets.specs.Sums.{Narrow, Weighable, FoundIs}
+use Rattle.subsets.specs.declared.Item.{Item as Held}
+use Rattle.subsets.specs.Sums.{listed, outside, Narrow, Weighable, FoundIs}
+use Rattle.subsets.proofs.ItemLaws.{listed-length}
 
 -- ---------------------------------------------------------------- the answer
-
-items-length : (bs ws : List ℕ) → length ws ≡ length bs → length (items bs ws) ≡ length bs
-items-length [] ws h = refl
-items-length (b ∷ bs) [] h = absurd (omega arith)
-items-length (b ∷ bs) (w ∷ ws) h = ap suc (items-length bs ws (omega arith))
 
 -- the best of those looked at, and its weight
 abbrev top : ℕ → ℕ → List Item → ℕ
@@ -33,48 +31,46 @@ abbrev top_weight : ℕ → ℕ → List Item → ℕ
 top_weight limit budget is = weight_of (chosen (top limit budget is) is)
 
 module _
-    (budget : ℕ) {bs ws : List ℕ} {all count : ℕ}
-    (w : Weighable bs ws) (a : all ≡ 2 ^ length bs) (n : count ≡ min budget all)
+    (budget : ℕ) (hs : List Held) {all count : ℕ} (a : all ≡ 2 ^ length hs) (n : count ≡ min budget all)
   where
-    every : all ≡ subsets# (items bs ws)
-    every = a ∙ ap (λ (k : ℕ). 2 ^ k) (sym (items-length bs ws w.paired))
+    every : all ≡ subsets# (listed hs)
+    every = a ∙ ap (λ (k : ℕ). 2 ^ k) (sym (listed-length hs))
 
-    as_many : count ≡ min budget (subsets# (items bs ws))
+    as_many : count ≡ min budget (subsets# (listed hs))
     as_many = n ∙ ap (λ (k : ℕ). min budget k) every
 
-    module _ {limit : ℕ} {f : Found} (found : FoundIs limit count bs ws f) where
-      subset-is : f.subset ≡ top limit budget (items bs ws)
-      subset-is = found.subset ∙ ap (λ (k : ℕ). heaviest limit (items bs ws) 0 (up_from 0 k)) as_many
+    module _ {limit : ℕ} {f : Found} (found : FoundIs limit count hs f) where
+      subset-is : f.subset ≡ top limit budget (listed hs)
+      subset-is = found.subset ∙ ap (λ (k : ℕ). heaviest limit (listed hs) 0 (up_from 0 k)) as_many
 
-      weight_is : f.weight ≡ top_weight limit budget (items bs ws)
-      weight_is = found.weight ∙ ap (λ (k : ℕ). weight_of (chosen k (items bs ws))) subset-is
+      weight_is : f.weight ≡ top_weight limit budget (listed hs)
+      weight_is = found.weight ∙ ap (λ (k : ℕ). weight_of (chosen k (listed hs))) subset-is
 
-      looked-is : count ≡ length (examined budget (items bs ws))
-      looked-is = as_many ∙ sym (length-up_from 0 (min budget (subsets# (items bs ws))))
+      looked-is : count ≡ length (examined budget (listed hs))
+      looked-is = as_many ∙ sym (length-up_from 0 (min budget (subsets# (listed hs))))
 
-      -- what was found is the answer, with how far off it is
+      -- what was found is the answer, with how far off it (listed hs)
       answer-is :
           (off : ℕ) →
-          off
-          ≡ off_by limit (items bs ws) (length (examined budget (items bs ws))) (top_weight limit budget (items bs ws)) →
+          off ≡ off_by limit (listed hs) (length (examined budget (listed hs))) (top_weight limit budget (listed hs)) →
           record { subset = f.subset; weight = f.weight; examined = count; off = off }
-          ≡ extract limit budget (items bs ws)
+          ≡ extract limit budget (listed hs)
       answer-is off e = λ i. record { subset = subset-is i; weight = weight_is i; examined = looked-is i; off = e i }
 
       -- all were looked at
       pub all_seen :
           all ≤ count →
           record { subset = f.subset; weight = f.weight; examined = count; off = 0 }
-          ≡ extract limit budget (items bs ws)
+          ≡ extract limit budget (listed hs)
       all_seen h =
-          let whole : subsets# (items bs ws) ≤ length (examined budget (items bs ws)) =
+          let whole : subsets# (listed hs) ≤ length (examined budget (listed hs)) =
           omega (arith, every, looked-is) in
-          answer-is 0 (sym (off-all limit (items bs ws) _ _ whole))
+          answer-is 0 (sym (off-all limit (listed hs) _ _ whole))
 
       -- not all were
-      module _ {s : ℕ} (e : s ≡ weight_of (alone limit (items bs ws))) where
-        enough : top_weight limit budget (items bs ws) ≤ weight_of (alone limit (items bs ws))
-        enough = alone-heavier limit (items bs ws) (min budget (subsets# (items bs ws)))
+      module _ {s : ℕ} (e : s ≡ weight_of (alone limit (listed hs))) where
+        enough : top_weight limit budget (listed hs) ≤ weight_of (alone limit (listed hs))
+        enough = alone-heavier limit (listed hs) (min budget (subsets# (listed hs)))
 
         pub not-below : f.weight ≤ s
         not-below = omega (arith, weight_is, enough)
@@ -82,50 +78,69 @@ module _
         pub some-seen :
             count < all →
             record { subset = f.subset; weight = f.weight; examined = count; off = s - f.weight }
-            ≡ extract limit budget (items bs ws)
+            ≡ extract limit budget (listed hs)
         some-seen h =
-            let part : length (examined budget (items bs ws)) < subsets# (items bs ws) =
+            let part : length (examined budget (listed hs)) < subsets# (listed hs) =
             omega (arith, every, looked-is) in
-            let less = off_less limit (items bs ws) _ _ part enough in
+            let less = off_less limit (listed hs) _ _ part enough in
             answer-is (s - f.weight) (omega (arith, weight_is, less))
 
 pub ruleset extract_steps = (not-below, some-seen, all_seen)
 
 -- ---------------------------------------------------------------- the checks
 
+-- some weight is outside its range where the definition says so
+pub misweighed-any : (ws : List ℕ) → misweighed ws ≡ list_any outside ws
+unfolding misweighed
+misweighed-any [] = refl
+misweighed-any (w ∷ ws) = go (leb least_weight w) (leb w most_weight) refl refl (misweighed-any ws)
+  where
+    go :
+        (low high : Bool) → leb least_weight w ≡ low → leb w most_weight ≡ high → misweighed ws ≡ list_any outside ws →
+        (if low && high then misweighed ws else true) ≡ (outside w || list_any outside ws)
+    go true true l h ih = rw (le-ltb w least_weight (leb-true _ _ l), le-ltb most_weight w (leb-true _ _ h)) ih
+    go true false l h ih = rw (le-ltb w least_weight (leb-true _ _ l), lt-ltb most_weight w (leb-false _ _ h)) refl
+    go false high l h ih = rw (lt-ltb w least_weight (leb-false _ _ l)) refl
+
 -- widths that are not too large do not sum up to too much,
-narrow-sum : (bs : List ℕ) → ((i : ℕ) → i < length bs → get_or bs i 0 ≤ largest) → sum bs ≤ length bs * largest
-unfolding sum
-narrow-sum [] each = omega arith
-narrow-sum (b ∷ bs) each =
-    omega (arith, each 0 (omega arith), narrow-sum bs (λ i h. each (suc i) (omega arith)))
+narrow-sum :
+    (bs ws : List ℕ) → ((i : ℕ) → i < length bs → get_or bs i 0 ≤ largest) → bytes_of (items bs ws) ≤ length bs * largest
+narrow-sum [] ws each = omega arith
+narrow-sum (b ∷ bs) [] each = omega arith
+narrow-sum (b ∷ bs) (w ∷ ws) each =
+    omega (arith, each 0 (omega arith), narrow-sum bs ws (λ i h. each (suc i) (omega arith)))
 
 -- and neither do weights in their range
-light-sum : (ws : List ℕ) → misweighed ws ≡ false → sum ws ≤ length ws * most_weight
-unfolding sum misweighed
-light-sum [] h = omega arith
-light-sum (w ∷ ws) h = let ih = light-sum ws in go (leb least_weight w) (leb w most_weight) refl ih h
+light-sum : (bs ws : List ℕ) → misweighed ws ≡ false → weight_of (items bs ws) ≤ length bs * most_weight
+unfolding misweighed
+light-sum [] ws h = omega arith
+light-sum (b ∷ bs) [] h = omega arith
+light-sum (b ∷ bs) (w ∷ ws) h = let ih = light-sum bs ws in go (leb least_weight w) (leb w most_weight) refl ih h
   where
     go :
         (low high : Bool) →
         leb w most_weight ≡ high →
-        (misweighed ws ≡ false → sum ws ≤ length ws * most_weight) →
+        (misweighed ws ≡ false → weight_of (items bs ws) ≤ length bs * most_weight) →
         (if low && high then misweighed ws else true) ≡ false →
-        w + sum ws ≤ suc (length ws) * most_weight
+        w + weight_of (items bs ws) ≤ suc (length bs) * most_weight
     go true true e ih h = omega (arith, leb-true w most_weight e, ih h)
     go true false e ih h = absurd (let z : ◌≡◌ {A = ℕ} 0 1 = cc in omega arith)
     go false high e ih h = absurd (let z : ◌≡◌ {A = ℕ} 0 1 = cc in omega arith)
 
+items-few : (bs ws : List ℕ) → length (items bs ws) ≤ length bs
+items-few [] ws = omega arith
+items-few (b ∷ bs) [] = omega arith
+items-few (b ∷ bs) (w ∷ ws) = omega (arith, items-few bs ws)
+
 -- so the sums are not too large
 pub items-weighable :
-    {bs ws : List ℕ} {b : Bool} →
-    Narrow bs → length ws ≡ length bs → b ≡ misweighed ws → b ≡ false → Weighable bs ws
-items-weighable {bs} {ws} n p q e =
+    (bs ws : List ℕ) {b : Bool} {hs : List Held} →
+    Narrow bs → b ≡ list_any outside ws → b ≡ false → listed hs ≡ items bs ws → Weighable hs
+items-weighable bs ws {b} {hs} n q e are =
     record {
-      paired = p;
-      few = n.few;
-      narrow = omega (arith, n.few, narrow-sum bs n.each);
-      light = omega (arith, n.few, p, light-sum ws (sym q ∙ e));
+      few = omega (arith, n.few, items-few bs ws, ap length are, listed-length hs);
+      narrow = rw are (omega (arith, n.few, narrow-sum bs ws n.each));
+      light = rw are (omega (arith, n.few, light-sum bs ws (misweighed-any ws ∙ sym q ∙ e)));
     }
 
-pub ruleset choose_steps = (nat_tests, items-weighable)
+pub ruleset choose_steps = (nat_tests, misweighed-any, items-weighable)

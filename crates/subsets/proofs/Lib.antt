@@ -1,3 +1,4 @@
+pub mod ItemLaws
 pub mod SumLaws
 pub mod SearchLaws
 pub mod AnswerLaws

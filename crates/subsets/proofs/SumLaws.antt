@@ -1,10 +1,9 @@
 -- Laws of the sums of a subset: from one number to the next, and none larger than the sum of all.
 -- Assumes nothing.
 use Prim.Native.Nat.{ℕ, suc, ◌+◌, ◌*◌, ◌-◌, ◌/◌, ◌%◌, ◌^◌, ◌≤◌, ◌<◌}
-use mathlib.Core.Path.{◌≡◌, ap, ◌∙◌}
+use mathlib.Core.Path.{◌≡◌, sym, ap, ◌∙◌}
 use mathlib.Core.Bool.{Bool, true, false}
-use mathlib.Core.List.{List, [], ◌∷◌}
-use mathlib.Core.Logic.{◌⊎◌, ⊎_elim}
+use mathlib.Core.List.{List, [], ◌∷◌, ◌++◌}
 use native.Mathlib.Nat.{pow-suc}
 use native.Mathlib.Omega.{arith}
 use lib.Dec.{eqb}
@@ -12,126 +11,120 @@ use lib.ListN.{length}
 use borrow.Author.Tests.{eq-eqb}
 use Rattle.definition.specs.Limits.{largest, most_weight}
 use Rattle.std.specs.Prelude.{if◌then◌else◌}
-use Rattle.definition.specs.Basic.{sum}
+use Rattle.definition.specs.Extract.{Item, bytes_of, weight_of, chosen}
 use Rattle.subsets.specs.declared.Sums.{Sums}
-use Rattle.subsets.specs.Sums.{sum_in, SumsAre, Weighable}
+use Rattle.subsets.specs.declared.Item.{Item as Held}
+use Rattle.subsets.specs.Sums.{listed, SumsAre, Weighable}
 
 -- ---------------------------------------------------------------- no larger than the sum of all
 
-sum_bound : (m : ℕ) (xs : List ℕ) → sum_in m xs ≤ sum xs
-unfolding sum_in sum
-sum_bound m [] = omega arith
-sum_bound m (x ∷ xs) = go (eqb (m % 2) 1) (sum_bound (m / 2) xs)
+bytes-bound : (m : ℕ) (is : List Item) → bytes_of (chosen m is) ≤ bytes_of is
+unfolding chosen
+bytes-bound m [] = omega arith
+bytes-bound m (i ∷ is) = go (eqb (m % 2) 1) (bytes-bound (m / 2) is)
   where
-    go : (b : Bool) → sum_in (m / 2) xs ≤ sum xs → (if b then x else 0) + sum_in (m / 2) xs ≤ x + sum xs
+    go :
+        (b : Bool) → bytes_of (chosen (m / 2) is) ≤ bytes_of is →
+        bytes_of ((if b then i ∷ [] else []) ++ chosen (m / 2) is) ≤ i.width + bytes_of is
     go true h = omega arith
     go false h = omega arith
 
-module _ {bs ws : List ℕ} (are : Weighable bs ws) {number : ℕ} {s : Sums} (sums : SumsAre bs ws number s) where
+weight-bound : (m : ℕ) (is : List Item) → weight_of (chosen m is) ≤ weight_of is
+unfolding chosen
+weight-bound m [] = omega arith
+weight-bound m (i ∷ is) = go (eqb (m % 2) 1) (weight-bound (m / 2) is)
+  where
+    go :
+        (b : Bool) → weight_of (chosen (m / 2) is) ≤ weight_of is →
+        weight_of ((if b then i ∷ [] else []) ++ chosen (m / 2) is) ≤ i.weight + weight_of is
+    go true h = omega arith
+    go false h = omega arith
+
+module _ {hs : List Held} (are : Weighable hs) {number : ℕ} {s : Sums} (sums : SumsAre hs number s) where
   pub width_fits : s.width ≤ 16 * largest
-  width_fits = omega (arith, sums.width, sum_bound number bs, are.narrow)
+  width_fits = omega (arith, sums.width, bytes-bound number (listed hs), are.narrow)
 
   pub weight-fits : s.weight ≤ 16 * most_weight
-  weight-fits = omega (arith, sums.weight, sum_bound number ws, are.light)
+  weight-fits = omega (arith, sums.weight, weight-bound number (listed hs), are.light)
 
 -- ---------------------------------------------------------------- from one number to the next
 
-module _ (m x : ℕ) (xs : List ℕ) where
+module _ (m : ℕ) (i : Item) (is : List Item) where
   -- an odd number has the first item, and the next one has not
-  odd-now : m % 2 ≡ 1 → sum_in m (x ∷ xs) ≡ x + sum_in (m / 2) xs
-  unfolding sum_in
+  odd-now : m % 2 ≡ 1 → chosen m (i ∷ is) ≡ i ∷ chosen (m / 2) is
+  unfolding chosen
   odd-now h = rw (eq-eqb (m % 2) 1 h)
 
-  odd-next : m % 2 ≡ 1 → sum_in (suc m) (x ∷ xs) ≡ sum_in (suc (m / 2)) xs
-  unfolding sum_in
+  odd-next : m % 2 ≡ 1 → chosen (suc m) (i ∷ is) ≡ chosen (suc (m / 2)) is
+  unfolding chosen
   odd-next h =
       let e : suc m % 2 ≡ 0 = omega arith in
       let half : suc m / 2 ≡ suc (m / 2) = omega arith in
-      rw (e, half) (omega arith)
+      rw (e, half)
 
   -- the next one of an even number has the first item too
-  even-next : m % 2 ≡ 0 → sum_in (suc m) (x ∷ xs) ≡ x + sum_in m (x ∷ xs)
-  unfolding sum_in
+  even-next : m % 2 ≡ 0 → chosen (suc m) (i ∷ is) ≡ i ∷ chosen m (i ∷ is)
+  unfolding chosen
   even-next h =
       let e : suc m % 2 ≡ 1 = omega arith in
       let half : suc m / 2 ≡ m / 2 = omega arith in
-      rw (e, half, h) (omega arith)
+      rw (e, half, h)
 
--- where the first items have left: what is left of the number, of all that are summed, and of the sum
-pub record Left (all : List ℕ) (number m : ℕ) (xs : List ℕ) (s : ℕ) : Type 0 where
-  pub same : sum_in (suc number) all ≡ sum_in (suc m) xs
-  pub now-is : s ≡ sum_in m xs
+-- where the first items have left: what is left of the number, of the items, and of the sums
+pub record Leaving (all : List Held) (number : ℕ) (s : Sums) (m : ℕ) (hs : List Held) : Type 0 where
+  pub below : suc m < 2 ^ length hs
+  pub same : chosen (suc number) (listed all) ≡ chosen (suc m) (listed hs)
+  pub now-are : SumsAre hs m s
 
-pub record Leaving (bs ws : List ℕ) (number : ℕ) (s : Sums) (m : ℕ) (xs ys : List ℕ) : Type 0 where
-  pub paired : length ys ≡ length xs
-  pub below : suc m < 2 ^ length xs
-  pub width-left : Left bs number m xs s.width
-  pub weight-left : Left ws number m ys s.weight
-
-module _ {bs ws : List ℕ} {number : ℕ} {s : Sums} {m : ℕ} {xs ys : List ℕ} (l : Leaving bs ws number s m xs ys) where
+module _ {all : List Held} {number : ℕ} {s : Sums} {m : ℕ} {hs : List Held} (l : Leaving all number s m hs) where
   -- while something is left of the number, an item is
-  pub none_left : (xs ≡ []) ⊎ (ys ≡ []) → ⊥
+  pub none_left : hs ≡ [] → ⊥
   none_left e =
-      let none : length xs ≡ 0 =
-      ⊎_elim (λ (x : xs ≡ []). ap length x) (λ (y : ys ≡ []). omega (arith, l.paired, ap length y)) e in
-      let z : suc m < 2 ^ 0 = rw none at l.below in
+      let z : suc m < 2 ^ 0 = rw e at l.below in
       absurd (let y : ◌≡◌ {A = ℕ} 0 1 = omega arith in omega arith)
 
   -- the next item
-  module _ {b w : ℕ} {xs' ys' : List ℕ} (x : xs ≡ b ∷ xs') (y : ys ≡ w ∷ ys') where
+  module _ {h : Held} {later : List Held} (next : hs ≡ h ∷ later) where
+    abbrev i : Item
+    i = record { width = h.width; weight = h.weight }
+
     module _ (uneven : m % 2 ≡ 0 → ⊥) where
       odd : m % 2 ≡ 1
       odd = omega (arith, uneven)
 
+      has : chosen m (listed hs) ≡ i ∷ chosen (m / 2) (listed later)
+      has = ap (λ x. chosen m (listed x)) next ∙ odd-now m i (listed later) odd
+
       -- no difference is below 0
-      pub width-falls : b ≤ s.width
-      width-falls = omega (arith, l.width-left.now-is, ap (sum_in m) x, odd-now m b xs' odd)
+      pub width-falls : h.width ≤ s.width
+      width-falls = omega (arith, l.now-are.width, ap bytes_of has)
 
-      pub weight-falls : w ≤ s.weight
-      weight-falls = omega (arith, l.weight-left.now-is, ap (sum_in m) y, odd-now m w ys' odd)
-
-      half-left : suc (m / 2) < 2 ^ length xs'
-      half-left =
-          let z : suc m < 2 ^ suc (length xs') = rw (ap length x) at l.below in
-          omega (arith, pow-suc 2 (length xs'))
+      pub weight-falls : h.weight ≤ s.weight
+      weight-falls = omega (arith, l.now-are.weight, ap weight_of has)
 
       pub leaving-goes-on :
-          Leaving bs ws number (record { width = s.width - b; weight = s.weight - w }) (m / 2) xs' ys'
+          Leaving all number (record { width = s.width - h.width; weight = s.weight - h.weight }) (m / 2) later
       leaving-goes-on =
+          let z : suc m < 2 ^ suc (length later) = rw (ap length next) at l.below in
           record {
-            paired = omega (arith, l.paired, ap length x, ap length y);
-            below = half-left;
-            width-left =
+            below = omega (arith, pow-suc 2 (length later));
+            same = l.same ∙ ap (λ x. chosen (suc m) (listed x)) next ∙ odd-next m i (listed later) odd;
+            now-are =
                 record {
-                  same = l.width-left.same ∙ ap (sum_in (suc m)) x ∙ odd-next m b xs' odd;
-                  now-is = omega (arith, l.width-left.now-is, ap (sum_in m) x, odd-now m b xs' odd);
-                };
-            weight-left =
-                record {
-                  same = l.weight-left.same ∙ ap (sum_in (suc m)) y ∙ odd-next m w ys' odd;
-                  now-is = omega (arith, l.weight-left.now-is, ap (sum_in m) y, odd-now m w ys' odd);
+                  width = omega (arith, l.now-are.width, ap bytes_of has);
+                  weight = omega (arith, l.now-are.weight, ap weight_of has);
                 };
           }
 
-    pub leaving-ends : m % 2 ≡ 0 → SumsAre bs ws (suc number) (record { width = s.width + b; weight = s.weight + w })
+    pub leaving-ends :
+        m % 2 ≡ 0 → SumsAre all (suc number) (record { width = s.width + h.width; weight = s.weight + h.weight })
     leaving-ends even =
+        let more : chosen (suc number) (listed all) ≡ i ∷ chosen m (listed hs) =
+        l.same
+        ∙ ap (λ x. chosen (suc m) (listed x)) next
+        ∙ even-next m i (listed later) even
+        ∙ ap (λ x. i ∷ chosen m (listed x)) (sym next) in
         record {
-          width =
-              omega (
-                arith,
-                l.width-left.same,
-                l.width-left.now-is,
-                ap (sum_in m) x,
-                ap (sum_in (suc m)) x,
-                even-next m b xs' even,
-              );
-          weight =
-              omega (
-                arith,
-                l.weight-left.same,
-                l.weight-left.now-is,
-                ap (sum_in m) y,
-                ap (sum_in (suc m)) y,
-                even-next m w ys' even,
-              );
+          width = omega (arith, ap bytes_of more, l.now-are.width);
+          weight = omega (arith, ap weight_of more, l.now-are.weight);
         }

@@ -3,64 +3,87 @@
 //! kept from one to the next. Leans on `definition`.
 #![tactic(auto)]
 
-ghost use Rattle.std.specs.Prelude.{◌≡◌, suc, ◌^◌, ◌<◌, ◌≤◌};
+ghost use Rattle.std.specs.List.{list_any};
+ghost use Rattle.std.specs.Prelude.{◌≡◌, suc, ◌^◌, ◌<◌, ◌≤◌, length};
 ghost use Rattle.definition.specs.Calls.{extract_of};
-ghost use Rattle.definition.specs.Extract.{misweighed, items, weight_of, alone, extract};
+ghost use Rattle.definition.specs.Extract.{items, weight_of, alone, extract};
 ghost use Rattle.definition.specs.Limits.{most_items};
-ghost use Rattle.subsets.specs.Sums.{SumsAre, Weighable, HasNext, HasSubsets, Narrow, FoundIs};
+ghost use Rattle.subsets.specs.Sums.{listed, outside, SumsAre, Weighable, HasNext, HasSubsets, Narrow, Paired, FoundIs};
 
-use definition::{Extract, LEAST_WEIGHT, MOST_WEIGHT, Refusal};
+use definition::{Extract, LEAST_WEIGHT, MOST_ITEMS, MOST_WEIGHT, Refusal};
 
-/// What is asked of some items: what each weighs, how many bytes a choice of them may take, and how many subsets may be
-/// looked at.
+/// What is asked of some items.
 #[derive(Clone, Copy)]
 pub struct Terms<'a> {
+    /// What each item weighs.
     pub weights: &'a [u32],
+    /// How many bytes a choice may take.
     pub limit: usize,
+    /// How many subsets may be looked at.
     pub budget: usize,
 }
 
-/// The bytes of a subset and its weight.
+/// What the items of a subset come to.
 #[derive(Clone, Copy)]
 pub struct Sums {
+    /// Their bytes.
     pub width: usize,
+    /// Their weight.
     pub weight: usize,
 }
 
-/// The heaviest of the subsets looked at, and its weight.
+/// The heaviest of the subsets looked at.
 #[derive(Clone, Copy)]
 pub struct Found {
+    /// Its number.
     pub subset: usize,
+    /// Its weight.
     pub weight: usize,
 }
 
-/// Up to 16 items: the width and the weight of each, none too large.
+/// An item that may be chosen.
+// Kept: alike `Sums` but for the width of its numbers – no plainer: an item's are the 32 bits that are lent, and sums
+// pass them; as one type with a parameter, an item and what many come to would have one name.
+#[derive(Clone, Copy)]
+struct Item {
+    /// Its reserved width.
+    width: u32,
+    /// Its weight.
+    weight: u32,
+}
+
+/// What stands in a place that no item has.
+const NO_ITEM: Item = Item {
+    width: 0,
+    weight: 0,
+};
+
+/// Up to 16 items, none too wide or too heavy.
 #[derive(Clone, Copy)]
 struct Items<'a> {
-    widths: &'a [u32],
-    weights: &'a [u32],
-    ghost weighable: { Weighable widths.now weights.now },
+    items: &'a [Item],
+    ghost weighable: { Weighable items.now },
 }
 
 impl<'a> Items<'a> {
     /// The sums of the subset after the one of that number: its first items leave, up to the first that it has not,
     /// which joins.
     fn next_sums(self, number: usize, sums: Sums) -> Sums
-        requires { HasNext self.widths.now self.weights.now number sums }
-        ensures { SumsAre self.entry.widths.now self.entry.weights.now (suc number) result }
+        requires { HasNext self.items.now number sums }
+        ensures { SumsAre self.entry.items.now (suc number) result }
     {
         let mut sums = sums;
         let mut rest = number;
-        for (width, weight) in self.widths.iter().zip(self.weights) {
+        for item in self.items {
             if rest % 2 == 0 {
                 return Sums {
-                    width: sums.width + *width as usize,
-                    weight: sums.weight + *weight as usize,
+                    width: sums.width + item.width as usize,
+                    weight: sums.weight + item.weight as usize,
                 };
             }
             sums = Sums {
-                width: sums.width - *width as usize,
-                weight: sums.weight - *weight as usize,
+                width: sums.width - item.width as usize,
+                weight: sums.weight - item.weight as usize,
             };
             rest /= 2;
         }
@@ -70,8 +93,8 @@ impl<'a> Items<'a> {
     /// The heaviest of the first `count` subsets that fits the limit, the earliest if equal. The empty one, number 0,
     /// always fits.
     fn best_of(self, limit: usize, count: usize) -> Found
-        requires { HasSubsets self.widths.now count }
-        ensures { FoundIs limit count self.entry.widths.now self.entry.weights.now result }
+        requires { HasSubsets self.items.now count }
+        ensures { FoundIs limit count self.entry.items.now result }
     {
         let mut best = Found {
             subset: 0,
@@ -95,12 +118,12 @@ impl<'a> Items<'a> {
 
     /// The weight of all items that fit alone.
     fn alone_weight(self, limit: usize) -> usize
-        ensures { result ≡ weight_of (alone limit (items self.entry.widths.now self.entry.weights.now)) }
+        ensures { result ≡ weight_of (alone limit (listed self.entry.items.now)) }
     {
         let mut sum = 0;
-        for (width, weight) in self.widths.iter().zip(self.weights) {
-            if *width as usize <= limit {
-                sum += *weight as usize;
+        for item in self.items {
+            if item.width as usize <= limit {
+                sum += item.weight as usize;
             }
         }
         sum
@@ -110,9 +133,9 @@ impl<'a> Items<'a> {
     #[tactic(auto, using(crate::proofs::AnswerLaws::extract_steps))]
     fn extract(self, limit: usize, budget: usize) -> Extract
         requires { 0 < budget }
-        ensures { result ≡ extract limit budget (items self.entry.widths.now self.entry.weights.now) }
+        ensures { result ≡ extract limit budget (listed self.entry.items.now) }
     {
-        let all = subset_count(self.widths.len());
+        let all = subset_count(self.items.len());
         let examined = budget.min(all);
         let found = self.best_of(limit, examined);
         let off = if examined < all {
@@ -129,6 +152,24 @@ impl<'a> Items<'a> {
     }
 }
 
+/// Puts together the items of these widths and weights.
+// Kept: weights beside widths, as in `choose` – the C interface: weights are lent so, and another number of them than
+// of items is a refusal (58), so that they are no pairs before `choose` has looked.
+#[tactic(auto, using(crate::proofs::ItemLaws::put_steps))]
+fn put_items(room: &mut [Item], widths: &[u32], weights: &[u32])
+    requires { Paired (length room.old) widths.now weights.now }
+    ensures { listed room.new ≡ items widths.now weights.now }
+{
+    // Kept: each item beside its place – the proof didn't close over a `zip` with the widths and the weights: a proof
+    // knows behind the loop only the length of a slice that is written through a `zip` of its `iter_mut`.
+    for (k, item) in room.iter_mut().enumerate() {
+        *item = Item {
+            width: widths[k],
+            weight: weights[k],
+        };
+    }
+}
+
 /// How many subsets n items have.
 fn subset_count(n: usize) -> usize
     requires { n ≤ most_items }
@@ -138,16 +179,12 @@ fn subset_count(n: usize) -> usize
 }
 
 /// Whether some weight is outside its range.
-#[tactic(auto, unfolding(definition::specs::Extract::misweighed))]
 fn is_misweighed(weights: &[u32]) -> bool
-    ensures { result ≡ misweighed weights.now }
+    ensures { result ≡ list_any outside weights.now }
 {
-    for weight in weights {
-        if *weight < LEAST_WEIGHT || MOST_WEIGHT < *weight {
-            return true;
-        }
-    }
-    false
+    weights
+        .iter()
+        .any(|w| *w < LEAST_WEIGHT || MOST_WEIGHT < *w)
 }
 
 /// The extract of up to 16 items of these widths, by these terms: 58 for another number of weights than of items, 59
@@ -171,6 +208,8 @@ pub fn choose(widths: &[u32], terms: Terms) -> Result<Extract, Refusal>
     if budget == 0 {
         return Err(Refusal::NoBudget);
     }
-    let items = Items { widths, weights };
-    Ok(items.extract(limit, budget))
+    let mut room = [NO_ITEM; MOST_ITEMS];
+    let room = &mut room[..widths.len()];
+    put_items(room, widths, weights);
+    Ok(Items { items: room }.extract(limit, budget))
 }

@@ -105,9 +105,6 @@ module _ (at b : ℕ) (rest : List ℕ) where
   run-repeat (Err x) e = by-refusal at b rest (sym e)
 
   module _ (more : ℕ) (is : more ≡ front b rest) (other : b ≡ 40 → ⊥) where
-    tail : List ℕ
-    tail = drop more rest
-
     whole : rest ≡ replicate more b ++ drop more rest
     whole = subst (λ n. rest ≡ replicate n b ++ drop n rest) (sym is) (front-rest b rest)
 

@@ -2,7 +2,8 @@
 //! step, whatever n is. Leans on `definition` and `text`.
 #![tactic(auto)]
 
-ghost use Rattle.std.specs.Prelude.{◌≡◌, ◌+◌, ◌≤◌, ◌∷◌, IfOk, MatchResult, length, reverse, replicate, drop, nat_eq, position};
+ghost use Rattle.std.specs.Prelude.{◌≡◌, ◌+◌, ◌≤◌, ◌∷◌, IfOk, MatchResult};
+ghost use Rattle.std.specs.Prelude.{length, reverse, replicate, drop, nat_eq, position};
 ghost use Rattle.std.specs.List.{prefix_len};
 ghost use Rattle.definition.specs.Picture.{trim_start, trim as trimmed, repeat, symbol};
 ghost use Rattle.symbols.specs.Repeats.{opens, Runs, Stops};
@@ -64,6 +65,13 @@ fn opens(text: &[u8]) -> bool
 
 /// How often a symbol stands, and how many bytes after it say so, by the text after its `(`: 22 if no `)` follows, 23
 /// for a count that is none, both at `at`.
+// Kept: a position beside the text, as in `repeat_at`, `run_at` and `count_symbols` – no plainer: all refusals of a
+// picture stand at one position, known before it is read, and the definition's `repeat` and `expand` take it too, so
+// that what `repeat_in`, `repeat_at` and `count_symbols` answer is one equation with them. What is `Missing` has none
+// in the definition either: a step of a clause isn't told where its statement begins. A mask is asked of a picture
+// alone, with 0 for the position.
+// Kept: a pair, as of `repeat_at` and `run_at` – no plainer: the definition's `repeat` gives this pair. A struct of its
+// own would want a word in each contract that leads from the one to the other.
 #[tactic(auto, using(crate::proofs::Repeating::repeat_steps))]
 fn repeat_in(inside: &[u8], at: usize) -> Result<(usize, usize), Refusal>
     ensures same { result ≡ repeat at (40 ∷ inside.now) }
@@ -100,7 +108,9 @@ fn alike(b: u8, text: &[u8]) -> usize
 /// out many times is one run, up to one with a `(` after it, which is a run by itself.
 #[tactic(auto, using(crate::proofs::Running::run_steps))]
 fn run_at(b: u8, rest: &[u8], at: usize) -> Result<(usize, usize), Refusal>
-    ensures run { MatchResult result (λ r. Runs at (b ∷ rest.now) r.0 b (drop r.1 rest.now)) (λ e. Stops at (b ∷ rest.now) e) }
+    ensures run { MatchResult result
+        (λ r. Runs at (b ∷ rest.now) r.0 b (drop r.1 rest.now))
+        (λ e. Stops at (b ∷ rest.now) e) }
     ensures within { IfOk result (λ r. r.1 ≤ length rest.now) }
 {
     let more = alike(b, rest);
@@ -115,21 +125,32 @@ fn run_at(b: u8, rest: &[u8], at: usize) -> Result<(usize, usize), Refusal>
 
 // ---------------------------------------------------------------- symbols, judged run by run
 
-/// How often the symbols of each set stand in a list of symbols: X A; 9 Z *; those of 9 Z * before the point; P; V and
-/// `.`; `$`; `+`; `-`; the signs S + - C D; the editing symbols; S and V, which take no byte of a mask; and all symbols.
+/// How often the symbols of each set stand in a list of symbols.
 #[derive(Clone, Copy)]
 pub struct Tallies {
+    /// X and A.
     pub text: u32,
+    /// 9, Z and `*`.
     pub digits: u32,
+    /// 9, Z and `*` before the point.
     pub whole: u32,
+    /// P.
     pub scaled: u32,
+    /// V and `.`.
     pub points: u32,
+    /// `$`.
     pub dollars: u32,
+    /// `+`.
     pub pluses: u32,
+    /// `-`.
     pub minuses: u32,
+    /// The signs: S, `+`, `-`, C and D.
     pub signs: u32,
+    /// The editing symbols: Z, `*`, `.`, `,`, `/`, B, 0, `$`, `+`, `-`, C and D.
     pub edits: u32,
+    /// S and V, which take no byte of a mask.
     pub hidden: u32,
+    /// All symbols.
     pub symbols: u32,
 }
 
@@ -157,8 +178,7 @@ impl Tallies {
         symbols: 0,
     };
 
-    /// One more symbol that stands n times: only the tallies that it touches change. Neighbours, as `/` and `0`, have
-    /// arms of their own here and in `is_symbol`: in one arm they would be a range, of which its proof has two cases.
+    /// One more symbol that stands n times: only the tallies that it touches change.
     fn add(&mut self, b: u8, n: u32)
         requires { Adds self.old n }
         ensures { self.new ≡ joined self.old (run_of b n) }
@@ -188,8 +208,7 @@ impl Tallies {
                 self.points += n;
                 self.edits += n;
             }
-            b',' | b'/' | b'B' => self.edits += n,
-            b'0' => self.edits += n,
+            b',' | b'/' | b'B' | b'0' => self.edits += n,
             b'$' => {
                 self.dollars += n;
                 self.edits += n;
@@ -213,26 +232,28 @@ impl Tallies {
     }
 }
 
-/// Whether a byte is a symbol by itself.
+/// Whether a byte is a symbol by itself. Those from `*` to `0` all are: `*`, `+`, `,`, `-`, `.`, `/` and `0`.
 fn is_symbol(b: u8) -> bool
     ensures { result ≡ symbol b }
 {
-    match b {
-        b'X' | b'A' | b'9' | b'P' | b'V' | b'S' | b'Z' | b'0' => true,
-        b'*' | b'.' | b',' | b'$' | b'B' => true,
-        b'/' | b'+' | b'-' => true,
-        _ => false,
-    }
+    matches!(
+        b,
+        b'X' | b'A' | b'9' | b'P' | b'V' | b'S' | b'Z' | b'B' | b'$' | b'*'..=b'0'
+    )
 }
 
-/// What is awaited of CR or DB: nothing, an R after the C, a B after the D; or a byte that is no symbol was seen.
-// Kept: `Wrong` among the states, and no Result in its place – no plainer: a byte that is no symbol (25) is refused only
-// when the whole picture was counted, since 22 to 24 of a later symbol come before it; until then it is a state.
+/// What is awaited of CR or DB, or that a byte was seen that is no symbol.
+// Kept: `Wrong` among the states, and no Result in its place – no plainer: a byte that is no symbol (25) is refused
+// only when the whole picture was counted, since 22 to 24 of a later symbol come before it; until then it is a state.
 #[derive(Clone, Copy)]
 pub enum Half {
+    /// Nothing.
     Nothing,
+    /// An R, after a C.
     C,
+    /// A B, after a D.
     D,
+    /// A byte was seen that is no symbol.
     Wrong,
 }
 
@@ -284,8 +305,8 @@ pub fn count_symbols(picture: &[u8], at: usize) -> Result<(Tallies, Half), Refus
     let mut tallies = Tallies::NONE;
     let mut half = Half::Nothing;
     let mut left = picture;
-    // Kept: a loop over what is left – no plainer: each run takes as many bytes as it has, and an iterator over bytes, or
-    // over chunks of them, takes the same number at each step.
+    // Kept: a loop over what is left – no plainer: each run takes as many bytes as it has, and may be refused. Each
+    // step of an iterator of its own would give a Result, which this loop takes apart by `?` as it does now.
     while let [first, rest @ ..] = left {
         let (n, skip) = run_at(*first, rest, at)?;
         let room = (MOST_SYMBOLS - tallies.symbols) as usize;

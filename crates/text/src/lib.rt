@@ -23,8 +23,10 @@ pub fn upper(b: u8) -> u8
 }
 
 /// Whether a word in upper case is this one.
-// Kept: under `same_key` – the proof didn't close: the check goes through a chain where a clause has the chain's words,
-// and not for `result ≡ same (uppers word.now) key.now`.
+// Kept: a function under `same_key` – the proof didn't close in one: the check follows the lengths and `all` over a
+// `zip` under the clause `IsTrue result ↔ ..` alone; under `result ≡ same ..` both ways out of the body stayed open.
+// Kept: equality by `all` – no plainer: `eq_ignore_ascii_case` would raise the key too, and `same_key`, which is
+// public, promises that a key in small letters is no word's.
 fn is_spelt(word: &[u8], key: &[u8]) -> bool
     ensures { IsTrue result ↔ (uppers word.now ≡ key.now) }
 {
@@ -56,6 +58,8 @@ pub fn same_spelling(a: &[u8], b: &[u8]) -> bool
 }
 
 /// The number that digits spell: one digit at least, no other byte, and below 2^64.
+// Kept: digits read by hand – tried and too slow: `parse` over `from_utf8` proved, but goes over a word twice, and took
+// 112 instructions for a level of two digits in place of 45.
 #[tactic(auto, using(crate::proofs::Steps::digit_steps))]
 fn number_of(digits: &[u8]) -> Option<u64>
     ensures { result ≡ below 18446744073709551616 (numeral digits.now) }
@@ -97,6 +101,8 @@ pub fn level_of(word: &[u8]) -> Option<u8>
 fn first_wide(text: &[u8]) -> Option<usize>
     ensures { result ≡ position (λ b. nat_lt 127 b) text.now }
 {
+    // Asked first, since it is the faster one over a whole text: it takes many bytes at a time. `position` takes one
+    // after the other, and only a text with a wide byte needs it.
     if text.is_ascii() {
         return None;
     }

@@ -57,11 +57,13 @@ pub fn what_is_owned_occurs()
 {}
 
 /// There are as many pieces of an entry as the counts of it and of the groups around it multiply to.
+#[tactic(auto, using(crate::proofs::Occurrences::counted))]
 pub fn counts_multiply()
     ensures { (n : ℕ) (es : Entries) → pieces# n (told 0 0 0 es) ≡ counts n 0 es }
 {}
 
 /// Slack stands only directly before an elementary SYNC binary or float item, and is the fewest bytes that align it.
+#[tactic(auto, using(crate::proofs::Named::slack_stands))]
 pub fn slack_aligns_an_item()
     ensures { (text : List ℕ) (f : Forest) (es : Entries) (n first width : ℕ) → Tells text 0 f es →
         Among (spot (slack n) first width) (told 0 0 0 es) → Slackened text first width }
@@ -84,6 +86,7 @@ pub fn owners_are_found_among_the_entries()
 {}
 
 /// What the reader refuses, the byte owner refuses, with the same refusal.
+#[tactic(auto, using(crate::proofs::Named::reader_refuses))]
 pub fn the_owner_refuses_what_the_reader_refuses()
     ensures { (text : List ℕ) (work q : ℕ) (r : Refusal) →
         entries text work ≡ Err r → byte_owner text work q ≡ Err r }
@@ -118,6 +121,7 @@ pub fn lists_nest_at_most_130_deep()
 {}
 
 /// The details have 47 bytes for each entry of the listing.
+#[tactic(auto, using(crate::proofs::Named::details_length))]
 pub fn details_have_47_bytes_an_entry()
     ensures { (es : Entries) → length (entries_details es) ≡ 47 * entries# es }
 {}
@@ -160,11 +164,13 @@ pub fn a_target_is_the_nearest_of_its_name()
 {}
 
 /// Statements read one by one, each with the nearest earlier one of a smaller level as its parent, are the forest.
+#[tactic(auto, using(crate::proofs::Named::parents_forest))]
 pub fn parents_are_the_nearest_of_a_smaller_level()
     ensures { (ss : List Statement) → parents [] 0 ss ≡ parents_in 0 0 (forest ss) }
 {}
 
 /// Usages taken from the nearest open statement while reading are those that the forest's groups hand down.
+#[tactic(auto, using(crate::proofs::Named::along_forest))]
 pub fn usages_come_down_while_reading()
     ensures { (ss : List Statement) → forest (inherit_along [] 0 ss) ≡ inherited (forest ss) }
 {}
@@ -180,6 +186,7 @@ pub fn plain_usages_have_the_entries_that_they_had()
 
 /// A text in which no literal holds a period that would end a statement, or `*>`, and none is left open, has the words
 /// that it has without literals, and no refusal 50.
+#[tactic(auto, using(crate::proofs::Named::plain_words))]
 pub fn plain_texts_have_the_words_that_they_had()
     ensures words { (text : List ℕ) → plain_text text ≡ true → statement_words text ≡ bare_words text }
     ensures shut { (text : List ℕ) → plain_text text ≡ true → literal_check text ≡ Ok tt }
@@ -188,6 +195,7 @@ pub fn plain_texts_have_the_words_that_they_had()
 // ---------------------------------------------------------------- cards
 
 /// Cards that pass the checks of the text and of the work memory are seen as a text that passes them.
+#[tactic(auto, using(crate::proofs::Named::view_checks))]
 pub fn what_is_seen_of_cards_passes_their_checks()
     ensures { (cards : List ℕ) (work : ℕ) → entry_checks cards work ≡ Ok tt → entry_checks (view cards) work ≡ Ok tt }
 {}

@@ -9,7 +9,9 @@ use tokens::{Next, Stand};
 /// A text, and where a reader stands in it.
 #[derive(Clone, Copy)]
 pub struct WordReader<'a> {
+    /// The text.
     pub text: &'a [u8],
+    /// Where it stands.
     pub stand: Stand,
 }
 
@@ -32,6 +34,8 @@ impl<'a> WordReader<'a> {
 }
 
 /// The first token of a text from there on, by a reader made for it; the place is then the one behind it.
+// Kept: beside `next_token`, which says the same – a rule of the project names this form: a small word reader, which
+// holds the text and its place, and thin functions over a covered one; statements are read through it.
 pub fn word_at(text: &[u8], stand: &mut Stand) -> Next
     requires { stand.old.at ≤ length text.now }
     ensures { First (tokens_at text.now stand.old) text.now stand.old.at result stand.new }

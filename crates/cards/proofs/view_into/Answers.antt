@@ -13,7 +13,8 @@ use Rattle.std.specs.Prelude.{if◌then◌else◌}
 use Rattle.definition.specs.Basic.{Err, Ok}
 use Rattle.definition.specs.Cards.{indicator_column, column_next, code_next, shown, view, view_from, other_indicator, first_other}
 use Rattle.definition.specs.Calls.{indicator_check}
-use Rattle.definition.proofs.Lists.{drop-next, rest_part}
+use Rattle.std.proofs.lemmas.List.{drop_more}
+use Rattle.definition.proofs.Lists.{rest_part}
 use Rattle.cards.proofs.view_into.Invariants.{Left}
 use Rattle.cards.proofs.view_into.Goals as goal
 
@@ -40,7 +41,7 @@ module _ {t out₀ out : List ℕ} {i n : ℕ} {code : Bool} (inv : Left t out�
     -- an indicator that is refused
     stops : r ≡ true → indicator_check t ≡ Err (Refusal.BadIndicator i)
     unfolding first_other
-    stops y = found t (Some i) (inv.other ∙ rw (drop-next t i h, is-other, y))
+    stops y = found t (Some i) (inv.other ∙ rw (drop_more t i 0 h, is-other, y))
 
     -- a byte that is seen
     next :
@@ -57,9 +58,9 @@ module _ {t out₀ out : List ℕ} {i n : ℕ} {code : Bool} (inv : Left t out�
           column = rw en (column-small n (get_or t i 0) i inv.column);
           seen =
               inv.seen
-              ∙ rw (drop-next t i h, add-one i, take-suc-set out i s (omega (arith, inv.room)), append_assoc)
+              ∙ rw (drop_more t i 0 h, add-one i, take-suc-set out i s (omega (arith, inv.room)), append_assoc)
               (rw (es, ec, en));
-          other = inv.other ∙ rw (drop-next t i h, is-other, y, en);
+          other = inv.other ∙ rw (drop_more t i 0 h, is-other, y, en);
         }
 
   done : length t ≤ i → (indicator_check t ≡ Ok tt) × (take (length t) out ≡ view t)

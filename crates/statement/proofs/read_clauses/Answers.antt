@@ -1,9 +1,7 @@
-use Prim.Native.Nat.{ℕ, ◌+◌, ◌-◌}
+use Prim.Native.Nat.{ℕ}
 use mathlib.Core.Path.{◌≡◌, refl, sym, ap, ◌∙◌}
 use mathlib.Core.List.{List}
-use native.Mathlib.Nat.{add-sub_cancel_left}
 use native.Mathlib.Omega.{arith}
-use lib.ListN.{take, drop}
 use Rattle.definition.specs.declared.Clauses.{Clauses}
 use Rattle.definition.specs.declared.Expect.{Expect}
 use Rattle.definition.specs.declared.Missing.{Missing}
@@ -14,8 +12,9 @@ use Rattle.definition.specs.Statement.{no_clauses, Step, step, missing, finish, 
 use Rattle.definition.proofs.StatementLaws.{clauses-none, clauses-go, clauses-fail}
 use Rattle.definition.specs.Words.{first_words}
 use Rattle.definition.proofs.WordLaws.{end-words}
+use Rattle.tokens.specs.declared.Next.{Next}
 use Rattle.tokens.specs.declared.Stand.{Stand}
-use Rattle.tokens.specs.Tokens.{tokens_at, FirstWord, FirstStop, FirstEnd}
+use Rattle.tokens.specs.Tokens.{tokens_at, First, FirstWord, FirstStop, FirstEnd}
 use Rattle.definition.proofs.SpanLaws.{step-spans, AnswerSpans, finish-spans}
 use Rattle.clauses.specs.Places.{SpanInside}
 use Rattle.clauses.specs.Steps.{led, kept_on}
@@ -48,15 +47,11 @@ module _ {t : List ℕ} {at : ℕ} {from place : Stand} {e : Expect} {c : Clause
   rest : {ts : List Token} → tokens_at t place ≡ ts → clauses t at Expect.Clause no_clauses (words_from t from) ≡ clauses t at e c (first_words ts)
   rest p = inv.same ∙ ap (λ (ts : List Token). clauses t at e c (first_words ts)) p
 
-  module _ {n : Stand} {w : Span} (f : FirstWord (tokens_at t place) t place.at w n) {x : Step} (p : x ≡ step e w (uppers (take (w.start + w.len - w.start) (drop w.start t))) c) where
-    -- the step is the one of the word as the definition has it
-    taken : x ≡ step e w (uppers (part t w)) c
-    taken = simp add-sub_cancel_left at p
-
+  module _ {n : Stand} {w : Span} (f : FirstWord (tokens_at t place) t place.at w n) {x : Step} (p : x ≡ step e w (uppers (part t w)) c) where
     -- it leads on, or is refused
     go : {e' : Expect} {c' : Clauses} → Ok e' ≡ led x → c' ≡ kept_on x c → Left t at from n e' c'
     go {e'} {c'} q y =
-        let z : step e w (uppers (part t w)) c ≡ Ok (e', c') = sym taken ∙ led-on x c q y in
+        let z : step e w (uppers (part t w)) c ≡ Ok (e', c') = sym p ∙ led-on x c q y in
         record {
           reached = reached-word inv.reached f;
           same = rest f.all_are ∙ clauses-go t at e c w (words_from t n) z;
@@ -64,7 +59,7 @@ module _ {t : List ℕ} {at : ℕ} {from place : Stand} {e : Expect} {c : Clause
         }
 
     fail : {m : Missing} → Err m ≡ led x → ClausesAre t at from (Err (missing at m)) n
-    fail q = rest f.all_are ∙ clauses-fail t at e c w (words_from t n) (sym taken ∙ lacking x q)
+    fail q = rest f.all_are ∙ clauses-fail t at e c w (words_from t n) (sym p ∙ lacking x q)
 
   -- the statement ends at its period, or with the text
   stopped : {n : Stand} {a : Answer Clauses} → FirstStop (tokens_at t place) t place.at n → a ≡ finish at e c → ClausesAre t at from a n
@@ -75,14 +70,17 @@ module _ {t : List ℕ} {at : ℕ} {from place : Stand} {e : Expect} {c : Clause
   ended {n} f p =
       rw p (closes t at from n (finish at e c) (rest f.opens ∙ ap (clauses t at e c) (end-words n.said) ∙ clauses-none t at e c) (finish-spans (SpanInside t) at e inv.fits) (ends-text inv.reached f))
 
-pub returns-in-Stop : goal.returns-in-Stop
-returns-in-Stop c = stopped c.loop-w.invariant c.in-Stop.ensures c.finish.ensures
+  -- so it ends where no word is next
+  done : (n : Stand) {a : Answer Clauses} (x : Next) → First (tokens_at t place) t place.at x n → ((w : Span) → x ≡ Next.Word w → ⊥) → a ≡ finish at e c → ClausesAre t at from a n
+  done n (Next.Word w) f h p = absurd (h w refl)
+  done n Next.Stop f h p = stopped f p
+  done n Next.End f h p = ended f p
 
-pub returns-in-End : goal.returns-in-End
-returns-in-End c = ended c.loop-w.invariant c.in-End.ensures c.finish-in-End.ensures
+pub returns : goal.returns
+returns c = done c.loop-w.invariant _ c.word_at.result c.word_at.ensures c.in_default.not-Word c.finish.ensures
 
 pub loop-w-preserved : goal.loop-w-preserved
-loop-w-preserved c = go c.loop-w.invariant c.in-Word.ensures refl c.in-Ok.ensures.0 c.in-Ok.ensures.1
+loop-w-preserved c = go c.loop-w.invariant c.in-Word.ensures (ap (λ (bs : List ℕ). step c.loop-w.e c.in-Word.w (uppers bs) c.loop-w.c) c.part_of.ensures) c.in-Ok.ensures.0 c.in-Ok.ensures.1
 
 pub returns-in-Err : goal.returns-in-Err
-returns-in-Err c = rw c.at.ensures (fail c.loop-w.invariant c.in-Word.ensures refl c.in-Err.ensures.0)
+returns-in-Err c = rw c.at.ensures (fail c.loop-w.invariant c.in-Word.ensures (ap (λ (bs : List ℕ). step c.loop-w.e c.in-Word.w (uppers bs) c.loop-w.c) c.part_of.ensures) c.in-Err.ensures.0)

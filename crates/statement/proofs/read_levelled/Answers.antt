@@ -1,10 +1,8 @@
 -- `statement::read_levelled` meets its contract, by the level.
-use Prim.Native.Nat.{ℕ, ◌+◌, ◌-◌}
+use Prim.Native.Nat.{ℕ}
 use mathlib.Core.Path.{◌≡◌, sym, ap, ◌∙◌}
 use mathlib.Core.List.{List, ◌∷◌}
 use Rattle.std.specs.Prelude.{Option, None, Some}
-use native.Mathlib.Nat.{add-sub_cancel_left}
-use lib.ListN.{take, drop}
 use Rattle.definition.specs.declared.Refusal.{Refusal}
 use Rattle.definition.specs.declared.Span.{Span}
 use Rattle.definition.specs.declared.Statement.{Statement}
@@ -21,7 +19,7 @@ use Rattle.tokens.specs.Tokens.{tokens_at}
 use Rattle.statement.specs.Reading.{words_from, Ends, NamedDone, Followed, FirstKept, FirstSkipped, FirstRefused}
 use Rattle.statement.proofs.read_levelled.Goals as goal
 
-module _ (t : List ℕ) (w : Span) (from : Stand) {v : Option ℕ} (p : v ≡ number 256 (take (w.start + w.len - w.start) (drop w.start t))) where
+module _ (t : List ℕ) (w : Span) (from : Stand) {v : Option ℕ} (p : v ≡ number 256 (part t w)) where
   -- the tokens of the statement
   abbrev all : List Token
   all = Word w ∷ tokens_at t from
@@ -37,42 +35,38 @@ module _ (t : List ℕ) (w : Span) (from : Stand) {v : Option ℕ} (p : v ≡ nu
         within = e.within;
       }
 
-  -- the level, of the word as the definition has it
-  level-is : number 256 (part t w) ≡ v
-  level-is = sym (simp add-sub_cancel_left at p)
-
   -- the first word is no level
   bad : v ≡ None → FirstRefused all t (Refusal.BadLevel w.start)
-  bad e = record { is = statement-bad t w (words_from t from) (level-is ∙ e); all_are = sentences-word (tokens_at t from) w }
+  bad e = record { is = statement-bad t w (words_from t from) (sym p ∙ e); all_are = sentences-word (tokens_at t from) w }
 
   module _ {k : ℕ} (e : v ≡ Some k) where
     -- 88 is skipped
     skipped : {n : Stand} → k ≡ 88 → Ends t from n → FirstSkipped all t from.at n
-    skipped q h = record { is = statement-skipped t w (words_from t from) (level-is ∙ e) q; followed = followed h }
+    skipped q h = record { is = statement-skipped t w (words_from t from) (sym p ∙ e) q; followed = followed h }
 
     module _ (q : k ≡ 88 → ⊥) where
       -- any other is kept, or refused for what follows
       kept : {x : Statement} {n : Stand} → NamedDone t w.start k from x n → FirstKept all t from.at x n
-      kept d = record { is = statement-kept t w (words_from t from) (level-is ∙ e) q d.is; fits = d.fits; followed = followed d.ends }
+      kept d = record { is = statement-kept t w (words_from t from) (sym p ∙ e) q d.is; fits = d.fits; followed = followed d.ends }
 
       refused : {x : Refusal} → named t w.start k (words_from t from) ≡ Err x → FirstRefused all t x
-      refused d = record { is = statement-refused t w (words_from t from) (level-is ∙ e) q d; all_are = sentences-word (tokens_at t from) w }
+      refused d = record { is = statement-refused t w (words_from t from) (sym p ∙ e) q d; all_are = sentences-word (tokens_at t from) w }
 
 pub returns-in-Some-eq88 : goal.returns-in-Some-eq88
 returns-in-Some-eq88 c =
     let a = c.args in
     let o = c.in-Some-eq88 in
-    skipped a.text.now a.first a.place.now c.level_of.ensures o.is o.field-0-test c.skip_statement.ensures
+    skipped a.text.now a.first a.place.now (c.level_of.ensures ∙ ap (number 256) c.part_of.ensures) o.is o.field-0-test c.skip_statement.ensures
 
 pub returns-in_ok-s-in-Some : goal.returns-in_ok-s-in-Some
 returns-in_ok-s-in-Some c =
     let a = c.args in
-    kept a.text.now a.first a.place.now c.level_of.ensures c.in-Some.is c.in-Some.level-test.1 c.in_ok-s-in-Some.ensures
+    kept a.text.now a.first a.place.now (c.level_of.ensures ∙ ap (number 256) c.part_of.ensures) c.in-Some.is c.in-Some.level-test.1 c.in_ok-s-in-Some.ensures
 
 pub returns-in_err-s-in-Some : goal.returns-in_err-s-in-Some
 returns-in_err-s-in-Some c =
     let a = c.args in
-    rw (handed_on _ c.from_residual.ensures.1) (refused a.text.now a.first a.place.now c.level_of.ensures c.in-Some.is c.in-Some.level-test.1 c.in_err-s-in-Some.ensures)
+    rw (handed_on _ c.from_residual.ensures.1) (refused a.text.now a.first a.place.now (c.level_of.ensures ∙ ap (number 256) c.part_of.ensures) c.in-Some.is c.in-Some.level-test.1 c.in_err-s-in-Some.ensures)
 
 pub returns-in-None : goal.returns-in-None
-returns-in-None c = let a = c.args in bad a.text.now a.first a.place.now c.level_of.ensures c.in-None.is
+returns-in-None c = let a = c.args in bad a.text.now a.first a.place.now (c.level_of.ensures ∙ ap (number 256) c.part_of.ensures) c.in-None.is

@@ -2,6 +2,7 @@
 use Prim.Native.Nat.{ℕ, ◌<◌, ◌≤◌}
 use mathlib.Core.Path.{◌≡◌, refl, ap, ◌∙◌}
 use mathlib.Core.List.{List, []}
+use mathlib.Core.Logic.{◌⊎◌, ⊎_elim}
 use native.Mathlib.Omega.{arith}
 use lib.ListN.{length}
 use Rattle.definition.specs.declared.Clauses.{Clauses}
@@ -16,8 +17,9 @@ use Rattle.definition.specs.declared.Expect.{Expect}
 use Rattle.definition.proofs.StatementLaws.{named_none, named-given, named-refused}
 use Rattle.definition.specs.Words.{first_words}
 use Rattle.definition.proofs.WordLaws.{end-words}
+use Rattle.tokens.specs.declared.Next.{Next}
 use Rattle.tokens.specs.declared.Stand.{Stand}
-use Rattle.tokens.specs.Tokens.{tokens_at, FirstWord, FirstStop, FirstEnd}
+use Rattle.tokens.specs.Tokens.{tokens_at, First, FirstWord, FirstStop, FirstEnd}
 use Rattle.definition.proofs.SpanLaws.{none-spans}
 use Rattle.clauses.specs.Places.{SpanInside}
 use Rattle.statement.specs.Reading.{words_from, Ends, ClausesDone, NamedDone}
@@ -61,6 +63,12 @@ module _ (t : List ℕ) (at level : ℕ) (from : Stand) (h : from.at ≤ length 
     ended : FirstEnd (tokens_at t from) t from.at n → NamedDone t at level from o n
     ended f = bare (tokens-named f.opens ∙ ap (named t at level) (end-words n.said)) (ends-text (reached-start h) f)
 
+    -- so it ends
+    none : (x : Next) → First (tokens_at t from) t from.at x n → (x ≡ Next.Stop) ⊎ (x ≡ Next.End) → NamedDone t at level from o n
+    none (Next.Word w) f h = ⊎_elim (λ e. absurd (cc)) (λ e. absurd (cc)) h
+    none Next.Stop f h = stopped f
+    none Next.End f h = ended f
+
 pub returns-in_err-c-in-Word : goal.returns-in_err-c-in-Word
 returns-in_err-c-in-Word c =
     let a = c.args in
@@ -74,9 +82,4 @@ returns-in_ok-c-in-Word c =
 pub returns-in-Stop : goal.returns-in-Stop
 returns-in-Stop c =
     let a = c.args in
-    stopped a.text.now a.at a.level a.place.now c.requires.1 c.requires.0 refl c.statement_of-in-Stop.ensures c.in-Stop.ensures
-
-pub returns-in-End : goal.returns-in-End
-returns-in-End c =
-    let a = c.args in
-    ended a.text.now a.at a.level a.place.now c.requires.1 c.requires.0 refl c.statement_of-in-End.ensures c.in-End.ensures
+    none a.text.now a.at a.level a.place.now c.requires.1 c.requires.0 refl c.statement_of-in-Stop.ensures c.word_at.result c.word_at.ensures c.in-Stop.is

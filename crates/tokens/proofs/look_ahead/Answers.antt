@@ -93,26 +93,26 @@ module _ {t : List ℕ} {at : ℕ} {fresh : Bool} {i : ℕ} {f : Bool} (inv : Le
     period : k ≡ Period → AheadStop t at fresh (i + 1)
     period d = record { up = omega arith; within = omega arith; rest = λ q c. stepped d q c ∙ period-next t q i f }
 
-pub loop-i-preserved-in-Newline : goal.loop-i-preserved-in-Newline
-loop-i-preserved-in-Newline c = search (newline c.loop-i.invariant)
+pub loop-i-preserved-in-Newline-1 : goal.loop-i-preserved-in-Newline-1
+loop-i-preserved-in-Newline-1 c = search (newline c.loop-i.invariant)
 
-pub loop-i-preserved-in-Blank : goal.loop-i-preserved-in-Blank
-loop-i-preserved-in-Blank c = search blank
+pub loop-i-preserved-in-Blank-1 : goal.loop-i-preserved-in-Blank-1
+loop-i-preserved-in-Blank-1 c = search blank
 
-pub loop-i-preserved-in-Cut : goal.loop-i-preserved-in-Cut
-loop-i-preserved-in-Cut c = search (cut c.loop-i.invariant)
+pub loop-i-preserved-in-Cut-1 : goal.loop-i-preserved-in-Cut-1
+loop-i-preserved-in-Cut-1 c = search (cut c.loop-i.invariant)
 
 pub loop-i-preserved : goal.loop-i-preserved
 loop-i-preserved c = search note
 
-pub returns-else-f : goal.returns-else-f
-returns-else-f c = search star
+pub returns-in-Star-2 : goal.returns-in-Star-2
+returns-in-Star-2 c = search star
 
 pub returns-in-Period : goal.returns-in-Period
 returns-in-Period c = search period
 
-pub returns-in-Other : goal.returns-in-Other
-returns-in-Other c = search other
+pub returns-in-Star-2-2 : goal.returns-in-Star-2-2
+returns-in-Star-2-2 c = search other
 
 pub returns : goal.returns
 returns c = search done

@@ -12,8 +12,8 @@ pub record Left (t : List ℕ) (s : Stand) : Type 0 where
   pub within : s.at ≤ length t
   pub rest : first_open (tokens_of t) ≡ first_open (tokens_at t s)
 
-abbrev pub invariant-loop-s : goal.invariant-loop-s
-invariant-loop-s l = Left l.text l.s
+abbrev pub invariant-loop : goal.invariant-loop
+invariant-loop l = Left l.text l.s
 
-abbrev pub decreases-loop-s : goal.decreases-loop-s
-decreases-loop-s l = length l.text - l.s.at
+abbrev pub decreases-loop : goal.decreases-loop
+decreases-loop l = length l.text - l.s.at

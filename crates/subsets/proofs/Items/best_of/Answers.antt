@@ -9,16 +9,15 @@ loop-number-init c = looking-starts c.requires
 
 pub loop-number-preserved : goal.loop-number-preserved
 loop-number-preserved c =
-    let are = c.args.self.weighable in
     elim c.if-sums-limit.branch [
-      | then-sums-limit+then-best-sums w ↦ rw w.best-is (search (takes-heavy are))
+      | then-sums-limit+then-best-sums w ↦ rw w.best-is (search takes-heavy)
       | else-sums-limit w ↦
           rw w.best-is
           (elim w.else-sums-limit.branch [
-            | else-sums-limit-via-then-sums-limit+else-best-sums w' ↦ search (passes-light are)
-            | else-sums-limit-via-else-sums-limit w' ↦ search (passes-wide are)
+            | else-sums-limit-via-then-sums-limit+else-best-sums w' ↦ search passes-light
+            | else-sums-limit-via-else-sums-limit w' ↦ search passes-wide
           ])
     ]
 
 pub returns : goal.returns
-returns c = looking-ends c.args.self.weighable c.loop-number.invariant c.loop-number-test.false
+returns c = looking-ends c.loop-number.invariant c.loop-number-test.false

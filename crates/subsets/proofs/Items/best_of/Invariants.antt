@@ -4,4 +4,4 @@ use Rattle.subsets.proofs.Items.best_of.Given as goal
 
 abbrev pub invariant-loop-number : goal.invariant-loop-number
 invariant-loop-number l =
-    Looking l.self.widths.now l.self.weights.now l.limit l.count l.best.subset l.best.weight l.sums.width l.sums.weight l.number
+    Looking l.self.items.now l.limit l.count l.best.subset l.best.weight l.sums.width l.sums.weight l.number

@@ -1,5 +1,0 @@
--- `keywords::with_s` meets its contract: one pick after the other, as the table has them.
-use Rattle.keywords.proofs.with_s.Goals as goal
-
-pub returns : goal.returns
-returns c = cc

@@ -12,7 +12,7 @@ use Rattle.definition.specs.Basic.{le4, le8}
 use Rattle.definition.specs.Fold.{Entries, end, entry, folded_all}
 use Rattle.definition.specs.Search.{entries#}
 use Rattle.definition.specs.Details.{Detail, detail, details_in, detail_bytes, details_bytes, entries_details, height}
-use Rattle.definition.proofs.DetailLaws.{bytes-both, details-length}
+use Rattle.definition.proofs.DetailLaws.{bytes-both, detail-length, details-length}
 use Rattle.unions.specs.Shown.{list_in}
 use Rattle.table.specs.declared.Item.{Item}
 use Rattle.table.specs.Entered.{Shown, flat_in, shown_all}
@@ -24,6 +24,9 @@ use Rattle.details.specs.Detailed.{RecordTabled}
 pub detail-parts : (x : Detail) → detail_bytes x ≡ standing_bytes x ++ le8 x.first ++ le4 x.own.slack ++ clause_places x.own
 unfolding detail_bytes
 detail-parts x = refl
+
+-- 47 bytes can be counted, and so can each of the parts
+pub ruleset detail_sizes = (detail-length)
 
 -- ---------------------------------------------------------------- how deep
 

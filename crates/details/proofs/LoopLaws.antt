@@ -42,7 +42,7 @@ low-set starts j v n m h l k fits i =
 
 -- an item that is read past the table's end
 abbrev pub no_item : Item
-no_item = record { row = 0; mark = Mark.Own; offset = 0; width = 0; members = 0; below = 0; depth = 0 }
+no_item = record { row = 0; mark = Mark.Own; members = 0; below = 0; depth = 0 }
 
 -- the loop is at item k
 pub record Detailing (w : List ℕ) (t : List Item) (s : Sink) (starts : List ℕ) (k : ℕ) (s' : Sink) : Type 0 where

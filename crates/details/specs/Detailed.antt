@@ -7,6 +7,7 @@ use Rattle.definition.specs.Basic.{le4}
 use Rattle.definition.specs.Fold.{folded_all}
 use Rattle.definition.specs.Listing.{flag, span_bytes}
 use Rattle.definition.specs.Details.{Detail, detail, detail_bytes, entries_details, height}
+use Rattle.record.specs.declared.LaidRecord.{LaidRecord}
 use Rattle.unions.specs.Shown.{list_in}
 use Rattle.table.specs.declared.Item.{Item}
 use Rattle.table.specs.Entered.{Shown, shown_all, Entered}
@@ -66,3 +67,7 @@ pub record RecordTabled (text w : List ℕ) (t : List Item) (from to : ℕ) : Ty
   pub few : to ≤ most_statements
   pub table : Entered text w from to t
   pub deep : height (folded_all text (list_in w from to)) ≤ 130
+
+-- such a record, with its text
+abbrev pub Detailable : LaidRecord → Type 0
+Detailable a = RecordTabled a.text.now a.table.rows.work.now a.table.items.now a.from a.table.rows.count

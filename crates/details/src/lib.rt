@@ -1,5 +1,5 @@
 //! The details of a record's entries, written from its table of entries: 47 bytes for each, and only where all of them
-//! have room. Leans on `listing`, `table` and `record`.
+//! have room. Leans on `kinds`, `listing`, `table` and `record`.
 #![tactic(auto)]
 
 ghost use Rattle.std.specs.Prelude.{◌≡◌, [], ◌≤◌, ◌<◌, length, get_or, replicate};
@@ -8,7 +8,7 @@ ghost use Rattle.definition.specs.Details.{detail, detail_bytes};
 ghost use Rattle.listing.specs.Puts.{Countable, Puts};
 ghost use Rattle.table.specs.Entered.{shown_of, shown_all};
 ghost use Rattle.details.specs.Detailed.{standing_bytes, clause_places, farthest, FirstByte, detail_in, flat_details};
-ghost use Rattle.details.specs.Detailed.{Shallow, details_of, RecordTabled};
+ghost use Rattle.details.specs.Detailed.{Shallow, details_of, Detailable};
 
 use definition::{Entry, Refusal};
 use kinds::Coded;
@@ -20,6 +20,9 @@ use table::{RowItem, Table};
 const DEPTHS: usize = 131;
 
 // ---------------------------------------------------------------- an entry
+
+// Kept: an entry, its depth and what is below, as in `put_detail` – no plainer: `detail` of the definition takes them
+// one by one; and `Countable` in each contract, as of `Sink` in `listing`.
 
 // Where the entry stands: its statement's position and level, its depth, whether folding made it, the entries below it.
 fn put_standing(sink: &mut Sink, e: Entry, depth: u8, below: usize)
@@ -42,6 +45,7 @@ fn put_clauses(sink: &mut Sink, e: Entry)
 }
 
 // An entry's details.
+#[tactic(auto, using(crate::proofs::FlatLaws::detail_sizes))]
 fn put_detail(sink: &mut Sink, e: Entry, depth: u8, below: usize, first: usize)
     requires { Countable sink.old.at (detail_bytes (detail e depth below first)) }
     ensures { Puts sink.old (detail_bytes (detail e depth below first)) sink.new }
@@ -63,6 +67,7 @@ fn first_of(x: RowItem, starts: &[usize; DEPTHS]) -> usize
 }
 
 // Puts the details of an entry, whose first byte is given.
+#[tactic(auto, using(crate::proofs::FlatLaws::detail_sizes))]
 fn put_own(x: RowItem, first: usize, sink: &mut Sink)
     requires { (x.item.now.depth < 130) × (sink.old.at ≤ 4294967295) }
     ensures { Puts sink.old (detail_bytes (detail_in first (shown_of x.entry.rows.work.now x.entry.item.now)))
@@ -85,10 +90,7 @@ fn put_details(table: Table, sink: &mut Sink)
 {
     let mut starts = [0usize; DEPTHS];
     for item in table.items {
-        let x = RowItem {
-            rows: table.rows,
-            item,
-        };
+        let x = table.row_item(item);
         let first = first_of(x, &starts);
         put_own(x, first, sink);
         starts[item.depth as usize + 1] = first;
@@ -99,17 +101,14 @@ fn put_details(table: Table, sink: &mut Sink)
 #[derive(Clone, Copy)]
 struct Details<'a> {
     laid: LaidRecord<'a>,
-    ghost tabled: { RecordTabled laid.text.now laid.table.rows.work.now laid.table.items.now
-        laid.from laid.table.rows.count },
+    ghost tabled: { Detailable laid },
 }
 
 impl<'a> Written for Details<'a> {
     ghost bytes = { λ d. details_of d.laid.text.now d.laid.table.rows.work.now d.laid.from d.laid.table.rows.count };
 
-    fn put(self, out: &mut [u8]) -> usize {
-        let mut sink = Sink::new(out);
-        put_details(self.laid.table, &mut sink);
-        sink.at
+    fn put(self, sink: &mut Sink) {
+        put_details(self.laid.table, sink);
     }
 
     fn measure(self) -> usize {
@@ -117,11 +116,10 @@ impl<'a> Written for Details<'a> {
     }
 }
 
-/// Writes the details of a record that was laid out, if the output has room for them, and answers their length; 31, with
-/// their length, if not.
+/// Writes the details of a record that was laid out, if the output has room for them, and answers their length; 31,
+/// with their length, if not.
 pub fn write_details(laid: LaidRecord, out: &mut [u8]) -> Result<usize, Refusal>
-    requires { RecordTabled laid.text.now laid.table.rows.work.now laid.table.items.now
-        laid.from laid.table.rows.count }
+    requires { Detailable laid }
     ensures { left result out.new []
         ≡ after_writing
         (fitting (length out.old)

@@ -60,25 +60,25 @@ shown-length w (x ∷ a) = ap suc (shown-length w a)
 
 -- ---------------------------------------------------------------- entries after others
 
-pub built-none : {from to : ℕ} (w : List ℕ) (out : List Item) (b : Block) (d : ℕ) → b.widest ≤ largest → Built from to w out b d end b out
+pub built-none : {from to : ℕ} (w : List ℕ) (out : List Item) (b : Block) → b.widest ≤ largest → Built from to w out b end b out
 unfolding shown_all flat_in widest
-built-none w out b d h = record { items = []; rows = λ k x h. absurd (omega arith); inside = λ k x h. absurd (omega arith); is = refl; put = refl; next = omega arith; count = omega arith; most = omega arith; narrow = h }
+built-none w out b h = record { items = []; rows = λ k x h. absurd (omega arith); inside = λ k x h. absurd (omega arith); is = refl; put = refl; next = omega arith; deep = refl; count = omega arith; most = omega arith; narrow = h }
 
 pub built-as :
-    {from to : ℕ} {w : List ℕ} {out : List Item} {b : Block} {d : ℕ} {es fs : Entries} {r : Block} {after : List Item} →
+    {from to : ℕ} {w : List ℕ} {out : List Item} {b : Block} {es fs : Entries} {r : Block} {after : List Item} →
     es ≡ fs →
-    Built from to w out b d fs r after →
-    Built from to w out b d es r after
-built-as {from} {to} {w} {out} {b} {d} {es} {fs} {r} {after} e h =
-    subst (λ (x : Entries). Built from to w out b d x r after) (sym e) h
+    Built from to w out b fs r after →
+    Built from to w out b es r after
+built-as {from} {to} {w} {out} {b} {es} {fs} {r} {after} e h =
+    subst (λ (x : Entries). Built from to w out b x r after) (sym e) h
 
 -- of rows that are among others
 pub built-wider :
-    (from' to' : ℕ) {from to : ℕ} {w : List ℕ} {out : List Item} {b : Block} {d : ℕ} {es : Entries} {r : Block} {after : List Item} →
+    (from' to' : ℕ) {from to : ℕ} {w : List ℕ} {out : List Item} {b : Block} {es : Entries} {r : Block} {after : List Item} →
     from' ≤ from →
     to ≤ to' →
-    Built from to w out b d es r after →
-    Built from' to' w out b d es r after
+    Built from to w out b es r after →
+    Built from' to' w out b es r after
 built-wider from' to' l m h =
     record {
       items = h.items;
@@ -87,66 +87,71 @@ built-wider from' to' l m h =
       is = h.is;
       put = h.put;
       next = h.next;
+      deep = h.deep;
       count = h.count;
       most = h.most;
       narrow = h.narrow;
     }
 
 infixl 5 ◌then◌
-module _ {from to : ℕ} {w : List ℕ} {out : List Item} {b : Block} {d : ℕ} {es : Entries} {r : Block} {after : List Item} (p : Built from to w out b d es r after) where
+module _ {from to : ℕ} {w : List ℕ} {out : List Item} {b : Block} {es : Entries} {r : Block} {after : List Item} (p : Built from to w out b es r after) where
   pub built-many : length p.items ≡ entries# es
-  built-many = sym (shown-length w p.items) ∙ ap length p.is ∙ flat-length es d
+  built-many = sym (shown-length w p.items) ∙ ap length p.is ∙ flat-length es b.depth
 
   pub built-length : length after ≡ length out
   built-length = ap length p.put ∙ length-sets out b.next p.items
 
   pub ◌then◌ :
       {fs : Entries} {r' : Block} {after' : List Item} →
-      Built from to w after r d fs r' after' →
-      Built from to w out b d (append es fs) r' after'
+      Built from to w after r fs r' after' →
+      Built from to w out b (append es fs) r' after'
   ◌then◌ {fs} {r'} {after'} q =
       let place : r.next ≡ b.next + length p.items = omega (arith, p.next, built-many) in
       record {
         items = p.items ++ q.items;
         rows = All-append (Sound w to) p.items q.items p.rows q.rows;
         inside = All-append (From from) p.items q.items p.inside q.inside;
-        is = shown-append w p.items q.items ∙ ap₂ (λ (x y : List Shown). x ++ y) p.is q.is ∙ sym (flat_append es fs d);
+        is =
+            shown-append w p.items q.items
+            ∙ ap₂ (λ (x y : List Shown). x ++ y) p.is (q.is ∙ ap (λ (n : ℕ). flat_in n fs) p.deep)
+            ∙ sym (flat_append es fs b.depth);
         put =
             q.put
             ∙ (λ k. sets (p.put k) (place k) q.items)
             ∙ sym (sets-append p.items q.items out b.next);
         next = omega (arith, p.next, q.next, size-append es fs);
+        deep = q.deep ∙ p.deep;
         count = omega (arith, p.count, q.count, count-append es fs);
         most = omega (arith, p.most, q.most, widest-append es fs);
         narrow = q.narrow;
       }
 
   -- room for the rest
-  pub room-rest : {n last : ℕ} (m : ℕ) → n ≡ entries# es + m → TableRoom out b d n last → TableRoom after r d m last
+  pub room-rest : {n last : ℕ} (m : ℕ) → n ≡ entries# es + m → TableRoom out b n last → TableRoom after r m last
   room-rest m e h =
       record {
         fits = omega (arith, h.fits, p.next, built-length);
         small = omega (arith, h.small, p.next);
-        deep = omega (arith, h.deep, p.next);
+        deep = omega (arith, h.deep, p.next, p.deep);
         few = omega (arith, h.few, p.next, p.count, members-few es);
         narrow = p.narrow;
         rows = h.rows;
       }
 
-pub room-first : {out : List Item} {b : Block} {d n to : ℕ} (m k : ℕ) → n ≡ m + k → TableRoom out b d n to → TableRoom out b d m to
+pub room-first : {out : List Item} {b : Block} {n to : ℕ} (m k : ℕ) → n ≡ m + k → TableRoom out b n to → TableRoom out b m to
 room-first m k e h = record { fits = omega (arith, h.fits); small = omega (arith, h.small); deep = h.deep; few = h.few; narrow = h.narrow; rows = h.rows }
 
-pub room-part : {out : List Item} {b : Block} {d n to : ℕ} (to' : ℕ) → to' ≤ to → TableRoom out b d n to → TableRoom out b d n to'
+pub room-part : {out : List Item} {b : Block} {n to : ℕ} (to' : ℕ) → to' ≤ to → TableRoom out b n to → TableRoom out b n to'
 room-part to' e h = record { fits = h.fits; small = h.small; deep = h.deep; few = h.few; narrow = h.narrow; rows = omega (arith, h.rows) }
 
 -- ---------------------------------------------------------------- an entry before its members
 
-pub room_within : {out : List Item} {b : Block} {d n to : ℕ} → TableRoom out b d (suc (n + 0)) to → TableRoom out (within b) (d + 1) n to
+pub room_within : {out : List Item} {b : Block} {n to : ℕ} → TableRoom out b (suc (n + 0)) to → TableRoom out (within b) n to
 room_within h =
     record { fits = omega (arith, h.fits); small = omega (arith, h.small); deep = omega (arith, h.deep); few = omega arith; narrow = omega arith; rows = h.rows }
 
-module _ (b : Block) (d : ℕ) {from to : ℕ} {w : List ℕ} {out : List Item} {ms : Entries} {inner : Block} {mid : List Item} (p : Built from to w out (within b) (d + 1) ms inner mid) where
-  pub room_open : {last : ℕ} (i : ℕ) → i < last → TableRoom out b d (suc (entries# ms + 0)) last → ItemOpen mid b inner d i
+module _ (b : Block) {from to : ℕ} {w : List ℕ} {out : List Item} {ms : Entries} {inner : Block} {mid : List Item} (p : Built from to w out (within b) ms inner mid) where
+  pub room_open : {last : ℕ} (i : ℕ) → i < last → TableRoom out b (suc (entries# ms + 0)) last → ItemOpen mid b inner i
   room_open i l h =
       record {
         fits = omega (arith, h.fits, built-length p);
@@ -159,7 +164,7 @@ module _ (b : Block) (d : ℕ) {from to : ℕ} {w : List ℕ} {out : List Item} 
         row = omega (arith, h.rows);
       }
 
-  module _ (e : Entry) (x : Item) (f : Sound w to x) (s : shown_of w x ≡ record { own = e; members = members# ms; below = entries# ms; depth = d }) where
+  module _ (e : Entry) (x : Item) (f : Sound w to x) (s : shown_of w x ≡ record { own = e; members = members# ms; below = entries# ms; depth = b.depth }) where
     closed-put : {after : List Item} → after ≡ set mid b.next x → after ≡ sets out b.next (x ∷ p.items)
     closed-put q =
         q
@@ -171,16 +176,17 @@ module _ (b : Block) (d : ℕ) {from to : ℕ} {w : List ℕ} {out : List Item} 
         from ≤ x.row →
         n ≡ total e →
         ItemClosed mid b inner x n r after →
-        Built from to w out b d (entry e ms end) r after
+        Built from to w out b (entry e ms end) r after
     unfolding shown_all flat_in widest
     built-entry {r} low t c =
         record {
           items = x ∷ p.items;
           rows = All-cons (Sound w to) x p.items f p.rows;
           inside = All-cons (From from) x p.items low p.inside;
-          is = (λ k. s k ∷ p.is k) ∙ ap (λ (l : List Shown). record { own = e; members = members# ms; below = entries# ms; depth = d } ∷ l) (sym (append-nil (flat_in (d + 1) ms)));
+          is = (λ k. s k ∷ p.is k) ∙ ap (λ (l : List Shown). record { own = e; members = members# ms; below = entries# ms; depth = b.depth } ∷ l) (sym (append-nil (flat_in (b.depth + 1) ms)));
           put = closed-put c.put;
           next = omega (arith, c.next, p.next);
+          deep = c.deep;
           count = omega (arith, c.count);
           most = omega (arith, c.most, t);
           narrow = c.narrow;
@@ -196,35 +202,35 @@ module _ (b : Block) (d : ℕ) {from to : ℕ} {w : List ℕ} {out : List Item} 
 
     own-shown :
         (union : Option ℕ) →
-        shown_of w (own_item w i union b inner d) ≡ record { own = stands_as union (entry_in w i); members = members# ms; below = entries# ms; depth = d }
-    own-shown (Some start) = λ k. record { own = rebased start (entry_in w i); members = members-counted k; below = below-counted k; depth = d }
-    own-shown None = λ k. record { own = entry_in w i; members = members-counted k; below = below-counted k; depth = d }
+        shown_of w (own_item w i union b inner) ≡ record { own = stands_as union (entry_in w i); members = members# ms; below = entries# ms; depth = b.depth }
+    own-shown (Some start) = λ k. record { own = rebased start (entry_in w i); members = members-counted k; below = below-counted k; depth = b.depth }
+    own-shown None = λ k. record { own = entry_in w i; members = members-counted k; below = below-counted k; depth = b.depth }
 
     own-total : (union : Option ℕ) → total (entry_in w i) ≡ total (stands_as union (entry_in w i))
     own-total (Some start) = refl
     own-total None = refl
 
-    sound-own : SizedRow w i → (union : Option ℕ) → Sound w to (own_item w i union b inner d)
+    sound-own : SizedRow w i → (union : Option ℕ) → Sound w to (own_item w i union b inner)
     sound-own f (Some start) = record { there = high; small = f.small }
     sound-own f None = record { there = high; small = f.small }
 
     pub built-own :
         SizedRow w i →
         (union : Option ℕ) {r : Block} {after : List Item} →
-        ItemClosed mid b inner (own_item w i union b inner d) (total (entry_in w i)) r after →
-        Built from to w out b d (entry (stands_as union (entry_in w i)) ms end) r after
+        ItemClosed mid b inner (own_item w i union b inner) (total (entry_in w i)) r after →
+        Built from to w out b (entry (stands_as union (entry_in w i)) ms end) r after
     built-own f union c =
-        built-entry (stands_as union (entry_in w i)) (own_item w i union b inner d) (sound-own f union) (own-shown union) low (own-total union) c
+        built-entry (stands_as union (entry_in w i)) (own_item w i union b inner) (sound-own f union) (own-shown union) low (own-total union) c
 
     pub built-union :
-        {r : Block} {after : List Item} → ItemClosed mid b inner (union_item w i b inner d) inner.widest r after → Built from to w out b d (entry (union (entry_in w i) (widest ms)) ms end) r after
+        {r : Block} {after : List Item} → ItemClosed mid b inner (union_item w i b inner) inner.widest r after → Built from to w out b (entry (union (entry_in w i) (widest ms)) ms end) r after
     built-union c =
         let wide : inner.widest ≡ widest ms = omega (arith, p.most) in
         built-entry
         (union (entry_in w i) (widest ms))
-        (union_item w i b inner d)
+        (union_item w i b inner)
         (record { there = high; small = omega (arith, p.narrow) })
-        (λ k. record { own = union (entry_in w i) (wide k); members = members-counted k; below = below-counted k; depth = d })
+        (λ k. record { own = union (entry_in w i) (wide k); members = members-counted k; below = below-counted k; depth = b.depth })
         low
         (omega (arith, wide))
         c

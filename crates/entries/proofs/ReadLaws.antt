@@ -8,6 +8,7 @@ use lib.ListN.{length, take, drop}
 use lib.Seq.{sets, sets-eq}
 use Rattle.std.specs.Prelude.{All}
 use Rattle.std.proofs.lemmas.List.{take_at}
+use Rattle.std.proofs.Math.Seq.{drop-append_seam}
 use Rattle.definition.specs.Limits.{most_statements}
 use Rattle.definition.specs.Search.{entries#}
 use Rattle.places.specs.Places.{rows_forest}
@@ -26,19 +27,33 @@ use Rattle.table.proofs.SizeLaws.{folded-size}
 items-put : (xs t : List Item) → length xs ≤ length t → take (length xs) (sets t 0 xs) ≡ xs
 items-put xs t h = rw (sets-eq xs t 0 (omega arith), append_assoc) (take_at xs (drop (0 + length xs) t) (length xs) refl)
 
+-- and behind it stands what stood there
+pub items-rest : (xs t : List Item) → length xs ≤ length t → drop (length xs) (sets t 0 xs) ≡ drop (length xs) t
+items-rest xs t h =
+    let same : 0 + length xs ≡ length xs = omega arith in
+    rw (sets-eq xs t 0 (omega arith), append_assoc)
+    (drop-append_seam xs (drop (0 + length xs) t) ∙ ap (λ (n : ℕ). drop n t) same)
+
 -- ---------------------------------------------------------------- the whole table
 
 module _ (text w : List ℕ) (from to : ℕ) where
   few-entries : 2 * entries# (listed text w from to) ≤ 3 * to
   few-entries = omega (arith, folded-size text (list_in w from to), entries-size w (rows_forest w from to) from, size-stretch w from to)
 
-  pub room-all : (out : List Item) → to ≤ most_statements → Roomy out to → TableRoom out (block 0 0 0) 0 (entries# (listed text w from to)) to
+  pub room-all : (out : List Item) → to ≤ most_statements → Roomy out to → TableRoom out (block 0 0 0 0) (entries# (listed text w from to)) to
   room-all out h l =
       let few = few-entries in
       record { fits = omega arith; small = omega arith; deep = omega arith; few = omega arith; narrow = omega arith; rows = h }
 
+  pub rest-kept :
+      {out : List Item} {r : Block} {after : List Item} → to ≤ most_statements → Roomy out to → Built from to w out (block 0 0 0 0) (listed text w from to) r after → drop r.next after ≡ drop r.next out
+  rest-kept {out} {r} {after} h l p =
+      let few = few-entries in
+      let many : length p.items ≡ r.next = omega (arith, built-many p, p.next) in
+      (λ k. drop (sym many k) (p.put k)) ∙ items-rest p.items out (omega (arith, p.next)) ∙ (λ k. drop (many k) out)
+
   pub entered :
-      {out : List Item} {r : Block} {after : List Item} → to ≤ most_statements → Roomy out to → Built from to w out (block 0 0 0) 0 (listed text w from to) r after → Entered text w from to (take r.next after)
+      {out : List Item} {r : Block} {after : List Item} → to ≤ most_statements → Roomy out to → Built from to w out (block 0 0 0 0) (listed text w from to) r after → Entered text w from to (take r.next after)
   entered {out} {r} {after} h l p =
       let few = few-entries in
       let many : length p.items ≡ r.next = omega (arith, built-many p, p.next) in

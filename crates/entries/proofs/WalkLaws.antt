@@ -24,13 +24,13 @@ use Rattle.unions.specs.declared.Standing.{Standing}
 use Rattle.unions.specs.Shown.{standing, shown_as, list_in, redefiners_in, folded_rest, shown_at, Known, Tree, Branch, Base}
 use Rattle.unions.proofs.FoldedLaws.{append-end, append-append, redefiners-below}
 use Rattle.unions.proofs.ShownLaws.{walking_here, walking-ends}
-use Rattle.unions.proofs.WidthLaws.{Along, along-starts, along-before, along-sibling, along-on, Next}
+use Rattle.unions.proofs.WidthLaws.{Along, along-starts, along-before, along-on, Next}
 use Rattle.unions.proofs.WidthLaws.{Onward, Following, following-starts, following-none, following-next}
 use Rattle.unions.proofs.WidthLaws.{next-numbered, next-sibling, next-is, next-on}
 use Rattle.entries.specs.declared.Block.{Block}
 use Rattle.table.specs.declared.Item.{Item}
 use Rattle.table.specs.Entered.{listed}
-use Rattle.entries.specs.Building.{item_in, redefined, union_in, own_member, TableRoom, Built}
+use Rattle.entries.specs.Building.{item_in, redefined, union_in, own_member, based_in, TableRoom, Built}
 use Rattle.table.proofs.FlatLaws.{size-append}
 use Rattle.entries.proofs.BuildLaws.{built-none, built-as, built-wider, ◌then◌, room-rest, room-first, room-part}
 
@@ -94,67 +94,81 @@ module _ (t w : List ℕ) (i j to : ℕ) where
         ∙ ap (λ (x : Bool). if x then append (folded_all t (list_in w (suc i) j)) (redefined t w i j to)
         else entry (rebased (cell w i OFFSET) (entry_in w i)) (folded_all t (list_in w (suc i) j)) (redefined t w i j to)) (sym p ∙ e)
 
-    pub members-folded : o ≡ true → union_in t w i j to ≡ append (listed t w (i + 1) j) (redefined t w i j to)
+    members-folded : o ≡ true → union_in t w i j to ≡ append (listed t w (i + 1) j) (redefined t w i j to)
     members-folded e = union-is true e ∙ ap (λ (n : ℕ). append (listed t w n j) (redefined t w i j to)) (sym (add-one i))
 
-    pub members-based : o ≡ false → {start : ℕ} → start ≡ cell w i OFFSET → union_in t w i j to ≡ append (item_in t w i j (Some start)) (redefined t w i j to)
+    members-based : o ≡ false → {start : ℕ} → start ≡ cell w i OFFSET → union_in t w i j to ≡ append (item_in t w i j (Some start)) (redefined t w i j to)
     unfolding append
     members-based e {start} q =
         union-is false e
         ∙ at_next (rebased (cell w i OFFSET) (entry_in w i)) (redefined t w i j to)
         ∙ ap (λ (n : ℕ). entry (rebased n (entry_in w i)) (listed t w (i + 1) j) (redefined t w i j to)) (sym q)
 
+    -- what the base gives to them
+    pub based-folded : o ≡ true → based_in t w i j ≡ listed t w (i + 1) j
+    based-folded e =
+        ap (λ (x : Bool). if x then listed t w (i + 1) j else item_in t w i j (Some (cell w i OFFSET))) (sym p ∙ e)
+
+    pub based-alone : o ≡ false → {start : ℕ} → start ≡ cell w i OFFSET → based_in t w i j ≡ item_in t w i j (Some start)
+    based-alone e {start} q =
+        ap (λ (x : Bool). if x then listed t w (i + 1) j else item_in t w i j (Some (cell w i OFFSET))) (sym p ∙ e)
+        ∙ ap (λ (n : ℕ). item_in t w i j (Some n)) (sym q)
+
+  -- what the base gives to them, and then the redefiners
+  pub union-based : union_in t w i j to ≡ append (based_in t w i j) (redefined t w i j to)
+  union-based = by-own (own_member t w i j) refl
+    where
+      by-own : (b : Bool) → own_member t w i j ≡ b → union_in t w i j to ≡ append (based_in t w i j) (redefined t w i j to)
+      by-own true e = members-folded refl e ∙ ap (λ (xs : Entries). append xs (redefined t w i j to)) (sym (based-folded refl e))
+      by-own false e = members-based refl e refl ∙ ap (λ (xs : Entries). append xs (redefined t w i j to)) (sym (based-alone refl e refl))
+
 -- ---------------------------------------------------------------- two parts, one after the other
 
-module _ {es : Entries} (xs ys : Entries) (e : es ≡ append xs ys) {out : List Item} {b : Block} {d to : ℕ} (h : TableRoom out b d (entries# es) to) where
+module _ {es : Entries} (xs ys : Entries) (e : es ≡ append xs ys) {out : List Item} {b : Block} {to : ℕ} (h : TableRoom out b (entries# es) to) where
   sizes : entries# es ≡ entries# xs + entries# ys
   sizes = ap entries# e ∙ size-append xs ys
 
-  pub first-room : TableRoom out b d (entries# xs) to
+  pub first-room : TableRoom out b (entries# xs) to
   first-room = room-first (entries# xs) (entries# ys) sizes h
 
-  module _ {low high : ℕ} {w : List ℕ} {r : Block} {after : List Item} (p : Built low high w out b d xs r after) where
-    pub second-room : TableRoom after r d (entries# ys) to
+  module _ {low high : ℕ} {w : List ℕ} {r : Block} {after : List Item} (p : Built low high w out b xs r after) where
+    pub second-room : TableRoom after r (entries# ys) to
     second-room = room-rest p (entries# ys) sizes h
 
     pub both-built :
-        {r' : Block} {after' : List Item} → Built low high w after r d ys r' after' → Built low high w out b d es r' after'
+        {r' : Block} {after' : List Item} → Built low high w after r ys r' after' → Built low high w out b es r' after'
     both-built q = built-as e (p then q)
 
-pub room_as : {es fs : Entries} → es ≡ fs → {out : List Item} {b : Block} {d to : ℕ} → TableRoom out b d (entries# es) to → TableRoom out b d (entries# fs) to
-room_as e {out} {b} {d} {to} h = subst (λ (x : Entries). TableRoom out b d (entries# x) to) e h
+pub room_as : {es fs : Entries} → es ≡ fs → {out : List Item} {b : Block} {to : ℕ} → TableRoom out b (entries# es) to → TableRoom out b (entries# fs) to
+room_as e {out} {b} {to} h = subst (λ (x : Entries). TableRoom out b (entries# x) to) e h
 
 -- ---------------------------------------------------------------- the list
 
 -- what the loop keeps: what is done is built
-pub record Listing (t w : List ℕ) (out₀ out : List Item) (from to : ℕ) (b₀ : Block) (d i : ℕ) (b : Block) : Type 0 where
+pub record Listing (t w : List ℕ) (out₀ out : List Item) (from to : ℕ) (b₀ : Block) (i : ℕ) (b : Block) : Type 0 where
   pub last : ℕ
   pub done : Entries
   pub along : Along t w from to i last done
-  pub room : TableRoom out₀ b₀ d (entries# (listed t w from to)) to
-  pub built : Built from to w out₀ b₀ d done b out
+  pub room : TableRoom out₀ b₀ (entries# (listed t w from to)) to
+  pub built : Built from to w out₀ b₀ done b out
 
 pub listing-starts :
-    (t w : List ℕ) (out : List Item) (from to : ℕ) (b : Block) (d : ℕ) →
+    (t w : List ℕ) (out : List Item) (from to : ℕ) (b : Block) →
     Tree t w from to →
-    TableRoom out b d (entries# (listed t w from to)) to →
+    TableRoom out b (entries# (listed t w from to)) to →
     {i : ℕ} →
     i ≡ from →
-    Listing t w out out from to b d i b
-listing-starts t w out from to b d h f {i} e =
-    subst (λ (k : ℕ). Listing t w out out from to b d k b) (sym e)
-    (record { last = 0; done = end; along = along-starts t w from to h; room = f; built = built-none w out b d f.narrow })
+    Listing t w out out from to b i b
+listing-starts t w out from to b h f {i} e =
+    subst (λ (k : ℕ). Listing t w out out from to b k b) (sym e)
+    (record { last = 0; done = end; along = along-starts t w from to h; room = f; built = built-none w out b f.narrow })
 
-module _ {t w : List ℕ} {out₀ out : List Item} {from to : ℕ} {b₀ : Block} {d i : ℕ} {b : Block} (inv : Listing t w out₀ out from to b₀ d i b) where
-  pub listing-ends : to ≤ i → Built from to w out₀ b₀ d (listed t w from to) b out
+module _ {t w : List ℕ} {out₀ out : List Item} {from to : ℕ} {b₀ : Block} {i : ℕ} {b : Block} (inv : Listing t w out₀ out from to b₀ i b) where
+  pub listing-ends : to ≤ i → Built from to w out₀ b₀ (listed t w from to) b out
   listing-ends h = built-as (walking-ends inv.along.walk h) inv.built
 
   -- row i is the next sibling
   module _ {row j : ℕ} (at : row ≡ i) (h : ChildrenEnd w i to j) where
-    pub listing-sibling : Branch t w row j to × Known t w row (cell w row BEFORE)
-    listing-sibling =
-        subst (λ (k : ℕ). Branch t w k j to × Known t w k (cell w k BEFORE)) (sym at) (along-sibling inv.along h)
-
     pub listing-falls : to - row < suc (to - from)
     listing-falls = omega (arith, at, inv.along.low)
 
@@ -163,7 +177,7 @@ module _ {t w : List ℕ} {out₀ out : List Item} {from to : ℕ} {b₀ : Block
         ap (shown_at t w i j to) (sym (along-before inv.along h))
         ∙ ap (λ (k : ℕ). shown_at t w k j to (cell w k BEFORE)) (sym at)
 
-    pub listing-room : TableRoom out b d (entries# (shown_at t w row j to (cell w row BEFORE))) to
+    pub listing-room : TableRoom out b (entries# (shown_at t w row j to (cell w row BEFORE))) to
     listing-room =
         let shown = shown_at t w i j to inv.last in
         let rest = folded_rest t w j to (suc i) in
@@ -172,12 +186,12 @@ module _ {t w : List ℕ} {out₀ out : List Item} {from to : ℕ} {b₀ : Block
 
     pub listing-on :
         {r : Block} {after : List Item} →
-        Built row to w out b d (shown_at t w row j to (cell w row BEFORE)) r after →
+        Built row to w out b (shown_at t w row j to (cell w row BEFORE)) r after →
         {k : ℕ} →
         k ≡ j →
-        Listing t w out₀ after from to b₀ d k r
+        Listing t w out₀ after from to b₀ k r
     listing-on {r} {after} p {k} q =
-        subst (λ (x : ℕ). Listing t w out₀ after from to b₀ d x r) (sym q)
+        subst (λ (x : ℕ). Listing t w out₀ after from to b₀ x r) (sym q)
         (record {
           last = i + 1;
           done = append inv.done (shown_at t w i j to inv.last);
@@ -191,31 +205,31 @@ module _ {t w : List ℕ} {out₀ out : List Item} {from to : ℕ} {b₀ : Block
 -- what the loop keeps: what is done is built, and those of the rows from `at` on, of which `next` is the first, are the
 -- rest
 pub record Redefining
-    (t w : List ℕ) (out₀ out : List Item) (i j to : ℕ) (b₀ : Block) (d : ℕ) (b : Block) (next : Option ℕ) : Type 0 where
+    (t w : List ℕ) (out₀ out : List Item) (i j to : ℕ) (b₀ b : Block) (next : Option ℕ) : Type 0 where
   pub at : ℕ
   pub following : Following t w i j to at (row_code next)
-  pub room : TableRoom out₀ b₀ d (entries# (redefined t w i j to)) to
+  pub room : TableRoom out₀ b₀ (entries# (redefined t w i j to)) to
   pub done : Entries
-  pub built : Built i to w out₀ b₀ d done b out
+  pub built : Built i to w out₀ b₀ done b out
   pub same : redefined t w i j to ≡ append done (redefined t w i at to)
 
 code-of : (w : List ℕ) (row : ℕ) {next : Option ℕ} → next ≡ row_of (cell w row NEXT) → row_code next ≡ cell w row NEXT
 code-of w row e = ap row_code e ∙ code-back (cell w row NEXT)
 
 pub redefining-starts :
-    (t w : List ℕ) (out : List Item) (i j to : ℕ) (b : Block) (d : ℕ) {next : Option ℕ} →
+    (t w : List ℕ) (out : List Item) (i j to : ℕ) (b : Block) {next : Option ℕ} →
     Base t w i j to →
     next ≡ row_of (cell w i NEXT) →
-    TableRoom out b d (entries# (redefined t w i j to)) to →
-    Redefining t w out out i j to b d b next
+    TableRoom out b (entries# (redefined t w i j to)) to →
+    Redefining t w out out i j to b b next
 unfolding append
-redefining-starts t w out i j to b d h e f =
+redefining-starts t w out i j to b h e f =
     record {
       at = j;
       following = following-starts h (code-of w i e);
       room = f;
       done = end;
-      built = built-none w out b d f.narrow;
+      built = built-none w out b f.narrow;
       same = refl;
     }
 
@@ -224,8 +238,8 @@ abbrev pub chain_left : ℕ → Option ℕ → ℕ
 chain_left to None = 0
 chain_left to (Some row) = to - row
 
-module _ {t w : List ℕ} {out₀ out : List Item} {i j to : ℕ} {b₀ : Block} {d : ℕ} {b : Block} {next : Option ℕ} (inv : Redefining t w out₀ out i j to b₀ d b next) where
-  pub redefining-ends : next ≡ None → Built i to w out₀ b₀ d (redefined t w i j to) b out
+module _ {t w : List ℕ} {out₀ out : List Item} {i j to : ℕ} {b₀ b : Block} {next : Option ℕ} (inv : Redefining t w out₀ out i j to b₀ b next) where
+  pub redefining-ends : next ≡ None → Built i to w out₀ b₀ (redefined t w i j to) b out
   unfolding folded_below
   redefining-ends h =
       built-as
@@ -256,7 +270,7 @@ module _ {t w : List ℕ} {out₀ out : List Item} {i j to : ℕ} {b₀ : Block}
             ∙ at_next t w row m to (rebased (cell w i OFFSET) (entry_in w row)) (redefined t w i m to)
             ∙ ap (λ (n : ℕ). entry (rebased n (entry_in w row)) (listed t w (row + 1) m) (redefined t w i m to)) (sym z)
 
-        pub redefining-room : TableRoom out b d (entries# (item_in t w row m (Some start))) m
+        pub redefining-room : TableRoom out b (entries# (item_in t w row m (Some start))) m
         redefining-room =
             let item = item_in t w row m (Some start) in
             let rest = redefined t w i m to in
@@ -265,9 +279,9 @@ module _ {t w : List ℕ} {out₀ out : List Item} {i j to : ℕ} {b₀ : Block}
 
         pub redefining-on :
             {b' : Block} {after : List Item} {next' : Option ℕ} →
-            Built row m w out b d (item_in t w row m (Some start)) b' after →
+            Built row m w out b (item_in t w row m (Some start)) b' after →
             next' ≡ row_of (cell w row NEXT) →
-            Redefining t w out₀ after i j to b₀ d b' next'
+            Redefining t w out₀ after i j to b₀ b' next'
         redefining-on q e =
             let item = item_in t w row m (Some start) in
             let later : i ≤ row = omega (arith, inv.following.base.low, inv.following.low, redefining-next.low) in

@@ -5,13 +5,11 @@ use Prim.Native.Nat.{ℕ, zero, suc, ◌+◌, ◌-◌, ◌≤◌, ◌<◌}
 use mathlib.Core.Path.{◌≡◌, refl, sym, ◌∙◌, ap, ap₂}
 use mathlib.Core.Bool.{false}
 use mathlib.Core.List.{List, [], ◌∷◌, ◌++◌, append_assoc, append-nil}
-use mathlib.Core.Logic.{⊎_elim}
 use native.Mathlib.Numerals.{add-one}
 use native.Mathlib.Omega.{arith}
 use lib.ListN.{length, get_or, set, length-set, take}
 use Rattle.std.proofs.Math.Seq.{take-suc-set}
-use Rattle.std.proofs.lemmas.List.{nil_from_length, take_all}
-use Rattle.definition.proofs.Lists.{order}
+use Rattle.std.proofs.lemmas.List.{take_all}
 use Rattle.definition.specs.declared.Statement.{Statement}
 use Rattle.definition.specs.Limits.{largest}
 use Rattle.std.specs.Prelude.{if◌then◌else◌}
@@ -22,11 +20,11 @@ use Rattle.definition.specs.Listing.{members#}
 use Rattle.definition.specs.Owner.{size, overlaid}
 use Rattle.definition.specs.Tree.{Forest, leaf, item}
 use Rattle.definition.proofs.Cover.{Plain, plain}
-use Rattle.places.specs.Children.{ChildrenEnd, Numbered}
+use Rattle.places.specs.Children.{ChildrenEnd, ListCounted}
 use Rattle.places.specs.Places.{entry_in, entries_in, rows_forest}
-use Rattle.places.proofs.EntriesLaws.{Rows, rows-forest}
+use Rattle.places.proofs.EntriesLaws.{Rows, rows-forest, linked-counted}
 use Rattle.unions.specs.Shown.{list_in, Marked, Tree, SizedRow, Measured}
-use Rattle.unions.proofs.ShownLaws.{list-none, list-split, marked_step, marked-numbered}
+use Rattle.unions.proofs.ShownLaws.{list-none, list-split, marked_step, marked-linked}
 use Rattle.extract.specs.Gathered.{totals, Gatherable}
 
 -- ---------------------------------------------------------------- the loop
@@ -37,82 +35,62 @@ pub record Gathering (w : List ℕ) (from to : ℕ) (out : List ℕ) (k i : ℕ)
   pub tree : Tree text w from to
   pub last : ℕ
   pub low : from ≤ k
+  pub few : i + (to - k) ≤ to
   pub marked : Marked text w k last (rows_forest w k to)
   pub room : i + length (totals (list_in w k to)) ≡ length out
   pub same : totals (list_in w from to) ≡ take i out ++ totals (list_in w k to)
 
-pub gathering-starts :
-    {w : List ℕ} {from to : ℕ} {out : List ℕ} → Gatherable w from to out → Gathering w from to out from 0
-gathering-starts g =
-    record {
-      text = g.text;
-      tree = g.tree;
-      last = 0;
-      low = omega arith;
-      marked = g.tree.marked;
-      room = omega (arith, g.room);
-      same = refl;
-    }
-
--- a forest of rows from k on has an item only where k is before the end
-totals-none : (w : List ℕ) (k to : ℕ) → to ≤ k → totals (list_in w k to) ≡ []
-unfolding totals
-totals-none w k to h = ap totals (list-none w k to h)
+-- each of the rows counts the rows below it
+pub gather-counted : {w : List ℕ} {from to : ℕ} {out : List ℕ} → Gatherable w from to out → ListCounted w from to
+gather-counted {w} {from} {to} g =
+    let f = rows_forest w from to in
+    linked-counted g.text w f from 0 (marked-linked g.text w f from 0 g.tree.marked)
 
 module _ {w : List ℕ} {from to : ℕ} {out : List ℕ} {k i : ℕ} (g : Gathering w from to out k i) where
   -- all items are passed
-  pub gathering-ends : length out ≤ i → out ≡ totals (list_in w from to)
+  pub gathering-ends : to ≤ k → out ≡ totals (list_in w from to)
+  unfolding totals
   gathering-ends h =
-      let none : totals (list_in w k to) ≡ [] = nil_from_length (totals (list_in w k to)) (omega (arith, g.room)) in
-      sym (g.same ∙ ap₂ (λ (a b : List ℕ). a ++ b) (take_all i out h) none ∙ append-nil out)
+      let none : totals (list_in w k to) ≡ [] = ap totals (list-none w k to h) in
+      sym (g.same ∙ ap₂ (λ (a b : List ℕ). a ++ b) (take_all i out (omega (arith, g.room, ap length none))) none ∙ append-nil out)
 
-  module _ (h : i < length out) where
-    -- so row k is there
-    pub gather-here : k < to
-    gather-here =
-        ⊎_elim (λ (l : k < to). l)
-        (λ (l : to ≤ k). absurd (omega (arith, g.room, ap length (totals-none w k to l))))
-        (order k to)
-
-    -- and so are the rows before it
-    pub gather-row : (m : ℕ) → from ≤ m → m ≤ k → (m < to) × SizedRow w m
-    gather-row m l u = (
-      omega (arith, gather-here),
+  module _ (h : k < to) where
+    -- the next row is there
+    pub gather-row : (k < to) × SizedRow w k
+    gather-row = (
+      h,
       record {
-        fits = omega (arith, g.tree.fits, gather-here);
-        small = g.tree.sized.totals m l (omega (arith, gather-here));
+        fits = omega (arith, g.tree.fits);
+        small = g.tree.sized.totals k g.low h;
       },
     )
 
-    pub gather-numbered : Numbered w k to
-    gather-numbered = marked-numbered g.text w k to g.last g.tree.fits gather-here g.marked
-
     module _ {j : ℕ} (c : ChildrenEnd w k to j) where
-      -- row k has the first of what is left
+      -- it has the first of what is left
       first-is : totals (list_in w k to) ≡ total (entry_in w k) ∷ totals (list_in w j to)
       unfolding totals
       first-is = ap totals (list-split w k to j c)
 
-    pub gathering-goes-on :
-        {j t : ℕ} → ChildrenEnd w k to j → Measured (total (entry_in w k)) t →
-        Gathering w from to (set out i t) j (i + 1)
-    gathering-goes-on {j} {t} c m =
-        record {
-          text = g.text;
-          tree = g.tree;
-          last = suc k;
-          low = omega (arith, g.low, c.low);
-          marked = (marked_step w k to j c g.text g.last g.marked).2;
-          room = omega (arith, g.room, ap length (first-is c), length-set out i t);
-          same =
-              g.same
-              ∙ ap (λ (l : List ℕ). take i out ++ l) (first-is c
-              ∙ ap (λ (n : ℕ). n ∷ totals (list_in w j to)) (sym m.is))
-              ∙ sym (rw (add-one i) (ap (λ (l : List ℕ). l ++ totals (list_in w j to)) (take-suc-set out i t h)
-              ∙ append_assoc (take i out) (t ∷ []) (totals (list_in w j to))));
-        }
+      pub gather-inside : i < length out
+      gather-inside = omega (arith, g.room, ap length first-is)
 
-pub ruleset gather_steps = (gathering-starts, gathering-ends, gathering-goes-on)
+      pub gathering-goes-on : {t : ℕ} → Measured (total (entry_in w k)) t → Gathering w from to (set out i t) j (i + 1)
+      gathering-goes-on {t} m =
+          record {
+            text = g.text;
+            tree = g.tree;
+            last = suc k;
+            low = omega (arith, g.low, c.low);
+            few = omega (arith, g.few, c.low, c.high);
+            marked = (marked_step w k to j c g.text g.last g.marked).2;
+            room = omega (arith, g.room, ap length first-is, length-set out i t);
+            same =
+                g.same
+                ∙ ap (λ (l : List ℕ). take i out ++ l) (first-is
+                ∙ ap (λ (n : ℕ). n ∷ totals (list_in w j to)) (sym m.is))
+                ∙ sym (rw (add-one i) (ap (λ (l : List ℕ). l ++ totals (list_in w j to)) (take-suc-set out i t gather-inside)
+                ∙ append_assoc (take i out) (t ∷ []) (totals (list_in w j to))));
+          }
 
 -- ---------------------------------------------------------------- reserved widths
 

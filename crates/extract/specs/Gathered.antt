@@ -5,6 +5,7 @@ use Rattle.definition.specs.Basic.{Ok}
 use Rattle.definition.specs.Fold.{Entries, end, entry, total, folded_all}
 use Rattle.definition.specs.Listing.{members#}
 use Rattle.places.specs.Places.{rows_forest}
+use Rattle.record.specs.declared.LaidRecord.{LaidRecord}
 use Rattle.record.specs.Laying.{Listed}
 use Rattle.unions.specs.Shown.{list_in, Tree}
 
@@ -23,3 +24,7 @@ pub record Gatherable (w : List ℕ) (from to : ℕ) (out : List ℕ) : Type 0 w
 pub record Itemed (text w : List ℕ) (from to long top : ℕ) : Type 0 where
   pub listed : Listed text (Ok (rows_forest w from to)) w from to long
   pub counted : top ≡ members# (folded_all text (list_in w from to))
+
+-- such a record, with its text
+abbrev pub Extractable : LaidRecord → Type 0
+Extractable a = Itemed a.text.now a.table.rows.work.now a.from a.table.rows.count a.length a.top

@@ -6,30 +6,28 @@ ghost use Rattle.std.specs.Prelude.{◌≡◌};
 ghost use Rattle.definition.specs.Calls.{extract_in};
 ghost use Rattle.places.specs.Places.{rows_forest};
 ghost use Rattle.unions.specs.Shown.{list_in};
-ghost use Rattle.extract.specs.Gathered.{totals, Gatherable, Itemed};
+ghost use Rattle.extract.specs.Gathered.{totals, Gatherable, Extractable};
 
 use definition::{Extract, MOST_ITEMS, Refusal};
+use places::Siblings;
 use record::LaidRecord;
-use rows::Rows;
 use subsets::Terms;
 
-// The bytes of each item in the rows from `from` on, those below it aside.
-#[tactic(auto, using(crate::proofs::GatherLaws::gather_steps))]
-fn put_widths(rows: Rows, from: usize, widths: &mut [u32])
-    requires { Gatherable rows.work.now from rows.count widths.old }
-    ensures { widths.new ≡ totals (list_in rows.entry.work.now from rows.entry.count) }
+// The bytes of each item of a record that was laid, those below it aside.
+fn put_widths(laid: LaidRecord, widths: &mut [u32])
+    requires { Gatherable laid.table.rows.work.now laid.from laid.table.rows.count widths.old }
+    ensures { widths.new
+        ≡ totals (list_in laid.entry.table.rows.work.now laid.entry.from laid.entry.table.rows.count) }
 {
-    let mut k = from;
-    for width in widths.iter_mut() {
-        *width = unions::row_total(rows, k) as u32;
-        k = places::next_of(rows, k);
+    for (i, sibling) in Siblings::new(laid.table.rows, laid.from).enumerate() {
+        widths[i] = unions::row_total(laid.table.rows, sibling.row) as u32;
     }
 }
 
 /// The extract of a record that was laid, by these terms: 40 for a REDEFINES or a DEPENDING ON, 58 for more than 16
 /// items or another number of weights, 59 for a weight outside its range, 60 for a budget of 0.
 pub fn extract_of(laid: LaidRecord, terms: Terms) -> Result<Extract, Refusal>
-    requires { Itemed laid.text.now laid.table.rows.work.now laid.from laid.table.rows.count laid.length laid.top }
+    requires { Extractable laid }
     ensures { result
         ≡ extract_in laid.entry.text.now
         (rows_forest laid.entry.table.rows.work.now laid.entry.from laid.entry.table.rows.count)
@@ -43,6 +41,6 @@ pub fn extract_of(laid: LaidRecord, terms: Terms) -> Result<Extract, Refusal>
     }
     let mut room = [0u32; MOST_ITEMS];
     let widths = &mut room[..laid.top];
-    put_widths(laid.table.rows, laid.from, widths);
+    put_widths(laid, widths);
     subsets::choose(widths, terms)
 }

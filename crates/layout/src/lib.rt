@@ -17,6 +17,7 @@ use rows::Rows;
 
 /// Where the next sibling of a list goes: after the siblings up to row `last`, and from the cursor on, unless it
 /// redefines one of them.
+// Kept: 0 where there is no sibling yet – no plainer: `last` is the end of a range of rows, which begins at 0.
 #[derive(Clone, Copy)]
 struct NextPlace {
     last: usize,
@@ -58,7 +59,7 @@ impl NextPlace {
         if s.clauses.redefines.is_given() {
             return printed.start_over(s.clauses.redefines, s.at, self.last);
         }
-        if s.clauses.sync && kinds::is_alignable(c.kind) {
+        if s.clauses.sync && c.kind.is_alignable() {
             return Ok(Start {
                 target: None,
                 offset: self.aligned(c.width),
@@ -92,23 +93,28 @@ impl NextPlace {
     }
 }
 
-/// The cursor after an item, and where the item ends.
+/// An item that has its place.
 #[derive(Clone, Copy)]
 pub struct LaidItem {
+    /// The cursor after it.
     pub cursor: usize,
+    /// Where it ends.
     pub end: usize,
 }
 
-/// How wide a list is, and the end of its siblings.
+/// A list whose items have their places.
 #[derive(Clone, Copy)]
 pub struct LaidList {
+    /// How wide it is.
     pub width: usize,
+    /// The end of its siblings: the row after the last one, or 0 where there is none.
+    // Kept: 0 for none – no plainer: it is what `NextPlace` has at the list's end.
     pub last: usize,
 }
 
 // The item of row i placed, after the rows below it: 28, then 29.
 // Kept: the text beside work memory, as in `lay_item` – no plainer: the rows are written, and a struct of the text and
-// a `&mut` has to say in each contract that its text stays.
+// a `&mut` has to say in each contract that both are still the same.
 fn place(
     text: &[u8],
     work: &mut [u32],
@@ -167,9 +173,11 @@ fn lay_item(
     place(text, work, i, next, c)
 }
 
-/// Lays out the siblings in the rows from `from` up to `to`: each starts where the cursor is, and the list is as wide
-/// as its largest end. The remaining depth falls at each group.
-// Kept: the text, `from` and `to` beside work memory – no plainer: the rows are written, and `Rows` lends them to read.
+/// Lays out the siblings in the rows from `from` up to `to`: each starts at the cursor, aligned where SYNC says so, or
+/// over the sibling that it redefines, and the list is as wide as its largest end. The remaining depth falls at each
+/// group.
+// Kept: the text, `from` and `to` beside work memory – no plainer, as of `rows::put_cell`: a struct over the `&mut`
+// would have to say in the contract that text and memory are the same and that it holds as many rows.
 #[cycle(layout)]
 pub fn lay_list(
     text: &[u8],

@@ -7,7 +7,7 @@ ghost use Rattle.std.specs.Prelude.{ℕ, List, ◌≡◌, ◌≤◌, [], ◌∷�
 ghost use Rattle.definition.specs.Basic.{le4, le8};
 ghost use Rattle.definition.specs.Calls.{after_writing, fitting, left};
 ghost use Rattle.definition.specs.Listing.{span_bytes, occurs_bytes, details};
-ghost use Rattle.listing.specs.Puts.{Put};
+ghost use Rattle.listing.specs.Puts.{Puts};
 
 use definition::{FieldKind, Refusal, Span};
 use kinds::Coded;
@@ -34,6 +34,8 @@ pub struct Line {
 }
 
 /// A lent output, and the place after the bytes that were put into it.
+// Kept: a place beside the output – no plainer: bytes past the output's end are counted too, and what is left of an
+// output that is full does not say how many came.
 #[derive(Drop)]
 pub struct Sink<'a> {
     /// The output.
@@ -42,6 +44,8 @@ pub struct Sink<'a> {
     pub at: usize,
 }
 
+// Kept: `Countable` in each contract, of `details` too – no plainer: it bounds the place behind the bytes of that one
+// call, so that no fact of a `Sink` by itself says it.
 impl<'a> Sink<'a> {
     ghost use Rattle.listing.specs.Puts.{Countable, Puts, head_bytes, place_bytes, line_bytes};
 
@@ -55,6 +59,7 @@ impl<'a> Sink<'a> {
     }
 
     /// One byte, where the output has its place.
+    // Kept: beside `bytes` – no plainer: it is what `bytes` does where room is short, with no array around one byte.
     pub fn byte(&mut self, b: u8)
         requires { Countable self.old.at (b ∷ []) }
         ensures { Puts self.old (b ∷ []) self.new }
@@ -90,6 +95,7 @@ impl<'a> Sink<'a> {
     }
 
     /// A number in eight bytes, the lowest first.
+    // Kept: beside `number` – no plainer: each is one call of `bytes`, and no trait of std gives the bytes of both.
     pub fn long(&mut self, x: usize)
         requires { Countable self.old.at (le8 x) }
         ensures { Puts self.old (le8 x) self.new }
@@ -198,15 +204,18 @@ pub trait Written: Copy {
     // Its bytes, the same each time.
     ghost bytes: { Self → List ℕ };
 
-    /// Puts its bytes into the output, as far as it has places for them, and answers how many they are.
-    fn put(self, out: &mut [u8]) -> usize
-        ensures { Put out.old 0 (bytes self) result out.new };
+    /// Puts its bytes into an output with nothing in it yet.
+    fn put(self, sink: &mut Sink)
+        requires { sink.old.at ≡ 0 }
+        ensures { Puts sink.old (bytes self) sink.new };
 
     /// How many they are: counted, if that isn't known.
     fn measure(self) -> usize
         ensures { result ≡ length (bytes self) }
     {
-        self.put(&mut [])
+        let mut sink = Sink::new(&mut []);
+        self.put(&mut sink);
+        sink.at
     }
 
     /// Whether an output of so many places is known to have room for them, so that they need not be counted.
@@ -224,10 +233,11 @@ pub fn write<W: Written>(what: W, out: &mut [u8]) -> Result<usize, Refusal>
 {
     if !what.has_ample(out.len()) {
         let needed = what.measure();
-        let short = out.len() < needed;
-        if short {
+        if out.len() < needed {
             return Err(Refusal::OutputTooShort { needed });
         }
     }
-    Ok(what.put(out))
+    let mut sink = Sink::new(out);
+    what.put(&mut sink);
+    Ok(sink.at)
 }

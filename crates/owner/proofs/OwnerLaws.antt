@@ -10,6 +10,7 @@ use native.Mathlib.Numerals.{add-one}
 use native.Mathlib.Nat.{zero-add, add-zero, suc-add, div-add-mod'}
 use native.Mathlib.Omega.{arith}
 use lib.ListN.{length}
+use Rattle.std.specs.Prelude.{Option, None, Some, IsSome}
 use Rattle.std.specs.List.{list_any, range_with_len}
 use Rattle.std.proofs.Math.Bool.{or_assoc}
 use Rattle.definition.specs.declared.Owner.{Owner}
@@ -23,10 +24,8 @@ use Rattle.definition.specs.Record.{record_length, layout}
 use Rattle.definition.specs.Search.{entries#, Row, row_of, rows, walk}
 use Rattle.definition.specs.Tree.{Forest, leaf, item, above, not_above, forest}
 use Rattle.definition.proofs.Cover.{Plain, plain, Unfolded, fold-plain}
-use Rattle.definition.specs.Demand.{told}
 use Rattle.definition.proofs.Demand3.{refuses-40, refuses-41, one-owner, walked, computed}
 use Rattle.definition.proofs.Lists.{order, tested}
-use Rattle.definition.proofs.Pieces.{owned-someone}
 use Rattle.definition.proofs.Walk.{walk-slack, walk-piece, walk-in, walk-later, walk-skip}
 use Rattle.rows.specs.Columns.{ROW, OFFSET, WIDTH, BELOW}
 use Rattle.rows.specs.Table.{cell, statement_at, statements_from}
@@ -186,12 +185,12 @@ module _ {w : List ℕ} {from to position k first q : ℕ} (a : At w from to pos
 
   -- a byte before the row
   pub found-slack : k < to → {o : ℕ} → o ≡ cell w k OFFSET → q < o →
-      Owner.Slack (k - from) ≡ walk 0 0 0 (rows (list_in w from to)) position
+      Some (Owner.Slack (k - from)) ≡ walk 0 0 0 (rows (list_in w from to)) position
   found-slack h e l = sym (at_row h
       ∙ walk-slack (k - from) first (row_at w k) (table_rows w (suc k) (to - suc k)) q (omega arith))
 
   -- no row is left
-  pub found_none : to ≤ k → Owner.Unowned ≡ walk 0 0 0 (rows (list_in w from to)) position
+  pub found_none : to ≤ k → None ≡ walk 0 0 0 (rows (list_in w from to)) position
   unfolding walk
   found_none h = sym (a.same ∙ ap (λ (l : List Row). walk 0 (k - from) first l q) (table_none w to k h))
 
@@ -214,14 +213,14 @@ module _ {w : List ℕ} {from to position k first q : ℕ} (a : At w from to pos
 
     pub found-piece :
         below ≡ 0 →
-        Owner.Piece (k - from) (first + (offset + (q - offset) / width * width)) ((q - offset) % width)
+        Some (Owner.Piece (k - from) (first + (offset + (q - offset) / width * width)) ((q - offset) % width))
         ≡ walk 0 0 0 (rows (list_in w from to)) position
     found-piece z =
         sym
         (at_row a h
         ∙ walk-piece (k - from) first (row_at w k) (table_rows w (suc k) (to - suc k)) q (omega (arith, o, r))
         inside-row (sym b ∙ z)
-        ∙ ap₂ (Owner.Piece (k - from)) known_start known-place)
+        ∙ ap₂ (λ (x y : ℕ). Some (Owner.Piece (k - from) x y)) known_start known-place)
 
     pub go-in :
         (below ≡ 0 → ⊥) →
@@ -336,7 +335,7 @@ module _ {text w : List ℕ} {from to length : ℕ} (l : Listed text (Ok (rows_f
           sym (refuses-41 text (rows_forest w from to) (folded_all text (list_in w from to)) laid_out (sym p ∙ e) q
           (omega (arith, l.long)))
 
-      module _ (h : q < length) {o : Owner} (f : o ≡ walk 0 0 0 (rows (list_in w from to)) q) where
+      module _ (h : q < length) {o : Option Owner} (f : o ≡ walk 0 0 0 (rows (list_in w from to)) q) where
         below_length : q < record_length (folded_all text (list_in w from to))
         below_length = omega (arith, l.long)
 
@@ -344,18 +343,18 @@ module _ {text w : List ℕ} {from to length : ℕ} (l : Listed text (Ok (rows_f
         of-listing : o ≡ walk 0 0 0 (rows (folded_all text (list_in w from to))) q
         of-listing = f ∙ ap (λ (es : Entries). walk 0 0 0 (rows es) q) (sym (folded-plain text w from to (sym p ∙ e)))
 
-        -- what it finds is the owner
-        pub found : Ok o ≡ owner_in text (rows_forest w from to) q
-        found =
-            ap Ok of-listing
-            ∙ sym (computed text (rows_forest w from to) (folded_all text (list_in w from to)) laid_out (sym p
-            ∙ e) q below_length)
-
-        -- every byte below the length has an owner
-        pub someone : o ≡ Owner.Unowned → ⊥
-        someone z =
+        -- every byte below the length has an owner,
+        pub someone : IsSome o
+        someone =
             let F = rows_forest w from to in
             let es = folded_all text (list_in w from to) in
             let free = sym p ∙ e in
-            owned-someone (told 0 0 0 es) q (one-owner text F es laid_out free q below_length)
-            (sym (walked text F es laid_out free q below_length) ∙ sym of-listing ∙ z)
+            let named = of-listing ∙ walked text F es laid_out free q below_length
+            ∙ (one-owner text F es laid_out free q below_length).names in
+            subst IsSome (sym named) refl
+
+        -- and what the walk finds is that one
+        pub found : {x : Owner} → o ≡ Some x → Ok x ≡ owner_in text (rows_forest w from to) q
+        found s =
+            sym (computed text (rows_forest w from to) (folded_all text (list_in w from to)) laid_out (sym p
+            ∙ e) q below_length (sym of-listing ∙ s))

@@ -2,11 +2,13 @@
 -- Assumes nothing.
 use Rattle.std.specs.Prelude.{ℕ, zero, suc, ◌*◌, ◌≤◌, Bool, ◌||◌, List, [], ◌∷◌, length}
 use Rattle.definition.specs.declared.Statement.{Statement}
-use Rattle.definition.specs.Basic.{given}
+use Rattle.definition.specs.Basic.{given, Ok}
 use Rattle.definition.specs.Search.{Row, row_of}
 use Rattle.rows.specs.Columns.{ROW, BELOW}
 use Rattle.rows.specs.Table.{cell}
 use Rattle.places.specs.Places.{entry_in, rows_forest}
+use Rattle.record.specs.declared.LaidRecord.{LaidRecord}
+use Rattle.record.specs.Laying.{Listed}
 use Rattle.places.specs.Children.{BelowCounted}
 use Rattle.unions.specs.Shown.{Sized}
 
@@ -28,3 +30,9 @@ pub record Walkable (w : List ℕ) (from to : ℕ) : Type 0 where
   pub fits : ROW * to ≤ length w
   pub sized : Sized w from to
   pub counted : BelowCounted w from (rows_forest w from to)
+
+-- the rows of a record hold its fields, and its length is theirs
+abbrev pub Searchable : LaidRecord → Type 0
+Searchable a =
+    Listed a.text.now (Ok (rows_forest a.table.rows.work.now a.from a.table.rows.count))
+    a.table.rows.work.now a.from a.table.rows.count a.length

@@ -2,7 +2,7 @@
 //! with no piece laid. Leans on `rows`, `unions` and `record`.
 #![tactic(auto)]
 
-ghost use Rattle.std.specs.Prelude.{◌≡◌, ◌≢◌, ◌-◌, ◌<◌};
+ghost use Rattle.std.specs.Prelude.{◌≡◌, ◌-◌, ◌<◌};
 ghost use Rattle.std.specs.List.{list_any, range_with_len};
 ghost use Rattle.definition.specs.Basic.{Ok};
 ghost use Rattle.definition.specs.Calls.{owner_in};
@@ -10,9 +10,8 @@ ghost use Rattle.definition.specs.Owner.{overlaid};
 ghost use Rattle.definition.specs.Search.{rows as rows_of, walk};
 ghost use Rattle.rows.specs.Table.{statement_at};
 ghost use Rattle.places.specs.Places.{rows_forest};
-ghost use Rattle.record.specs.Laying.{Listed};
 ghost use Rattle.unions.specs.Shown.{list_in};
-ghost use Rattle.owner.specs.Walked.{overlays, Walkable};
+ghost use Rattle.owner.specs.Walked.{overlays, Searchable, Walkable};
 
 use definition::{Owner, Refusal};
 use record::LaidRecord;
@@ -27,6 +26,8 @@ fn is_overlay(rows: Rows, k: usize) -> bool
 }
 
 // Whether one of the rows from `from` on has one.
+// Kept: beside `is_overlaid`, which calls it alone – no plainer: what `any` answers is proved against the same question
+// of a list of rows, which this promises, and that promise is then one step of the proof of what the definition says.
 fn some_overlay(rows: Rows, from: usize) -> bool
     ensures { result
         ≡ list_any (λ k. overlays (statement_at rows.entry.work.now k))
@@ -36,6 +37,8 @@ fn some_overlay(rows: Rows, from: usize) -> bool
 }
 
 /// Whether some row from `from` on has a REDEFINES or a DEPENDING ON.
+// Kept: rows and `from`, as of `some_overlay` and `walk_rows` – no plainer: both stand in a `LaidRecord`, of whose
+// text, entries and length these ask nothing; a struct of the two would be made of it for each call, and hold no more.
 pub fn is_overlaid(rows: Rows, from: usize) -> bool
     ensures { result ≡ overlaid (rows_forest rows.entry.work.now from rows.entry.count) }
 {
@@ -43,9 +46,9 @@ pub fn is_overlaid(rows: Rows, from: usize) -> bool
 }
 
 /// The owner of the byte at a position of the record in the rows from `from` on: slack before a row's offset; else an
-/// occurrence of the row, or of a row below it; else the next row that is not below it.
+/// occurrence of the row, or of a row below it; else the next row that is not below it; none behind them all.
 #[tactic(auto, using(crate::proofs::OwnerLaws::walk_steps))]
-pub fn walk_rows(rows: Rows, from: usize, position: usize) -> Owner
+pub fn walk_rows(rows: Rows, from: usize, position: usize) -> Option<Owner>
     requires { Walkable rows.work.now from rows.count }
     ensures { result ≡ walk 0 0 0 (rows_of (list_in rows.entry.work.now from rows.entry.count)) position }
 {
@@ -56,9 +59,8 @@ pub fn walk_rows(rows: Rows, from: usize, position: usize) -> Owner
     // set anew, and another behind all of these; an iterator's step goes one way, and takes nothing from the body.
     while k < rows.count {
         let offset = rows.offset(k);
-        let before = q < offset;
-        if before {
-            return Owner::Slack { entry: k - from };
+        if q < offset {
+            return Some(Owner::Slack { entry: k - from });
         }
         let width = rows.width(k);
         let below = rows.below(k);
@@ -67,29 +69,27 @@ pub fn walk_rows(rows: Rows, from: usize, position: usize) -> Owner
             first += offset + r / width * width;
             q = r % width;
             if below == 0 {
-                return Owner::Piece {
+                return Some(Owner::Piece {
                     entry: k - from,
                     first,
                     place: q,
-                };
+                });
             }
             k += 1;
         } else {
             k += 1 + below;
         }
     }
-    Owner::Unowned
+    None
 }
 
 /// The byte owner of a position in a record that was laid: 40 for a REDEFINES or a DEPENDING ON, 41 for a position that
 /// is not below the record's length. Every byte below it has an owner.
 pub fn owner_of(laid: LaidRecord, position: usize) -> Result<Owner, Refusal>
-    requires { Listed laid.text.now (Ok (rows_forest laid.table.rows.work.now laid.from laid.table.rows.count))
-        laid.table.rows.work.now laid.from laid.table.rows.count laid.length }
-    ensures value { result
+    requires { Searchable laid }
+    ensures { result
         ≡ owner_in laid.entry.text.now
         (rows_forest laid.entry.table.rows.work.now laid.entry.from laid.entry.table.rows.count) position }
-    ensures owned { result ≢ Ok Owner.Unowned }
 {
     if is_overlaid(laid.table.rows, laid.from) {
         return Err(Refusal::Overlaid);
@@ -97,5 +97,5 @@ pub fn owner_of(laid: LaidRecord, position: usize) -> Result<Owner, Refusal>
     if laid.length <= position {
         return Err(Refusal::OutsideRecord);
     }
-    Ok(walk_rows(laid.table.rows, laid.from, position))
+    Ok(walk_rows(laid.table.rows, laid.from, position).unwrap())
 }

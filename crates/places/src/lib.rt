@@ -1,5 +1,5 @@
 //! The rows as entries: the siblings of a list, the end of each row's children, an item's entry and its place in its
-//! row. Leans on `definition`, `kinds` and `rows`.
+//! row. Leans on `definition`, `kinds`, `rows` and `redefines`.
 #![tactic(auto)]
 
 ghost use Rattle.std.specs.Prelude.{◌≡◌, ◌+◌, ◌-◌, ◌*◌, ◌≤◌, ◌<◌, length, MatchOption};
@@ -11,7 +11,7 @@ ghost use Rattle.rows.specs.Columns.{ROW};
 ghost use Rattle.rows.specs.Table.{row_code};
 
 use definition::{Entry, Pictured, Statement};
-use rows::{BELOW, OFFSET, ROW, Rows};
+use rows::{BELOW, OFFSET, Placers, Rows};
 
 /// The end of the children of row i, which counts the rows below it.
 pub fn next_of(rows: Rows, i: usize) -> usize
@@ -24,14 +24,18 @@ pub fn next_of(rows: Rows, i: usize) -> usize
 /// A row of a list, and the end of its children.
 #[derive(Clone, Copy)]
 pub struct Sibling {
+    /// The row.
     pub row: usize,
+    /// The end of its children.
     pub end: usize,
 }
 
 /// The siblings that are still to come: those in the rows from `from` on, each of which counts the rows below it.
 #[derive(Clone, Copy)]
 pub struct Siblings<'a> {
+    /// The rows, with which the list ends.
     pub rows: Rows<'a>,
+    /// The next sibling's row, or the end of the rows.
     pub from: usize,
     ghost counted: { ListCounted rows.work.now from rows.count } by { ListCounted-prop rows.work.now from rows.count },
 }
@@ -80,9 +84,9 @@ fn end_of(rows: Rows, i: usize) -> usize
     rows.count
 }
 
-// Kept: work memory and how many rows – no plainer: each turn reads all rows as `Rows` and then writes one, so that a
-// struct over what is written would only hand the slice and n on.
-/// The number of the rows below it into each of the first n rows, from the last one back.
+/// Stores in each of the first n rows how many rows stand below it, from the last one back.
+// Kept: work memory and how many rows – no plainer, as of `rows::put_cell`: a struct over the `&mut` would have to say
+// in the contract that it is the same memory and holds as many rows.
 pub fn count_below(work: &mut [u32], n: usize)
     requires { (ROW * n ≤ length work.old) × (n < 65536) }
     ensures { BelowPut work.old n work.new }
@@ -94,26 +98,28 @@ pub fn count_below(work: &mut [u32], n: usize)
     }
 }
 
-/// An item's place into row k: its offset, width and kind, the end of the siblings before it, its slack, its base, if
-/// any, the siblings that may place it, and no next row of its union.
-// Kept: work memory and a row, and casts – no plainer: the contract bounds the numbers, so that no TryFrom can fail.
+/// Stores an item's place in row k: its offset, width and kind, the end of the siblings before it, its slack, its base,
+/// if any, the siblings that may place it, and no next row of its union.
+// Kept: work memory and a row – no plainer, as of `rows::put_cell`; and casts – no plainer: the contract bounds the
+// numbers, so that no TryFrom can fail.
 #[tactic(auto, unfolding(crate::specs::Places::put_place))]
 pub fn put_place(
     work: &mut [u32],
     k: usize,
     last: usize,
     base: Option<usize>,
-    placers: u32,
+    placers: Placers,
     e: Entry,
 )
     requires { (ROW * k + ROW ≤ length work.old) × (last < 4294967296) × (row_code base < 4294967296)
         × (e.offset < 4294967296) × (e.width < 4294967296) × (e.slack < 4294967296) }
-    ensures { work.new ≡ put_place work.old k last (row_code base) placers e }
+    ensures { work.new ≡ put_place work.old k last (row_code base)
+        (row_code placers.plain * 65536 + row_code placers.target) e }
 {
-    let at = ROW * k + OFFSET;
     rows::put_cells(
         work,
-        at,
+        k,
+        OFFSET,
         &[
             e.offset as u32,
             e.width as u32,
@@ -121,13 +127,14 @@ pub fn put_place(
             last as u32,
             e.slack as u32,
             rows::row_code(base),
-            placers,
+            placers.code(),
             0,
         ],
     );
 }
 
 /// An item's entry, after so much slack.
+// Kept: a function – no plainer: an entry is made of four values, which a From would ask for as a tuple.
 pub fn entry_of(s: Statement, c: Pictured, offset: usize, slack: usize) -> Entry
     ensures { result ≡ entry_of s c offset slack }
 {

@@ -57,8 +57,8 @@ own-begins w x = by-mark x.mark refl
   where
     by-mark : (m : _) → x.mark ≡ m → (own_of w x).at ≡ cell w x.row AT
     by-mark Own e = rw e refl
-    by-mark Member e = rw e refl
-    by-mark Union e = rw e refl
+    by-mark (Member offset) e = rw e refl
+    by-mark (Union width) e = rw e refl
 
 -- the row behind an entry is one of the record's
 pub row_inside :

@@ -7,7 +7,7 @@ use mathlib.Core.List.{List, [], ◌∷◌, ◌++◌, append_assoc, append-nil}
 use mathlib.Core.Logic.{⊎_elim}
 use native.Mathlib.Omega.{arith}
 use lib.ListN.{length, length-append}
-use Rattle.std.specs.Prelude.{Option, None, Some}
+use Rattle.std.specs.Prelude.{Option, None, Some, MatchOption}
 use borrow.Author.Tests.{eq-eqb, ne_eqb, lt-ltb, le-ltb}
 use Rattle.definition.specs.declared.Reason.{Reason}
 use Rattle.definition.specs.Reasons.{slack_of, reason_bytes, reasons_bytes}
@@ -17,9 +17,9 @@ use Rattle.listing.specs.declared.Sink.{Sink}
 use Rattle.listing.specs.Puts.{Puts}
 use Rattle.listing.proofs.PutLaws.{◌and◌}
 use Rattle.rows.specs.Columns.{PARENT, NAME, SLACK}
-use Rattle.rows.specs.Table.{cell, span_at, row_of, row_code}
-use Rattle.rows.proofs.TableLaws.{code-back}
-use Rattle.reasons.specs.Chained.{placing_at, own_at, group_at, outward_in, outward_at, chain_of, Settled}
+use Rattle.rows.specs.Table.{cell, span_at}
+use Rattle.reasons.specs.declared.LaidRow.{LaidRow}
+use Rattle.reasons.specs.Chained.{placing_at, own_at, group_at, outward_in, outward_at, chain_of}
 
 -- ---------------------------------------------------------------- outward
 
@@ -163,85 +163,108 @@ module _ (w : List ℕ) (k : ℕ) where
 
 -- ---------------------------------------------------------------- the loop outward
 
--- row k is one of a record's, which began at row `from`
-pub record RowIn (w : List ℕ) (from to k : ℕ) : Type 0 where
-  pub low : from ≤ k
-  pub high : k < to
-  pub settled : Settled w from to
+-- the group that is left, by its row, which is given with 1; 0 for none
+abbrev pub outer_code : Option LaidRow → ℕ
+outer_code None = 0
+outer_code (Some x) = suc x.row
 
--- what was put of the chain of row k, and the groups that are left, from a row outward
-pub record Going (w : List ℕ) (from to k : ℕ) (first now : Sink) (outer : Option ℕ) : Type 0 where
-  pub settled : Settled w from to
-  pub high : row_code outer ≤ to
-  pub room : now.at + 39 * row_code outer ≤ 65536
+-- what a row's `outer` answers
+abbrev pub OuterOf : LaidRow → Option LaidRow → Type 0
+OuterOf r outer =
+    MatchOption outer (cell r.rows.work.now r.row PARENT ≤ r.from)
+    (λ x. (x.rows ≡ r.rows) × (x.from ≡ r.from) × (cell r.rows.work.now r.row PARENT ≡ x.row + 1))
+
+-- the groups that are left from there are those from the row's parent outward
+outer-groups : (r : LaidRow) (outer : Option LaidRow) → OuterOf r outer →
+    outward_at r.rows.work.now r.from (cell r.rows.work.now r.row PARENT)
+    ≡ outward_at r.rows.work.now r.from (outer_code outer)
+outer-groups r None h =
+    outward-none r.rows.work.now r.from (cell r.rows.work.now r.row PARENT) h
+    ∙ sym (outward-none r.rows.work.now r.from 0 (omega arith))
+outer-groups r (Some x) h =
+    ap (λ (n : ℕ). outward_at r.rows.work.now r.from n) (let e : cell r.rows.work.now r.row PARENT ≡ suc x.row = omega (arith, h.2) in e)
+
+outer-low : (r : LaidRow) (outer : Option LaidRow) → OuterOf r outer → outer_code outer ≤ r.row
+outer-low r None h = omega arith
+outer-low r (Some x) h = omega (arith, h.2, (r.settled.rows r.row r.inside.0 r.inside.1).parent)
+
+-- a group is one of the same record
+abbrev pub OfSame : LaidRow → Option LaidRow → Type 0
+OfSame r outer = MatchOption outer (Unit {0}) (λ x. (x.rows ≡ r.rows) × (x.from ≡ r.from))
+
+outer-same : (r x : LaidRow) → x.rows ≡ r.rows → x.from ≡ r.from → (outer : Option LaidRow) → OuterOf x outer → OfSame r outer
+outer-same r x e f None h = tt
+outer-same r x e f (Some y) h = (h.0 ∙ e, h.1 ∙ f)
+
+-- what was put of the chain of a row, and the groups that are left, from one outward
+pub record Going (r : LaidRow) (first now : Sink) (outer : Option LaidRow) : Type 0 where
+  pub of_same : OfSame r outer
+  pub room : now.at + 39 * outer_code outer ≤ 65536
   pub done : List Reason
   pub put : Puts first (reasons_bytes done) now
-  pub same : chain_of w from k ≡ done ++ outward_at w from (row_code outer)
+  pub same : chain_of r.rows.work.now r.from r.row ≡ done ++ outward_at r.rows.work.now r.from (outer_code outer)
 
 pub going-starts :
-    {w : List ℕ} {from to k : ℕ} {first now : Sink} {outer : Option ℕ} →
-    RowIn w from to k → first.at ≡ 0 → Puts first (reasons_bytes (own_at w k)) now → outer ≡ row_of (cell w k PARENT) →
-    Going w from to k first now outer
+    (r : LaidRow) {first now : Sink} {outer : Option LaidRow} →
+    first.at ≡ 0 → Puts first (reasons_bytes (own_at r.rows.work.now r.row)) now → OuterOf r outer →
+    Going r first now outer
 unfolding chain_of
-going-starts {w} {from} {to} {k} {first} {now} {outer} i z p e =
-    let parent = (i.settled.rows k i.low i.high).parent in
-    let is : row_code outer ≡ cell w k PARENT = ap row_code e ∙ code-back (cell w k PARENT) in
+going-starts r {first} {now} {outer} z p h =
+    let low = outer-low r outer h in
     record {
-      settled = i.settled;
-      high = omega (arith, is, parent, i.high);
-      room = omega (arith, is, parent, i.high, i.settled.few, p.put.next, own-long w k);
-      done = own_at w k;
+      of_same = outer-same r r refl refl outer h;
+      room = omega (arith, low, r.inside.1, r.settled.few, p.put.next, own-long r.rows.work.now r.row);
+      done = own_at r.rows.work.now r.row;
       put = p;
-      same = ap (λ (n : ℕ). own_at w k ++ outward_at w from n) (sym is);
+      same = ap (λ (rs : List Reason). own_at r.rows.work.now r.row ++ rs) (outer-groups r outer h);
     }
 
-module _ {w : List ℕ} {from to k : ℕ} {first now : Sink} {outer : Option ℕ}
-    (g : Going w from to k first now outer) where
+module _ {r : LaidRow} {first now : Sink} {outer : Option LaidRow} (g : Going r first now outer) where
   -- the fields of the record stand in no group
-  pub going-ends : outer ≡ None → Puts first (reasons_bytes (chain_of w from k)) now
+  pub going-ends : outer ≡ None → Puts first (reasons_bytes (chain_of r.rows.work.now r.from r.row)) now
   going-ends e =
       subst (λ (rs : List Reason). Puts first (reasons_bytes rs) now)
       (sym (g.same
-      ∙ ap (λ (rs : List Reason). g.done ++ rs) (ap (λ (o : Option ℕ). outward_at w from (row_code o)) e
-      ∙ outward-none w from 0 (omega arith)) ∙ append-nil g.done))
+      ∙ ap (λ (rs : List Reason). g.done ++ rs) (ap (λ (o : Option LaidRow). outward_at r.rows.work.now r.from (outer_code o)) e
+      ∙ outward-none r.rows.work.now r.from 0 (omega arith)) ∙ append-nil g.done))
       g.put
 
-  module _ {group : ℕ} (e : outer ≡ Some group) where
-    number : row_code outer ≡ suc group
-    number = ap row_code e
+  module _ {x : LaidRow} (e : outer ≡ Some x) where
+    number : outer_code outer ≡ suc x.row
+    number = ap outer_code e
 
-    pub going-stops : group < from → Puts first (reasons_bytes (chain_of w from k)) now
-    going-stops l =
-        subst (λ (rs : List Reason). Puts first (reasons_bytes rs) now)
-        (sym (g.same
-        ∙ ap (λ (rs : List Reason). g.done ++ rs) (outward-none w from (row_code outer) (omega
-        (arith, number))) ∙ append-nil g.done))
-        g.put
+    -- it is of the same record
+    with-it : (x.rows ≡ r.rows) × (x.from ≡ r.from)
+    with-it = subst (OfSame r) e g.of_same
 
-    module _ (l : from ≤ group) where
-      pub going-in : RowIn w from to group
-      going-in = record { low = l; high = omega (arith, g.high, number); settled = g.settled }
+    pub going-room : now.at + 26 ≤ 65536
+    going-room = omega (arith, g.room, number)
 
-      module _ {next : Option ℕ} (n : next ≡ row_of (cell w group PARENT)) where
-        outer-is : row_code next ≡ cell w group PARENT
-        outer-is = ap row_code n ∙ code-back (cell w group PARENT)
+    module _ (next : Option LaidRow) (h : OuterOf x next) where
+      pub going-falls : outer_code next < outer_code outer
+      going-falls = omega (arith, number, outer-low x next h)
 
-        pub going_on : {then : Sink} → Puts now (reasons_bytes (group_at w group)) then →
-            Going w from to k first then next
-        going_on {then} q =
-            let parent = (g.settled.rows group l going-in.high).parent in
-            record {
-              settled = g.settled;
-              high = omega (arith, parent, outer-is, g.high, number);
-              room = omega (arith, parent, outer-is, g.room, number, q.put.next, group-long w group);
-              done = g.done ++ group_at w group;
-              put =
-                  subst (λ (bs : List ℕ). Puts first bs then) (sym (bytes-both g.done (group_at w group)))
-                  (g.put and q);
-              same =
-                  g.same
-                  ∙ ap (λ (m : ℕ). g.done ++ outward_at w from m) number
-                  ∙ ap (λ (rs : List Reason). g.done ++ rs) (outward-step w from group l parent)
-                  ∙ sym (append_assoc g.done (group_at w group) (outward_at w from (cell w group PARENT)))
-                  ∙ ap (λ (m : ℕ). (g.done ++ group_at w group) ++ outward_at w from m) (sym outer-is);
-            }
+      here : outward_at x.rows.work.now x.from (suc x.row) ≡ group_at x.rows.work.now x.row ++ outward_at x.rows.work.now x.from (outer_code next)
+      here =
+          outward-step x.rows.work.now x.from x.row x.inside.0 (x.settled.rows x.row x.inside.0 x.inside.1).parent
+          ∙ ap (λ (rs : List Reason). group_at x.rows.work.now x.row ++ rs) (outer-groups x next h)
+
+      pub going_on : {then : Sink} → Puts now (reasons_bytes (group_at x.rows.work.now x.row)) then → Going r first then next
+      going_on {then} q =
+          let low = outer-low x next h in
+          let group = group_at x.rows.work.now x.row in
+          record {
+            of_same = outer-same r x with-it.0 with-it.1 next h;
+            room = omega (arith, low, g.room, number, q.put.next, group-long x.rows.work.now x.row);
+            done = g.done ++ group;
+            put =
+                subst (λ (bs : List ℕ). Puts first bs then) (sym (bytes-both g.done group))
+                (g.put and q);
+            same =
+                g.same
+                ∙ ap (λ (m : ℕ). g.done ++ outward_at r.rows.work.now r.from m) number
+                ∙ (λ k. g.done ++ outward_at (sym with-it.0 k).work.now (sym with-it.1 k) (suc x.row))
+                ∙ ap (λ (rs : List Reason). g.done ++ rs) here
+                ∙ sym (append_assoc g.done group (outward_at x.rows.work.now x.from (outer_code next)))
+                ∙ (λ k. (g.done ++ group) ++ outward_at (with-it.0 k).work.now (with-it.1 k) (outer_code next));
+          }

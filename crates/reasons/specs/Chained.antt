@@ -11,6 +11,7 @@ use Rattle.definition.specs.Fold.{folded_all}
 use Rattle.definition.specs.Reasons.{slack_of, chains, chain_at, flat, numbered, reasons_bytes}
 use Rattle.rows.specs.Columns.{ROW, PARENT, AT, NAME, REDEFINES, OFFSET, SLACK, PLACERS}
 use Rattle.rows.specs.Table.{cell, span_at, row_of}
+use Rattle.record.specs.declared.LaidRecord.{LaidRecord}
 use Rattle.unions.specs.Shown.{list_in}
 use Rattle.table.specs.declared.Item.{Item}
 use Rattle.table.specs.Entered.{Entered}
@@ -96,3 +97,7 @@ pub record ChainedTable (text w : List ℕ) (t : List Item) (from to : ℕ) : Ty
   pub settled : Settled w from to
   pub chained :
       (k : ℕ) → from ≤ k → k < to → chain_at (cell w k AT) (chains text [] [] (list_in w from to)) ≡ chain_of w from k
+
+-- such a record, with its text
+abbrev pub Explainable : LaidRecord → Type 0
+Explainable a = ChainedTable a.text.now a.table.rows.work.now a.table.items.now a.from a.table.rows.count

@@ -1,12 +1,14 @@
 //! The reasons of an entry's place, written from the rows: the row behind the entry, then one step for each group
-//! outward. Leans on `rows`, `listing` and `table`.
+//! outward. Leans on `rows`, `listing`, `table` and `record`.
 #![tactic(auto)]
 
-ghost use Rattle.std.specs.Prelude.{◌≡◌, [], ◌+◌, ◌≤◌, ◌<◌, length};
+ghost use Rattle.std.specs.Prelude.{◌≡◌, [], ◌+◌, ◌≤◌, ◌<◌, length, MatchOption};
 ghost use Rattle.definition.specs.Calls.{after_writing, left};
 ghost use Rattle.definition.specs.Reasons.{reason_kind, reason_name, adds as adds_of, reason_bytes, reasons_bytes};
 ghost use Rattle.listing.specs.Puts.{Puts};
-ghost use Rattle.reasons.specs.Chained.{placing_at, own_at, group_at, chain_of, Settled, reasons_of, ChainedTable};
+ghost use Rattle.rows.specs.Columns.{PARENT};
+ghost use Rattle.rows.specs.Table.{cell};
+ghost use Rattle.reasons.specs.Chained.{placing_at, own_at, group_at, chain_of, Settled, reasons_of, Explainable};
 
 use definition::{Reason, Refusal, Span};
 use listing::{Sink, Written};
@@ -16,6 +18,7 @@ use rows::Rows;
 // ---------------------------------------------------------------- bytes
 
 // A reason's kind, the item that it names, if any, and the bytes that it adds.
+// Kept: numbers for kinds – the C interface: they are the byte that a reason begins with in the output.
 fn parts_of(reason: Reason) -> (u8, Span, usize)
     ensures { result ≡ (reason_kind reason, reason_name reason, adds_of reason) }
 {
@@ -41,25 +44,26 @@ fn put_reason(sink: &mut Sink, reason: Reason)
 
 // ---------------------------------------------------------------- the rows of a record
 
-// The rows of a record that was laid, whose fields begin at row `from`.
+// A row of a record that was laid, whose fields begin at row `from`.
 #[derive(Clone, Copy)]
-struct Laid<'a> {
+struct LaidRow<'a> {
     rows: Rows<'a>,
     from: usize,
+    row: usize,
     ghost settled: { Settled rows.work.now from rows.count },
+    ghost inside: { (from ≤ row) × (row < rows.count) },
 }
 
-impl<'a> Laid<'a> {
-    // The placing reason of row k: laid over the row that its REDEFINES names, or directly after the latest sibling
-    // without one; the layout kept both.
+impl<'a> LaidRow<'a> {
+    // Its placing reason: laid over the row that its REDEFINES names, or directly after the latest sibling without one;
+    // the layout kept both.
     #[tactic(auto, unfolding(crate::specs::Chained::placing_at))]
-    fn placing(self, k: usize) -> Reason
-        requires { (self.from ≤ k) × (k < self.rows.count) }
-        ensures { result ≡ placing_at self.entry.rows.work.now k }
+    fn placing(self) -> Reason
+        ensures { result ≡ placing_at self.entry.rows.work.now self.entry.row }
     {
-        let adds = self.rows.offset(k) - self.rows.slack(k);
-        if self.rows.redefines(k).is_given() {
-            match self.rows.target(k) {
+        let adds = self.rows.offset(self.row) - self.rows.slack(self.row);
+        if self.rows.redefines(self.row).is_given() {
+            match self.rows.target(self.row) {
                 Some(target) => Reason::Over {
                     name: self.rows.name(target),
                     adds,
@@ -67,7 +71,7 @@ impl<'a> Laid<'a> {
                 None => Reason::First,
             }
         } else {
-            match self.rows.plain(k) {
+            match self.rows.plain(self.row) {
                 Some(sibling) => Reason::After {
                     name: self.rows.name(sibling),
                     adds,
@@ -77,68 +81,61 @@ impl<'a> Laid<'a> {
         }
     }
 
-    // Puts the own reasons of row k: what placed it, and its slack, if any.
-    fn put_own(self, k: usize, sink: &mut Sink)
-        requires { (self.from ≤ k) × (k < self.rows.count) × (sink.old.at + 13 ≤ 65536) }
-        ensures { Puts sink.old (reasons_bytes (own_at self.entry.rows.work.now k)) sink.new }
+    // Puts its own reasons: what placed it, and its slack, if any.
+    fn put_own(self, sink: &mut Sink)
+        requires { sink.old.at + 13 ≤ 65536 }
+        ensures { Puts sink.old (reasons_bytes (own_at self.entry.rows.work.now self.entry.row)) sink.new }
     {
-        put_reason(sink, self.placing(k));
-        let slack = self.rows.slack(k);
-        let has_slack = slack != 0;
-        if has_slack {
+        put_reason(sink, self.placing());
+        let slack = self.rows.slack(self.row);
+        if slack != 0 {
             put_reason(sink, Reason::Slack { adds: slack });
         }
     }
 
-    // Puts the reasons of the group of row k: inside it, and its own.
-    fn put_group(self, k: usize, sink: &mut Sink)
-        requires { (self.from ≤ k) × (k < self.rows.count) × (sink.old.at + 26 ≤ 65536) }
-        ensures { Puts sink.old (reasons_bytes (group_at self.entry.rows.work.now k)) sink.new }
+    // Puts the reasons of its group: inside it, and its own.
+    fn put_group(self, sink: &mut Sink)
+        requires { sink.old.at + 26 ≤ 65536 }
+        ensures { Puts sink.old (reasons_bytes (group_at self.entry.rows.work.now self.entry.row)) sink.new }
     {
         put_reason(
             sink,
             Reason::Inside {
-                name: self.rows.name(k),
+                name: self.rows.name(self.row),
             },
         );
-        self.put_own(k, sink);
+        self.put_own(sink);
     }
 
-    // Puts the chain of row k: its own reasons, then those of the groups around it, outward up to the fields of the
-    // record.
-    fn put_chain(self, k: usize, sink: &mut Sink)
-        requires { (self.from ≤ k) × (k < self.rows.count) × (sink.old.at ≡ 0) }
-        ensures { Puts sink.old (reasons_bytes (chain_of self.entry.rows.work.now self.entry.from k)) sink.new }
+    // The group around it; none around a field of the record.
+    fn outer(self) -> Option<Self>
+        ensures { MatchOption result (cell self.entry.rows.work.now self.entry.row PARENT ≤ self.entry.from)
+            (λ x. (x.rows ≡ self.entry.rows) × (x.from ≡ self.entry.from)
+            × (cell self.entry.rows.work.now self.entry.row PARENT ≡ x.row + 1)) }
     {
-        self.put_own(k, sink);
-        let mut outer = self.rows.parent(k);
-        // Kept: `while let` – no plainer: `successors` would ask of its closure that the row it is given is one of the
-        // record's, and the loop would still have to show that each row names an earlier one.
-        while let Some(group) = outer {
-            if group < self.from {
-                break;
-            }
-            self.put_group(group, sink);
-            outer = self.rows.parent(group);
+        match self.rows.parent(self.row) {
+            Some(group) if self.from <= group => Some(LaidRow {
+                rows: self.rows,
+                from: self.from,
+                row: group,
+            }),
+            _ => None,
         }
     }
 }
 
-// The chain of a row of such a record.
-#[derive(Clone, Copy)]
-struct Chain<'a> {
-    laid: Laid<'a>,
-    row: usize,
-    ghost inside: { (laid.from ≤ row) × (row < laid.rows.count) },
-}
+impl<'a> Written for LaidRow<'a> {
+    ghost bytes = { λ x. reasons_bytes (chain_of x.rows.work.now x.from x.row) };
 
-impl<'a> Written for Chain<'a> {
-    ghost bytes = { λ c. reasons_bytes (chain_of c.laid.rows.work.now c.laid.from c.row) };
-
-    fn put(self, out: &mut [u8]) -> usize {
-        let mut sink = Sink::new(out);
-        self.laid.put_chain(self.row, &mut sink);
-        sink.at
+    // Its chain: its own reasons, then those of the groups around it, outward up to the fields of the record.
+    // Kept: `while let` – no plainer: std's `successors` counts as endless, so that no `for` over it is proved to end.
+    fn put(self, sink: &mut Sink) {
+        self.put_own(sink);
+        let mut outer = self.outer();
+        while let Some(group) = outer {
+            group.put_group(sink);
+            outer = group.outer();
+        }
     }
 }
 
@@ -147,24 +144,18 @@ impl<'a> Written for Chain<'a> {
 /// Writes the reasons of entry `number` of a record that was laid out: 53 past its entries; 31, with the length of the
 /// reasons, if the output has no room for them.
 pub fn write_reasons(laid: LaidRecord, number: usize, out: &mut [u8]) -> Result<usize, Refusal>
-    requires { ChainedTable laid.text.now laid.table.rows.work.now laid.table.items.now
-        laid.from laid.table.rows.count }
+    requires { Explainable laid }
     ensures { left result out.new []
         ≡ after_writing
         (reasons_of laid.entry.text.now laid.entry.table.rows.work.now laid.entry.from laid.entry.table.rows.count
         number (length out.old))
         out.old [] }
 {
-    let Some(item) = laid.table.items.get(number) else {
-        return Err(Refusal::NoSuchEntry);
-    };
-    let rows = Laid {
+    let item = laid.table.items.get(number).ok_or(Refusal::NoSuchEntry)?;
+    let row = LaidRow {
         rows: laid.table.rows,
         from: laid.from,
-    };
-    let chain = Chain {
-        laid: rows,
         row: item.row as usize,
     };
-    listing::write(chain, out)
+    listing::write(row, out)
 }

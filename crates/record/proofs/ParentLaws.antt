@@ -2,9 +2,10 @@
 -- Assumes nothing.
 use Prim.Native.Nat.{ℕ, zero, suc, ◌+◌, ◌<◌}
 use mathlib.Core.Path.{◌≡◌, refl, sym, ap, ◌∙◌}
-use mathlib.Core.List.{List, [], ◌∷◌, ◌++◌}
+use mathlib.Core.List.{List, ◌++◌}
 use native.Mathlib.Omega.{arith}
 use lib.ListN.{length, get_or, length-append, get_or-append}
+use Rattle.std.proofs.lemmas.List.{get_or-append-add}
 use Rattle.definition.specs.Tree.{Forest, leaf, item, parents_in}
 use Rattle.definition.specs.Owner.{size}
 use Rattle.rows.specs.Columns.{PARENT}
@@ -28,13 +29,6 @@ length-in (item s kids later) p k =
     let rest = parents_in p (suc k + length inner) later in
     omega (arith, length-append inner rest, length-in kids (suc k) (suc k), length-in later p (suc k + length inner))
 
--- an element of the second of two lists
-get_or-second : (xs ys : List ℕ) (j : ℕ) → get_or (xs ++ ys) (length xs + j) 0 ≡ get_or ys j 0
-get_or-second [] ys j = ap (λ (n : ℕ). get_or ys n 0) (let e : 0 + j ≡ j = omega arith in e)
-get_or-second (x ∷ xs) ys j =
-    ap (λ (n : ℕ). get_or (x ∷ (xs ++ ys)) n 0) (let e : suc (length xs) + j ≡ suc (length xs + j) = omega arith in e)
-    ∙ get_or-second xs ys j
-
 under-by :
     (w : List ℕ) (f : Forest) (p k : ℕ) →
     ((j : ℕ) → j < size f → get_or (parents_in p k f) j 0 ≡ cell w (k + j) PARENT) →
@@ -55,7 +49,7 @@ under-by w (item s kids later) p k h =
       under-by w later p (suc k + size kids)
           (λ j l.
           ap (λ (n : ℕ). get_or (parents_in p n later) j 0) (sym at)
-          ∙ sym (get_or-second inner rest j)
+          ∙ sym (get_or-append-add inner rest j 0)
           ∙ ap (λ (n : ℕ). get_or (inner ++ rest) (n + j) 0) many
           ∙ h (suc (size kids + j)) (omega arith)
           ∙ ap (λ (m : ℕ). cell w m PARENT)

@@ -15,6 +15,7 @@ use Rattle.places.specs.Places.{rows_forest}
 use Rattle.places.specs.Children.{BelowCounted}
 use Rattle.layout.specs.Outcomes.{Room}
 use Rattle.record.specs.declared.Record.{Record}
+use Rattle.record.specs.declared.LaidRecord.{LaidRecord}
 use Rattle.definition.specs.Listing.{members#}
 use Rattle.unions.specs.Shown.{list_in, Tree}
 use Rattle.table.specs.declared.Item.{Item}
@@ -68,6 +69,12 @@ pub record LaidOut
   pub listed : Listed text read w from to long
   pub entered : Entered text w from to t
   pub tops : top ≡ members# (folded_all text (list_in w from to))
+
+-- a record that was laid out is one of the fields that are read from its text
+abbrev pub Laid : LaidRecord → Type 0
+Laid a =
+    LaidOut a.text.now (record_fields a.text.now (length a.table.rows.work.now)) a.table.rows.work.now a.table.items.now
+    a.from a.table.rows.count a.length a.top
 
 -- the same, as a call leaves the table: its first items are the entries
 pub record LaidIn (text : List ℕ) (read : Answer Forest) (w : List ℕ) (t : List Item) (a : Record) : Type 0 where

@@ -9,7 +9,7 @@ ghost use Rattle.places.specs.Places.{rows_forest};
 ghost use Rattle.places.specs.Children.{BelowCounted};
 ghost use Rattle.layout.specs.Outcomes.{Room};
 ghost use Rattle.entries.specs.Building.{Roomy};
-ghost use Rattle.record.specs.Laying.{Under, FieldsFrom, LaidOut, LaidIn, laid_of, Read};
+ghost use Rattle.record.specs.Laying.{Under, FieldsFrom, Laid, LaidIn, laid_of, Read};
 
 use definition::{DEEPEST, Refusal};
 use rows::Rows;
@@ -35,31 +35,43 @@ pub fn read_rows(text: &[u8], work: &mut [u32]) -> Result<usize, Refusal>
 /// How many rows are few: for no more a small table of entries will do, which is sooner made.
 pub const FEW_ROWS: usize = 128;
 
-/// How many entries a table needs for few rows, and for as many as there may be.
+/// How many entries a table needs for few rows.
 pub const FEW_ENTRIES: usize = 192;
 
+/// How many entries a table needs for as many rows as there may be.
 pub const ENTRIES: usize = 1200;
 
 // ---------------------------------------------------------------- a record
 
 /// The rows that hold a record, its length, and how many entries its table has, in all and at the top.
+// Kept: numbers beside work memory and entries – no plainer: callers go on with work memory, and where a function lends
+// parts of two `&mut` back, it may say of one alone what becomes of it. `with` cuts the parts.
 #[derive(Clone, Copy)]
 pub struct Record {
+    /// The first row of its fields.
     pub from: usize,
+    /// The end of its rows.
     pub to: usize,
+    /// Its length in bytes.
     pub length: usize,
+    /// How many entries its table has.
     pub count: usize,
+    /// How many of them stand at the top.
     pub top: usize,
 }
 
-/// A record that was laid out: the text that describes it, its entries with the rows that they name, the first row of
-/// its fields, its length, and how many entries stand at the top.
+/// A record that was laid out, with the text that describes it and the rows and entries that hold it.
 #[derive(Clone, Copy)]
 pub struct LaidRecord<'a> {
+    /// The text.
     pub text: &'a [u8],
+    /// Its entries, with the rows that they name.
     pub table: Table<'a>,
+    /// The first row of its fields.
     pub from: usize,
+    /// Its length in bytes.
     pub length: usize,
+    /// How many entries stand at the top.
     pub top: usize,
 }
 
@@ -67,9 +79,7 @@ impl Record {
     /// The same with its text, work memory that holds its rows, and a table that begins with its entries.
     pub fn with<'a>(self, text: &'a [u8], work: &'a [u32], entries: &'a [Item]) -> LaidRecord<'a>
         requires { LaidIn text.now (record_fields text.now (length work.now)) work.now entries.now self }
-        ensures laid { LaidOut result.text.now (record_fields result.text.now (length result.table.rows.work.now))
-            result.table.rows.work.now result.table.items.now
-            result.from result.table.rows.count result.length result.top }
+        ensures laid { Laid result }
         ensures same { (result.text.now ≡ text.now) × (result.table.rows.work.now ≡ work.now)
             × (result.table.items.now ≡ take self.count entries.now) × (result.from ≡ self.from)
             × (result.table.rows.count ≡ self.to) × (result.length ≡ self.length) × (result.top ≡ self.top) }
@@ -99,10 +109,10 @@ pub fn first_field(rows: Rows) -> usize
     if places::next_of(rows, 0) < n { 0 } else { 1 }
 }
 
-// Kept: text, from and to beside work memory – no plainer: the rows' places are written into it, and a struct over a
-// `&mut` asks three clauses a method.
 /// Lays out the fields in the rows from `from` up to `to`: their places, then 30, then 29 for an end in the folded
 /// list.
+// Kept: text, from and to beside work memory – no plainer, as of `rows::put_cell`: a struct over the `&mut` would have
+// to say in the contract that text and memory are the same and that it holds as many rows.
 pub fn lay_fields(
     text: &[u8],
     work: &mut [u32],
@@ -135,9 +145,9 @@ pub fn lay_fields(
     })
 }
 
-// Kept: text and n beside work memory – no plainer: it is written, so that `Rows`, which only reads, can't hold it.
 /// Lays out the record that was read into n rows, or says why not: 20 to 30 and 52. The table has room for the entries
 /// of so many rows.
+// Kept: text and n beside work memory – no plainer, as of `lay_fields`.
 pub fn lay_record(
     text: &[u8],
     work: &mut [u32],

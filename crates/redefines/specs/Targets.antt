@@ -9,12 +9,18 @@ use Rattle.definition.specs.Basic.{given, Answer, Err, Ok}
 use Rattle.definition.specs.Fold.{same_name, Place, Search, search_back}
 use Rattle.rows.specs.Columns.{NAME, REDEFINES, OFFSET, BEFORE, PLACERS}
 use Rattle.rows.specs.Table.{span_at, row_of, row_code, cell}
+use Rattle.redefines.specs.declared.Among.{Among}
 use Rattle.redefines.specs.declared.SearchEnd.{SearchEnd}
 use Rattle.redefines.specs.declared.Start.{Start}
 
 -- the name and the offset of the entry in row k
 abbrev pub place_at : List ℕ → ℕ → Place
 place_at w k = record { name = span_at (cell w k NAME); offset = cell w k OFFSET }
+
+-- a search among bases alone
+abbrev pub among_bases : Among → Bool
+among_bases Among.Siblings = false
+among_bases Among.Bases = true
 
 -- a search for bases leaves redefiners out
 abbrev pub left_out : Bool → List ℕ → ℕ → Bool

@@ -6,18 +6,19 @@
 ghost use Rattle.std.specs.Prelude.{◌≡◌, ◌+◌, ◌*◌, ◌≤◌, ◌<◌, length};
 ghost use Rattle.definition.specs.declared.Refusal.{Refusal};
 ghost use Rattle.definition.specs.Basic.{or_refuse};
-ghost use Rattle.redefines.specs.Targets.{left_out, is_target, Ended, seen_at, search_of, target_search, target_from};
-ghost use Rattle.redefines.specs.Targets.{start_of, target_in, Named, base_from, plain_after};
+ghost use Rattle.redefines.specs.Targets.{among_bases, left_out, is_target, Ended, seen_at, search_of, target_search};
+ghost use Rattle.redefines.specs.Targets.{target_from, start_of, target_in, Named, base_from, plain_after};
 ghost use Rattle.redefines.specs.Prints.{Printed, PrintsPut, PassedBack};
 ghost use Rattle.names.specs.Prints.{name_print};
 ghost use Rattle.rows.specs.Columns.{ROW};
 ghost use Rattle.rows.specs.Table.{row_of, row_code};
 
 use definition::{Refusal, Span};
-use rows::{PRINT, Rows};
+use rows::{PRINT, Placers, Rows};
 
-/// The fingerprints of their names into the first n rows.
-// Kept: the text, and how many rows, beside work memory – no plainer: rows are written, and `Rows` lends them to read.
+/// Stores in each of the first n rows the fingerprint of its name.
+// Kept: the text, and how many rows, beside work memory – no plainer, as of `rows::put_cell`: a struct over the `&mut`
+// would have to say in the contract that text and memory are the same and that it holds as many rows.
 pub fn put_prints(text: &[u8], work: &mut [u32], n: usize)
     requires { ROW * n ≤ length work.old }
     ensures { PrintsPut text.now work.old n work.new }
@@ -28,29 +29,43 @@ pub fn put_prints(text: &[u8], work: &mut [u32], n: usize)
     }
 }
 
+/// Which of the earlier siblings a search looks at.
+#[derive(Clone, Copy)]
+enum Among {
+    Siblings,
+    Bases,
+}
+
 /// Where a search ended, if a sibling has the name; and how many names it compared.
 #[derive(Clone, Copy)]
 pub struct SearchEnd {
+    /// The sibling's row, if one has the name.
     pub row: Option<usize>,
+    /// How many names were compared.
     pub compared: usize,
 }
 
 /// Where an item starts, and the row that it redefines, if any.
 #[derive(Clone, Copy)]
 pub struct Start {
+    /// The row that it redefines, if any.
     pub target: Option<usize>,
+    /// Where it starts in its list, in bytes.
     pub offset: usize,
 }
 
 /// Rows that have the fingerprints of their names, and the text that the names stand in: what is searched.
 #[derive(Clone, Copy)]
 pub struct PrintedRows<'a> {
+    /// The text that their names stand in.
     pub text: &'a [u8],
+    /// The rows.
     pub rows: Rows<'a>,
     ghost printed: { Printed text.now rows.work.now rows.count },
 }
 
-// Kept: `last ≤ self.rows.count` in each method – no plainer: it is an index's bound, as of a slice's part.
+// Kept: `last ≤ self.rows.count` in each method, and of `plain_after` and `placers_of` – no plainer: it is an index's
+// bound, as of a slice's part.
 impl<'a> PrintedRows<'a> {
     /// These rows, whose names stand in this text.
     pub fn new(text: &'a [u8], rows: Rows<'a>) -> Self
@@ -61,25 +76,26 @@ impl<'a> PrintedRows<'a> {
         PrintedRows { text, rows }
     }
 
-    // Kept: a flag – no plainer: both searches differ in one test.
-    // Whether the search passes over row k: one for bases passes over a redefiner.
-    fn passed_over(self, k: usize, bases: bool) -> bool
+    // Whether the search passes over row k: one among bases passes over a redefiner.
+    fn passed_over(self, k: usize, among: Among) -> bool
         requires { k < self.rows.count }
-        ensures { result ≡ left_out bases self.entry.rows.work.now k }
+        ensures { result ≡ left_out (among_bases among) self.entry.rows.work.now k }
     {
-        bases && self.rows.redefines(k).is_given()
+        match among {
+            Among::Siblings => false,
+            Among::Bases => self.rows.redefines(k).is_given(),
+        }
     }
 
-    // Kept: a flag – no plainer: both searches differ in one test.
     // Whether row k is what a search for this name, with this fingerprint, ends at.
-    fn is_target(self, target: Span, print: u32, k: usize, bases: bool) -> bool
+    fn is_target(self, target: Span, print: u32, k: usize, among: Among) -> bool
         requires { (k < self.rows.count) × (print ≡ name_print self.text.now target) }
-        ensures { result ≡ is_target self.entry.text.now target bases self.entry.rows.work.now k }
+        ensures { result ≡ is_target self.entry.text.now target (among_bases among) self.entry.rows.work.now k }
     {
         if self.rows.print(k) != print {
             return false;
         }
-        !self.passed_over(k, bases) && names::same_names(self.text, target, self.rows.name(k))
+        !self.passed_over(k, among) && names::same_names(self.text, target, self.rows.name(k))
     }
 
     // From `last` back over siblings with other fingerprints, as long as each is the row after the one before it.
@@ -95,21 +111,20 @@ impl<'a> PrintedRows<'a> {
         0
     }
 
-    // Kept: a flag – no plainer: both searches differ in one test.
     // The latest sibling of that name from `last` back, or the latest base of that name.
-    fn search_back(self, target: Span, last: usize, bases: bool) -> SearchEnd
+    fn search_back(self, target: Span, last: usize, among: Among) -> SearchEnd
         requires { last ≤ self.rows.count }
-        ensures { Ended self.entry.text.now target bases self.entry.rows.work.now last result }
+        ensures { Ended self.entry.text.now target (among_bases among) self.entry.rows.work.now last result }
     {
         let print = names::print_of(self.text, target);
         let mut k = self.pass_back(last, print);
         // rows passed that are no siblings
         let mut gaps = 0;
-        // Kept: a `while` – no plainer: it goes from sibling to sibling, and no range says where the next one stands.
-        while 0 < k {
-            let row = k - 1;
+        // Kept: a `while let` – no plainer: a turn goes back over all rows that `pass_back` and `siblings_end` leave
+        // out, so that no range tells the rows, and an iterator that steps so would serve this loop alone.
+        while let Some(row) = k.checked_sub(1) {
             let compared = last - row - gaps;
-            if self.is_target(target, print, row, bases) {
+            if self.is_target(target, print, row, among) {
                 return SearchEnd {
                     row: Some(row),
                     compared,
@@ -140,7 +155,7 @@ impl<'a> PrintedRows<'a> {
             × (target_from self.entry.text.now redefines self.entry.rows.work.now last ≤ last) }
     {
         if redefines.is_given() {
-            return self.search_back(redefines, last, false);
+            return self.search_back(redefines, last, Among::Siblings);
         }
         SearchEnd {
             row: None,
@@ -158,13 +173,12 @@ impl<'a> PrintedRows<'a> {
             × (target_in result ≡ row_of (target_from self.entry.text.now redefines self.entry.rows.work.now last))
             × (target_from self.entry.text.now redefines self.entry.rows.work.now last ≤ last) }
     {
-        match self.target_of(redefines, last).row {
-            None => Err(Refusal::NoTarget { position: at }),
-            Some(row) => Ok(Start {
-                target: Some(row),
-                offset: self.rows.offset(row),
-            }),
-        }
+        let found = self.target_of(redefines, last).row;
+        let row = found.ok_or(Refusal::NoTarget { position: at })?;
+        Ok(Start {
+            target: Some(row),
+            offset: self.rows.offset(row),
+        })
     }
 
     /// The base of that name, where the search for the target ended at the row `target`: that row itself, or where it
@@ -178,36 +192,39 @@ impl<'a> PrintedRows<'a> {
             × (base_from self.entry.text.now redefines self.entry.rows.work.now (row_code target) (row_code target)
             ≤ row_code target) }
     {
-        let Some(row) = target else {
-            return None;
-        };
-        if self.passed_over(row, true) {
+        let row = target?;
+        if self.passed_over(row, Among::Bases) {
             let before = self.rows.siblings_end(row);
             if row < before {
                 return None;
             }
-            return self.search_back(redefines, before, true).row;
+            return self.search_back(redefines, before, Among::Bases).row;
         }
-        target
+        Some(row)
     }
 }
 
-// The latest sibling without REDEFINES from `last` back: that one, or the one that it names. The row and 1, or 0.
-// Kept: a row and 1, and its cast – no plainer: it is one half of the number that `placers_of` makes.
-fn plain_after(rows: Rows, last: usize) -> u32
+// The latest sibling without REDEFINES from `last` back: that one, or the one that it names.
+fn plain_after(rows: Rows, last: usize) -> Option<usize>
     requires { (last ≤ rows.count) × (last < 65536) }
-    ensures { (result ≡ plain_after rows.entry.work.now last) × (result < 65536) }
+    ensures { (row_code result ≡ plain_after rows.entry.work.now last) × (row_code result < 65536) }
 {
-    if 0 < last && rows.redefines(last - 1).is_given() {
-        return rows::row_code(rows.plain(last - 1));
+    let row = last.checked_sub(1)?;
+    if rows.redefines(row).is_given() {
+        return rows.plain(row);
     }
-    last as u32
+    Some(row)
 }
 
-/// The siblings that may place an item, in one number.
-pub fn placers_of(rows: Rows, last: usize, target: Option<usize>) -> u32
+/// The siblings that may place an item, after the siblings before `last`.
+// Kept: a bound of 65,536, as of `plain_after` – no plainer: two rows' numbers share a column, and as a fact of `Rows`
+// it would ask more of those who read other columns.
+pub fn placers_of(rows: Rows, last: usize, target: Option<usize>) -> Placers
     requires { (last ≤ rows.count) × (last < 65536) × (row_code target < 65536) }
-    ensures { result ≡ plain_after rows.entry.work.now last * 65536 + row_code target }
+    ensures { (row_code result.plain ≡ plain_after rows.entry.work.now last) × (result.target ≡ target) }
 {
-    plain_after(rows, last) * 65536 + rows::row_code(target)
+    Placers {
+        plain: plain_after(rows, last),
+        target,
+    }
 }

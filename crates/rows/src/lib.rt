@@ -16,6 +16,8 @@ use definition::{Clauses, FieldKind, ItemUsage, Span, Statement};
 use kinds::Coded;
 
 // The columns of a row, as `specs/Columns` has them.
+// Kept: a number for a column – the C interface: work memory is numbers, lent by the caller, and a column is an index
+// into a row of them.
 
 /// How many columns a row has.
 pub const ROW: usize = 20;
@@ -64,7 +66,7 @@ pub const NEXT: usize = 18;
 /// The column with the fingerprint of a row's name.
 pub const PRINT: usize = 19;
 
-/// Work memory to zero.
+/// Sets all of work memory to zero.
 pub fn clear(work: &mut [u32])
     ensures { work.new ≡ cleared work.old }
 {
@@ -98,10 +100,7 @@ fn span_at(n: u32) -> Span
 fn row_of(n: u32) -> Option<usize>
     ensures { result ≡ row_of n }
 {
-    match n {
-        0 => None,
-        _ => Some((n - 1) as usize),
-    }
+    n.checked_sub(1).map(|k| k as usize)
 }
 
 /// The number that names a row: the row and 1, or 0 for none.
@@ -110,14 +109,11 @@ pub fn row_code(row: Option<usize>) -> u32
     requires { row_code row < 4294967296 }
     ensures { result ≡ row_code row }
 {
-    match row {
-        None => 0,
-        Some(k) => (k + 1) as u32,
-    }
+    row.map_or(0, |k| (k + 1) as u32)
 }
 
 // A level, and the usage that holds, as one number.
-// Kept: a function – no plainer: the number is made of two values, and is a row's alone.
+// Kept: a function – no plainer: the number is made of two values, which a From would ask for as a pair.
 fn level_code(level: u8, u: ItemUsage) -> u32
     ensures { result ≡ level_code level u }
 {
@@ -133,10 +129,31 @@ fn said_code(c: Clauses) -> u32
     u32::from(kinds::clause_code(c.usage)) + 8 * (u32::from(c.sign.code()) + 8 * marks)
 }
 
+/// The siblings that may place a row.
+#[derive(Clone, Copy)]
+pub struct Placers {
+    /// The latest one before it without REDEFINES, if any.
+    pub plain: Option<usize>,
+    /// The one that its REDEFINES names, if any.
+    pub target: Option<usize>,
+    ghost few: { (row_code plain < 65536) × (row_code target < 65536) },
+}
+
+impl Placers {
+    /// Both, as one number.
+    // Kept: a function – no plainer: the number is made of two values, and `Rows` reads one of them at a time.
+    pub fn code(self) -> u32
+        ensures { result ≡ row_code self.plain * 65536 + row_code self.target }
+    {
+        row_code(self.plain) * 65536 + row_code(self.target)
+    }
+}
+
 // ---------------------------------------------------------------- a row written
 
-/// A number into a column of row k.
-// Kept: work memory and a row – no plainer: a struct over a `&mut` asks three clauses of each method that writes.
+/// Stores a number in a column of row k.
+// Kept: work memory and a row, as wherever rows are written – no plainer: a struct over the `&mut` would have to say in
+// each contract, beside what is written, that it is the same memory still and holds as many rows.
 pub fn put_cell(work: &mut [u32], k: usize, c: usize, n: u32)
     requires { (ROW * k + ROW ≤ length work.old) × (c < ROW) }
     ensures { work.new ≡ set work.old (ROW * k + c) n }
@@ -144,29 +161,34 @@ pub fn put_cell(work: &mut [u32], k: usize, c: usize, n: u32)
     work[ROW * k + c] = n;
 }
 
-/// Numbers stored from a place on.
-pub fn put_cells(work: &mut [u32], at: usize, cells: &[u32])
-    requires { at + length cells.now ≤ length work.old }
-    ensures { work.new ≡ sets work.old at cells.now }
+/// Stores numbers in the columns of row k from column c on.
+// Kept: work memory and a row – no plainer, as of `put_cell`; and beside it – no plainer: of one number the contract
+// there is `set`, where this one would be of a list of one.
+pub fn put_cells(work: &mut [u32], k: usize, c: usize, cells: &[u32])
+    requires { ROW * k + c + length cells.now ≤ length work.old }
+    ensures { work.new ≡ sets work.old (ROW * k + c) cells.now }
 {
+    let at = ROW * k + c;
     work[at..at + cells.len()].copy_from_slice(cells);
 }
 
-/// A statement and its parent, the row and 1, or 0 for none, into row k.
-// Kept: work memory and a row, and casts – no plainer: the contract bounds the numbers, so that no TryFrom can fail.
+/// Stores a statement, and the row that it stands under, if any, in row k.
+// Kept: work memory and a row – no plainer, as of `put_cell`; and casts – no plainer: the contract bounds the numbers,
+// so that no TryFrom can fail.
 #[tactic(auto, unfolding(crate::specs::Table::put_row))]
-pub fn put_row(work: &mut [u32], k: usize, parent: u32, s: Statement)
-    requires { (ROW * k + ROW ≤ length work.old) × Placed s }
-    ensures { work.new ≡ put_row work.old k parent s }
+pub fn put_row(work: &mut [u32], k: usize, parent: Option<usize>, s: Statement)
+    requires { (ROW * k + ROW ≤ length work.old) × (row_code parent < 4294967296) × Placed s }
+    ensures { work.new ≡ put_row work.old k (row_code parent) s }
 {
     let c = s.clauses;
     let count = c.occurs.unwrap_or(0);
     put_cells(
         work,
-        ROW * k,
+        k,
+        LEVEL,
         &[
             level_code(s.level, s.usage),
-            parent,
+            row_code(parent),
             s.at as u32,
             span_code(s.name),
             span_code(c.picture),
@@ -182,14 +204,24 @@ pub fn put_row(work: &mut [u32], k: usize, parent: u32, s: Statement)
 // ---------------------------------------------------------------- rows read
 
 /// The first `count` rows of work memory.
+// Kept: work memory and how many rows – no plainer: contracts speak of all of it, where a part cut off at the count
+// would have each of them, and each write behind it, speak of a prefix.
 #[derive(Clone, Copy)]
 pub struct Rows<'a> {
+    /// Work memory.
     pub work: &'a [u32],
+    /// How many rows of it.
     pub count: usize,
     ghost fits: { ROW * count ≤ length work.now },
 }
 
-// Kept: `k < self.count` in each method – no plainer: a row's number is an index, as into a slice.
+// Kept: `k < self.count` in each method, and wherever a row is read by its number – no plainer: that is an index, as
+// into a slice; a struct of rows and a number would be made at each call, since parents, bases and targets are numbers
+// of other rows.
+// Kept: methods alike but for their column – no plainer: each is one call of `cell`, `number`, `span_at` or `row_of`;
+// with the column a parameter, other crates would name the columns, which stay in here.
+// Kept: that a result is below 2^32, or 2^16 – no plainer: a `u32` would need no such clause, but callers add these
+// numbers to other places, rows and bytes, and compare them, and each of them would have to cast first.
 impl<'a> Rows<'a> {
     /// The first `count` rows of this work memory.
     pub fn new(work: &'a [u32], count: usize) -> Self
@@ -354,7 +386,8 @@ impl<'a> Rows<'a> {
         kinds::kind_at(self.cell(k, KIND))
     }
 
-    /// Up to where the siblings before row k stand: the row after the latest of them, or 0 where there is none.
+    /// The end of the siblings before row k: the row after the latest of them, or 0 where there is none.
+    // Kept: 0 for none – no plainer: it is the end of a range of rows, which begins at 0, and is compared as such.
     pub fn siblings_end(self, k: usize) -> usize
         requires { k < self.count }
         ensures { (result ≡ cell self.entry.work.now k BEFORE) × (result < 4294967296) }

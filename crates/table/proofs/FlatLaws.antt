@@ -10,6 +10,7 @@ use native.Mathlib.Omega.{arith}
 use lib.Dec.{eqb, ltb}
 use lib.ListN.{length, length-append}
 use borrow.Author.Tests.{ne_eqb}
+use Rattle.std.proofs.Math.Bool.{or_assoc}
 use Rattle.definition.specs.Limits.{largest}
 use Rattle.definition.specs.Basic.{given, Answer, Err, Ok, ◌>>=◌, and_then, refuse_if}
 use Rattle.definition.specs.Fold.{Entries, end, entry, append, entry_end}
@@ -51,10 +52,6 @@ pub flat-bytes : (es : Entries) (d : ℕ) → flat_bytes (flat_in d es) ≡ entr
 unfolding flat_in flat_bytes entries_bytes
 flat-bytes end d = refl
 flat-bytes (entry e ms later) d = simp (bytes-both, flat-bytes ms (d + 1), flat-bytes later d)
-
-or_assoc : (a b c : Bool) → ((a || b) || c) ≡ (a || (b || c))
-or_assoc true b c = refl
-or_assoc false b c = refl
 
 varies-both : (a b : List Shown) → flat_varies (a ++ b) ≡ (flat_varies a || flat_varies b)
 unfolding flat_varies

@@ -83,13 +83,13 @@ moved offset e =
     }
 
 -- the entry that an item stands for, from its row's
-abbrev pub marked : Mark → Item → Entry → Entry
-marked Own x e = e
-marked Member x e = moved x.offset e
-marked Union x e = union e x.width
+abbrev pub marked : Mark → Entry → Entry
+marked Own e = e
+marked (Member offset) e = moved offset e
+marked (Union width) e = union e width
 
 abbrev pub own_of : List ℕ → Item → Entry
-own_of w x = marked x.mark x (entry_in w x.row)
+own_of w x = marked x.mark (entry_in w x.row)
 
 abbrev pub shown_of : List ℕ → Item → Shown
 shown_of w x = record { own = own_of w x; members = x.members; below = x.below; depth = x.depth }

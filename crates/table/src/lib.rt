@@ -22,10 +22,16 @@ use rows::Rows;
 pub enum Mark {
     /// Its row's own entry.
     Own,
-    /// The same as a member of a union, at its offset there.
-    Member,
+    /// The same as a member of a union.
+    Member {
+        /// Where it starts in the union, in bytes.
+        offset: u32,
+    },
     /// The union of the row and its redefiners.
-    Union,
+    Union {
+        /// Its bytes.
+        width: u32,
+    },
 }
 
 /// An entry in the table.
@@ -35,10 +41,6 @@ pub struct Item {
     pub row: u32,
     /// What it stands for.
     pub mark: Mark,
-    /// Where it starts in its list, in bytes.
-    pub offset: u32,
-    /// Its bytes.
-    pub width: u32,
     /// How many members it has.
     pub members: u32,
     /// How many entries stand below it.
@@ -84,14 +86,14 @@ impl<'a> RowItem<'a> {
         };
         match self.item.mark {
             Mark::Own => line,
-            Mark::Member => Line {
-                offset: self.item.offset as usize,
+            Mark::Member { offset } => Line {
+                offset: offset as usize,
                 redefines: Span::ABSENT,
                 ..line
             },
-            Mark::Union => Line {
+            Mark::Union { width } => Line {
                 kind: FieldKind::Group,
-                width: self.item.width as usize,
+                width: width as usize,
                 occurs: None,
                 depending: Span::ABSENT,
                 redefines: Span::ABSENT,
@@ -107,12 +109,14 @@ impl<'a> RowItem<'a> {
     {
         let row = self.row();
         match self.item.mark {
-            Mark::Union => (Span::ABSENT, 0, true),
+            Mark::Union { .. } => (Span::ABSENT, 0, true),
             _ => (self.rows.redefines(row), self.rows.slack(row), false),
         }
     }
 
     /// The entry that it stands for: what the listing says of it, and what it doesn't say.
+    // Kept: the line's parts one by one – no plainer: an entry is flat, as the definition has it, and a From of a line
+    // alone lacks five of its parts.
     pub fn entry(self) -> Entry
         ensures { result ≡ own_of self.entry.rows.work.now self.entry.item.now }
     {
@@ -145,12 +149,12 @@ impl<'a> RowItem<'a> {
         sink.line(self.line(), self.item.members as usize);
     }
 
-    // Whether it has a DEPENDING ON: that of its row, and none for a union.
-    fn depends(self) -> bool
+    /// Whether it has a DEPENDING ON: that of its row, and none for a union.
+    pub fn depends(self) -> bool
         ensures { result ≡ given (own_of self.entry.rows.work.now self.entry.item.now).depending }
     {
         match self.item.mark {
-            Mark::Union => false,
+            Mark::Union { .. } => false,
             _ => self.rows.depending(self.row()).is_given(),
         }
     }
@@ -161,7 +165,7 @@ impl<'a> RowItem<'a> {
             × (result < 4294967296) }
     {
         match self.item.mark {
-            Mark::Member => self.item.offset as usize,
+            Mark::Member { offset } => offset as usize,
             _ => self.rows.offset(self.row()),
         }
     }
@@ -177,7 +181,7 @@ impl<'a> RowItem<'a> {
         }
         start
             + match self.item.mark {
-                Mark::Union => self.item.width as usize,
+                Mark::Union { width } => width as usize,
                 _ => unions::row_total(self.rows, self.row()),
             }
     }
@@ -196,6 +200,20 @@ pub struct Table<'a> {
 }
 
 impl<'a> Table<'a> {
+    /// An item that names one of its rows, with the rows.
+    // Kept: each loop over the items calls it – no plainer: a `for` over a slice is proved by the index alone, and an
+    // iterator of `RowItem`s would be a struct with the rows and the items left, a fact of its own and a clause on what
+    // comes, to save this call in a few loops.
+    pub fn row_item(self, item: &'a Item) -> RowItem<'a>
+        requires { item.now.row < self.rows.count }
+        ensures { (result.rows ≡ self.entry.rows) × (result.item.now ≡ item.now) }
+    {
+        RowItem {
+            rows: self.rows,
+            item,
+        }
+    }
+
     /// Puts the bytes of the entries.
     #[tactic(auto, using(crate::proofs::LoopLaws::putting))]
     pub fn put(self, sink: &mut Sink)
@@ -203,11 +221,7 @@ impl<'a> Table<'a> {
         ensures { Puts sink.old (flat_bytes (shown_all self.entry.rows.work.now self.entry.items.now)) sink.new }
     {
         for item in self.items {
-            let x = RowItem {
-                rows: self.rows,
-                item,
-            };
-            x.put(sink);
+            self.row_item(item).put(sink);
         }
     }
 
@@ -219,17 +233,12 @@ impl<'a> Table<'a> {
         self.items.iter().any(
             |item|
                 requires { item.now.row < self.rows.count }
-            {
-                let x = RowItem {
-                    rows: self.rows,
-                    item,
-                };
-                x.depends()
-            },
+            { self.row_item(item).depends() },
         )
     }
 
     // Where an entry ends, if it stands at the top; else 0.
+    // Kept: 0 for none – no plainer: the largest end is sought, of which 0 takes nothing, as the definition has it.
     fn top_end(self, item: &Item) -> usize
         requires { Sound self.rows.work.now self.rows.count item.now }
         ensures { result ≡ top_end (shown_of self.entry.rows.work.now item.now) }
@@ -237,11 +246,7 @@ impl<'a> Table<'a> {
         if item.depth != 0 {
             return 0;
         }
-        let x = RowItem {
-            rows: self.rows,
-            item,
-        };
-        x.end()
+        self.row_item(item).end()
     }
 
     /// How long the record is, in bytes: the largest end at the top.

@@ -23,13 +23,12 @@ fn outer_row(rows: Rows, row: Option<usize>) -> Option<usize>
     requires { row_code row ≤ rows.count }
     ensures { result ≡ outer_row rows.entry.work.now row }
 {
-    match row {
-        Some(k) => rows.parent(k),
-        None => None,
-    }
+    rows.parent(row?)
 }
 
 /// The usage that holds around a statement under that row, or under none.
+// Kept: a `match` – no plainer: for `map_or` its closure needs a `requires` and an `ensures` of its own, since the
+// check doesn't find by itself that it gives the row's usage.
 fn usage_around(rows: Rows, row: Option<usize>) -> ItemUsage
     requires { row_code row ≤ rows.count }
     ensures { result ≡ usage_around rows.entry.work.now row }
@@ -42,12 +41,15 @@ fn usage_around(rows: Rows, row: Option<usize>) -> ItemUsage
 
 /// The levels that are open, the innermost last, and how many; and the row of the innermost, if any. The rows of the
 /// others follow by the parents.
-// Kept: an array and how many are open in place of a vector of the kit – a rule of the project names this form: the open
-// levels, at most 256, and how many they are travel as one value.
+// Kept: an array and how many are open in place of a vector of the kit – a rule of the project names this form: the
+// open levels, at most 256, and how many they are travel as one value.
 #[derive(Clone, Copy)]
 pub struct OpenLevels {
+    /// The levels, the innermost last.
     pub levels: [u8; 256],
+    /// How many are open.
     pub count: usize,
+    /// The row of the innermost, if any.
     pub row: Option<usize>,
 }
 
@@ -64,17 +66,16 @@ impl OpenLevels {
     }
 
     /// Closes the levels that are not smaller than a statement's.
-    // Kept: a `while` – no plainer: `count` itself falls with each level, and a range would count it a second time.
     fn close(&mut self, rows: Rows, level: u8)
         requires { Nested rows.work.now rows.count self.old }
         ensures { Closed rows.entry.work.now rows.entry.count self.old level self.new }
     {
-        while 0 < self.count {
-            if self.levels[self.count - 1] < level {
+        for inner in (0..self.count).rev() {
+            if self.levels[inner] < level {
                 return;
             }
             self.row = outer_row(rows, self.row);
-            self.count -= 1;
+            self.count = inner;
         }
         self.row = None;
     }
@@ -111,14 +112,15 @@ fn add_row(work: &mut [u32], k: usize, o: &mut OpenLevels, s: Statement)
     let rows = Rows::new(work, k);
     o.close(rows, s.level);
     let around = usage_around(rows, o.row);
-    rows::put_row(work, k, rows::row_code(o.row), inheriting(around, s));
+    rows::put_row(work, k, o.row, inheriting(around, s));
     o.open(s.level, k);
 }
 
 /// The statements of a text as rows of work memory, from row 0 on, whether a literal is left open or not: how many, and
 /// the reader stands where the tokens end then; or the refusal of a statement.
 // Kept: a loop – no plainer: a statement may be skipped or be the last, so no range says how many rows come.
-// Kept: the text beside `&mut Stand` – no plainer: with `&mut WordReader` each contract has to say that its text stays.
+// Kept: the text beside `&mut Stand` – no plainer: `read_statement` takes them so, and of a `WordReader` that is lent
+// the contract and the loop's invariant would say that its text stays.
 fn read_statements(text: &[u8], work: &mut [u32], from: &mut Stand) -> Result<usize, Refusal>
     requires { (length text.now ≤ most_bytes) × (least_work ≤ length work.old) × (from.old ≡ at_start) }
     ensures { StatementsAre text.now work.old result work.new from.new }
@@ -142,7 +144,7 @@ fn read_statements(text: &[u8], work: &mut [u32], from: &mut Stand) -> Result<us
 
 /// The kept statements of a text as rows of work memory, from row 0 on: how many there are. 50 comes before any other
 /// refusal of theirs: where the tokens were read to their end, where the reader stands says whether a literal is open,
-/// and else the rest of the text is looked through.
+/// and else the text is looked through from its start.
 pub fn read_rows(text: &[u8], work: &mut [u32]) -> Result<usize, Refusal>
     requires { (length text.now ≤ most_bytes) × (least_work ≤ length work.old) }
     ensures { RowsAre text.now work.old result work.new }

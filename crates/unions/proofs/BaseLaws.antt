@@ -18,7 +18,8 @@ use Rattle.redefines.specs.Targets.{seen_from, bases_at, offset_of, base_from}
 use Rattle.redefines.proofs.SearchLaws.{row-most, row-found, back, back_step}
 use Rattle.places.specs.Places.{entry_in}
 use Rattle.places.proofs.PlaceLaws.{seen_low, seen-out, seen-in}
-use Rattle.names.proofs.SameLaws.{never, swapped, same_first}
+use Rattle.definition.proofs.WordLaws.{never}
+use Rattle.names.proofs.SameLaws.{swapped, same_first}
 use Rattle.unions.specs.Shown.{bases_after, Findable}
 
 -- the bases after row i

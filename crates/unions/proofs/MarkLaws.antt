@@ -21,7 +21,7 @@ use Rattle.rows.specs.Table.{cell, span_at}
 use Rattle.redefines.specs.Targets.{is_target}
 use Rattle.places.specs.Places.{RowLinked, Linked}
 use Rattle.redefines.proofs.SearchLaws.{if-most, row-most, back, back_none, back_step}
-use Rattle.names.proofs.SameLaws.{never}
+use Rattle.definition.proofs.WordLaws.{never}
 use Rattle.unions.specs.Shown.{union_of, next_in, Marked}
 use Rattle.unions.proofs.BaseLaws.{if-not}
 use Rattle.unions.specs.Marks.{first_from}

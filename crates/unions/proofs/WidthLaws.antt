@@ -22,7 +22,8 @@ use Rattle.rows.specs.Columns.{ROW, NAME, REDEFINES, OFFSET, BEFORE, BASE, NEXT}
 use Rattle.rows.specs.Table.{cell, span_at, statement_at, statements_from}
 use Rattle.places.proofs.RowLaws.{children-end, forest-empty, forest-split}
 use Rattle.places.proofs.EntriesLaws.{next_row}
-use Rattle.names.proofs.SameLaws.{never, swapped}
+use Rattle.definition.proofs.WordLaws.{never}
+use Rattle.names.proofs.SameLaws.{swapped}
 use Rattle.redefines.specs.Targets.{is_target, base_after}
 use Rattle.places.specs.Places.{entry_in, rows_forest}
 use Rattle.places.specs.Children.{ChildrenEnd, Numbered}
@@ -36,9 +37,6 @@ use Rattle.unions.proofs.ShownLaws.{redefined-none, redefined-hit, redefined-mis
 use Rattle.unions.proofs.ShownLaws.{redefined-next, Walking, walking-starts, walking_on}
 
 -- ---------------------------------------------------------------- parts of a table
-
-true-false : false ≡ true → ⊥
-true-false e = never e
 
 sized-part : {w : List ℕ} {a b : ℕ} → Sized w a b → (c d : ℕ) → a ≤ c → d ≤ b → Sized w c d
 sized-part s c d l h = record { totals = λ k p q. s.totals k (omega arith) (omega arith) }
@@ -65,8 +63,8 @@ stands-base t w i bases p e = go (given (span_at (cell w i REDEFINES))) refl (sy
     is_base Standing.Base = true
 
     not-either : (a : Bool) → (if a then Standing.Under else Standing.Alone) ≡ Standing.Base → ⊥
-    not-either true x = true-false (ap is_base x)
-    not-either false x = true-false (ap is_base x)
+    not-either true x = never (ap is_base x)
+    not-either false x = never (ap is_base x)
 
     go : (g : Bool) → given (span_at (cell w i REDEFINES)) ≡ g → standing t bases (entry_in w i) ≡ Standing.Base → given (span_at (cell w i REDEFINES)) ≡ false
     go true q x =
@@ -129,12 +127,12 @@ module _ {t w : List ℕ} {from to i last : ℕ} {done : Entries} (inv : Along t
     pub along-before : cell w i BEFORE ≡ last
     along-before = (marked_step w i to j h t last inv.marked).0.before
 
-    pub along-sibling : Branch t w i j to × Known t w i (cell w i BEFORE)
-    along-sibling =
-        let sized = sized-part inv.tree.sized i to inv.low (omega arith) in (
-          marked-branch t w inv.tree.fits inv.back sized inv.marked h,
-          named-known t w inv.tree.fits inv.back sized inv.marked h,
-        )
+    -- row i, as the loop names it
+    pub along-sibling : {row : ℕ} → row ≡ i → Branch t w row j to × Known t w row (cell w row BEFORE)
+    along-sibling at =
+        let sized = sized-part inv.tree.sized i to inv.low (omega arith) in
+        subst (λ (k : ℕ). Branch t w k j to × Known t w k (cell w k BEFORE)) (sym at)
+        (marked-branch t w inv.tree.fits inv.back sized inv.marked h, named-known t w inv.tree.fits inv.back sized inv.marked h)
 
     pub along-on : Along t w from to j (i + 1) (append done (shown_at t w i j to last))
     along-on =

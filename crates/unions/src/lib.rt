@@ -1,5 +1,5 @@
 //! Unions: no redefiner starts before its base (30); each base of a laid table linked with its redefiners; how the rows
-//! stand in the folded lists. Leans on `definition`, `rows`, `names`, `limits` and `places`.
+//! stand in the folded lists. Leans on `definition`, `rows`, `names`, `redefines`, `limits` and `places`.
 #![tactic(auto)]
 
 ghost use Rattle.std.specs.Prelude.{◌≡◌, ◌+◌, ◌*◌, ◌≤◌, ◌<◌, [], length};
@@ -25,17 +25,19 @@ fn check_row(rows: Rows, i: usize) -> Result<(), Refusal>
     requires { (i < rows.count) × (cell rows.work.now i BASE ≤ i) }
     ensures { result ≡ check_row rows.entry.work.now i }
 {
-    if let Some(base) = rows.base(i) {
-        if rows.offset(i) < rows.offset(base) {
-            return Err(Refusal::StartsBeforeBase {
-                position: rows.at(i),
-            });
-        }
+    if let Some(base) = rows.base(i)
+        && rows.offset(i) < rows.offset(base)
+    {
+        return Err(Refusal::StartsBeforeBase {
+            position: rows.at(i),
+        });
     }
     Ok(())
 }
 
 /// Refusal 30 for the list that is laid in the rows from `from` on: its first redefiner that starts before its base.
+// Kept: `text`, which is not read – no plainer: what this promises and asks is said of the names in it, and a clause
+// names only what the function is given.
 pub fn fold_check(text: &[u8], rows: Rows, from: usize) -> Result<(), Refusal>
     requires { Linked text.now rows.work.now from 0 (rows_forest rows.work.now from rows.count) }
     ensures { result ≡ fold_check text.now [] (list_in rows.entry.work.now from rows.entry.count) }
@@ -49,8 +51,8 @@ pub fn fold_check(text: &[u8], rows: Rows, from: usize) -> Result<(), Refusal>
 // ---------------------------------------------------------------- the redefiners linked
 
 // Row k before the rows of its union so far: its base names it then.
-// Kept: work memory and a row – no plainer: two rows are read as `Rows` and then written, and the contract says of both
-// writes at once what work memory comes to.
+// Kept: work memory and a row, as in `link_unions` – no plainer, as of `rows::put_cell`: a struct over the `&mut` would
+// have to say in the contract that it is the same memory and holds as many rows.
 fn link_row(work: &mut [u32], k: usize)
     requires { (ROW * k + ROW ≤ length work.old) × (k < 4294967295) × (cell work.old k BASE ≤ k) }
     ensures { work.new ≡ link_row work.old k }
@@ -63,10 +65,8 @@ fn link_row(work: &mut [u32], k: usize)
     }
 }
 
-// Kept: the parameters, work memory and its rows' ends – no plainer: the contract compares each row with what work memory held before,
-// which a struct that is lent to be changed would say of every part that it has.
-/// Has each row from `from` up to `to` name the next row of its union: from the last row back, for a base is told of
-/// its redefiners by them.
+/// Has each row from `from` up to `to` name the next row of its union: from the last row back, since it is redefiners
+/// that tell a base of themselves.
 pub fn link_unions(work: &mut [u32], from: usize, to: usize)
     requires { Unlinked work.old from to }
     ensures { UnionsLinked work.old from to work.new }
@@ -78,16 +78,20 @@ pub fn link_unions(work: &mut [u32], from: usize, to: usize)
 
 // ---------------------------------------------------------------- how a row stands
 
-/// How an entry stands in the folded list: under its base, a redefiner without a base, or a base.
+/// How an entry stands in the folded list.
 #[derive(Clone, Copy)]
 pub enum Standing {
+    /// Under its base.
     Under,
+    /// By itself, a redefiner without a base.
     Alone,
+    /// A base, with its redefiners.
     Base,
 }
 
 /// How the entry of row i stands in the folded list, where the siblings before it go back from `last`.
-// Kept: `text` and `last`, which are not read – no plainer: the contract speaks of them.
+// Kept: `text` and `last`, which are not read – no plainer: it is public and promises this for any `last`, where
+// `MarkedRow::standing` speaks only of the siblings' end that the row itself names; so its contract needs both.
 pub fn standing_of(text: &[u8], rows: Rows, i: usize, last: usize) -> Standing
     requires { (i < rows.count) × Known text.now rows.work.now i last }
     ensures { result
@@ -106,9 +110,13 @@ pub fn standing_of(text: &[u8], rows: Rows, i: usize, last: usize) -> Standing
 /// the rows up to `end`, and those behind them are its later siblings.
 #[derive(Clone, Copy)]
 pub struct MarkedRow<'a> {
+    /// The text that the names stand in.
     pub text: &'a [u8],
+    /// The rows, with which its list ends.
     pub rows: Rows<'a>,
+    /// Its number.
     pub row: usize,
+    /// The end of its children.
     pub end: usize,
     ghost branch: { Branch text.now rows.work.now row end rows.count } by { Branch-prop },
     ghost known: { Known text.now rows.work.now row (cell rows.work.now row BEFORE) },
@@ -169,8 +177,11 @@ impl<'a> MarkedRow<'a> {
 /// A list of such a record: the siblings in its rows from `from` on, and the text that the names stand in.
 #[derive(Clone, Copy)]
 pub struct MarkedRows<'a> {
+    /// The text that the names stand in.
     pub text: &'a [u8],
+    /// The rows, with which the list ends.
     pub rows: Rows<'a>,
+    /// The first of its rows.
     pub from: usize,
     ghost tree: { Tree text.now rows.work.now from rows.count } by { Tree-prop },
 }
@@ -185,6 +196,9 @@ impl<'a> MarkedRows<'a> {
     }
 
     /// Its siblings, one after the other.
+    // Kept: rows, each made into a `MarkedRow` by the loop – no plainer: what a `MarkedRows` holds of its first row,
+    // that no sibling stands before it, is not so of those that are left behind one; an iterator would be a further
+    // struct that tells, by a fact of its own, how far the list is walked, to save a line in each of two loops.
     pub fn siblings(self) -> Siblings<'a>
         ensures { (result.rows ≡ self.entry.rows) × (result.from ≡ self.entry.from) }
     {

@@ -8,6 +8,7 @@ use Rattle.definition.specs.Record.{record_length}
 use Rattle.table.specs.declared.Item.{Item}
 use Rattle.table.specs.Entered.{Entered}
 use Rattle.unions.specs.Shown.{list_in}
+use Rattle.record.specs.declared.LaidRecord.{LaidRecord}
 
 -- the entries of the folded list in the rows from `from` up to `to`
 abbrev pub entries_of : List ℕ → List ℕ → ℕ → ℕ → Entries
@@ -23,3 +24,8 @@ pub record Tabled (text w : List ℕ) (t : List Item) (from to long top : ℕ) :
   pub table : Entered text w from to t
   pub tops : top ≡ members# (entries_of text w from to)
   pub length : long ≡ record_length (entries_of text w from to)
+
+-- such a record, with its text
+abbrev pub Listable : LaidRecord → Type 0
+Listable a =
+    Tabled a.text.now a.table.rows.work.now a.table.items.now a.from a.table.rows.count a.length a.top

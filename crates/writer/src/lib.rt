@@ -4,7 +4,7 @@
 
 ghost use Rattle.std.specs.Prelude.{◌≡◌, [], length};
 ghost use Rattle.definition.specs.Calls.{after_writing, fitting, left};
-ghost use Rattle.writer.specs.Listed.{listing_of, Tabled};
+ghost use Rattle.writer.specs.Listed.{listing_of, Listable};
 
 use definition::Refusal;
 use listing::{Sink, Written};
@@ -14,19 +14,16 @@ use record::LaidRecord;
 #[derive(Clone, Copy)]
 struct Listing<'a> {
     laid: LaidRecord<'a>,
-    ghost tabled: { Tabled laid.text.now laid.table.rows.work.now laid.table.items.now
-        laid.from laid.table.rows.count laid.length laid.top },
+    ghost tabled: { Listable laid },
 }
 
 impl<'a> Written for Listing<'a> {
     ghost bytes = { λ l. listing_of l.laid.text.now l.laid.table.rows.work.now l.laid.from l.laid.table.rows.count };
 
-    fn put(self, out: &mut [u8]) -> usize {
-        let mut sink = Sink::new(out);
+    fn put(self, sink: &mut Sink) {
         let variable = self.laid.table.varies();
         sink.head(self.laid.length, variable, self.laid.top);
-        self.laid.table.put(&mut sink);
-        sink.at
+        self.laid.table.put(sink);
     }
 
     // One with 98 bytes for each row, and the head's ten, has room for every listing.
@@ -35,11 +32,10 @@ impl<'a> Written for Listing<'a> {
     }
 }
 
-/// Writes the listing of a record that was laid out, if the output has room for it, and answers its length; 31, with its
-/// length, if not.
+/// Writes the listing of a record that was laid out, if the output has room for it, and answers its length; 31, with
+/// its length, if not.
 pub fn write_listing(laid: LaidRecord, out: &mut [u8]) -> Result<usize, Refusal>
-    requires { Tabled laid.text.now laid.table.rows.work.now laid.table.items.now
-        laid.from laid.table.rows.count laid.length laid.top }
+    requires { Listable laid }
     ensures { left result out.new []
         ≡ after_writing
         (fitting (length out.old)

@@ -10,15 +10,15 @@ use Rattle.unions.specs.declared.Standing.{Standing}
 use Rattle.unions.specs.Shown.{shown_at, standing_at, Base, Branch}
 use Rattle.redefines.specs.Targets.{bases_at}
 use Rattle.places.specs.Places.{entry_in}
-use Rattle.unions.proofs.WidthLaws.{branch_row, branch-base, stands-base}
+use Rattle.unions.proofs.WidthLaws.{branch_row, branch-base, stands-base, along-sibling}
 use Rattle.entries.specs.Building.{item_in, redefined, union_in, TableRoom, Built}
 use Rattle.entries.specs.declared.Block.{Block}
 use Rattle.table.specs.declared.Item.{Item}
 use Rattle.entries.proofs.BuildLaws.{built-none, built-as, built-wider, room-part, room_within}
 use Rattle.entries.proofs.BuildLaws.{room_open, built-own, built-union}
-use Rattle.entries.proofs.WalkLaws.{shown-under, shown-alone, shown-base, shown-union, members-folded}
-use Rattle.entries.proofs.WalkLaws.{members-based, first-room, second-room, both-built, room_as}
-use Rattle.entries.proofs.WalkLaws.{listing-starts, listing-ends, listing-sibling, listing-falls, listing-room, listing-on}
+use Rattle.entries.proofs.WalkLaws.{shown-under, shown-alone, shown-base, shown-union, union-based}
+use Rattle.entries.proofs.WalkLaws.{based-folded, based-alone, first-room, second-room, both-built, room_as}
+use Rattle.entries.proofs.WalkLaws.{listing-starts, listing-ends, listing-falls, listing-room, listing-on}
 use Rattle.entries.proofs.WalkLaws.{redefining-starts, redefining-ends, redefining-next}
 use Rattle.entries.proofs.WalkLaws.{redefining-numbered, redefining-sibling, redefining-room}
 use Rattle.entries.proofs.WalkLaws.{redefining-on, redefining-falls}
@@ -36,7 +36,7 @@ build_item-close_item-requires t c =
     let a = c.args in
     let n = c.children.ensures in
     let built = rw (n.0, n.1, n.2, n.3, c.within.ensures) at c.build_list-inner.ensures in
-    room_open a.b a.depth built a.row.row a.row.branch.low c.requires
+    room_open a.b built a.row.row a.row.branch.low c.requires
 
 pub build_item-returns : goal.build_item-returns
 build_item-returns t c =
@@ -45,7 +45,6 @@ build_item-returns t c =
     let built = rw (n.0, n.1, n.2, n.3, c.within.ensures) at c.build_list-inner.ensures in
     built-own
     a.b
-    a.depth
     (built-wider a.row.row a.row.end (omega arith) (omega arith) built)
     a.row.row
     (omega arith)
@@ -62,13 +61,13 @@ build_list-loop-sibling-init t c =
     let l = a.list in
     let s = c.siblings-sibling-items.ensures in
     rw c.into_iter-sibling-iterator.ensures.into_iter_gives
-    (tt, tt, s.0, listing-starts l.text.now l.rows.work.now a.entries.now l.from l.rows.count a.b a.depth l.tree c.requires s.1)
+    (tt, tt, s.0, listing-starts l.text.now l.rows.work.now a.entries.now l.from l.rows.count a.b l.tree c.requires s.1)
 
 pub build_list-new-row-requires : goal.build_list-new-row-requires
 build_list-new-row-requires t c =
     let inv = c.loop-sibling.invariant in
     let s = c.in-Some.ensures.steps in
-    listing-sibling inv.3 s.1 (rw inv.2 at s.2)
+    along-sibling inv.3.along (rw inv.2 at s.2) s.1
 
 pub build_list-build_shown-r-requires : goal.build_list-build_shown-r-requires
 build_list-build_shown-r-requires t c =
@@ -94,63 +93,62 @@ build_list-returns t c =
 -- ---------------------------------------------------------------- build_members
 
 -- the members of a union are two parts, one after the other
-module _ {t w : List ℕ} {i j to : ℕ} {es : Entries} (xs : Entries) (base : Base t w i j to) (split : es ≡ append xs (redefined t w i j to)) {out : List Item} {b : Block} {d : ℕ} (room : TableRoom out b d (entries# es) to) where
-  part : TableRoom out b d (entries# xs) j
-  part = room-part j base.high (first-room xs (redefined t w i j to) split room)
+module _ {t w : List ℕ} {i j to : ℕ} {es : Entries} (xs : Entries) (x : Branch t w i j to) (split : es ≡ append xs (redefined t w i j to)) {out : List Item} {b : Block} (room : TableRoom out b (entries# es) to) where
+  part : TableRoom out b (entries# xs) j
+  part = room-part j x.high (first-room xs (redefined t w i j to) split room)
 
-  module _ {r : Block} {after : List Item} (p : Built i j w out b d xs r after) where
-    after_part : TableRoom after r d (entries# (redefined t w i j to)) to
+  module _ {r : Block} {after : List Item} (p : Built i j w out b xs r after) where
+    after_part : TableRoom after r (entries# (redefined t w i j to)) to
     after_part = second-room xs (redefined t w i j to) split room p
 
-    both : {r' : Block} {after' : List Item} → Built i to w after r d (redefined t w i j to) r' after' → Built i to w out b d es r' after'
-    both q = both-built xs (redefined t w i j to) split room (built-wider i to (omega arith) base.high p) q
+    both : {r' : Block} {after' : List Item} → Built i to w after r (redefined t w i j to) r' after' → Built i to w out b es r' after'
+    both q = both-built xs (redefined t w i j to) split room (built-wider i to (omega arith) x.high p) q
 
-pub build_members-build_list-next-requires : goal.build_members-build_list-next-requires
-build_members-build_list-next-requires t c =
+pub build_members-build_based-next-requires : goal.build_members-build_based-next-requires
+build_members-build_based-next-requires t c =
     let x = c.args.base in
-    let base = branch-base x.branch c.requires.0 in
-    let split = members-folded x.text.now x.rows.work.now x.row x.end x.rows.count c.has_own.ensures c.if-has_own.true in
-    let n = c.children.ensures in
-    rw (n.0, n.1, n.2, n.3) (omega (arith, base.low, base.high), part _ base split c.requires.1)
+    let split = union-based x.text.now x.rows.work.now x.row x.end x.rows.count in
+    (omega (arith, x.branch.low, x.branch.high), part _ x.branch split c.requires.1)
 
 pub build_members-build_redefiners-requires : goal.build_members-build_redefiners-requires
 build_members-build_redefiners-requires t c =
     let x = c.args.base in
-    let base = branch-base x.branch c.requires.0 in
-    let split = members-folded x.text.now x.rows.work.now x.row x.end x.rows.count c.has_own.ensures c.if-has_own.true in
-    let n = c.children.ensures in
-    let built = built-wider x.row x.end (omega arith) (omega arith) (rw (n.0, n.1, n.2, n.3) at c.build_list-next.ensures) in
-    (omega (arith, base.low, base.high), (c.requires.0, after_part _ base split c.requires.1 built))
-
-pub build_members-returns-then-has_own : goal.build_members-returns-then-has_own
-build_members-returns-then-has_own t c =
-    let x = c.args.base in
-    let base = branch-base x.branch c.requires.0 in
-    let split = members-folded x.text.now x.rows.work.now x.row x.end x.rows.count c.has_own.ensures c.if-has_own.true in
-    let n = c.children.ensures in
-    let built = built-wider x.row x.end (omega arith) (omega arith) (rw (n.0, n.1, n.2, n.3) at c.build_list-next.ensures) in
-    both _ base split c.requires.1 built c.build_redefiners.ensures
-
-pub build_members-build_item-next-requires : goal.build_members-build_item-next-requires
-build_members-build_item-next-requires t c =
-    let x = c.args.base in
-    let base = branch-base x.branch c.requires.0 in
-    let split = members-based x.text.now x.rows.work.now x.row x.end x.rows.count c.has_own.ensures c.if-has_own.false c.offset-start.ensures.0 in
-    (omega (arith, base.low, base.high), part _ base split c.requires.1)
-
-pub build_members-build_redefiners-requires-2 : goal.build_members-build_redefiners-requires-2
-build_members-build_redefiners-requires-2 t c =
-    let x = c.args.base in
-    let base = branch-base x.branch c.requires.0 in
-    let split = members-based x.text.now x.rows.work.now x.row x.end x.rows.count c.has_own.ensures c.if-has_own.false c.offset-start.ensures.0 in
-    (omega (arith, base.low, base.high), (c.requires.0, after_part _ base split c.requires.1 c.build_item-next.ensures))
+    let split = union-based x.text.now x.rows.work.now x.row x.end x.rows.count in
+    (omega (arith, x.branch.low, x.branch.high), (c.requires.0, after_part _ x.branch split c.requires.1 c.build_based-next.ensures))
 
 pub build_members-returns : goal.build_members-returns
 build_members-returns t c =
     let x = c.args.base in
-    let base = branch-base x.branch c.requires.0 in
-    let split = members-based x.text.now x.rows.work.now x.row x.end x.rows.count c.has_own.ensures c.if-has_own.false c.offset-start.ensures.0 in
-    both _ base split c.requires.1 c.build_item-next.ensures c.build_redefiners-2.ensures
+    let split = union-based x.text.now x.rows.work.now x.row x.end x.rows.count in
+    both _ x.branch split c.requires.1 c.build_based-next.ensures c.build_redefiners.ensures
+
+-- ---------------------------------------------------------------- build_based
+
+pub build_based-build_list-requires : goal.build_based-build_list-requires
+build_based-build_list-requires t c =
+    let x = c.args.base in
+    let same = based-folded x.text.now x.rows.work.now x.row x.end x.rows.count c.has_own.ensures c.if-has_own.true in
+    let n = c.children.ensures in
+    rw (n.0, n.1, n.2, n.3) (omega (arith, x.branch.low), room_as same c.requires)
+
+pub build_based-returns-then-has_own : goal.build_based-returns-then-has_own
+build_based-returns-then-has_own t c =
+    let x = c.args.base in
+    let same = based-folded x.text.now x.rows.work.now x.row x.end x.rows.count c.has_own.ensures c.if-has_own.true in
+    let n = c.children.ensures in
+    built-as same (built-wider x.row x.end (omega arith) (omega arith) (rw (n.0, n.1, n.2, n.3) at c.build_list.ensures))
+
+pub build_based-build_item-requires : goal.build_based-build_item-requires
+build_based-build_item-requires t c =
+    let x = c.args.base in
+    let same = based-alone x.text.now x.rows.work.now x.row x.end x.rows.count c.has_own.ensures c.if-has_own.false c.offset-start.ensures.0 in
+    (omega (arith, x.branch.low), room_as same c.requires)
+
+pub build_based-returns-else-has_own : goal.build_based-returns-else-has_own
+build_based-returns-else-has_own t c =
+    let x = c.args.base in
+    let same = based-alone x.text.now x.rows.work.now x.row x.end x.rows.count c.has_own.ensures c.if-has_own.false c.offset-start.ensures.0 in
+    built-as same c.build_item.ensures
 
 -- ---------------------------------------------------------------- build_redefiners
 
@@ -159,7 +157,7 @@ build_redefiners-loop-next-init t c =
     let a = c.args in
     let x = a.base in
     let base = branch-base x.branch c.requires.0 in
-    redefining-starts x.text.now x.rows.work.now a.entries.now x.row x.end x.rows.count a.b a.depth base (search rules) c.requires.1
+    redefining-starts x.text.now x.rows.work.now a.entries.now x.row x.end x.rows.count a.b base (search rules) c.requires.1
 
 pub build_redefiners-next_of-end-requires : goal.build_redefiners-next_of-end-requires
 build_redefiners-next_of-end-requires t c = redefining-numbered c.loop-next.invariant c.in-Some.is
@@ -180,7 +178,7 @@ build_redefiners-build_item-r-requires t c =
 
 pub build_redefiners-loop-next-smaller : goal.build_redefiners-loop-next-smaller
 build_redefiners-loop-next-smaller t c =
-    redefining-falls c.loop-next.invariant c.in-Some.is c.next_of-end.ensures c.next-next.ensures.0
+    redefining-falls c.loop-next.invariant c.in-Some.is c.next_of-end.ensures c.next-next-in-Some.ensures.0
 
 pub build_redefiners-loop-next-preserved : goal.build_redefiners-loop-next-preserved
 build_redefiners-loop-next-preserved t c =
@@ -191,7 +189,7 @@ build_redefiners-loop-next-preserved t c =
     c.next_of-end.ensures
     c.offset-start.ensures.0
     (rw (n.0, n.1, n.2, n.3) at c.build_item-r.ensures)
-    c.next-next.ensures.0
+    c.next-next-in-Some.ensures.0
 
 pub build_redefiners-returns : goal.build_redefiners-returns
 build_redefiners-returns t c = redefining-ends c.loop-next.invariant c.in_default.is
@@ -220,7 +218,7 @@ build_shown-returns-in-Under t c =
     let last = cell x.rows.work.now x.row BEFORE in
     built-as
     (shown-under x.text.now x.rows.work.now x.row x.end x.rows.count last c.standing.ensures c.in-Under.is)
-    (built-none x.rows.work.now a.entries.now a.b a.depth c.requires.narrow)
+    (built-none x.rows.work.now a.entries.now a.b c.requires.narrow)
 
 pub build_shown-returns-in-Alone : goal.build_shown-returns-in-Alone
 build_shown-returns-in-Alone t c =
@@ -244,7 +242,7 @@ build_shown-close_union-requires t c =
     let x = a.row in
     let shown = unites x.branch c.standing.ensures c.in-Base.is c.next.ensures.0 c.in-Some.is in
     let built = rw c.within.ensures at c.build_members-inner.ensures in
-    room_open a.b a.depth built x.row (omega (arith, x.branch.low, x.branch.high)) (room_as shown c.requires)
+    room_open a.b built x.row (omega (arith, x.branch.low, x.branch.high)) (room_as shown c.requires)
 
 pub build_shown-returns-in-Some : goal.build_shown-returns-in-Some
 build_shown-returns-in-Some t c =
@@ -253,7 +251,7 @@ build_shown-returns-in-Some t c =
     built-as
     (unites x.branch c.standing.ensures c.in-Base.is c.next.ensures.0 c.in-Some.is)
     (
-    built-union a.b a.depth (rw c.within.ensures at c.build_members-inner.ensures) x.row (omega arith)
+    built-union a.b (rw c.within.ensures at c.build_members-inner.ensures) x.row (omega arith)
     (omega (arith, x.branch.low, x.branch.high)) c.close_union.ensures
     )
 

@@ -5,6 +5,9 @@ use Rattle.std.proofs.Common.{◌≡◌, ◌+◌, ◌*◌, ◌-◌}
 use Rattle.entries.proofs.WalkLaws.{Listing, Redefining, chain_left}
 use Rattle.entries.proofs.+build.Given as goal
 
+abbrev pub decreases-build_based : goal.decreases-build_based
+decreases-build_based l = 8 * (l.base.end - l.base.row) + 1
+
 abbrev pub decreases-build_item : goal.decreases-build_item
 decreases-build_item l = 8 * (l.row.end - l.row.row)
 
@@ -26,12 +29,12 @@ invariant-build_list-loop-sibling l =
     × (goal.iterator-build_list-loop-sibling).is_finite l.sibling-iterator
     × (l.sibling-iterator.rows ≡ l.list.rows)
     × Listing l.list.text.now l.list.rows.work.now l.initial.entries l.entries l.list.from l.list.rows.count l.initial.r
-    l.depth l.sibling-iterator.from l.r
+    l.sibling-iterator.from l.r
 
 abbrev pub invariant-build_redefiners-loop-next : goal.invariant-build_redefiners-loop-next
 invariant-build_redefiners-loop-next l =
     let x = l.base in
-    Redefining x.text.now x.rows.work.now l.initial.entries l.entries x.row x.end x.rows.count l.initial.r l.depth l.r l.next
+    Redefining x.text.now x.rows.work.now l.initial.entries l.entries x.row x.end x.rows.count l.initial.r l.r l.next
 
 abbrev pub decreases-build_redefiners-loop-next : goal.decreases-build_redefiners-loop-next
 decreases-build_redefiners-loop-next l = chain_left l.base.rows.count l.next

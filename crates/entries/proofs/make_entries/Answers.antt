@@ -1,7 +1,7 @@
 -- `entries::make_entries` meets its contract: there is room, and what was put is read back.
 use native.Mathlib.Omega.{arith}
 use Rattle.entries.proofs.BuildLaws.{built-length}
-use Rattle.entries.proofs.ReadLaws.{room-all, entered}
+use Rattle.entries.proofs.ReadLaws.{room-all, entered, rest-kept}
 use Rattle.entries.proofs.make_entries.Goals as goal
 
 pub build_list-requires : goal.build_list-requires
@@ -23,3 +23,11 @@ pub returns-clause-entered : goal.returns-clause-entered
 returns-clause-entered c =
     let l = c.args.list in
     entered l.text.now l.rows.work.now l.from l.rows.count c.requires.0 c.requires.1 c.build_list.ensures
+
+pub returns-clause-widest : goal.returns-clause-widest
+returns-clause-widest c = omega (arith, c.build_list.ensures.most)
+
+pub returns-clause-rest : goal.returns-clause-rest
+returns-clause-rest c =
+    let l = c.args.list in
+    rest-kept l.text.now l.rows.work.now l.from l.rows.count c.requires.0 c.requires.1 c.build_list.ensures

@@ -1,7 +1,7 @@
 -- `layout::place` meets its contract.
 use Prim.Native.Nat.{ℕ, ◌+◌, ◌*◌, ◌-◌, ◌≤◌, ◌<◌}
 use mathlib.Core.Bool.{Bool, true, false}
-use mathlib.Core.Path.{◌≡◌, sym, ap, ◌∙◌}
+use mathlib.Core.Path.{◌≡◌, sym, ap, ap₂, ◌∙◌}
 use mathlib.Core.List.{List}
 use native.Mathlib.Omega.{arith}
 use Rattle.definition.specs.declared.Refusal.{Refusal}
@@ -111,17 +111,19 @@ module _ (t w : List ℕ) {t₀ w₀ : List ℕ} (f₀ : t ≡ t₀) (e₀ : w �
       large py q = rw (← f₀, ← e₀) (in_row (placed-large t s c (seen_at w last) cursor begins (sym q ∙ py ∙ ap end_of made)))
 
       fits :
-          {y : Answer ℕ} {n m p : ℕ} {b : Option ℕ} {w' : List ℕ} →
+          {y : Answer ℕ} {n m : ℕ} {b g : Option ℕ} {w' : List ℕ} (l : Option ℕ) →
           target_in o ≡ row_of (target_from t s.clauses.redefines w last) →
           y ≡ end_of d →
           y ≡ Ok n →
           b ≡ row_of (base_from t s.clauses.redefines w (row_code x.target) (row_code x.target)) →
-          p ≡ plain_after w last * 65536 + row_code x.target →
-          w' ≡ put_place w₀ i last (row_code b) p d →
+          row_code l ≡ plain_after w last →
+          g ≡ x.target →
+          w' ≡ put_place w₀ i last (row_code b) (row_code l * 65536 + row_code g) d →
           m ≡ (if given s.clauses.redefines then cursor else n) →
           placing m n w' ≡ place_row t₀ w₀ i last cursor c
-      fits pt py q pb pp pw pm =
+      fits l pt py q pb p₁ p₂ pw pm =
           let pk = target-code e pt in
+          let pp = ap₂ (λ (n m : ℕ). n * 65536 + m) p₁ (ap row_code p₂) in
           let z = ends_at d (sym q ∙ py) in
           let g = in_row (placed-fits t s c (seen_at w last) cursor begins (sym (ap too_large made) ∙ z.fits)) in
           rw (pm, pw, ← f₀, ← e₀, based pk pb, placers pk pp, ← z.is, made) g
@@ -146,30 +148,23 @@ start_of-requires c =
 pub base_of-base-requires : goal.base_of-base-requires
 base_of-base-requires c =
     let p = c.requires in
-    let x = c.new-printed.result in
     let found = c.start_of.ensures in
-    let name = c.statement-s.result.clauses.redefines in
-    let before = earlier x.text.now x.rows.work.now name c.args.next.last c.in_ok-start.was found.1 found.2 in (
-      omega (arith, before, p.1, c.new-2.ensures.1, c.new-printed.ensures.2),
-      of-name x.text.now x.rows.work.now name c.args.next.last c.in_ok-start.was found.1,
-    )
+    let before = earlier _ _ _ _ c.in_ok-start.was found.1 found.2 in
+    (omega (arith, before, p.1, c.new-2.ensures.1, c.new-printed.ensures.2), of-name _ _ _ _ c.in_ok-start.was found.1)
 
 pub placers_of-placers-requires : goal.placers_of-placers-requires
 placers_of-placers-requires c =
     let p = c.requires in
-    let x = c.new-printed.result in
     let found = c.start_of.ensures in
-    let name = c.statement-s.result.clauses.redefines in
-    let before = earlier x.text.now x.rows.work.now name c.args.next.last c.in_ok-start.was found.1 found.2 in
+    let before = earlier _ _ _ _ c.in_ok-start.was found.1 found.2 in
     (omega (arith, p.1, c.new-2.ensures.1, c.new-printed.ensures.2), omega (arith, p.1, p.2), omega (arith, before, p.1, p.2))
 
 pub put_place-requires : goal.put_place-requires
 put_place-requires c =
     let p = c.requires in
-    let x = c.new-printed.result in
     let found = c.start_of.ensures in
     let s = c.statement-s.result in
-    let before = earlier x.text.now x.rows.work.now s.clauses.redefines c.args.next.last c.in_ok-start.was found.1 found.2 in
+    let before = earlier _ _ _ _ c.in_ok-start.was found.1 found.2 in
     let d = c.entry_of-e in (
       p.0,
       omega (arith, p.1, p.2),
@@ -206,5 +201,6 @@ returns c =
     let over = c.start_of.ensures in
     fits x.result.text.now x.result.rows.work.now x.ensures.0 same a.i a.next.last a.next.cursor a.c
     (re-read a.i c.statement-s.ensures c.new.ensures.0 same) over.0 c.in_ok-start.was c.slack_to.ensures c.entry_of-e.ensures
-    over.1 c.entry_end.ensures c.in_ok-end.was c.base_of-base.ensures.0 c.placers_of-placers.ensures c.put_place.ensures
+    c.placers_of-placers.result.plain over.1 c.entry_end.ensures c.in_ok-end.was c.base_of-base.ensures.0 c.placers_of-placers.ensures.0
+    c.placers_of-placers.ensures.1 c.put_place.ensures
     c.advanced.ensures

@@ -1,12 +1,18 @@
 -- `record::read_rows` meets its contract: the checks, and then the rows that hold the statements, with the counts of
 -- the rows below them and the fingerprints of their names.
-use Rattle.std.proofs.Common.{◌∙◌, refl, ap, arith, length}
+use Prim.Native.Nat.{ℕ}
+use mathlib.Core.List.{List}
+use Rattle.std.proofs.Common.{◌≡◌, ◌∙◌, refl, ap, arith, length}
 use Rattle.std.proofs.lemmas.Result.{err_from_is_err_and}
-use Rattle.definition.specs.Calls.{record_fields}
-use Rattle.definition.proofs.CallsLaws.{passes}
+use Rattle.definition.specs.Basic.{Ok}
+use Rattle.definition.specs.Calls.{entry_checks, record_fields}
+use Rattle.definition.proofs.CallsLaws.{Passes, passes}
 use Rattle.tree.proofs.ReadingLaws.{stored, turned_down}
 use Rattle.record.proofs.EntryLaws.{checks-refuse, read-refused, read_kept}
 use Rattle.record.proofs.read_rows.Goals as goal
+
+past : {text : List ℕ} {n : ℕ} {u : Unit {0}} → Ok u ≡ entry_checks text n → Passes text n
+past {text} {n} e = passes text n e refl
 
 pub returns-in_err-entry_checks : goal.returns-in_err-entry_checks
 returns-in_err-entry_checks c =
@@ -14,30 +20,29 @@ returns-in_err-entry_checks c =
     rw (p.1, p.2) (checks-refuse c.args.text.now (length c.args.work.now) c.in_err-entry_checks.ensures)
 
 pub read_rows-requires : goal.read_rows-requires
-read_rows-requires c = let p = passes c.args.text.now (length c.args.work.now) c.in_ok-entry_checks.ensures refl in (p.short, p.room)
+read_rows-requires c = let p = past c.in_ok-entry_checks.ensures in (p.short, p.room)
 
 pub returns-in_err-n : goal.returns-in_err-n
 returns-in_err-n c =
     let a = c.args in
     let e = err_from_is_err_and c.from_residual-in_err-n.result c.from_residual-in_err-n.ensures.1 in
-    let p = passes a.text.now (length a.work.now) c.in_ok-entry_checks.ensures refl in
     rw (e.1, e.2)
     (ap (record_fields a.text.now) c.read_rows.auto.work
-    ∙ read-refused a.text.now (length a.work.now) p (turned_down _ c.in_err-n.ensures))
+    ∙ read-refused a.text.now (length a.work.now) (past c.in_ok-entry_checks.ensures) (turned_down _ c.in_err-n.ensures))
 
 pub count_below-requires : goal.count_below-requires
 count_below-requires c =
-    let p = passes c.args.text.now (length c.args.work.now) c.in_ok-entry_checks.ensures refl in
+    let p = past c.in_ok-entry_checks.ensures in
     let r = stored c.in_ok-n.n p.room c.in_ok-n.ensures in
     (omega (arith, r.few, r.long, p.room), omega (arith, r.few))
 
 pub put_prints-requires : goal.put_prints-requires
 put_prints-requires c =
-    let p = passes c.args.text.now (length c.args.work.now) c.in_ok-entry_checks.ensures refl in
+    let p = past c.in_ok-entry_checks.ensures in
     let r = stored c.in_ok-n.n p.room c.in_ok-n.ensures in
     omega (arith, r.few, r.long, p.room, c.count_below.ensures.long)
 
 pub returns : goal.returns
 returns c =
-    let p = passes c.args.text.now (length c.args.work.now) c.in_ok-entry_checks.ensures refl in
+    let p = past c.in_ok-entry_checks.ensures in
     read_kept p (stored c.in_ok-n.n p.room c.in_ok-n.ensures) c.count_below.ensures c.put_prints.ensures

@@ -92,6 +92,4 @@ returns c =
     let closed : Closed a.work.now a.k a.o.now a.s.level c.close.new.self = there a.o.now a.s.level c.close.new.self e.0 e.1 c.close.ensures in
     let around : c.usage_around-around.result ≡ usage_around a.work.now c.close.new.self.row =
     c.usage_around-around.ensures ∙ ap (λ (x : List ℕ). usage_around x c.close.new.self.row) e.0 in
-    let put : c.put_row.new.work ≡ put_row a.work.now a.k (row_code c.close.new.self.row) c.inheriting.result =
-    c.put_row.ensures ∙ ap (λ (n : ℕ). put_row a.work.now a.k n c.inheriting.result) c.row_code.ensures in
-    added a.work.now a.k a.s c.requires.0 closed c.requires.3 c.open.ensures around c.inheriting.ensures put
+    added a.work.now a.k a.s c.requires.0 closed c.requires.3 c.open.ensures around c.inheriting.ensures c.put_row.ensures

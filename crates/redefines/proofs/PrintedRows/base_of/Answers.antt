@@ -20,8 +20,8 @@ Base t w name target found =
     (found ≡ row_of (base_from t name w (row_code target) (row_code target)))
     × (base_from t name w (row_code target) (row_code target) ≤ row_code target)
 
-none : (t w : List ℕ) (name : Span) {target : Option ℕ} → target ≡ None → Base t w name target None
-none t w name e = rw e (ap row_of (sym (back_none t w name)), row-most t w name true 0 0)
+none : (t w : List ℕ) (name : Span) {target found : Option ℕ} → target ≡ None → found ≡ None → Base t w name target found
+none t w name e n = rw e (n ∙ ap row_of (sym (back_none t w name)), row-most t w name true 0 0)
 
 module _ (t w : List ℕ) (name : Span) {target : Option ℕ} {row : ℕ} (e : target ≡ Some row) where
   -- the base from the sibling before that row back
@@ -55,19 +55,19 @@ module _ (t w : List ℕ) (name : Span) {target : Option ℕ} {row : ℕ} (e : t
         second : n ≤ row → {r : SearchEnd} → Ended t name true w n r → Base t w name target r.row
         second l x = made (x.row ∙ ap row_of (sym (before ∙ ap (base_from t name w row) (sym z) ∙ row_low t w name true row n l)))
 
-pub returns-in_default : goal.returns-in_default
-returns-in_default c = none _ _ _ c.in_default.is
+pub returns-in_err-row : goal.returns-in_err-row
+returns-in_err-row c = none _ _ _ c.in_err-row.was (search c.from_residual.ensures)
 
 pub returns-then-row-before : goal.returns-then-row-before
 returns-then-row-before c =
-    broken _ _ _ c.in-Some.is c.passed_over.ensures c.if-passed_over.true c.siblings_end-before.ensures.0
+    broken _ _ _ c.in_ok-row.was c.passed_over.ensures c.if-passed_over.true c.siblings_end-before.ensures.0
     c.if-row-before.true
 
 pub returns-then-passed_over : goal.returns-then-passed_over
 returns-then-passed_over c =
-    second _ _ _ c.in-Some.is c.passed_over.ensures c.if-passed_over.true c.siblings_end-before.ensures.0
+    second _ _ _ c.in_ok-row.was c.passed_over.ensures c.if-passed_over.true c.siblings_end-before.ensures.0
     c.if-row-before.false c.search_back.ensures
 
 pub returns : goal.returns
 returns c = let a = c.args in
-    base a.self.text.now a.self.rows.work.now a.redefines c.in-Some.is c.passed_over.ensures c.if-passed_over.false c.requires.1
+    base a.self.text.now a.self.rows.work.now a.redefines c.in_ok-row.was c.passed_over.ensures c.if-passed_over.false c.requires.1

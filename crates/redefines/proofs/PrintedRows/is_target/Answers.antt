@@ -7,7 +7,7 @@ use Rattle.definition.specs.declared.Span.{Span}
 use Rattle.names.specs.Prints.{name_print}
 use Rattle.rows.specs.Columns.{PRINT}
 use Rattle.rows.specs.Table.{cell}
-use Rattle.redefines.specs.Targets.{is_target}
+use Rattle.redefines.specs.Targets.{among_bases, is_target}
 use Rattle.redefines.specs.Prints.{PrintedRow}
 use Rattle.redefines.proofs.PrintLaws.{not-target}
 use Rattle.redefines.proofs.PrintedRows.is_target.Goals as goal
@@ -25,5 +25,5 @@ other t w target bases k p e q n = sym (not-target t w target bases e k p (λ z.
 pub returns-then-print : goal.returns-then-print
 returns-then-print c =
     let a = c.args in
-    other a.self.text.now a.self.rows.work.now a.target a.bases a.k (a.self.printed.rows a.k c.requires.0) c.requires.1
+    other a.self.text.now a.self.rows.work.now a.target (among_bases a.among) a.k (a.self.printed.rows a.k c.requires.0) c.requires.1
     c.print.ensures c.if-print.true

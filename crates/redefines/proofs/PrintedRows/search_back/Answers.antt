@@ -27,33 +27,22 @@ start {t} {w} {target} {bases} p e b =
     record { printed = p; less = omega (arith, b.low); row = x.row; looked = omega (arith, x.looked) }
 
 module _ {t w : List ℕ} {target : Span} {bases : Bool} {last k gaps : ℕ} (inv : Left t w target bases last k gaps) where
-  abbrev here : ℕ
-  here = k - 1
+  -- the row before k
+  module _ {here : ℕ} (same : k ≡ suc here) where
+    -- what is found and looked at from the sibling before that row back
+    abbrev row_back : ℕ
+    row_back = row_from t target bases w here (cell w here BEFORE)
 
-  -- what is found and looked at from the sibling before that row back
-  abbrev row_back : ℕ
-  row_back = row_from t target bases w here (cell w here BEFORE)
+    abbrev looked_back : ℕ
+    looked_back = looked_from t target bases w here (cell w here BEFORE)
 
-  abbrev looked_back : ℕ
-  looked_back = looked_from t target bases w here (cell w here BEFORE)
-
-  ready :
-      0 < k →
-      {print : ℕ} →
-      print ≡ name_print t target →
-      {count : ℕ} →
-      last ≤ count →
-      (k - 1 < count) × (print ≡ name_print t target)
-  ready h e fits = (omega (arith, inv.less), e)
-
-  module _ (h : 0 < k) where
     row-there :
         {b : Bool} →
         is_target t target bases w here ≡ b →
         row_from t target bases w last last ≡ (if b then suc here else row_back)
     row-there e =
         inv.row
-        ∙ ap (λ (x : ℕ). row_from t target bases w x x) (let z : k ≡ suc here = omega arith in z)
+        ∙ ap (λ (x : ℕ). row_from t target bases w x x) same
         ∙ row_here t w target bases here
         ∙ ap (λ (b : Bool). if b then suc here else row_back) e
 
@@ -63,20 +52,20 @@ module _ {t w : List ℕ} {target : Span} {bases : Bool} {last k gaps : ℕ} (in
         looked_from t target bases w last last + gaps + k ≡ last + (if b then 1 else suc looked_back)
     looked-there e =
         inv.looked
-        ∙ ap (λ (x : ℕ). last + looked_from t target bases w x x) (let z : k ≡ suc here = omega arith in z)
+        ∙ ap (λ (x : ℕ). last + looked_from t target bases w x x) same
         ∙ ap (λ (n : ℕ). last + n)
         (looked-here t w target bases here ∙ ap (λ (b : Bool). if b then 1 else suc looked_back) e)
 
-    module _ {o : Bool} (p : o ≡ is_target t target bases w (k - 1)) where
-      found : o ≡ true → Ended t target bases w last (record { row = Some (k - 1); compared = last - (k - 1) - gaps })
+    module _ {o : Bool} (p : o ≡ is_target t target bases w (here)) where
+      found : o ≡ true → Ended t target bases w last (record { row = Some (here); compared = last - (here) - gaps })
       found e =
           record {
             row = sym (ap row_of (row-there (sym p ∙ e)) ∙ row-back here);
-            looked = omega (arith, inv.less, looked-there (sym p ∙ e));
+            looked = omega (arith, same, inv.less, looked-there (sym p ∙ e));
           }
 
-      module _ (e : o ≡ false) {n : ℕ} (q : n ≡ cell w (k - 1) BEFORE) where
-        broken : k - 1 < n → Ended t target bases w last (record { row = None; compared = last - (k - 1) - gaps })
+      module _ (e : o ≡ false) {n : ℕ} (q : n ≡ cell w (here) BEFORE) where
+        broken : here < n → Ended t target bases w last (record { row = None; compared = last - (here) - gaps })
         broken l =
             record {
               row =
@@ -85,6 +74,7 @@ module _ {t w : List ℕ} {target : Span} {bases : Bool} {last k gaps : ℕ} (in
               looked =
                   omega (
                     arith,
+                    same,
                     inv.less,
                     looked-there (sym p ∙ e),
                     looked-over t w target bases here (cell w here BEFORE) (omega arith),
@@ -92,16 +82,16 @@ module _ {t w : List ℕ} {target : Span} {bases : Bool} {last k gaps : ℕ} (in
             }
 
         next :
-            n ≤ k - 1 →
+            n ≤ here →
             {print r : ℕ} →
             print ≡ name_print t target →
             PassedBack w print n r →
-            Left t w target bases last r (gaps + (k - 1 - n))
+            Left t w target bases last r (gaps + (here - n))
         next l z b =
-            let x = passed t w target bases z (printed-less inv.printed (omega (arith, inv.less))) b in
+            let x = passed t w target bases z (printed-less inv.printed (omega (arith, same, inv.less))) b in
             record {
               printed = inv.printed;
-              less = omega (arith, inv.less, b.low);
+              less = omega (arith, same, inv.less, b.low);
               row =
                   row-there (sym p ∙ e)
                   ∙ ap (row_from t target bases w here) (sym q)
@@ -110,6 +100,7 @@ module _ {t w : List ℕ} {target : Span} {bases : Bool} {last k gaps : ℕ} (in
               looked =
                   omega (
                     arith,
+                    same,
                     inv.less,
                     b.low,
                     looked-there (sym p ∙ e),
@@ -119,30 +110,41 @@ module _ {t w : List ℕ} {target : Span} {bases : Bool} {last k gaps : ℕ} (in
                   );
             }
 
-  done : k ≤ 0 → Ended t target bases w last (record { row = None; compared = last - gaps })
+  done : (1 ≤ k → ⊥) → Ended t target bases w last (record { row = None; compared = last - gaps })
   unfolding row_from looked_from
-  done h =
-      let e : k ≡ 0 = omega arith in
+  done none =
+      let e : k ≡ 0 = omega (arith, none) in
       record {
         row = sym (ap row_of (inv.row ∙ ap (λ (x : ℕ). row_from t target bases w x x) e));
         looked = omega (arith, inv.less, inv.looked, ap (λ (x : ℕ). looked_from t target bases w x x) e);
       }
 
-pub loop-k-init : goal.loop-k-init
-loop-k-init c =
+pub loop-row-init : goal.loop-row-init
+loop-row-init c =
     start (printed-less c.args.self.printed c.requires) c.print_of-print.ensures c.pass_back-k.ensures
 
+-- the row before k, by `checked_sub`
+the-row : {k row : ℕ} → (1 ≤ k) × (row ≡ k - 1) → k ≡ suc row
+the-row h = omega (arith, h.0, h.1)
+
 pub is_target-requires : goal.is_target-requires
-is_target-requires c = ready c.loop-k.invariant c.loop-k-test.true c.print_of-print.ensures c.requires
+is_target-requires c =
+    let same = the-row c.in-Some.ensures in
+    (omega (arith, same, c.loop-row.invariant.less, c.requires), c.print_of-print.ensures)
 
 pub returns-then-is_target : goal.returns-then-is_target
-returns-then-is_target c = search found
+returns-then-is_target c =
+    found c.loop-row.invariant (the-row c.in-Some.ensures) c.is_target.ensures c.if-is_target.true
 
 pub returns-then-row-before : goal.returns-then-row-before
-returns-then-row-before c = search broken
+returns-then-row-before c =
+    broken c.loop-row.invariant (the-row c.in-Some.ensures) c.is_target.ensures c.if-is_target.false
+    c.siblings_end-before.ensures.0 c.if-row-before.true
 
-pub loop-k-preserved : goal.loop-k-preserved
-loop-k-preserved c = search next
+pub loop-row-preserved : goal.loop-row-preserved
+loop-row-preserved c =
+    next c.loop-row.invariant (the-row c.in-Some.ensures) c.is_target.ensures c.if-is_target.false
+    c.siblings_end-before.ensures.0 c.if-row-before.false c.print_of-print.ensures c.pass_back-k-in-Some.ensures
 
 pub returns : goal.returns
-returns c = search done
+returns c = done c.loop-row.invariant c.in_default.ensures

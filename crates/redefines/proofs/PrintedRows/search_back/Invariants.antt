@@ -5,7 +5,7 @@ use mathlib.Core.Path.{◌≡◌}
 use mathlib.Core.Bool.{Bool}
 use mathlib.Core.List.{List}
 use Rattle.definition.specs.declared.Span.{Span}
-use Rattle.redefines.specs.Targets.{row_from, looked_from}
+use Rattle.redefines.specs.Targets.{among_bases, row_from, looked_from}
 use Rattle.redefines.specs.Prints.{Printed}
 use Rattle.redefines.proofs.PrintedRows.search_back.Given as goal
 
@@ -16,8 +16,8 @@ pub record Left (t w : List ℕ) (target : Span) (bases : Bool) (last k gaps : �
   pub row : row_from t target bases w last last ≡ row_from t target bases w k k
   pub looked : looked_from t target bases w last last + gaps + k ≡ last + looked_from t target bases w k k
 
-abbrev pub invariant-loop-k : goal.invariant-loop-k
-invariant-loop-k l = Left l.self.text.now l.self.rows.work.now l.target l.bases l.last l.k l.gaps
+abbrev pub invariant-loop-row : goal.invariant-loop-row
+invariant-loop-row l = Left l.self.text.now l.self.rows.work.now l.target (among_bases l.among) l.last l.k l.gaps
 
-abbrev pub decreases-loop-k : goal.decreases-loop-k
-decreases-loop-k l = l.k
+abbrev pub decreases-loop-row : goal.decreases-loop-row
+decreases-loop-row l = l.k

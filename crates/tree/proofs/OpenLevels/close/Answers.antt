@@ -1,5 +1,5 @@
 use Prim.Native.Nat.{ℕ, ◌-◌, ◌≤◌, ◌<◌}
-use mathlib.Core.Path.{◌≡◌, sym, ap, subst, ◌∙◌}
+use mathlib.Core.Path.{◌≡◌, refl, sym, ap, subst, ◌∙◌}
 use mathlib.Core.List.{List, [], ◌∷◌}
 use native.Mathlib.Omega.{arith}
 use lib.ListN.{length, get_or}
@@ -88,14 +88,37 @@ module _ {w : List ℕ} {k level : ℕ} {o₀ o : OpenLevels} (inv : Left w k le
       all_stay (record { levels = o.levels; count = o.count; row = None })
       (none 0 ∙ sym (open_none level) ∙ ap (still_open level) (sym (none (row_code o.row)))) (sym (ap innermost (none 0))) (omega arith)
 
-pub returns-then-self-level : goal.returns-then-self-level
-returns-then-self-level c = found c.loop-self.invariant c.loop-self-test.true c.if-self-level.true
+-- the loop's number is how many are open
+module _ {w : List ℕ} {k level : ℕ} {o₀ o : OpenLevels} {i : ℕ} (at : o.count ≡ i) (inv : Left w k level o₀ o) where
+  found_at : 0 < i → get_or o.levels (i - 1) 0 < level → Closed w k o₀ level o
+  found_at h l = found inv (rw at h) (rw at l)
+
+  row_at : 0 < i → row_code o.row ≤ k
+  row_at h = row_in inv (rw at h)
+
+  next_at :
+      0 < i →
+      level ≤ get_or o.levels (i - 1) 0 →
+      {row : Option ℕ} →
+      row ≡ outer_row w o.row →
+      Left w k level o₀ (record { levels = o.levels; count = i - 1; row = row })
+  next_at h l {row} e =
+      subst (λ (n : ℕ). Left w k level o₀ (record { levels = o.levels; count = n - 1; row = row })) at
+      (next inv (rw at h) (rw at l) e)
+
+pub returns-then-self-inner : goal.returns-then-self-inner
+returns-then-self-inner c =
+    found_at c.loop-inner.invariant.0 c.loop-inner.invariant.1 c.loop-inner-test.true c.if-self-inner.true
 
 pub outer_row-self-requires : goal.outer_row-self-requires
-outer_row-self-requires c = row_in c.loop-self.invariant c.loop-self-test.true
+outer_row-self-requires c = row_at c.loop-inner.invariant.0 c.loop-inner.invariant.1 c.loop-inner-test.true
 
-pub loop-self-preserved : goal.loop-self-preserved
-loop-self-preserved c = next c.loop-self.invariant c.loop-self-test.true c.if-self-level.false c.outer_row-self.ensures
+pub loop-inner-preserved : goal.loop-inner-preserved
+loop-inner-preserved c = (
+  refl,
+  next_at c.loop-inner.invariant.0 c.loop-inner.invariant.1 c.loop-inner-test.true c.if-self-inner.false
+      c.outer_row-self.ensures,
+)
 
 pub returns : goal.returns
-returns c = none_left c.loop-self.invariant c.loop-self-test.false
+returns c = none_left c.loop-inner.invariant.1 (omega (arith, c.loop-inner.invariant.0, c.loop-inner-test.false))

@@ -17,8 +17,8 @@ pub record Left (w : List ℕ) (k level : ℕ) (o₀ o : OpenLevels) : Type 0 wh
   pub fit : Fit k (stack_of w o)
   pub rest : still_open level (stack_of w o₀) ≡ still_open level (stack_of w o)
 
-abbrev pub invariant-loop-self : goal.invariant-loop-self
-invariant-loop-self l = Left l.rows.work.now l.rows.count l.level l.initial.self l.self
+abbrev pub invariant-loop-inner : goal.invariant-loop-inner
+invariant-loop-inner l = (l.self.count ≡ l.inner) × Left l.rows.work.now l.rows.count l.level l.initial.self l.self
 
-abbrev pub decreases-loop-self : goal.decreases-loop-self
-decreases-loop-self l = l.self.count
+abbrev pub decreases-loop-inner : goal.decreases-loop-inner
+decreases-loop-inner l = l.inner

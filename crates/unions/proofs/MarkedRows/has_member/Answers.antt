@@ -2,16 +2,14 @@ use Prim.Native.Nat.{ℕ, suc, ◌+◌, ◌≤◌}
 use mathlib.Core.Path.{◌≡◌, refl, sym, ap, subst, ◌∙◌}
 use mathlib.Core.Bool.{Bool, true, false}
 use mathlib.Core.List.{List}
-use Rattle.std.proofs.Common.{rules, arith}
+use Rattle.std.proofs.Common.{rules}
 use Rattle.definition.specs.declared.Span.{Span}
 use Rattle.std.specs.Prelude.{if◌then◌else◌}
 use Rattle.definition.specs.Fold.{end, append, has_member, folded_below, folded_all}
-use Rattle.rows.specs.Columns.{BEFORE}
-use Rattle.rows.specs.Table.{cell}
 use Rattle.redefines.specs.Targets.{bases_at}
 use Rattle.places.specs.Places.{entry_in}
 use Rattle.places.specs.Children.{ChildrenEnd}
-use Rattle.unions.specs.Shown.{standing, standing_at, shown_named, list_in, folded_rest, shown_at, Known, Tree, Branch}
+use Rattle.unions.specs.Shown.{standing, standing_at, shown_named, list_in, folded_rest, shown_at, Tree}
 use Rattle.unions.proofs.FoldedLaws.{member-append, shown-named}
 use Rattle.unions.proofs.ShownLaws.{walking-ends, walking_here}
 use Rattle.unions.proofs.WidthLaws.{along-starts, along-before, along-sibling, along-on}
@@ -28,47 +26,42 @@ module _ {t w : List ℕ} {from to : ℕ} {name : Span} {i : ℕ} (inv : Left t 
   done : to ≤ i → false ≡ has_member t name (folded_all t (list_in w from to))
   done h = sym (ap (has_member t name) (walking-ends inv.along.walk h) ∙ inv.is)
 
-  -- row i is the next sibling
-  module _ {row j : ℕ} (at : row ≡ i) (h : ChildrenEnd w i to j) where
-    there : Branch t w row j to × Known t w row (cell w row BEFORE)
-    there = subst (λ (k : ℕ). Branch t w k j to × Known t w k (cell w k BEFORE)) (sym at) (along-sibling inv.along h)
+  -- row i is the next sibling, and has the name or not
+  module _ {row j : ℕ} (at : row ≡ i) (h : ChildrenEnd w i to j) {r : Bool} (p : r ≡ shown_named t name (standing_at t w row) (entry_in w row)) where
+    here : has_member t name (shown_at t w i j to inv.last) ≡ r
+    here =
+        shown-named t (entry_in w i) (folded_all t (list_in w (suc i) j)) name (standing t (bases_at w inv.last) (entry_in w i))
+        (folded_below t (list_in w j to))
+        ∙ sym
+        (p
+        ∙ ap (λ (k : ℕ). shown_named t name (standing_at t w k) (entry_in w k)) at
+        ∙ ap (λ (n : ℕ). shown_named t name (standing t (bases_at w n) (entry_in w i)) (entry_in w i)) (along-before inv.along h))
 
-    -- it has the name or not
-    module _ {r : Bool} (p : r ≡ shown_named t name (standing_at t w row) (entry_in w row)) where
-      here : has_member t name (shown_at t w i j to inv.last) ≡ r
-      here =
-          shown-named t (entry_in w i) (folded_all t (list_in w (suc i) j)) name (standing t (bases_at w inv.last) (entry_in w i))
-          (folded_below t (list_in w j to))
-          ∙ sym
-          (p
-          ∙ ap (λ (k : ℕ). shown_named t name (standing_at t w k) (entry_in w k)) at
-          ∙ ap (λ (n : ℕ). shown_named t name (standing t (bases_at w n) (entry_in w i)) (entry_in w i)) (along-before inv.along h))
+    hit : r ≡ true → true ≡ has_member t name (folded_all t (list_in w from to))
+    hit e =
+        let shown = shown_at t w i j to inv.last in
+        let rest = folded_rest t w j to (suc i) in
+        sym
+        (ap (has_member t name) (walking_here inv.along.walk h)
+        ∙ member-append t name inv.done (append shown rest)
+        ∙ ap (λ (b : Bool). if b then true else has_member t name (append shown rest)) inv.is
+        ∙ member-append t name shown rest
+        ∙ ap (λ (b : Bool). if b then true else has_member t name rest) (here ∙ e))
 
-      hit : r ≡ true → true ≡ has_member t name (folded_all t (list_in w from to))
-      hit e =
-          let shown = shown_at t w i j to inv.last in
-          let rest = folded_rest t w j to (suc i) in
-          sym
-          (ap (has_member t name) (walking_here inv.along.walk h)
-          ∙ member-append t name inv.done (append shown rest)
-          ∙ ap (λ (b : Bool). if b then true else has_member t name (append shown rest)) inv.is
-          ∙ member-append t name shown rest
-          ∙ ap (λ (b : Bool). if b then true else has_member t name rest) (here ∙ e))
-
-      next : r ≡ false → {k : ℕ} → k ≡ j → Left t w from to name k
-      next e q =
-          let shown = shown_at t w i j to inv.last in
-          subst (Left t w from to name) (sym q)
-          (record {
-            last = i + 1;
-            done = append inv.done shown;
-            along = along-on inv.along h;
-            is =
-                member-append t name inv.done shown
-                ∙ ap (λ (b : Bool). if b then true else has_member t name shown) inv.is
-                ∙ here
-                ∙ e;
-          })
+    next : r ≡ false → {k : ℕ} → k ≡ j → Left t w from to name k
+    next e q =
+        let shown = shown_at t w i j to inv.last in
+        subst (Left t w from to name) (sym q)
+        (record {
+          last = i + 1;
+          done = append inv.done shown;
+          along = along-on inv.along h;
+          is =
+              member-append t name inv.done shown
+              ∙ ap (λ (b : Bool). if b then true else has_member t name shown) inv.is
+              ∙ here
+              ∙ e;
+        })
 
 pub loop-sibling-init : goal.loop-sibling-init
 loop-sibling-init c =
@@ -79,7 +72,7 @@ pub new-requires : goal.new-requires
 new-requires c =
     let inv = c.loop-sibling.invariant in
     let s = c.in-Some.ensures.steps in
-    there inv.3 s.1 (rw inv.2 at s.2)
+    along-sibling inv.3.along (rw inv.2 at s.2) s.1
 
 pub returns-then-is_shown_as : goal.returns-then-is_shown_as
 returns-then-is_shown_as c =

@@ -1,0 +1,12 @@
+-- `LaidRow::put_own` meets its contract: what placed it, then its slack.
+use native.Mathlib.Omega.{arith}
+use Rattle.reasons.proofs.OutwardLaws.{own-put, slack-put}
+use Rattle.reasons.proofs.LaidRow.put_own.Goals as goal
+
+pub returns-then-slack-ne0 : goal.returns-then-slack-ne0
+returns-then-slack-ne0 c =
+    slack-put _ _ c.put_reason.ensures c.placing.ensures c.slack-slack.ensures.0 (λ z. omega arith)
+    c.put_reason-then-slack-ne0.ensures
+
+pub returns-else-slack-ne0 : goal.returns-else-slack-ne0
+returns-else-slack-ne0 c = own-put _ _ c.put_reason.ensures c.placing.ensures c.slack-slack.ensures.0 (omega arith)

@@ -1,3 +1,1 @@
 pub mod AskedLaws
-pub mod Owned
-pub mod Same

@@ -1,6 +1,6 @@
 -- The three questions about a record: a report of its entries, the owner of a byte, and an extract.
 -- Assumes nothing.
-use Rattle.std.specs.Prelude.{ℕ, not, List, [], ltb, length}
+use Rattle.std.specs.Prelude.{ℕ, List, [], length}
 use Rattle.definition.specs.declared.Owner.{Owner}
 use Rattle.definition.specs.declared.Extract.{Extract}
 use Rattle.definition.specs.declared.Refusal.{Refusal}
@@ -8,7 +8,6 @@ use Rattle.definition.specs.declared.Report.{Report}
 use Rattle.definition.specs.Basic.{Answer, Err, Ok, ◌>>=◌, refuse_if, or_refuse}
 use Rattle.definition.specs.Tree.{Forest}
 use Rattle.definition.specs.Fold.{Entries, folded_all}
-use Rattle.definition.specs.Record.{record_length}
 use Rattle.definition.specs.Listing.{listing}
 use Rattle.definition.specs.Owner.{pieces, owner_of, overlaid}
 use Rattle.definition.specs.Details.{entries_details}
@@ -46,14 +45,13 @@ abbrev pub report_given : ReportOf → List ℕ → Forest → Entries → ℕ �
 report_given r = report_by r.what
 
 -- the owner of a position: 40, then 41
-unfoldable pub owner_asked : ℕ → List ℕ → Forest → Entries → Answer Owner
-owner_asked position text f es = do
+unfoldable pub owner_asked : ℕ → List ℕ → Forest → Answer Owner
+owner_asked position text f = do
   _ ← refuse_if (overlaid f) Refusal.Overlaid
-  _ ← refuse_if (not (ltb position (record_length (folded_all text es)))) Refusal.OutsideRecord
-  Ok (owner_of (pieces text f) position)
+  or_refuse Refusal.OutsideRecord (owner_of (pieces text f) position)
 
 abbrev pub owner_given : OwnerAt → List ℕ → Forest → Entries → ℕ → Answer (Given Owner)
-owner_given o text f es room = unwritten (owner_asked o.position text f es)
+owner_given o text f es room = unwritten (owner_asked o.position text f)
 
 -- an extract: 40, then 58, 59 and 60
 unfoldable pub extract_asked : List ℕ → ℕ → ℕ → List ℕ → Forest → Entries → Answer Extract

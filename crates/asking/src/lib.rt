@@ -1,18 +1,18 @@
 //! What is asked of a copybook's record, as a question: the text is read into rows, a table made for the entries of as
 //! many, the record laid out, the question asked, and work memory cleared; of free text, or of what the reader sees of
-//! cards. `answers` and `family` have the questions. Leans on `record` for the reading and the laying, and on `cards`
-//! for the view.
+//! cards. `answers` and `family` have the questions. Leans on `record` for the reading and the laying, on `table` for
+//! the entries, on `rows` for work memory, and on `cards` for the view.
 #![tactic(auto)]
 
 ghost use Rattle.std.specs.Prelude.{ℕ, List, ◌≡◌, ◌*◌, ◌^◌, ◌<◌, ◌≤◌, [], length};
 ghost use Rattle.definition.specs.Basic.{Answer};
 ghost use Rattle.definition.specs.Cards.{Form.free_text, Form.card_text};
-ghost use Rattle.definition.specs.Calls.{left, record_fields};
+ghost use Rattle.definition.specs.Calls.{left, on_cards};
 ghost use Rattle.definition.specs.Tree.{Forest};
 ghost use Rattle.definition.specs.Fold.{Entries};
 ghost use Rattle.places.specs.Places.{rows_forest};
 ghost use Rattle.unions.specs.Shown.{list_in};
-ghost use Rattle.record.specs.Laying.{Read, LaidOut};
+ghost use Rattle.record.specs.Laying.{Read, Laid};
 ghost use Rattle.asking.specs.Asking.{Given, after_given, asked, asked_call};
 
 use definition::{MOST_BYTES, Refusal};
@@ -31,9 +31,7 @@ pub trait Question: Copy {
 
     /// The answer.
     fn answer(self, laid: LaidRecord, out: &mut [u8]) -> Result<Self::Reply, Refusal>
-        requires { LaidOut laid.text.now (record_fields laid.text.now (length laid.table.rows.work.now))
-            laid.table.rows.work.now laid.table.items.now
-            laid.from laid.table.rows.count laid.length laid.top }
+        requires { Laid laid }
         ensures { left result out.new []
             ≡ after_given (answers self laid.entry.text.now
             (rows_forest laid.entry.table.rows.work.now laid.entry.from laid.entry.table.rows.count)
@@ -47,16 +45,14 @@ pub trait Question: Copy {
 const EMPTY: Item = Item {
     row: 0,
     mark: Mark::Own,
-    offset: 0,
-    width: 0,
     members: 0,
     below: 0,
     depth: 0,
 };
 
 // The record that was read into n rows, laid out and asked, with a table for its entries.
-// Kept: parameters, as of `ask`, `answer` and `answer_cards` – no plainer: work memory and output are both written, and
-// a struct over two `&mut` asks each contract to say what becomes of each, and that its length stays.
+// Kept: parameters, as of `ask`, `answer`, `ask_cards` and `answer_cards` – no plainer: work memory and output are both
+// written, and a struct over two `&mut` asks each contract to say what becomes of each, and that its length stays.
 // Kept: work memory and how many rows – no plainer: their number chooses the table while they are still to be laid, and
 // `Rows`, which would hold both, only reads.
 #[tactic(auto, unfolding(crate::specs::Asking::asked, definition::specs::Basic::and_then))]
@@ -110,8 +106,26 @@ pub fn answer<Q: Question>(
     answer
 }
 
-/// The answer about cards: that of what the reader sees of them.
+// The answer about cards, that of what the reader sees of them, with work memory left as it comes.
 #[tactic(auto, unfolding(definition::specs::Calls::on_cards, definition::specs::Basic::and_then))]
+fn ask_cards<Q: Question>(
+    question: Q,
+    cards: &[u8],
+    work: &mut [u32],
+    out: &mut [u8],
+) -> Result<Q::Reply, Refusal>
+    ensures { left result out.new []
+        ≡ after_given (on_cards (λ t. asked (Q.answers question) t (length work.old) (length out.old)) cards.now
+        (length work.old)) out.old [] }
+{
+    let mut room = [b' '; MOST_BYTES];
+    let seen = cards::read_cards(cards, work.len(), &mut room)?;
+    ask(question, seen, work, out)
+}
+
+/// The answer about cards; work memory is zero after it.
+// Kept: alike `answer` – no plainer: cards are first made into what the reader sees of them, in memory of that call;
+// one function for both would have that memory for free text too, and a case for either.
 pub fn answer_cards<Q: Question>(
     question: Q,
     cards: &[u8],
@@ -121,10 +135,7 @@ pub fn answer_cards<Q: Question>(
     ensures { left result out.new work.new
         ≡ asked_call card_text (Q.answers question) cards.now out.old work.old }
 {
-    let mut view = [b' '; MOST_BYTES];
-    if let Err(r) = cards::read_cards(cards, work.len(), &mut view) {
-        rows::clear(work);
-        return Err(r);
-    }
-    answer(question, &view[..cards.len()], work, out)
+    let answer = ask_cards(question, cards, work, out);
+    rows::clear(work);
+    answer
 }

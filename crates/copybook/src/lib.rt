@@ -1,18 +1,19 @@
 //! The public entries: what a copybook's columns are, and which of them has a byte, in free text and on cards; and
-//! which of them fit into a short record. Each answers in full or with one refusal of document 01's table; a refusal
-//! changes no byte of the output, and work memory is zero after every call. `proofs/Demand3` says what the answers of
-//! the listing and of the byte owner have to do with each other.
+//! which of them fit into a short record. Each answers in full or with one refusal of docs/REFUSALS.md; a refusal
+//! changes no byte of the output, and work memory is zero after every call. What is asked of a record is a question of
+//! `answers`. `proofs/Demand3` says what the answers of the listing and of the byte owner have to do with each other.
 #![tactic(auto)]
 
-// Kept: an entry for text and one for cards – the C interface: each call of C has its own.
+// Kept: an entry for each report, for text and for cards each, parameters, and texts beside their lengths – the C
+// interface: each call of C has its own entry, and is lent each of these as a slice of its own.
 
-ghost use Rattle.std.specs.Prelude.{◌≡◌, ◌≢◌, [], Ok};
-ghost use Rattle.definition.specs.declared.Owner.{Owner};
+ghost use Rattle.std.specs.Prelude.{◌≡◌, []};
 ghost use Rattle.definition.specs.Calls.{left, layout_call, details_call, reasons_call, owner_call};
 ghost use Rattle.definition.specs.Calls.{layout_cards_call, details_cards_call, reasons_cards_call, owner_cards_call};
 ghost use Rattle.definition.specs.Calls.{extract_call, mask_call, picture_answer, record_check};
 ghost use Rattle.definition.specs.Key.{key_call};
 
+use answers::{ExtractBy, OwnerAt, ReportOf};
 use definition::{Extract, KeyColumn, Owner, Pictured, Refusal, Report, SignKind, Usage};
 use subsets::Terms;
 
@@ -23,11 +24,19 @@ use subsets::Terms;
 /// A refusal changes no byte of the output, bytes past the listing keep their values, and work memory is zero after
 /// every call. The contract rules out a program that starts every item at its list's beginning, and one that refuses
 /// every copybook.
+#[tactic(auto, using(crate::proofs::Same::report_steps))]
 pub fn layout_listing(text: &[u8], work: &mut [u32], out: &mut [u8]) -> Result<usize, Refusal>
     ensures { left result out.new work.new
         ≡ layout_call text.now out.old work.old }
 {
-    answers::report(text, work, Report::Listing, out)
+    asking::answer(
+        ReportOf {
+            what: Report::Listing,
+        },
+        text,
+        work,
+        out,
+    )
 }
 
 /// The details of the listing's entries: 47 bytes for each, in the order of the listing, numbers little-endian. The
@@ -37,11 +46,19 @@ pub fn layout_listing(text: &[u8], work: &mut [u32], out: &mut [u8]) -> Result<u
 /// group made by folding has its base's position and level, and 0 for slack and the three places. Answer, output and
 /// work memory are as in `layout_listing`, and so are the refusals: 31 has the length of the details. The contract
 /// rules out a program that takes an entry's offset for its first byte, and one that gives a fold its base's slack.
+#[tactic(auto, using(crate::proofs::Same::report_steps))]
 pub fn layout_details(text: &[u8], work: &mut [u32], out: &mut [u8]) -> Result<usize, Refusal>
     ensures { left result out.new work.new
         ≡ details_call text.now out.old work.old }
 {
-    answers::report(text, work, Report::Details, out)
+    asking::answer(
+        ReportOf {
+            what: Report::Details,
+        },
+        text,
+        work,
+        out,
+    )
 }
 
 /// The owner of the byte at a position of the record: an occurrence of an elementary item, with its entry's number in
@@ -50,11 +67,10 @@ pub fn layout_details(text: &[u8], work: &mut [u32], out: &mut [u8]) -> Result<u
 /// aside, and 41 for a position that is not below the record length. Work memory is zero after every call. The contract
 /// rules out a program that answers with the next occurrence, and one that measures slack from the record's start.
 pub fn byte_owner(text: &[u8], position: usize, work: &mut [u32]) -> Result<Owner, Refusal>
-    ensures after { left result [] work.new
+    ensures { left result [] work.new
         ≡ owner_call text.now position work.old }
-    ensures owned { result ≢ Ok Owner.Unowned }
 {
-    answers::owner(text, position, work)
+    asking::answer(OwnerAt { position }, text, work, &mut [])
 }
 
 /// The reasons of an entry's place, by its number in the listing, from 0: 13 bytes for each, numbers little-endian. Its
@@ -66,6 +82,7 @@ pub fn byte_owner(text: &[u8], position: usize, work: &mut [u32]) -> Result<Owne
 /// listing, then 31, with the length of the reasons. Answer, output and work memory are as in `layout_listing`. The
 /// contract rules out a program that names the sibling directly before although it is a redefiner, and one that stops
 /// at the first group.
+#[tactic(auto, using(crate::proofs::Same::report_steps))]
 pub fn entry_reasons(
     text: &[u8],
     number: usize,
@@ -75,7 +92,10 @@ pub fn entry_reasons(
     ensures { left result out.new work.new
         ≡ reasons_call text.now number out.old work.old }
 {
-    answers::report(text, work, Report::Reasons(number), out)
+    let question = ReportOf {
+        what: Report::Reasons(number),
+    };
+    asking::answer(question, text, work, out)
 }
 
 /// The layout listing of cards, a copybook in COBOL reference format: `layout_listing` of what the reader sees of them.
@@ -83,16 +103,25 @@ pub fn entry_reasons(
 /// that ends a line is no column. Refusals: 1, 2 and 3, of the whole text; 51, at the first byte in column 7 that is
 /// none of those and no blank; then as `layout_listing`. Positions and places are those in the card text.
 /// The contract rules out a program that reads column 73, and one whose positions count columns of code alone.
+#[tactic(auto, using(crate::proofs::Same::report_steps))]
 pub fn layout_cards(cards: &[u8], work: &mut [u32], out: &mut [u8]) -> Result<usize, Refusal>
     ensures { left result out.new work.new
         ≡ layout_cards_call cards.now out.old work.old }
 {
-    answers::report_cards(cards, work, Report::Listing, out)
+    asking::answer_cards(
+        ReportOf {
+            what: Report::Listing,
+        },
+        cards,
+        work,
+        out,
+    )
 }
 
 /// The details of the entries of cards: `layout_details` of what the reader sees. Refusals as `layout_cards`; 31 has
 /// the length of the details. The contract rules out a program that gives a position in the code alone, and one that
 /// takes column 7 for code.
+#[tactic(auto, using(crate::proofs::Same::report_steps))]
 pub fn layout_details_cards(
     cards: &[u8],
     work: &mut [u32],
@@ -101,12 +130,20 @@ pub fn layout_details_cards(
     ensures { left result out.new work.new
         ≡ details_cards_call cards.now out.old work.old }
 {
-    answers::report_cards(cards, work, Report::Details, out)
+    asking::answer_cards(
+        ReportOf {
+            what: Report::Details,
+        },
+        cards,
+        work,
+        out,
+    )
 }
 
 /// The reasons of an entry of cards: `entry_reasons` of what the reader sees. Refusals: those of `layout_cards` but 31,
 /// then 53, then 31.
 /// The contract rules out a program that gives a name's place in the code alone, and one that takes column 7 for code.
+#[tactic(auto, using(crate::proofs::Same::report_steps))]
 pub fn entry_reasons_cards(
     cards: &[u8],
     number: usize,
@@ -116,18 +153,20 @@ pub fn entry_reasons_cards(
     ensures { left result out.new work.new
         ≡ reasons_cards_call cards.now number out.old work.old }
 {
-    answers::report_cards(cards, work, Report::Reasons(number), out)
+    let question = ReportOf {
+        what: Report::Reasons(number),
+    };
+    asking::answer_cards(question, cards, work, out)
 }
 
 /// The owner of a byte of the record that cards describe: `byte_owner` of what the reader sees. Refusals: those of
 /// `layout_cards` but 31, then 40 and 41.
 /// The contract rules out a program that takes a hyphen line for code, and one that reads column 73.
 pub fn byte_owner_cards(cards: &[u8], position: usize, work: &mut [u32]) -> Result<Owner, Refusal>
-    ensures after { left result [] work.new
+    ensures { left result [] work.new
         ≡ owner_cards_call cards.now position work.old }
-    ensures owned { result ≢ Ok Owner.Unowned }
 {
-    answers::owner_cards(cards, position, work)
+    asking::answer_cards(OwnerAt { position }, cards, work, &mut [])
 }
 
 /// An extract that fits: of the record's top-level items, each with a weight from 1 to 1,000 in the listing's order,
@@ -154,7 +193,7 @@ pub fn extract(
         limit,
         budget,
     };
-    answers::extract(text, terms, work)
+    asking::answer(ExtractBy { terms }, text, work, &mut [])
 }
 
 /// One key for a family of records: the offset and width of the column of that name in a set of 2 to 16 copybooks, free

@@ -1,6 +1,7 @@
-//! The public entries for C: `include/copybook.h` declares them. A slice is a pointer and a length. Each call returns 0
-//! or the number of its refusal, and writes the other numbers of its answer to a lent slice, as `numbers` says. Leans
-//! on `copybook`, `numbers` and `definition`.
+//! The public entries for C: `include/copybook.h` declares them. A slice is a pointer and a length. Each call returns
+//! 0, the number of its refusal, or 255 for a usage or a sign that is none; all but `copybook_check_record` write the
+//! other numbers of their answers to a lent slice, as `numbers` says. Leans on `copybook`, `numbers`, `kinds` and
+//! `definition`.
 #![tactic(auto)]
 
 ghost use Rattle.std.specs.Prelude.{◌≡◌, ◌||◌, if◌then◌else◌};
@@ -15,11 +16,8 @@ ghost use Rattle.numbers.specs.Numbers.{no_usage, no_sign, flagged};
 ghost use Rattle.numbers.specs.Numbers.{returned, writing_numbers, picture_numbers, owner_numbers, answered};
 ghost use Rattle.numbers.specs.Numbers.{extract_numbers, key_numbers};
 
-use definition::Usage;
-use kinds::Coded;
-
-// Kept: a function for each call, alike as some are, and numbers for usage and sign – C calls them by name, and has no
-// enums of this library.
+// Kept: a function for each call, alike as some are; usage, sign, flag and refusal as numbers; a parameter for each
+// lent slice – the C interface: C calls them by name, and has no enums and structs of this library.
 
 /// The layout listing of a copybook, as `copybook::layout_listing` says. To `answer`, 2 numbers: the bytes written, and
 /// 0; or position and needed length.
@@ -208,13 +206,10 @@ pub extern "C" fn copybook_picture(pic: &[u8], usage: u8, sign: u8, answer: &mut
         else answered (picture_numbers (picture_answer (usage_at usage) (clause_at sign_at sign) pic.now))
         answer.old) }
 {
-    if numbers::no_usage(usage) || 4 < sign {
+    let (Some(usage), Some(sign)) = (numbers::usage_of(usage), numbers::sign_of(sign)) else {
         return 255;
-    }
-    numbers::hand_on(
-        copybook::parse_pic(pic, Usage::at(usage), kinds::clause_at(sign)),
-        answer,
-    )
+    };
+    numbers::hand_on(copybook::parse_pic(pic, usage, sign), answer)
 }
 
 /// The mask of a picture that is edited under the usage, as `copybook::mask` says. To `answer`, 2 numbers, as
@@ -236,10 +231,10 @@ pub extern "C" fn copybook_mask(pic: &[u8], usage: u8, out: &mut [u8], answer: &
         (if no_usage usage then out.old
         else (mask_call (usage_at usage) pic.now out.old).output) }
 {
-    if numbers::no_usage(usage) {
+    let Some(usage) = numbers::usage_of(usage) else {
         return 255;
-    }
-    numbers::hand_on(copybook::mask(pic, Usage::at(usage), out), answer)
+    };
+    numbers::hand_on(copybook::mask(pic, usage, out), answer)
 }
 
 /// The owner of a byte of the record, as `copybook::byte_owner` says. To `answer`, 4 numbers: 0, the entry's number,

@@ -1,7 +1,9 @@
 -- A set of copybooks, one after the other: how the later ones agree with the first.
 -- Assumes nothing.
 use Rattle.std.proofs.Common.{ℕ, ◌≡◌, ◌+◌, ◌≤◌, ◌<◌, refl, sym, ◌∙◌, ap, Bool, true, false, ◌&&◌, List, [], ◌∷◌, length, get_or, take, drop, arith, ◌-◌, length-drop}
-use Rattle.std.specs.Prelude.{if◌then◌else◌, Option, None, leb}
+use Rattle.std.specs.Prelude.{if◌then◌else◌, Option, None, Some, leb, MatchOption, IsSomeAnd}
+use Rattle.std.specs.Option.{ok_or}
+use Rattle.std.proofs.Common.{subst}
 use lib.ListN.{drop_of_length-le}
 use Rattle.std.proofs.lemmas.List.{take_all}
 use Rattle.std.proofs.Math.Bool.{and_assoc}
@@ -12,14 +14,17 @@ use Rattle.definition.specs.declared.Refusal.{Refusal}
 use Rattle.definition.specs.Limits.{fewest_in_set, most_in_set}
 use Rattle.definition.specs.Basic.{sum, Answer, Err, Ok, ◌>>=◌, and_then}
 use Rattle.definition.specs.Key.{Key, key_in, agree, all_agree, common, keys_in, copybooks, is_set}
-use Rattle.definition.proofs.Lists.{drop-next}
+use Rattle.std.proofs.lemmas.List.{drop_more}
+use Rattle.key.specs.declared.Candidate.{Candidate}
+use Rattle.key.specs.declared.Sought.{Sought}
+use Rattle.key.specs.Sought.{candidate, key_column, found_key}
 use Rattle.family.specs.Sets.{all_agreed, Lent, place_of, keys_given}
 
 -- ---------------------------------------------------------------- the bytes lent
 
 pub sum_next : (lengths : List ℕ) (i : ℕ) → i < length lengths → sum (drop i lengths) ≡ get_or lengths i 0 + sum (drop (i + 1) lengths)
 unfolding sum
-sum_next lengths i h = ap sum (drop-next lengths i h)
+sum_next lengths i h = ap sum (drop_more lengths i 0 h)
 
 pub sum_none : (lengths : List ℕ) (i : ℕ) → length lengths ≤ i → sum (drop i lengths) ≡ 0
 unfolding sum
@@ -42,6 +47,26 @@ lent {texts} {lengths} e =
       some-there = omega (arith, leb-true fewest_in_set (length lengths) a.0);
       all_there = eqb-true (sum lengths) (length texts) b.1;
     }
+
+-- ---------------------------------------------------------------- the place of what was found
+
+-- the column that was found as the answer, or 57
+pub placed :
+    (text : List ℕ) (f : Sought) (k : Option KeyColumn) {c : Option Candidate} →
+    c ≡ candidate f →
+    MatchOption c (k ≡ None) (λ x. IsSomeAnd k (λ y. y ≡ key_column x)) →
+    ok_or k Refusal.NoCommonKey ≡ place_of (found_key text f)
+unfolding and_then
+placed text f k q h = by-found f k (subst (λ x. MatchOption x (k ≡ None) (λ x. IsSomeAnd k (λ y. y ≡ key_column x))) q h)
+  where
+    by-found :
+        (f : Sought) (k : Option KeyColumn) →
+        MatchOption (candidate f) (k ≡ None) (λ x. IsSomeAnd k (λ y. y ≡ key_column x)) →
+        ok_or k Refusal.NoCommonKey ≡ place_of (found_key text f)
+    by-found Sought.Nothing k h = ap (λ k. ok_or k Refusal.NoCommonKey) h
+    by-found (Sought.One c) None h = absurd h
+    by-found (Sought.One c) (Some k) h = ap Ok h
+    by-found Sought.Spoilt k h = ap (λ k. ok_or k Refusal.NoCommonKey) h
 
 -- ---------------------------------------------------------------- the later ones
 
@@ -103,7 +128,7 @@ module _ (n : ℕ) (name : List ℕ) where
       if so then place_of a else Err Refusal.NoCommonKey)
   unfolding keys_in copybooks and_then
   set_first lengths texts h =
-      ap (λ (l : List ℕ). keys_given n name l texts) (drop-next lengths 0 h)
+      ap (λ (l : List ℕ). keys_given n name l texts) (drop_more lengths 0 0 h)
       ∙ by_first (key_in n name (take (get_or lengths 0 0) texts))
     where
       others : List (List ℕ)
@@ -118,17 +143,16 @@ module _ (n : ℕ) (name : List ℕ) where
 
   -- the copybook that stands before the rest, of which work memory of the same length was lent
   module _
-      (a : Option Key) (agreed : Bool) (lengths : List ℕ) {i : ℕ} (rest : List ℕ) (h : i < length lengths) {m : ℕ} (e : m ≡ n)
-      {text behind : List ℕ} (front : text ≡ take (get_or lengths i 0) rest) (back : behind ≡ drop (get_or lengths i 0) rest)
+      (a : Option Key) (agreed : Bool) {texts rest : List (List ℕ)} {text : List ℕ} (there : texts ≡ text ∷ rest)
+      {m : ℕ} (e : m ≡ n)
     where
       agree_next :
-          all_agreed n name a agreed (copybooks (drop i lengths) rest)
-          ≡ (key_in m name text >>= λ k. all_agreed n name a (agreed && agree a k) (copybooks (drop (i + 1) lengths) behind))
-      unfolding all_agreed copybooks
-      agree_next = ap (λ (l : List ℕ). all_agreed n name a agreed (copybooks l rest)) (drop-next lengths i h) ∙ rw (front, back, e)
+          all_agreed n name a agreed texts ≡ (key_in m name text >>= λ k. all_agreed n name a (agreed && agree a k) rest)
+      unfolding all_agreed
+      agree_next = ap (all_agreed n name a agreed) there ∙ rw e
 
       -- it is refused
-      pub agree_refused : {r : Refusal} → Err r ≡ key_in m name text → Err r ≡ all_agreed n name a agreed (copybooks (drop i lengths) rest)
+      pub agree_refused : {r : Refusal} → Err r ≡ key_in m name text → Err r ≡ all_agreed n name a agreed texts
       unfolding and_then
       agree_refused q = sym (agree_next ∙ rw (← q))
 
@@ -138,17 +162,14 @@ module _ (n : ℕ) (name : List ℕ) where
           Ok k ≡ key_in m name text →
           {so : Bool} →
           so ≡ (agreed && agree a k) →
-          all_agreed n name a agreed (copybooks (drop i lengths) rest) ≡ all_agreed n name a so (copybooks (drop (i + 1) lengths) behind)
+          all_agreed n name a agreed texts ≡ all_agreed n name a so rest
       unfolding and_then
       agree_on q s = agree_next ∙ rw (← q, s)
 
   -- after the last one
-  pub agree_last :
-      (a : Option Key) (agreed : Bool) (lengths : List ℕ) (i : ℕ) (rest : List ℕ) →
-      length lengths ≤ i →
-      all_agreed n name a agreed (copybooks (drop i lengths) rest) ≡ Ok agreed
-  unfolding all_agreed copybooks
-  agree_last a agreed lengths i rest h = ap (λ (l : List ℕ). all_agreed n name a agreed (copybooks l rest)) (drop_of_length-le lengths h)
+  pub agree_last : (a : Option Key) (agreed : Bool) {texts : List (List ℕ)} → texts ≡ [] → all_agreed n name a agreed texts ≡ Ok agreed
+  unfolding all_agreed
+  agree_last a agreed e = ap (all_agreed n name a agreed) e
 
   -- ---------------------------------------------------------------- the first one, and the others
 
@@ -189,6 +210,6 @@ module _ (n : ℕ) (name : List ℕ) where
           unfolding and_then
           others_differ q e = sym (set_later ∙ rw (← q, e))
 
-pub ruleset agree_steps = (sum_next, agree_refused, agree_on, agree_last)
+pub ruleset agree_steps = (agree_refused, agree_on, agree_last)
 
 pub ruleset set_steps = (first_inside, all_later, first_refused, others_refused, others_agree, others_differ)

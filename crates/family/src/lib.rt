@@ -1,18 +1,20 @@
 //! One key for a family of records: the copybooks of a set are read one after the other in the same work memory, and
 //! the key of the first is held against those of the others. Of the first, its column is kept; its text stays lent.
-//! Leans on `asking` for the reading and the laying, and on `key` for the keys.
+//! Leans on `asking`, and through it on `record`, for the reading and the laying, on `key` for the keys, and on `rows`
+//! for work memory.
 #![tactic(auto)]
 
-ghost use Rattle.std.specs.Prelude.{true, ◌≤◌, ◌≡◌, [], eqb, length};
+ghost use Rattle.std.specs.Prelude.{true, ◌≤◌, ◌≡◌, [], ◌∷◌, eqb, length, MatchOption};
+ghost use Rattle.std.specs.Iterator.{at_most};
 ghost use Rattle.definition.specs.Basic.{sum};
 ghost use Rattle.definition.specs.Calls.{left};
 ghost use Rattle.definition.specs.Key.{copybooks, key_in, is_set, key_of_texts, key_call};
 ghost use Rattle.key.specs.Sought.{found_key};
-ghost use Rattle.family.specs.Sets.{key_given, read_key, all_agreed, Lent, keys_given, place_of};
+ghost use Rattle.family.specs.Sets.{key_given, read_key, all_agreed, Lent, keys_given};
 
 use asking::Question;
 use definition::{FEWEST_IN_SET, KeyColumn, MOST_IN_SET, Refusal};
-use key::Sought;
+use key::{Finding, Sought};
 use record::LaidRecord;
 
 // ---------------------------------------------------------------- one copybook
@@ -50,30 +52,47 @@ fn adds_up(lengths: &[u64], n: usize) -> bool
 {
     let mut left = n;
     for len in lengths {
-        let len = *len as usize;
-        if left < len {
+        let Some(rest) = left.checked_sub(*len as usize) else {
             return false;
-        }
-        left -= len;
+        };
+        left = rest;
     }
     left == 0
 }
 
-// The place of what was found, or 57.
-#[tactic(auto, unfolding(definition::specs::Basic::and_then))]
-fn place_of(text: &[u8], found: Sought) -> Result<KeyColumn, Refusal>
-    ensures { result ≡ place_of (found_key text.now found) }
-{
-    match found {
-        Sought::One(c) => Ok(KeyColumn {
-            offset: c.offset,
-            width: c.width,
-        }),
-        _ => Err(Refusal::NoCommonKey),
+// The copybooks that are still to come, one after the other by their lengths.
+// Kept: parallel arrays – the C interface: C lends the copybooks one after the other as one array of bytes,
+// and their lengths as another.
+#[derive(Clone, Copy)]
+struct Texts<'a> {
+    bytes: &'a [u8],
+    lengths: &'a [u64],
+    ghost fit: { sum lengths.now ≤ length bytes.now },
+}
+
+impl<'a> Iterator for Texts<'a> {
+    type Item = &'a [u8];
+
+    ghost next_gives = { λ s r t. MatchOption r
+        ((copybooks s.lengths.now s.bytes.now ≡ []) × (t ≡ s))
+        (λ text. copybooks s.lengths.now s.bytes.now ≡ text.now ∷ copybooks t.lengths.now t.bytes.now) };
+
+    ghost remaining = { λ s. at_most (length s.lengths.now) };
+
+    #[tactic(auto, unfolding(definition::specs::Key::copybooks, definition::specs::Basic::sum))]
+    fn next(&mut self) -> Option<&'a [u8]> {
+        let [len, lengths @ ..] = self.lengths else {
+            return None;
+        };
+        let (text, bytes) = self.bytes.split_at(*len as usize);
+        *self = Texts { bytes, lengths };
+        Some(text)
     }
 }
 
 // Copybooks one after the other, by their lengths, and the name that is sought in each.
+// Kept: parallel arrays – the C interface: C lends the copybooks one after the other as one array of bytes,
+// and their lengths as another.
 #[derive(Clone, Copy)]
 struct Copybooks<'a> {
     texts: &'a [u8],
@@ -90,20 +109,23 @@ impl<'a> Copybooks<'a> {
             && adds_up(self.lengths, self.texts.len())
     }
 
-    // Whether all of them have the key that was found in a text.
+    // Whether all of them have the key that was found in one before them.
     #[tactic(auto, using(crate::proofs::SetLaws::agree_steps), unfolding(definition::specs::Basic::and_then))]
-    fn all_agree(self, text: &[u8], first: Sought, work: &mut [u32]) -> Result<bool, Refusal>
+    fn all_agree(self, first: Finding, work: &mut [u32]) -> Result<bool, Refusal>
         requires { sum self.lengths.now ≤ length self.texts.now }
-        ensures { result ≡ all_agreed (length work.old) self.entry.name.now (found_key text.now first) true
+        ensures { result
+            ≡ all_agreed (length work.old) self.entry.name.now
+            (found_key first.entry.text.now first.entry.found) true
             (copybooks self.entry.lengths.now self.entry.texts.now) }
     {
-        let mut rest = self.texts;
+        let texts = Texts {
+            bytes: self.texts,
+            lengths: self.lengths,
+        };
         let mut agreed = true;
-        for len in self.lengths {
-            let (later, behind) = rest.split_at(*len as usize);
-            let found = key_of(later, work, self.name)?;
-            agreed = agreed && first.agrees(text, found, later);
-            rest = behind;
+        for text in texts {
+            let found = key_of(text, work, self.name)?;
+            agreed = agreed && first.agrees(Finding { text, found });
         }
         Ok(agreed)
     }
@@ -116,14 +138,17 @@ impl<'a> Copybooks<'a> {
             ≡ keys_given (length work.old) self.entry.name.now self.entry.lengths.now self.entry.texts.now }
     {
         let (text, others) = self.texts.split_at(self.lengths[0] as usize);
-        let first = key_of(text, work, self.name)?;
+        let found = key_of(text, work, self.name)?;
         let later = Copybooks {
             texts: others,
             lengths: &self.lengths[1..],
             name: self.name,
         };
-        if later.all_agree(text, first, work)? {
-            place_of(text, first)
+        if later.all_agree(Finding { text, found }, work)? {
+            found
+                .candidate()
+                .map(KeyColumn::from)
+                .ok_or(Refusal::NoCommonKey)
         } else {
             Err(Refusal::NoCommonKey)
         }

@@ -1,22 +1,19 @@
--- Two kinds by their numbers: they are the same where the details in the listing are.
+-- The derived test of two kinds: it holds where their details in the listing are the same.
 -- Assumes nothing.
 use mathlib.Core.Path.{◌≡◌}
-use mathlib.Core.Bool.{Bool, ◌&&◌}
+use mathlib.Core.Bool.{Bool}
 use native.Mathlib.Omega.{arith}
-use lib.Dec.{eqb}
 use Rattle.definition.specs.declared.FieldKind.{FieldKind}
+use Rattle.definition.specs.contracts.FieldKindPartialEq.TheImpl as kind_eq
 use Rattle.definition.specs.Basic.{same}
 use Rattle.definition.specs.Key.{kind_details}
-use Rattle.kinds.specs.declared.KindNumbers.{KindNumbers}
-use Rattle.kinds.specs.Kinds.{numbers_of}
 
--- all numbers of two kinds are the same, as the derived test has it
-abbrev same_numbers : KindNumbers → KindNumbers → Bool
-same_numbers m n =
-    eqb m.kind n.kind
-    && (eqb m.signed n.signed
-    && (eqb m.sign n.sign && (eqb m.precision n.precision && (eqb m.scale n.scale && eqb m.storage n.storage))))
+-- the derived test
+abbrev pub same_kind : FieldKind → FieldKind → Bool
+same_kind = (kind_eq.ghosts).eq
 
-pub kinds-same : (a b : FieldKind) → same_numbers (numbers_of a) (numbers_of b) ≡ same (kind_details a) (kind_details b)
+pub kinds-same : (a b : FieldKind) → same_kind a b ≡ same (kind_details a) (kind_details b)
 unfolding same
 kinds-same a b = grind arith
+
+pub ruleset kind_steps = (kinds-same)

@@ -1,8 +1,9 @@
 -- What the search of a table for a key comes to: the entries of the name one by one, and the key that was found.
 -- Assumes nothing.
-use Rattle.std.specs.Prelude.{ℕ, ◌≤◌, ◌≡◌, Bool, ◌||◌, List, [], ◌∷◌, eqb, length, take, if◌then◌else◌}
+use Rattle.std.specs.Prelude.{ℕ, Bool, ◌||◌, List, [], ◌∷◌, eqb, if◌then◌else◌}
 use Rattle.std.specs.Prelude.{Option, None, Some}
 use Rattle.definition.specs.declared.Entry.{Entry}
+use Rattle.definition.specs.declared.KeyColumn.{KeyColumn}
 use Rattle.definition.specs.Basic.{given}
 use Rattle.definition.specs.Key.{is_named, Named, named, may_be_key, key_mask, Key}
 use Rattle.table.specs.Entered.{Shown}
@@ -11,15 +12,24 @@ use Rattle.key.specs.declared.Sought.{Sought}
 
 -- ---------------------------------------------------------------- a column
 
--- an entry as a column, and the key that a column of a text is
+-- an entry as a column, its place, and the key that a column of a text is
 abbrev pub column_of : Entry → Candidate
 column_of e = record { offset = e.offset; width = e.width; kind = e.kind; picture = e.picture }
+
+abbrev pub key_column : Candidate → KeyColumn
+key_column c = record { offset = c.offset; width = c.width }
 
 abbrev pub key_at : List ℕ → Candidate → Key
 key_at text c =
     record { offset = c.offset; width = c.width; kind = c.kind; mask = key_mask text c.kind c.picture }
 
 -- ---------------------------------------------------------------- the search
+
+-- the one that was found
+abbrev pub candidate : Sought → Option Candidate
+candidate Sought.Nothing = None
+candidate (Sought.One c) = Some c
+candidate Sought.Spoilt = None
 
 -- the key that was found
 abbrev pub found_key : List ℕ → Sought → Option Key
@@ -44,10 +54,3 @@ unfoldable pub sought_in : List ℕ → List ℕ → Bool → Sought → List Sh
 sought_in text name behind found [] = found
 sought_in text name behind found (x ∷ xs) =
     sought_in text name (behind || given x.own.depending) (sought_at text name behind found x) xs
-
--- ---------------------------------------------------------------- two keys
-
--- the first r bytes of an output are the mask
-pub record Masked (out mask : List ℕ) (r : ℕ) : Type 0 where
-  pub fits : r ≤ length out
-  pub is : take r out ≡ mask

@@ -1,18 +1,17 @@
 //! The key of a record laid out in work memory: the one entry of a name at the top, found in the table of entries, and
-//! whether two copybooks' keys agree. Leans on `table` for the entries and on `mask` for edited pictures.
+//! whether two copybooks' keys agree. Leans on `text`, `names`, `mask` and `table`.
 #![tactic(auto)]
 
-ghost use Rattle.std.specs.Prelude.{◌≡◌, ◌||◌, ◌≤◌, length};
+ghost use Rattle.std.specs.Prelude.{◌≡◌, length};
 ghost use Rattle.std.proofs.Math.Bool.{Bool.false};
 ghost use Rattle.definition.specs.Limits.{longest_mask};
-ghost use Rattle.definition.specs.Basic.{same, given};
+ghost use Rattle.definition.specs.Basic.{same};
 ghost use Rattle.definition.specs.Key.{is_named, named, may_be_key};
-ghost use Rattle.definition.specs.Key.{kind_details, same_key, agree};
-ghost use Rattle.table.specs.Entered.{own_of, shown_of, shown_all};
-ghost use Rattle.key.specs.Sought.{column_of, key_at, found_key, met, sought_at, sought_in, Masked};
+ghost use Rattle.definition.specs.Key.{same_key, agree};
+ghost use Rattle.table.specs.Entered.{shown_of, shown_all};
+ghost use Rattle.key.specs.Sought.{column_of, key_column, key_at, candidate, found_key, met, sought_at, sought_in};
 
-use definition::{Entry, FieldKind, LONGEST_MASK, Span, Usage};
-use kinds::KindNumbers;
+use definition::{Entry, FieldKind, KeyColumn, LONGEST_MASK, Span, Usage};
 use table::{RowItem, Table};
 
 /// A column that may be a key: its place, what it holds, and its picture in the text.
@@ -41,7 +40,20 @@ impl From<Entry> for Candidate {
     }
 }
 
+impl From<Candidate> for KeyColumn {
+    ghost from_gives = { λ c k. k ≡ key_column c };
+
+    fn from(c: Candidate) -> KeyColumn {
+        KeyColumn {
+            offset: c.offset,
+            width: c.width,
+        }
+    }
+}
+
 /// What a search has found.
+// Kept: three arms – no plainer: an `Option` of an `Option` has a `None` for no entry of the name and one for a name
+// that no longer can be a key, and the arms say which.
 #[derive(Clone, Copy)]
 pub enum Sought {
     /// No entry of the name.
@@ -55,10 +67,12 @@ pub enum Sought {
 // ---------------------------------------------------------------- an entry
 
 // Whether an entry has the name, case aside; an absent one means FILLER.
+// Kept: text and name, as in `sought_at`, and `behind` beside an entry, as in `may_be_key` and `with` – no plainer:
+// `seek_key` is public and takes the two so, and `behind` changes from item to item.
 fn is_named(text: &[u8], name: &[u8], e: Entry) -> bool
     ensures { result ≡ is_named text.now name.now e }
 {
-    text::same_name(name, names::part_or(text, e.name, b"FILLER"))
+    text::same_name(name, names::name_of(text, e.name))
 }
 
 // Whether an entry may be a key: no DEPENDING ON before it, no OCCURS, no REDEFINES, and no group.
@@ -69,6 +83,16 @@ fn may_be_key(e: Entry, behind: bool) -> bool
 }
 
 impl Sought {
+    /// The one that may be a key, or none.
+    pub fn candidate(self) -> Option<Candidate>
+        ensures { result ≡ candidate self }
+    {
+        match self {
+            Sought::One(c) => Some(c),
+            _ => None,
+        }
+    }
+
     // What is found with one more entry of the name: the first may be the key, and a second spoils it.
     fn with(self, e: Entry, behind: bool) -> Sought
         ensures { result ≡ met self (named e behind) }
@@ -97,13 +121,6 @@ fn sought_at(text: &[u8], x: RowItem, name: &[u8], behind: bool, found: Sought) 
     found
 }
 
-// Whether a DEPENDING ON stands before the item after this one.
-fn behind_at(x: RowItem, behind: bool) -> bool
-    ensures { result ≡ («behind» || given (own_of x.entry.rows.work.now x.entry.item.now).depending) }
-{
-    behind || x.entry().depending.is_given()
-}
-
 /// The key of that name among the entries.
 #[tactic(auto, using(crate::proofs::SoughtLaws::seeking))]
 pub fn seek_key(text: &[u8], table: Table, name: &[u8]) -> Sought
@@ -113,72 +130,93 @@ pub fn seek_key(text: &[u8], table: Table, name: &[u8]) -> Sought
     let mut found = Sought::Nothing;
     let mut behind = false;
     for item in table.items {
-        let x = RowItem {
-            rows: table.rows,
-            item,
-        };
+        let x = table.row_item(item);
         found = sought_at(text, x, name, behind, found);
-        behind = behind_at(x, behind);
+        behind |= x.depends();
     }
     found
 }
 
 // ---------------------------------------------------------------- two keys
 
-// Whether two kinds and their details are the same.
-fn same_kind(a: FieldKind, b: FieldKind) -> bool
-    ensures { result ≡ same (kind_details a) (kind_details b) }
-{
-    KindNumbers::from(a) == KindNumbers::from(b)
+// A candidate in its text.
+// Kept: beside `Finding` – no plainer: that one is public and may hold no key, and the two share no method.
+#[derive(Clone, Copy)]
+struct TextKey<'a> {
+    text: &'a [u8],
+    column: Candidate,
 }
 
-impl Candidate {
-    // Writes what an edited key is compared by, its mask, and answers its length; 0 of any other kind.
-    fn put_mask(self, text: &[u8], out: &mut [u8]) -> usize
+impl<'a> TextKey<'a> {
+    // What an edited key is compared by, its mask, written to an output; of any other kind nothing.
+    fn mask<'b>(self, out: &'b mut [u8]) -> &'b [u8]
         requires { length out.old ≡ longest_mask }
-        ensures { Masked out.new (key_at text.now self).mask result }
+        ensures { result.now ≡ (key_at self.entry.text.now self.entry.column).mask }
     {
-        match self.kind {
+        match self.column.kind {
             FieldKind::Edited { .. } => {
-                mask::picture_mask(
-                    names::part_of(text, self.picture),
-                    Usage::Display,
-                    out,
-                ).unwrap_or(0)
+                let pic = names::part_of(self.text, self.column.picture);
+                let n = mask::picture_mask(pic, Usage::Display, out).unwrap_or(0);
+                &out[..n]
             }
-            _ => 0,
+            _ => &[],
         }
     }
 
-    // Whether two keys, each in its text, have the same mask.
-    fn same_mask(self, text: &[u8], other: Candidate, other_text: &[u8]) -> bool
-        ensures { result ≡ same (key_at text.now self).mask (key_at other_text.now other).mask }
+    // Whether two keys have the same mask.
+    fn same_mask(self, other: TextKey) -> bool
+        ensures { result
+            ≡ same (key_at self.entry.text.now self.entry.column).mask
+            (key_at other.entry.text.now other.entry.column).mask }
     {
-        let mut x = [0u8; LONGEST_MASK];
-        let m = self.put_mask(text, &mut x);
-        let mut y = [0u8; LONGEST_MASK];
-        let n = other.put_mask(other_text, &mut y);
-        text::same_spelling(&x[..m], &y[..n])
+        let mut a = [0u8; LONGEST_MASK];
+        let mut b = [0u8; LONGEST_MASK];
+        text::same_spelling(self.mask(&mut a), other.mask(&mut b))
     }
 
-    // Whether two keys, each in its text, agree in offset, width, kind and kind details.
-    fn agrees(self, text: &[u8], other: Candidate, other_text: &[u8]) -> bool
-        ensures { result ≡ same_key (key_at text.now self) (key_at other_text.now other) }
+    // Whether two keys agree in offset, width, kind and kind details.
+    // Kept: parts compared one by one – no plainer: of the pictures the masks are compared, each in its own text, and
+    // not the places, as a derived `==` would.
+    #[tactic(auto, using(crate::proofs::KindLaws::kind_steps))]
+    fn agrees(self, other: TextKey) -> bool
+        ensures { result
+            ≡ same_key (key_at self.entry.text.now self.entry.column)
+            (key_at other.entry.text.now other.entry.column) }
     {
-        self.offset == other.offset
-            && self.width == other.width
-            && same_kind(self.kind, other.kind)
-            && self.same_mask(text, other, other_text)
+        self.column.kind == other.column.kind
+            && self.column.offset == other.column.offset
+            && self.column.width == other.column.width
+            && self.same_mask(other)
     }
 }
 
-impl Sought {
-    /// Whether both searches, each in its text, have found a key, and these agree.
-    pub fn agrees(self, text: &[u8], other: Sought, other_text: &[u8]) -> bool
-        ensures { result ≡ agree (found_key text.now self) (found_key other_text.now other) }
+/// A text, and what was found in it.
+#[derive(Clone, Copy)]
+pub struct Finding<'a> {
+    /// The text.
+    pub text: &'a [u8],
+    /// What was found.
+    pub found: Sought,
+}
+
+impl<'a> Finding<'a> {
+    /// Whether in both a key was found, and these agree.
+    pub fn agrees(self, other: Finding) -> bool
+        ensures { result
+            ≡ agree (found_key self.entry.text.now self.entry.found)
+            (found_key other.entry.text.now other.entry.found) }
     {
-        match (self, other) {
-            (Sought::One(a), Sought::One(b)) => a.agrees(text, b, other_text),
+        match (self.found, other.found) {
+            (Sought::One(a), Sought::One(b)) => {
+                let key = TextKey {
+                    text: self.text,
+                    column: a,
+                };
+                key.agrees(TextKey {
+                    text: other.text,
+                    column: b,
+                })
+            }
             _ => false,
         }
     }

@@ -57,11 +57,10 @@ abbrev pub picture_numbers : Answer Pictured → List ℕ
 picture_numbers = told 7 pictured_told
 
 -- the four numbers of a byte's owner: 0, the entry's number, the piece's first byte and the place inside it; or 1 and
--- the number of the entry that the slack precedes. A byte below the record length has an owner
+-- the number of the entry that the slack precedes
 abbrev pub owner_told : Owner → List ℕ
 owner_told (Owner.Piece entry first place) = 0 ∷ entry ∷ first ∷ place ∷ []
 owner_told (Owner.Slack entry) = 1 ∷ entry ∷ 0 ∷ 0 ∷ []
-owner_told Owner.Unowned = 0 ∷ 0 ∷ 0 ∷ 0 ∷ []
 
 abbrev pub owner_numbers : Answer Owner → List ℕ
 owner_numbers = told 4 owner_told

@@ -2,22 +2,48 @@
 //! writes to a lent slice (`specs/Numbers`). Leans on `definition` and `kinds`.
 #![tactic(auto)]
 
-ghost use Rattle.std.specs.Prelude.{ℕ, ◌-◌, ◌≡◌, ◌<◌, ◌≤◌, List, [], ◌∷◌, replicate};
+// Kept: numbers for usages, signs and refusals, and a trait in place of a From – the C interface: a call takes and
+// returns numbers; and no From can be written here between an array and another crate's type.
+
+ghost use Rattle.std.specs.Prelude.{ℕ, ◌-◌, ◌≡◌, ◌<◌, ◌≤◌, List, [], ◌∷◌, replicate, if◌then◌else◌};
 ghost use Rattle.std.proofs.Common.{rules};
 ghost use Rattle.definition.specs.Refusals.{refusal_position, refusal_needed};
-ghost use Rattle.numbers.specs.Numbers.{no_usage, returned, told, answered};
+ghost use Rattle.kinds.specs.Kinds.{sign_at};
+ghost use Rattle.kinds.specs.Usages.{usage_at, clause_at};
+ghost use Rattle.numbers.specs.Numbers.{no_usage, no_sign, returned, told, answered};
 ghost use Rattle.numbers.specs.Numbers.{written_told, pictured_told, owner_told, extract_told, key_told};
 
-use definition::{Extract, KeyColumn, Owner, Pictured, Refusal};
-use kinds::KindNumbers;
+use definition::{Extract, KeyColumn, Owner, Pictured, Refusal, SignKind, Usage};
+use kinds::{Coded, KindNumbers};
 
 // ---------------------------------------------------------------- what comes in
 
-/// Whether no usage has this number.
+/// Whether no usage has this number: 0 to 2 are DISPLAY, COMP-3 and COMP.
 pub fn no_usage(n: u8) -> bool
     ensures { result ≡ no_usage n }
 {
     2 < n
+}
+
+/// The usage of this number, or none.
+pub fn usage_of(n: u8) -> Option<Usage>
+    ensures { result ≡ (if no_usage n then None else Some (usage_at n)) }
+{
+    if no_usage(n) {
+        None
+    } else {
+        Some(Usage::at(n))
+    }
+}
+
+/// What SIGN says by this number, or none: 0 says nothing, and 1 to 4 are the signs.
+pub fn sign_of(n: u8) -> Option<Option<SignKind>>
+    ensures { result ≡ (if no_sign n then None else Some (clause_at sign_at n)) }
+{
+    match n {
+        0..=4 => Some(kinds::clause_at(n)),
+        _ => None,
+    }
 }
 
 // ---------------------------------------------------------------- what goes out
@@ -60,7 +86,7 @@ impl Told<7> for Pictured {
     fn told(self) -> [u64; 7] {
         let k = KindNumbers::from(self.kind);
         [
-            u64::from(kinds::kind_byte(self.kind)),
+            u64::from(k.kind),
             self.width as u64,
             u64::from(k.signed),
             u64::from(k.sign),
@@ -87,7 +113,6 @@ impl Told<4> for Owner {
                 place,
             } => [0, entry as u64, first as u64, place as u64],
             Owner::Slack { entry } => [1, entry as u64, 0, 0],
-            Owner::Unowned => [0, 0, 0, 0],
         }
     }
 }

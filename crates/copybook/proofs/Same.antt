@@ -15,12 +15,12 @@ use Rattle.definition.specs.Record.{unfolded, layout}
 use Rattle.definition.specs.Calls.{left, cleared, record_fields, entries, fitting, layout_listing, layout_details}
 use Rattle.definition.specs.Calls.{entry_reasons, report, byte_owner, owner_in, extract_answer, extract_in, called}
 use Rattle.definition.specs.Calls.{card_checks, on_cards, report_call_in, owner_call_in, extract_call}
-use Rattle.std.specs.Prelude.{not, ltb}
+use Rattle.definition.specs.Calls.{layout_call, details_call, reasons_call}
+use Rattle.definition.specs.Calls.{layout_cards_call, details_cards_call, reasons_cards_call}
 use Rattle.definition.specs.Extract.{widths}
 use Rattle.definition.specs.Calls.{extract_of}
 use Rattle.std.specs.Prelude.{Option, None, Some}
 use Rattle.definition.specs.declared.Entry.{Entry}
-use Rattle.definition.specs.Record.{record_length}
 use Rattle.definition.specs.Listing.{listing}
 use Rattle.definition.specs.Details.{entries_details}
 use Rattle.definition.specs.Owner.{overlaid, owner_of, pieces}
@@ -99,14 +99,14 @@ module _ (text : List ℕ) (work room : ℕ) where
     where
       by-laid :
           (f : Forest) (x : Answer Entries) →
-          unwritten ((x >>= λ es. Ok (folded_all text es)) >>= λ es. refuse_if (overlaid f) Refusal.Overlaid >>= λ _. refuse_if (not (ltb o.position (record_length es))) Refusal.OutsideRecord >>= λ _. Ok (owner_of (pieces text f) o.position))
-          ≡ (x >>= λ es. unwritten (owner_asked o.position text f es))
+          unwritten ((x >>= λ es. Ok (folded_all text es)) >>= λ es. refuse_if (overlaid f) Refusal.Overlaid >>= λ _. or_refuse Refusal.OutsideRecord (owner_of (pieces text f) o.position))
+          ≡ (x >>= λ es. unwritten (owner_asked o.position text f))
       by-laid f (Err r) = refl
       by-laid f (Ok es) = refl
 
       by-fields :
           (a : Answer Forest) →
-          unwritten (a >>= λ f. owner_in text f o.position) ≡ (a >>= λ f. unfolded text f >>= λ es. unwritten (owner_asked o.position text f es))
+          unwritten (a >>= λ f. owner_in text f o.position) ≡ (a >>= λ f. unfolded text f >>= λ es. unwritten (owner_asked o.position text f))
       by-fields (Err r) = refl
       by-fields (Ok f) = by-laid f (unfolded text f)
 
@@ -174,3 +174,28 @@ pub extract-call :
     left r out w ≡ asked_call free_text (extract_given x) text [] work →
     left r [] w ≡ extract_call text x.terms.weights.now x.terms.limit x.terms.budget work
 extract-call x text work h = silent-call (λ t. extract_answer t (length work) x.terms.weights.now x.terms.limit x.terms.budget) (λ t. asked (extract_given x) t (length work) 0) (λ t. extract-asked t (length work) 0 x) free_text text [] work h
+
+-- ---------------------------------------------------------------- each public entry
+
+module _ (text out work : List ℕ) where
+  pub listing-text : layout_call text out work ≡ asked_call free_text (report_by Report.Listing) text out work
+  listing-text = report-call free_text Report.Listing text out work
+
+  pub details-text : details_call text out work ≡ asked_call free_text (report_by Report.Details) text out work
+  details-text = report-call free_text Report.Details text out work
+
+  pub listing-cards : layout_cards_call text out work ≡ asked_call card_text (report_by Report.Listing) text out work
+  listing-cards = report-call card_text Report.Listing text out work
+
+  pub details-cards : details_cards_call text out work ≡ asked_call card_text (report_by Report.Details) text out work
+  details-cards = report-call card_text Report.Details text out work
+
+  module _ (number : ℕ) where
+    pub reasons-text : reasons_call text number out work ≡ asked_call free_text (report_by (Report.Reasons number)) text out work
+    reasons-text = report-call free_text (Report.Reasons number) text out work
+
+    pub reasons-cards :
+        reasons_cards_call text number out work ≡ asked_call card_text (report_by (Report.Reasons number)) text out work
+    reasons-cards = report-call card_text (Report.Reasons number) text out work
+
+pub ruleset report_steps = (listing-text, details-text, reasons-text, listing-cards, details-cards, reasons-cards)

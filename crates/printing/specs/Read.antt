@@ -1,6 +1,6 @@
 -- What the bytes of a listing say, where they are read back: numbers, places, and an entry's kind and body.
 -- Assumes nothing.
-use Rattle.std.specs.Prelude.{ℕ, ◌+◌, Bool, List, eqb, leb, ◌&&◌, get_or, take, drop, length, codes}
+use Rattle.std.specs.Prelude.{ℕ, ◌+◌, Bool, not, List, eqb, leb, ◌&&◌, get_or, take, drop, length, codes}
 use Rattle.std.specs.Prelude.{Option, None, Some, if◌then◌else◌}
 use Rattle.std.specs.Int.{w32, from_le_bytes}
 use Rattle.definition.specs.declared.Span.{Span}
@@ -8,6 +8,7 @@ use Rattle.definition.specs.Basic.{given}
 use Rattle.printing.specs.declared.Kind.{Kind}
 use Rattle.printing.specs.declared.Kind.TheVariants.{Text, Int, Binary, Decimal, Edited, Group, Float}
 use Rattle.printing.specs.declared.Entry.{Entry}
+use Rattle.printing.specs.declared.Head.{Head}
 
 -- ---------------------------------------------------------------- places of a text
 
@@ -26,6 +27,16 @@ abbrev pub span : List ℕ → ℕ → Span
 span bytes at =
     if leb (at + 8) (length bytes) then record { start = four bytes at; len = four bytes (at + 4) }
     else record { start = 0; len = 0 }
+
+-- ---------------------------------------------------------------- the head
+
+-- how many bytes a record has, whether it may have fewer, and how many entries stand at the top, behind kind 0
+abbrev pub head : List ℕ → Head
+head bytes = record {
+  length = four bytes 1;
+  varies = not (eqb (get_or bytes 5 0) 0);
+  top = four bytes 6;
+}
 
 -- ---------------------------------------------------------------- entries
 

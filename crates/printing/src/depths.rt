@@ -2,16 +2,18 @@
 ghost use Rattle.std.specs.Prelude.{◌≡◌, ◌≤◌, ◌∷◌, replicate};
 ghost use Rattle.printing.specs.Depths.{still_open, taken, opened};
 
-/// The deepest place of a list.
+/// The deepest depth at which entries are counted.
 const DEEPEST: usize = 255;
 
 /// How many entries are still to come at each depth, in the list that is open there, the top list first: 0 where none
 /// is. A listing has at most 130 lists in one another: 65 of statements, and a fold in each.
 #[derive(Drop)]
 pub struct Depths {
+    /// How many are still to come at each depth.
     pub left: [u32; 256],
 }
 
+// Kept: that a depth is at most 255, in each – no plainer: callers print a depth as the number that it is.
 impl Depths {
     /// The beginning of a listing, whose top list has so many entries.
     pub fn new(top: u32) -> Depths
@@ -26,6 +28,7 @@ impl Depths {
     /// less to come there, and the members of a group are a list below it.
     pub fn enter(&mut self, members: Option<u32>) -> usize
         ensures depth { result ≡ still_open self.old.left 255 }
+        ensures within { result ≤ 255 }
         ensures left { self.new.left ≡ opened (taken self.old.left result) result members }
     {
         let depth = self.innermost();
@@ -34,17 +37,11 @@ impl Depths {
         depth
     }
 
-    #[tactic(auto, using(crate::proofs::Steps::list_steps))]
     fn innermost(&self) -> usize
         ensures depth { result ≡ still_open self.now.left 255 }
         ensures within { result ≤ 255 }
     {
-        for depth in (1..=DEEPEST).rev() {
-            if self.left[depth] != 0 {
-                return depth;
-            }
-        }
-        0
+        self.left.iter().rposition(|n| *n != 0).unwrap_or(0)
     }
 
     fn open(&mut self, depth: usize, members: Option<u32>)

@@ -1,34 +1,40 @@
-//! How the programs read what they are given, how they print a part of a text, and how they read the bytes of a layout
-//! listing back. A place past the end of a listing reads as 0, so nothing is asked of the bytes.
+//! How the programs read what they are given, how they cut a part out of a text, and how they read the bytes of a
+//! layout listing back. A place past the end of a listing reads as 0, so nothing is asked of the bytes.
 #![tactic(auto)]
 
+/// How deep the entries of a listing stand.
 pub mod depths;
 
-ghost use Rattle.std.specs.Prelude.{◌≡◌, false, true, length, get_or, MatchOption, Some};
+ghost use Rattle.std.specs.Prelude.{◌≡◌, ◌≤◌, ◌<◌, ◌+◌, false, true, length, get_or, take, drop};
+ghost use Rattle.std.specs.Prelude.{MatchOption, Some, IfOk};
 ghost use Rattle.std.specs.Result.{result_ok};
-ghost use Rattle.std.specs.Io.{ReadsAtMost};
+ghost use Rattle.std.specs.Io.KnownBytes.{Consumes, IsAtEnd};
 ghost use Rattle.std.specs.Iterator.{at_most};
 ghost use Rattle.definition.specs.Basic.{part};
-ghost use Rattle.printing.specs.Read.{stands, four, span, kind, size, name, entry, first_entry, behind};
+ghost use Rattle.printing.specs.Read.{stands, four, span, head, kind, size, name, entry, first_entry, behind};
 
-use definition::Span;
+use definition::{MOST_STATEMENTS, Span};
 use std::io::Read;
 use std::{fmt, io};
 
 // ---------------------------------------------------------------- what is read
 
-/// Reads to the start of the buffer until the input ends or the buffer is full, and answers how many bytes stand there.
-pub fn read_full(input: &mut impl Read, buf: &mut [u8]) -> io::Result<usize>
-    ensures { ReadsAtMost result buf.new }
+/// Reads until the input ends or the buffer is full, and gives back what was read.
+// Kept: a `while` – no plainer: how far a turn goes the reader says, so that no range and no chunks tell it.
+#[tactic(auto, using(crate::proofs::Filling::fill_steps))]
+pub fn read_full<'a, R: Read>(input: &mut R, buf: &'a mut [u8]) -> io::Result<&'a [u8]>
+    ensures within { IfOk result (λ s. length s.now ≤ length buf.old) }
+    ensures read { IfOk result (λ s. Consumes (R.remaining input.old) (R.remaining input.new) s.now) }
+    ensures end { IfOk result (λ s. length s.now < length buf.old → IsAtEnd (R.remaining input.new)) }
 {
-    let room = buf.len();
-    let mut rest = buf;
-    loop {
-        match input.read(rest)? {
-            0 => return Ok(room - rest.len()),
-            n => rest = &mut rest[n..],
+    let mut n = 0;
+    while n < buf.len() {
+        match input.read(&mut buf[n..])? {
+            0 => break,
+            more => n += more,
         }
     }
+    Ok(&buf[..n])
 }
 
 // ---------------------------------------------------------------- parts of a text
@@ -47,8 +53,8 @@ pub fn part_of(text: &[u8], place: Span) -> Option<&[u8]>
 
 // ---------------------------------------------------------------- numbers and places
 
-/// The most bytes that a listing has: 10, and 98 for each of 800 statements.
-pub const MOST: usize = 78410;
+/// The most bytes that a listing has: 10, and 98 for each statement.
+pub const MOST: usize = 10 + 98 * MOST_STATEMENTS;
 
 /// The byte at a place of a listing.
 pub fn byte_at(listing: &[u8], at: usize) -> u8
@@ -57,40 +63,82 @@ pub fn byte_at(listing: &[u8], at: usize) -> u8
     listing.get(at).copied().unwrap_or(0)
 }
 
+/// The bytes at a place of a listing, if as many are there.
+fn chunk_at<const N: usize>(listing: &[u8], at: usize) -> Option<&[u8; N]>
+    ensures { MatchOption result
+        (length listing.now < at + N)
+        (λ bytes. (at + N ≤ length listing.now) × (bytes.now ≡ take N (drop at listing.now))) }
+{
+    listing.get(at..)?.first_chunk()
+}
+
 /// The number in the four bytes at a place of a listing.
 pub fn four_at(listing: &[u8], at: usize) -> u32
     ensures { result ≡ four listing.now at }
 {
-    match listing.get(at..).and_then(|bytes| bytes.first_chunk()) {
-        Some(bytes) => u32::from_le_bytes(*bytes),
-        None => 0,
-    }
+    chunk_at(listing, at).map_or(0, |bytes| u32::from_le_bytes(*bytes))
 }
 
 /// The start and the length in the eight bytes at a place of a listing.
+#[tactic(auto, using(crate::proofs::Numbers::span_steps))]
 pub fn span_at(listing: &[u8], at: usize) -> Span
     ensures { result ≡ span listing.now at }
 {
-    if listing.len() < 8 || listing.len() - 8 < at {
-        return Span::ABSENT;
+    match chunk_at::<8>(listing, at) {
+        Some(bytes) => Span {
+            start: four_at(bytes, 0) as usize,
+            len: four_at(bytes, 4) as usize,
+        },
+        None => Span::ABSENT,
     }
-    Span {
-        start: four_at(listing, at) as usize,
-        len: four_at(listing, at + 4) as usize,
+}
+
+// ---------------------------------------------------------------- the head
+
+/// What a listing begins with.
+#[derive(Clone, Copy)]
+pub struct Head {
+    /// The bytes of a record, the fewest where it varies.
+    pub length: u32,
+    /// Whether it varies, by a DEPENDING ON.
+    pub varies: bool,
+    /// How many entries stand at the top.
+    pub top: u32,
+}
+
+impl Head {
+    /// The head of a listing.
+    pub fn read(listing: &[u8]) -> Head
+        ensures { result ≡ head listing.now }
+    {
+        Head {
+            length: four_at(listing, 1),
+            varies: byte_at(listing, 5) != 0,
+            top: four_at(listing, 6),
+        }
     }
 }
 
 // ---------------------------------------------------------------- entries
 
 /// The kind of an entry.
+// Kept: beside `FieldKind`, which has the same arms – no plainer: five of those hold details, of which the program
+// reads none.
 #[derive(Clone, Copy, PartialEq)]
 pub enum Kind {
+    /// Characters.
     Text,
+    /// Digits, a byte each.
     Int,
+    /// A number of COMP.
     Binary,
+    /// A number with a point, an embedded sign, or of COMP-3.
     Decimal,
+    /// A number as it is printed.
     Edited,
+    /// Members.
     Group,
+    /// A float.
     Float,
 }
 
@@ -99,6 +147,8 @@ pub enum Kind {
 pub struct NoKind;
 
 // The kind that a byte of a listing stands for.
+// Kept: numbers for kinds – no plainer: the way back that `kinds` has takes a number of no kind for a group, and here
+// the listing ends at one.
 impl TryFrom<u8> for Kind {
     type Error = NoKind;
 
@@ -152,15 +202,25 @@ impl fmt::Display for Kind {
 }
 
 /// An entry of a listing: names are places of the text, offset and width are bytes, and a group has so many members.
+// Kept: beside `listing::Line` – no plainer: a line is made of rows, with its details and its picture, to be written.
+// This is read from bytes, as wide as they have it, and holds how many members follow.
 #[derive(Clone, Copy)]
 pub struct Entry {
+    /// Its kind.
     pub kind: Kind,
+    /// Its name.
     pub name: Span,
+    /// Where it begins, from the start of the group around it.
     pub offset: u32,
+    /// The bytes of one occurrence.
     pub width: u32,
+    /// How often it occurs, if it is a table.
     pub occurs: Option<u32>,
+    /// The name behind DEPENDING ON.
     pub depending: Span,
+    /// The name behind REDEFINES.
     pub redefines: Span,
+    /// How many members it has, if it is a group.
     pub members: Option<u32>,
 }
 
@@ -185,7 +245,19 @@ impl Entry {
 /// The entries that these bytes of a listing hold, one after the other, up to the first that is not whole.
 #[derive(Clone, Copy)]
 pub struct Entries<'a> {
+    /// The bytes that are still to be read.
     pub bytes: &'a [u8],
+}
+
+impl<'a> Entries<'a> {
+    /// The entries of a listing, which stand behind its head.
+    pub fn of(listing: &'a [u8]) -> Entries<'a>
+        ensures { result.bytes.now ≡ drop 10 listing.now }
+    {
+        Entries {
+            bytes: listing.get(10..).unwrap_or(&[]),
+        }
+    }
 }
 
 impl<'a> Iterator for Entries<'a> {

@@ -2,30 +2,28 @@
 //! weights, the limit, the budget, and the answer: 1, the subset, its weight, how many were looked at and how far off
 //! it is; or 0 and the refusal's number, position and needed length. Each answer is asked for over work memory that is
 //! not zero, and work memory must be zero afterwards.
-ghost use Rattle.std.specs.Prelude.{◌≡◌};
+ghost use Rattle.std.specs.Prelude.{◌≡◌, IsOk, IsTrue};
+ghost use Rattle.replay.specs.Words.{ahead, is_end};
 
 use crate::take_all;
 use replay::case::{Case, Differs};
-use replay::lent::{Lent, replay_call};
+use replay::lent::{Lent, TEXT_ROOM, replay_call};
 
 /// The most weights that a case has.
 const WEIGHTS: usize = 32;
 
 /// Goes on where the next words ask for an extract and answer, with blanks before the text.
+// Kept: its numbers one by one – no plainer: the order is the list's, told above; that of C is told by `numbers`.
 pub fn replay(case: &mut Case, lent: Lent) -> Result<(), Differs>
-    ensures { case.new.list ≡ case.old.list }
+    ensures list { case.new.list ≡ case.old.list }
+    ensures ended { IsOk result → IsTrue (is_end (ahead case.new.list.now case.new.stand)) }
 {
-    let mut room = [b' '; 65536];
+    let mut room = [b' '; TEXT_ROOM];
     let mut all = [0; WEIGHTS];
     let text = case.input(&mut room, lent.before)?;
-    let count = case.take_number()?;
-    if count > WEIGHTS as u64 {
-        return Err(Differs);
-    }
-    let weights = &mut all[..count as usize];
-    take_all(case, weights)?;
-    let limit = case.take_number()? as usize;
-    let budget = case.take_number()? as usize;
+    let weights = take_all(case, &mut all)?;
+    let limit = case.take()?;
+    let budget = case.take()?;
     match replay_call(
         lent.work,
         |work| copybook::extract(text, weights, limit, budget, work),

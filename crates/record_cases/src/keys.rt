@@ -1,28 +1,26 @@
 //! Answers of `set_key`, in key/keys.txt and limits.txt. A case: the number of lengths and the lengths, the texts one
 //! after the other, the name, and the answer: 1, offset and width; or 0 and the refusal's number, position and needed
 //! length. Each answer is asked for over work memory that is not zero, and work memory must be zero afterwards.
-ghost use Rattle.std.specs.Prelude.{◌≡◌};
+ghost use Rattle.std.specs.Prelude.{◌≡◌, IsOk, IsTrue};
+ghost use Rattle.replay.specs.Words.{ahead, is_end};
 
 use crate::take_all;
 use replay::case::{Case, Differs};
-use replay::lent::{Lent, replay_call};
+use replay::lent::{Lent, TEXT_ROOM, replay_call};
 
 /// The most lengths that a case has.
 const LENGTHS: usize = 32;
 
 /// Goes on where the next words ask for a key and answer, with blanks before the texts.
+// Kept: its numbers one by one – no plainer: the order is the list's, told above; that of C is told by `numbers`.
 pub fn replay(case: &mut Case, lent: Lent) -> Result<(), Differs>
-    ensures { case.new.list ≡ case.old.list }
+    ensures list { case.new.list ≡ case.old.list }
+    ensures ended { IsOk result → IsTrue (is_end (ahead case.new.list.now case.new.stand)) }
 {
     let mut all = [0; LENGTHS];
-    let mut room = [b' '; 131072];
+    let mut room = [b' '; 2 * TEXT_ROOM];
     let mut name_room = [0; 1000];
-    let count = case.take_number()?;
-    if count > LENGTHS as u64 {
-        return Err(Differs);
-    }
-    let lengths = &mut all[..count as usize];
-    take_all(case, lengths)?;
+    let lengths = take_all(case, &mut all)?;
     let texts = case.input(&mut room, lent.before)?;
     let name = case.input(&mut name_room, 0)?;
     match replay_call(

@@ -1,22 +1,32 @@
-//! The cases of lists that ask of a record: owners, extracts and keys. Leans on `replay` for the words of a case.
+//! The cases of lists that ask of a record: owners, extracts and keys.
 #![tactic(auto)]
 
+/// Answers of `extract`.
 pub mod extracts;
+/// Answers of `set_key`.
 pub mod keys;
+/// Answers of `byte_owner`.
 pub mod owners;
 
 ghost use Rattle.std.specs.Prelude.{◌≡◌};
 
 use replay::case::{Case, Differs};
 
-/// Takes as many numbers as there is room for.
-fn take_all<T: Copy + TryFrom<u64>>(case: &mut Case, room: &mut [T]) -> Result<(), Differs>
+/// Takes a number, and as many numbers behind it, which have to fit into the room.
+fn take_all<'a, T: Copy + TryFrom<u64>>(
+    case: &mut Case,
+    room: &'a mut [T],
+) -> Result<&'a [T], Differs>
 where
     T::Error: Drop,
     ensures { case.new.list ≡ case.old.list }
 {
-    for n in room {
-        *n = T::try_from(case.take_number()?).ok().ok_or(Differs)?;
+    let count: usize = case.take()?;
+    if count > room.len() {
+        return Err(Differs);
     }
-    Ok(())
+    for n in &mut room[..count] {
+        *n = case.take()?;
+    }
+    Ok(&room[..count])
 }

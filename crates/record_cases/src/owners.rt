@@ -4,25 +4,27 @@
 //! with one position and its answer: 1, entry, first byte and place inside; 2 and the entry of slack; or 0 and the
 //! refusal's number, position and needed length. Each answer is asked for over work memory that is not zero, and work
 //! memory must be zero afterwards.
-ghost use Rattle.std.specs.Prelude.{◌≡◌, ◌≤◌, ◌↔◌, ◌+◌, min, IsTrue};
+ghost use Rattle.std.specs.Prelude.{◌≡◌, ◌≤◌, ◌<◌, ◌↔◌, ◌+◌, min, IsOk, IsTrue};
 ghost use Rattle.replay.specs.Tallies.{most};
 ghost use Rattle.replay.specs.Counting.{cases, Onward};
+ghost use Rattle.replay.specs.Words.{ahead, is_end};
 
-use definition::{Owner, Refusal};
+use definition::{LEAST_WORK, MOST_BYTES, Owner, Refusal};
 use replay::case::{Case, Differs};
 use replay::cases::Cases;
-use replay::lent::{Lent, replay_call};
+use replay::lent::{Lent, TEXT_ROOM, replay_call};
 use replay::tally::Tally;
 
 // ---------------------------------------------------------------- one position and its answer
 
 /// Goes on where the next words ask for the owner of a position and answer, with blanks before the text.
 pub fn replay(case: &mut Case, lent: Lent) -> Result<(), Differs>
-    ensures { case.new.list ≡ case.old.list }
+    ensures list { case.new.list ≡ case.old.list }
+    ensures ended { IsOk result → IsTrue (is_end (ahead case.new.list.now case.new.stand)) }
 {
-    let mut room = [b' '; 65536];
+    let mut room = [b' '; TEXT_ROOM];
     let text = case.input(&mut room, lent.before)?;
-    let position = case.take_number()? as usize;
+    let position = case.take()?;
     match replay_call(lent.work, |work| copybook::byte_owner(text, position, work))? {
         Ok(
             Owner::Piece {
@@ -32,7 +34,6 @@ pub fn replay(case: &mut Case, lent: Lent) -> Result<(), Differs>
             },
         ) => case.numbers(&[1, entry as u64, first as u64, place as u64])?,
         Ok(Owner::Slack { entry }) => case.numbers(&[2, entry as u64])?,
-        Ok(Owner::Unowned) => return Err(Differs),
         Err(r) => case.refusal(r)?,
     }
     case.end()
@@ -41,17 +42,29 @@ pub fn replay(case: &mut Case, lent: Lent) -> Result<(), Differs>
 // ---------------------------------------------------------------- every byte of a record
 
 /// What the bytes of a run belong to.
-#[derive(Clone, Copy, PartialEq)]
+#[derive(Clone, Copy)]
 enum Mark {
     Piece,
     Slack,
+}
+
+impl TryFrom<u64> for Mark {
+    type Error = Differs;
+
+    fn try_from(n: u64) -> Result<Mark, Differs> {
+        match n {
+            1 => Ok(Mark::Piece),
+            2 => Ok(Mark::Slack),
+            _ => Err(Differs),
+        }
+    }
 }
 
 /// So many bytes of a record from a first one on, that belong to a piece or to the slack before an entry.
 #[derive(Clone, Copy)]
 struct Run {
     mark: Mark,
-    entry: u64,
+    entry: usize,
     first: usize,
     width: u64,
 }
@@ -59,14 +72,9 @@ struct Run {
 impl Run {
     /// The next three words as a run that begins there.
     fn take(case: &mut Case, first: usize) -> Result<Run, Differs> {
-        let mark = match case.take_number()? {
-            1 => Mark::Piece,
-            2 => Mark::Slack,
-            _ => return Err(Differs),
-        };
         Ok(Run {
-            mark,
-            entry: case.take_number()?,
+            mark: case.take()?,
+            entry: case.take()?,
             first,
             width: case.take_number()?,
         })
@@ -77,41 +85,39 @@ impl Run {
     fn end(self) -> usize
         ensures { self.first ≤ result }
     {
-        if 65535 < self.first || 65535 < self.width {
+        if MOST_BYTES < self.first || (MOST_BYTES as u64) < self.width {
             return self.first;
         }
         self.first + self.width as usize
     }
 
-    /// Whether the owner of a position is what the run says.
-    fn owns(self, position: usize, owner: Owner) -> bool {
-        match owner {
-            Owner::Piece {
-                entry,
-                first,
-                place,
-            } => {
-                self.mark == Mark::Piece
-                    && self.entry == entry as u64
-                    && self.first == first
-                    && first.checked_add(place) == Some(position)
-            }
-            Owner::Slack { entry } => self.mark == Mark::Slack && self.entry == entry as u64,
-            Owner::Unowned => false,
+    /// The owner of a position, as the run says.
+    fn owner(self, position: usize) -> Owner
+        requires { self.first ≤ position }
+    {
+        match self.mark {
+            Mark::Piece => Owner::Piece {
+                entry: self.entry,
+                first: self.first,
+                place: position - self.first,
+            },
+            Mark::Slack => Owner::Slack { entry: self.entry },
         }
     }
 }
 
 /// What owns a position, if work memory is zero after the call.
 fn owner_of(text: &[u8], position: usize) -> Result<Result<Owner, Refusal>, Differs> {
-    let mut work = [0; 16384];
+    let mut work = [0; LEAST_WORK];
     replay_call(&mut work, |work| copybook::byte_owner(text, position, work))
 }
 
 /// Whether the owner of a position is what the run says.
-fn is_owned(text: &[u8], position: usize, run: Run) -> bool {
+fn is_owned(text: &[u8], position: usize, run: Run) -> bool
+    requires { run.first ≤ position }
+{
     match owner_of(text, position) {
-        Ok(Ok(owner)) => run.owns(position, owner),
+        Ok(Ok(owner)) => owner == run.owner(position),
         _ => false,
     }
 }
@@ -122,12 +128,14 @@ fn is_past(text: &[u8], position: usize) -> bool {
 }
 
 /// Replays the positions past the end of a record of so many bytes, which is the end of the case.
+// Kept: `Onward` here and in the next two – no plainer: it speaks of a tally before and after, and a ghost field speaks
+// of one value alone.
 #[tactic(auto, using(replay::proofs::TallyLaws::tally_steps))]
 fn replay_end(case: Case, text: &[u8], length: usize, positions: &mut Tally)
     ensures { Onward positions.old positions.new }
 {
     positions.add(case.end().is_ok() && is_past(text, length));
-    if length <= 65535 {
+    if length <= MOST_BYTES {
         for position in [length + 1, 1 << 32, 1 << 63, usize::MAX] {
             positions.add(is_past(text, position));
         }
@@ -135,16 +143,18 @@ fn replay_end(case: Case, text: &[u8], length: usize, positions: &mut Tally)
 }
 
 /// Replays every position of a record: its runs, and the end.
+// Kept: a place stepped beside a `for` – no plainer: how far a turn goes its words say, so that neither a range nor a
+// slice tells where the next run begins.
 #[tactic(auto, using(replay::proofs::TallyLaws::tally_steps))]
 fn replay_record(case: &mut Case, positions: &mut Tally) -> Result<(), Differs>
     ensures { Onward positions.old positions.new }
 {
-    let mut room = [0; 65536];
+    let mut room = [0; TEXT_ROOM];
     let text = case.input(&mut room, 0)?;
     let mut first = 0;
     for _ in 0..case.take_number()? {
         let run = Run::take(case, first)?;
-        for position in first..run.end() {
+        for position in run.first..run.end() {
             positions.add(is_owned(text, position, run));
         }
         first = run.end();
@@ -153,8 +163,8 @@ fn replay_record(case: &mut Case, positions: &mut Tally) -> Result<(), Differs>
     Ok(())
 }
 
-/// Replays a record, whose words count as a position that differs where they are other than they should be. Whether none
-/// of its positions differs.
+/// Replays a record, whose words count as a position that differs where they are other than they should be. Whether
+/// none of its positions differs.
 #[tactic(auto, using(replay::proofs::TallyLaws::tally_steps))]
 fn agrees(case: &mut Case, positions: &mut Tally) -> bool
     ensures onward { Onward positions.old positions.new }
@@ -171,7 +181,9 @@ fn agrees(case: &mut Case, positions: &mut Tally) -> bool
 /// How many records and positions there were, and how many agreed.
 #[derive(Clone, Copy)]
 pub struct Counts {
+    /// The records.
     pub records: Tally,
+    /// The positions of all records.
     pub positions: Tally,
 }
 
@@ -181,6 +193,9 @@ pub fn replay_records(list: &[u8]) -> Counts
     ensures records { result.records.cases ≡ min most (cases list.now) }
     ensures differing { result.records.cases + result.positions.agree
         ≤ result.positions.cases + result.records.agree }
+    ensures told { result.records.cases < most
+        → result.records.agree ≡ result.records.cases
+        → result.positions.agree ≡ result.positions.cases }
 {
     let mut records = Tally::new();
     let mut positions = Tally::new();

@@ -9,6 +9,7 @@ use crate::case::Case;
 /// The cases of a list that are still to come.
 #[derive(Clone, Copy)]
 pub struct Cases<'a> {
+    /// Where they begin.
     pub rest: Case<'a>,
 }
 

@@ -6,8 +6,9 @@ ghost use Rattle.replay.specs.Answers.{taken};
 
 use crate::case::Differs;
 
-// Kept: a function – no plainer: `to_digit` takes small letters too.
 /// What a digit of base 16 stands for, and 0 for any other byte.
+// Kept: a function – no plainer: `to_digit` takes small letters too, which are 0 in a list, so each byte would be
+// tested first.
 fn hex_value(b: u8) -> u8
     ensures { result ≡ hex b }
 {
@@ -58,6 +59,8 @@ impl<'a> Iterator for Bytes<'a> {
 
 /// Writes the bytes that a word stands for to an output, behind so many that stand there, and answers how many there
 /// are then.
+// Kept: a place counted beside a `for` – no plainer: it is the answer, a `zip` would end at a word that is too long as
+// at one that fits, and of `get_mut` the library tells the slice's length alone.
 pub fn decode(word: &[u8], out: &mut [u8], before: usize) -> Result<usize, Differs>
     ensures { MatchResult result
         (λ n. (n ≤ length out.old) × (taken (Some word.now) before out.old ≡ Some (take n out.new)))

@@ -1,22 +1,28 @@
 //! What a case lends a call, and the memory that it is lent.
-ghost use Rattle.std.specs.Prelude.{ℕ, ◌≡◌, ◌<◌, ◌%◌, ◌↔◌, IsOk, IfOk, IsTrue, All};
+ghost use Rattle.std.specs.Prelude.{ℕ, ◌≡◌, ◌<◌, ◌%◌, ◌^◌, ◌↔◌, IsOk, IfOk, IsTrue, All};
 ghost use Rattle.std.specs.Prelude.{length, get_or, drop, replicate};
 ghost use Rattle.std.specs.Fn.{FnOnceReturnsAtMut};
 ghost use Rattle.replay.specs.Lent.{untouched};
 
 use crate::case::{Differs, only};
+use definition::MOST_BYTES;
 
 /// What a case lends its call: work memory, and so many bytes before its text.
 #[derive(Drop)]
 pub struct Lent<'a> {
+    /// The work memory.
     pub work: &'a mut [u32],
+    /// How many bytes stand before the text.
     pub before: usize,
 }
 
-/// What stands in work memory before a call.
+/// The room for the text of a case: a byte more than a text may have.
+pub const TEXT_ROOM: usize = MOST_BYTES + 1;
+
+/// What stands in each place of work memory before a call.
 const FILL: u32 = u32::MAX;
 
-/// Writes that to all of it.
+/// Fills work memory with what stands there before a call: `u32::MAX` in each place.
 pub fn fill(work: &mut [u32])
     ensures { work.new ≡ replicate (length work.old) 4294967295 }
 {
@@ -47,15 +53,24 @@ pub fn write_pattern(out: &mut [u8])
     }
 }
 
+/// An output of a size, as it is before a call: it holds the pattern.
+pub fn patterned<const N: usize>() -> [u8; N]
+    requires { N < 2 ^ 32 }
+    ensures { (k : ℕ) → k < N → get_or result k 0 ≡ k % 251 }
+{
+    let mut out = [0; N];
+    write_pattern(&mut out);
+    out
+}
+
 /// Whether the output holds the pattern from a place on.
+// Kept: a loop over places – the proof didn't close over `all` on the range: that the chain is what is said of the part
+// behind the place stayed open, and wants a law by induction over the range.
 pub fn is_untouched(out: &[u8], from: usize) -> bool
     ensures { result ≡ untouched from (drop from out.now) }
 {
-    let Some(rest) = out.get(from..) else {
-        return true;
-    };
-    for (i, b) in rest.iter().enumerate() {
-        if *b != pattern(from + i) {
+    for i in from..out.len() {
+        if out[i] != pattern(i) {
             return false;
         }
     }

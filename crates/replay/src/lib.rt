@@ -5,9 +5,14 @@
 //! next as long as each is the expected one.
 #![tactic(auto)]
 
+/// A list and its cases, read word by word.
 pub mod case;
+/// The cases of a list, one after the other.
 pub mod cases;
 mod input;
+/// What a case lends a call, and the memory that it is lent.
 pub mod lent;
+/// Lists in their files.
 pub mod lists;
+/// How many cases agree.
 pub mod tally;

@@ -7,8 +7,11 @@ use std::fmt;
 /// How many cases there were, at most a million, how many agreed, and the first that differed, counted from 1.
 #[derive(Clone, Copy)]
 pub struct Tally {
+    /// How many cases there were.
     pub cases: u64,
+    /// How many of them agreed.
     pub agree: u64,
+    /// The first that differed.
     pub first_difference: Option<u64>,
     ghost few: { cases ≤ 1000000 },
     ghost part: { agree ≤ cases },

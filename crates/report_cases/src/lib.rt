@@ -1,18 +1,20 @@
 //! Answers of the calls that report on a copybook, free text or cards. Of `layout_listing`: layout/layouts1.txt to
-//! layouts4.txt have generated copybooks, layout/document.txt those that documents 01 and 02 speak of; of
-//! `layout_cards`: layout/cards.txt. A case: the text, and the answer: 1, the length of the listing and its bytes; or 0
-//! and the refusal's number, position and needed length. Of `layout_details` and `layout_details_cards`:
+//! layouts4.txt have generated copybooks, layout/document.txt those that the rules speak of; of `layout_cards`:
+//! layout/cards.txt. A case: the text, and the answer: 1, the length of the listing and its bytes; or 0 and the
+//! refusal's number, position and needed length. Of `layout_details` and `layout_details_cards`:
 //! details/details.txt, where 1 for cards or 0 stands before the text; of `entry_reasons` and `entry_reasons_cards`:
 //! reasons/reasons.txt, where the entry's number stands between the two. Each folder has limits.txt. Each answer is
 //! asked for with different lengths of output, each time over work memory that is not zero and an output that holds a
 //! pattern: work memory must be zero afterwards, and the pattern must stand wherever nothing was to be written.
 #![tactic(auto)]
 
-ghost use Rattle.std.specs.Prelude.{◌≡◌};
+ghost use Rattle.std.specs.Prelude.{◌≡◌, eqb, if◌then◌else◌, IsOk, IsTrue};
+ghost use Rattle.replay.specs.Words.{ahead, is_end};
+ghost use Rattle.report_cases.specs.declared.Form.TheVariants.{Cards, Free};
 
 use definition::{Refusal, Report};
 use replay::case::{Case, Differs, only};
-use replay::lent::{Lent, is_untouched, replay_call, write_pattern};
+use replay::lent::{Lent, TEXT_ROOM, is_untouched, patterned, replay_call};
 
 /// The most room that an output is given: more than any report needs.
 const ROOM: usize = 80000;
@@ -22,9 +24,13 @@ const ROOM: usize = 80000;
 /// What the cases of a list ask for.
 #[derive(Clone, Copy)]
 pub enum Kind {
+    /// The listing of free text.
     Listing,
+    /// The listing of cards.
     CardListing,
+    /// The details, of free text or of cards.
     Details,
+    /// An entry's reasons, of free text or of cards.
     Reasons,
 }
 
@@ -35,14 +41,14 @@ enum Form {
     Cards,
 }
 
-impl Form {
-    /// What the next word says: 1 for cards.
-    fn take(case: &mut Case) -> Result<Form, Differs>
-        ensures { case.new.list ≡ case.old.list }
-    {
-        match case.take_number()? {
-            1 => Ok(Form::Cards),
-            _ => Ok(Form::Free),
+/// The form that a number says: 1 for cards.
+impl From<u64> for Form {
+    ghost from_gives = { λ n f. f ≡ (if eqb n 1 then Cards else Free) };
+
+    fn from(n: u64) -> Form {
+        match n {
+            1 => Form::Cards,
+            _ => Form::Free,
         }
     }
 }
@@ -56,7 +62,8 @@ struct Asked<'a> {
 }
 
 impl<'a> Asked<'a> {
-    // Kept: a switch – the C interface has a call for each report, on free text and on cards, and one is picked here.
+    // Kept: a switch – the C interface: `copybook` has an entry for each report, on free text and on cards, as C has a
+    // call for it, and a case names which.
     /// The answer.
     fn answer(self, work: &mut [u32], out: &mut [u8]) -> Result<usize, Refusal> {
         match (self.report, self.form) {
@@ -77,23 +84,23 @@ impl<'a> Asked<'a> {
     }
 }
 
-/// A case at its answer, what it asks for, and the work memory that it lends.
+/// What a case asks for, and the work memory that it lends.
 #[derive(Drop)]
 struct Asking<'a, 'w> {
-    case: Case<'a>,
     asked: Asked<'a>,
     work: &'w mut [u32],
 }
 
 impl<'a, 'w> Asking<'a, 'w> {
     /// Goes on where the last words of the case are the answer with so much room.
-    fn answered(&mut self, room: usize) -> Result<(), Differs> {
+    fn answered(&mut self, case: &mut Case, room: usize) -> Result<(), Differs>
+        ensures list { case.new.list ≡ case.old.list }
+        ensures ended { IsOk result → IsTrue (is_end (ahead case.new.list.now case.new.stand)) }
+    {
         if ROOM < room {
             return Err(Differs);
         }
-        let mut case = self.case;
-        let mut out = [0; ROOM];
-        write_pattern(&mut out);
+        let mut out = patterned::<ROOM>();
         let answer = self.asked.ask(self.work, &mut out[..room])?;
         case.writing(answer, &out)?;
         case.end()
@@ -108,8 +115,7 @@ impl<'a, 'w> Asking<'a, 'w> {
         let Some(room) = needed.checked_sub(1) else {
             return Ok(());
         };
-        let mut out = [0; ROOM];
-        write_pattern(&mut out);
+        let mut out = patterned::<ROOM>();
         match self.asked.ask(self.work, &mut out[..room])? {
             Err(Refusal::OutputTooShort { needed: n }) => only(
                 n == needed && is_untouched(&out, 0),
@@ -120,30 +126,35 @@ impl<'a, 'w> Asking<'a, 'w> {
 
     /// Goes on where an answer of this length is written to an output that has room to spare, its length, or one byte
     /// more, and one byte less is refused.
-    fn written(&mut self, n: u64) -> Result<(), Differs> {
-        if n >= ROOM as u64 {
+    fn written(&mut self, case: &mut Case, needed: usize) -> Result<(), Differs>
+        ensures list { case.new.list ≡ case.old.list }
+        ensures ended { IsOk result → IsTrue (is_end (ahead case.new.list.now case.new.stand)) }
+    {
+        if needed >= ROOM {
             return Err(Differs);
         }
-        let needed = n as usize;
-        for room in [ROOM, needed, needed + 1] {
-            self.answered(room)?;
+        let told = *case;
+        for room in [ROOM, needed] {
+            let mut again = told;
+            self.answered(&mut again, room)?;
         }
-        self.short(needed)
+        self.short(needed)?;
+        self.answered(case, needed + 1)
     }
 
     /// Goes on where the next words are the answer, with every length of output: a refusal comes with room and with
     /// none.
-    fn replay(&mut self) -> Result<(), Differs> {
-        let mut told = self.case;
-        let mark = told.take_number()?;
-        let number = told.take_number()?;
-        if mark == 1 {
-            return self.written(number);
+    fn replay(&mut self, case: &mut Case) -> Result<(), Differs>
+        ensures list { case.new.list ≡ case.old.list }
+        ensures ended { IsOk result → IsTrue (is_end (ahead case.new.list.now case.new.stand)) }
+    {
+        let mut told = *case;
+        if told.take_number()? == 1 {
+            return self.written(case, told.take()?);
         }
-        for room in [ROOM, 0] {
-            self.answered(room)?;
-        }
-        Ok(())
+        let mut again = *case;
+        self.answered(&mut again, ROOM)?;
+        self.answered(case, 0)
     }
 }
 
@@ -151,23 +162,23 @@ impl<'a, 'w> Asking<'a, 'w> {
 
 /// Goes on where the next words ask for a report of a kind and answer, with blanks before the text.
 pub fn replay(case: &mut Case, kind: Kind, lent: Lent) -> Result<(), Differs>
-    ensures { case.new.list ≡ case.old.list }
+    ensures list { case.new.list ≡ case.old.list }
+    ensures ended { IsOk result → IsTrue (is_end (ahead case.new.list.now case.new.stand)) }
 {
-    let mut room = [b' '; 65536];
+    let mut room = [b' '; TEXT_ROOM];
     let (report, form) = match kind {
         Kind::Listing => (Report::Listing, Form::Free),
         Kind::CardListing => (Report::Listing, Form::Cards),
-        Kind::Details => (Report::Details, Form::take(case)?),
+        Kind::Details => (Report::Details, Form::from(case.take_number()?)),
         Kind::Reasons => {
-            let form = Form::take(case)?;
-            (Report::Reasons(case.take_number()? as usize), form)
+            let form = Form::from(case.take_number()?);
+            (Report::Reasons(case.take()?), form)
         }
     };
     let text = case.input(&mut room, lent.before)?;
     let mut asking = Asking {
-        case: *case,
         asked: Asked { report, form, text },
         work: lent.work,
     };
-    asking.replay()
+    asking.replay(case)
 }

@@ -1,9 +1,10 @@
 //! Lists of questions: a list is read from its file and replayed, case by case. In a list of limits each case begins
 //! with two numbers more: how much work memory is lent, and how many bytes stand before the text: blanks, or X before a
 //! picture.
-ghost use Rattle.std.specs.Prelude.{ℕ, ◌≡◌, take, IfOk};
+ghost use Rattle.std.specs.Prelude.{◌≡◌, ◌≤◌, length, IfOk};
 ghost use Rattle.replay.specs.Counting.{Onward, Counted};
 
+use definition::LEAST_WORK;
 use record_cases::owners::Counts;
 use record_cases::{extracts, keys, owners};
 use replay::case::{Case, Differs};
@@ -17,93 +18,108 @@ use std::rt::Files;
 use text_cases::pictures::Source;
 use text_cases::{pictures, readings};
 
-/// The numbers of work memory that a call needs, and the most that a case lends.
-const WORK: usize = 16384;
-
+/// The most numbers of work memory that a case lends.
 const MOST_WORK: usize = 17000;
 
 /// What the cases of a list ask for.
 #[derive(Clone, Copy)]
 pub enum Question {
+    /// Of a picture.
     Picture(Source),
+    /// How a text is read into rows.
     Reading,
+    /// Of a report.
     Report(Kind),
+    /// Of a position's owner.
     Owner,
+    /// Of an extract.
     Extract,
+    /// Of a set's key.
     Key,
 }
 
 /// Whether a case says how much work memory is lent, and how many bytes stand before its text.
 #[derive(Clone, Copy)]
 pub enum Form {
+    /// It doesn't.
     Plain,
+    /// It does.
     Limits,
 }
 
 /// A list: its file, what is printed before its counts, and what its cases ask for.
 #[derive(Clone, Copy)]
 pub struct List<'a> {
+    /// The name of its file.
     pub file: &'a [u8],
+    /// What is printed before its counts.
     pub what: &'a str,
+    /// What its cases ask for.
     pub question: Question,
+    /// What its cases begin with.
     pub form: Form,
 }
 
 impl<'a> List<'a> {
-    /// A list of plain cases.
-    pub fn plain(file: &'a [u8], what: &'a str, question: Question) -> List<'a>
+    /// A list of cases of a form.
+    pub fn new(file: &'a [u8], what: &'a str, question: Question, form: Form) -> List<'a>
         ensures file { result.file ≡ file.entry }
         ensures what { result.what ≡ what.entry }
         ensures question { result.question ≡ question }
-        ensures form { result.form ≡ Form.Plain }
+        ensures form { result.form ≡ form }
     {
         List {
             file,
             what,
             question,
-            form: Form::Plain,
+            form,
         }
     }
 
-    /// A list of limits.
-    pub fn limits(file: &'a [u8], what: &'a str, question: Question) -> List<'a>
-        ensures file { result.file ≡ file.entry }
-        ensures what { result.what ≡ what.entry }
-        ensures question { result.question ≡ question }
-        ensures form { result.form ≡ Form.Limits }
+    /// Goes on where a case agrees: its words ask and answer the question.
+    // Kept: a switch – no plainer: lists of different questions stand in one slice, so that a closure for each would be
+    // a `dyn`, whose bound would promise again of the list what the `replay` functions promise.
+    fn agrees(self, case: &mut Case) -> Result<(), Differs>
+        ensures { case.new.list ≡ case.old.list }
     {
-        List {
-            file,
-            what,
-            question,
-            form: Form::Limits,
+        let mut room = [0; MOST_WORK];
+        let (work, before) = match self.form {
+            Form::Plain => (LEAST_WORK, 0),
+            Form::Limits => (case.take()?, case.take()?),
+        };
+        if work > MOST_WORK {
+            return Err(Differs);
+        }
+        let lent = Lent {
+            work: &mut room[..work],
+            before,
+        };
+        match self.question {
+            Question::Picture(source) => pictures::replay(case, source, lent.before),
+            Question::Reading => readings::replay(case, lent),
+            Question::Report(kind) => report_cases::replay(case, kind, lent),
+            Question::Owner => owners::replay(case, lent),
+            Question::Extract => extracts::replay(case, lent),
+            Question::Key => keys::replay(case, lent),
         }
     }
-}
 
-/// Goes on where a case agrees: its words ask and answer the question.
-fn agrees(case: &mut Case, question: Question, form: Form) -> Result<(), Differs>
-    ensures { case.new.list ≡ case.old.list }
-{
-    let mut room = [0; MOST_WORK];
-    let (work, before) = match form {
-        Form::Plain => (WORK as u64, 0),
-        Form::Limits => (case.take_number()?, case.take_number()?),
-    };
-    if work > MOST_WORK as u64 {
-        return Err(Differs);
+    /// Counts the cases of the list, which was read, after those of others.
+    fn count(self, list: &[u8], counted: &mut Tally)
+        ensures { Counted list.now counted.old counted.new }
+    {
+        for mut case in Cases::of(list) {
+            counted.add(self.agrees(&mut case).is_ok());
+        }
     }
-    let lent = Lent {
-        work: &mut room[..work as usize],
-        before: before as usize,
-    };
-    match question {
-        Question::Picture(source) => pictures::replay(case, source, lent.before),
-        Question::Reading => readings::replay(case, lent),
-        Question::Report(kind) => report_cases::replay(case, kind, lent),
-        Question::Owner => owners::replay(case, lent),
-        Question::Extract => extracts::replay(case, lent),
-        Question::Key => keys::replay(case, lent),
+
+    /// Replays the list, which was read, after the cases of others, and prints which case is the first that differs.
+    pub fn replay(self, rt: &impl Print, list: &[u8], counted: &mut Tally) -> io::Result<()>
+        ensures { Counted list.now counted.old counted.new }
+    {
+        let before = counted.first_difference;
+        self.count(list, counted);
+        print_difference(rt, self.what, before, *counted)
     }
 }
 
@@ -120,47 +136,64 @@ fn print_difference(
     }
 }
 
-impl<'a> List<'a> {
-    /// Counts the cases of the list, which was read, after those of others.
-    fn count(self, list: &[u8], counted: &mut Tally)
-        ensures { Counted list.now counted.old counted.new }
-    {
-        for mut case in Cases::of(list) {
-            counted.add(agrees(&mut case, self.question, self.form).is_ok());
-        }
-    }
-
-    /// Reads the list and replays it, after the cases of others.
-    #[tactic(auto, using(replay::proofs::TallyLaws::tally_steps))]
-    pub fn replay(
-        self,
-        rt: &(impl Files + Print),
-        room: &mut [u8],
-        counted: &mut Tally,
-    ) -> io::Result<()>
-        ensures onward { Onward counted.old counted.new }
-        ensures all { IfOk result (λ _. (n : ℕ) × Counted (take n room.new) counted.old counted.new) }
-    {
-        let n = read_list(rt, self.file, room)?;
-        let before = counted.first_difference;
-        self.count(&room[..n], counted);
-        print_difference(rt, self.what, before, *counted)
-    }
-
-    /// The same of this list alone, and prints how many of its cases agree.
-    pub fn print(self, rt: &(impl Files + Print), room: &mut [u8]) -> io::Result<()> {
-        let mut counted = Tally::new();
-        self.replay(rt, room, &mut counted)?;
-        println!(rt; "{} {counted}", self.what)
-    }
+/// Reads lists one after the other, and prints how many of their cases agree.
+// Kept: `Onward` and `Counted` in their contracts – no plainer: they speak of a tally before and after, and a ghost
+// field speaks of one value alone.
+#[derive(Drop)]
+pub(crate) struct Lists<'a, R> {
+    /// Where they are read and printed.
+    pub rt: &'a R,
+    /// Room for a list.
+    // Kept: an array – a rule of the project: a Vec's memory rests on three axioms more.
+    pub room: [u8; 400_000],
 }
 
-/// Reads the list of records, replays it, and prints how many records and positions agree.
-pub fn print_records(rt: &(impl Files + Print), room: &mut [u8], file: &[u8]) -> io::Result<()> {
-    let n = read_list(rt, file, room)?;
-    let Counts { records, positions } = owners::replay_records(&room[..n]);
-    print_difference(rt, "positions", None, positions)?;
-    print_difference(rt, "records", None, records)?;
-    println!(rt; "records {records}")?;
-    println!(rt; "positions {positions}")
+impl<'a, R: Files + Print> Lists<'a, R> {
+    /// Reads a list and replays it, after the cases of others. What a file holds has no word in a contract: as many
+    /// cases are counted as what was read has, which is at most what there is room for.
+    #[tactic(auto, using(replay::proofs::TallyLaws::tally_steps))]
+    pub(crate) fn replay(&mut self, list: List, counted: &mut Tally) -> io::Result<()>
+        ensures onward { Onward counted.old counted.new }
+        ensures all { IfOk result (λ _. (read : _)
+            × (length read ≤ length self.old.room) × Counted read counted.old counted.new) }
+    {
+        list.replay(
+            self.rt,
+            read_list(self.rt, list.file, &mut self.room)?,
+            counted,
+        )
+    }
+
+    /// The same of a list alone, and prints how many of its cases agree.
+    pub(crate) fn print(&mut self, list: List) -> io::Result<()> {
+        self.print_as_one(list.what, &[list])
+    }
+
+    /// Prints lists about one thing.
+    pub(crate) fn print_all(&mut self, about: &str, lists: &[List]) -> io::Result<()> {
+        println!(self.rt; "of {about}")?;
+        for list in lists {
+            self.print(*list)?;
+        }
+        Ok(())
+    }
+
+    /// Prints lists that are counted as one.
+    pub(crate) fn print_as_one(&mut self, what: &str, lists: &[List]) -> io::Result<()> {
+        let mut counted = Tally::new();
+        for list in lists {
+            self.replay(*list, &mut counted)?;
+        }
+        println!(self.rt; "{what} {counted}")
+    }
+
+    /// Reads the list of records, replays it, and prints how many records and positions agree.
+    pub(crate) fn print_records(&mut self, file: &[u8]) -> io::Result<()> {
+        let list = read_list(self.rt, file, &mut self.room)?;
+        let Counts { records, positions } = owners::replay_records(list);
+        print_difference(self.rt, "positions", None, positions)?;
+        print_difference(self.rt, "records", None, records)?;
+        println!(self.rt; "records {records}")?;
+        println!(self.rt; "positions {positions}")
+    }
 }

@@ -6,156 +6,148 @@
 
 mod lists;
 
-use lists::{List, Question, print_records};
-use replay::tally::Tally;
+use lists::{Form, List, Lists, Question};
 use report_cases::Kind;
 use std::io;
-use std::rt::Files;
 use text_cases::pictures::Source;
 
-/// Replays lists about one thing.
-fn print_lists(
-    rt: &(impl Files + Print),
-    room: &mut [u8],
-    about: &str,
-    lists: &[List],
-) -> io::Result<()> {
-    println!(rt; "of {about}")?;
-    for list in lists {
-        list.print(rt, room)?;
-    }
-    Ok(())
-}
-
-/// Replays the lists of generated copybooks, which are counted as one.
-fn print_parse(rt: &(impl Files + Print), room: &mut [u8]) -> io::Result<()> {
-    let listing = Question::Report(Kind::Listing);
-    let mut counted = Tally::new();
-    for list in [
-        List::plain(b"layout/layouts1.txt", "parse", listing),
-        List::plain(b"layout/layouts2.txt", "parse", listing),
-        List::plain(b"layout/layouts3.txt", "parse", listing),
-        List::plain(b"layout/layouts4.txt", "parse", listing),
-    ] {
-        list.replay(rt, room, &mut counted)?;
-    }
-    println!(rt; "parse {counted}")
-}
-
 fn main(rt: HostRuntime) -> io::Result<()> {
-    let rt = &rt;
-    // Kept: an array and the length that was read – a rule of the project: a Vec's memory rests on three axioms more
-    let room: &mut [u8] = &mut [0; 400_000];
-    print_lists(
-        rt,
-        room,
+    let mut lists = Lists {
+        rt: &rt,
+        room: [0; 400_000],
+    };
+    lists.print_all(
         "pictures",
         &[
-            List::plain(
+            List::new(
                 b"picture/pictures.txt",
                 "pictures",
                 Question::Picture(Source::Rust),
+                Form::Plain,
             ),
-            List::plain(
+            List::new(
                 b"picture/document.txt",
                 "document",
                 Question::Picture(Source::Document),
+                Form::Plain,
             ),
-            List::limits(
+            List::new(
                 b"picture/limits.txt",
                 "long pictures",
                 Question::Picture(Source::Document),
+                Form::Limits,
             ),
         ],
     )?;
-    print_lists(
-        rt,
-        room,
+    lists.print_all(
         "readings",
         &[
-            List::plain(b"reader/texts.txt", "texts", Question::Reading),
-            List::limits(b"reader/limits.txt", "limits", Question::Reading),
+            List::new(b"reader/texts.txt", "texts", Question::Reading, Form::Plain),
+            List::new(
+                b"reader/limits.txt",
+                "limits",
+                Question::Reading,
+                Form::Limits,
+            ),
         ],
     )?;
-    println!(rt; "of listings")?;
-    print_parse(rt, room)?;
+    println!(lists.rt; "of listings")?;
+    let listing = Question::Report(Kind::Listing);
+    lists.print_as_one(
+        "parse",
+        &[
+            List::new(b"layout/layouts1.txt", "parse", listing, Form::Plain),
+            List::new(b"layout/layouts2.txt", "parse", listing, Form::Plain),
+            List::new(b"layout/layouts3.txt", "parse", listing, Form::Plain),
+            List::new(b"layout/layouts4.txt", "parse", listing, Form::Plain),
+        ],
+    )?;
     for list in [
-        List::plain(
+        List::new(
             b"layout/document.txt",
             "document",
             Question::Report(Kind::Listing),
+            Form::Plain,
         ),
-        List::plain(
+        List::new(
             b"layout/cards.txt",
             "cards",
             Question::Report(Kind::CardListing),
+            Form::Plain,
         ),
-        List::limits(
+        List::new(
             b"layout/limits.txt",
             "limits",
             Question::Report(Kind::Listing),
+            Form::Limits,
         ),
     ] {
-        list.print(rt, room)?;
+        lists.print(list)?;
     }
-    println!(rt; "of owners")?;
-    print_records(rt, room, b"owner/records.txt")?;
+    println!(lists.rt; "of owners")?;
+    lists.print_records(b"owner/records.txt")?;
     for list in [
-        List::plain(b"owner/asked.txt", "asked", Question::Owner),
-        List::limits(b"owner/limits.txt", "limits", Question::Owner),
+        List::new(b"owner/asked.txt", "asked", Question::Owner, Form::Plain),
+        List::new(b"owner/limits.txt", "limits", Question::Owner, Form::Limits),
     ] {
-        list.print(rt, room)?;
+        lists.print(list)?;
     }
-    print_lists(
-        rt,
-        room,
+    lists.print_all(
         "details",
         &[
-            List::plain(
+            List::new(
                 b"details/details.txt",
                 "details",
                 Question::Report(Kind::Details),
+                Form::Plain,
             ),
-            List::limits(
+            List::new(
                 b"details/limits.txt",
                 "limits",
                 Question::Report(Kind::Details),
+                Form::Limits,
             ),
         ],
     )?;
-    print_lists(
-        rt,
-        room,
+    lists.print_all(
         "reasons",
         &[
-            List::plain(
+            List::new(
                 b"reasons/reasons.txt",
                 "reasons",
                 Question::Report(Kind::Reasons),
+                Form::Plain,
             ),
-            List::limits(
+            List::new(
                 b"reasons/limits.txt",
                 "limits",
                 Question::Report(Kind::Reasons),
+                Form::Limits,
             ),
         ],
     )?;
-    print_lists(
-        rt,
-        room,
+    lists.print_all(
         "extracts",
         &[
-            List::plain(b"extract/extracts.txt", "extracts", Question::Extract),
-            List::limits(b"extract/limits.txt", "limits", Question::Extract),
+            List::new(
+                b"extract/extracts.txt",
+                "extracts",
+                Question::Extract,
+                Form::Plain,
+            ),
+            List::new(
+                b"extract/limits.txt",
+                "limits",
+                Question::Extract,
+                Form::Limits,
+            ),
         ],
     )?;
-    print_lists(
-        rt,
-        room,
+    lists.print_all(
         "keys",
         &[
-            List::plain(b"key/keys.txt", "keys", Question::Key),
-            List::limits(b"key/limits.txt", "limits", Question::Key),
+            List::new(b"key/keys.txt", "keys", Question::Key, Form::Plain),
+            List::new(b"key/limits.txt", "limits", Question::Key, Form::Limits),
         ],
     )
 }

@@ -1,6 +1,7 @@
-//! The cases of lists that ask of a text by itself: of a picture, and how a copybook is read into rows. Leans on
-//! `replay` for the words of a case.
+//! The cases of lists that ask of a text by itself: of a picture, and how a copybook is read into rows.
 #![tactic(auto)]
 
+/// Answers to pictures.
 pub mod pictures;
+/// Readings of copybook texts.
 pub mod readings;

@@ -1,14 +1,16 @@
-//! Answers to pictures: picture/pictures.txt has the Rust's, picture/document.txt and limits.txt those of documents 01
-//! and 02 that the Rust cannot give. A case of the first: usage, sign, picture, and the Rust's answer, which ends in
-//! the mask where the picture is edited under DISPLAY. A case of the second: usage, sign, picture, length of the
-//! output; the answer of `parse_pic`, with a refusal's position; and the answer of `mask`, its length and bytes, or a
-//! refusal's number, position and needed length. Usage and sign are numbered as in tools/oracle.
-ghost use Rattle.std.specs.Prelude.{◌≡◌};
+//! Answers to pictures: picture/pictures.txt has the Rust's, but of a picture with P those of tools/layout_list.py;
+//! picture/document.txt and limits.txt have those of the rules that the Rust cannot give. A case of the first: usage,
+//! sign, picture, and the Rust's answer, which ends in the mask where the picture is edited under DISPLAY. A case of
+//! the second: usage, sign, picture, length of the output; the answer of `parse_pic`, with a refusal's position; and
+//! the answer of `mask`, its length and bytes, or a refusal's number, position and needed length. Usage and sign are
+//! numbered as in tools/oracle.
+ghost use Rattle.std.specs.Prelude.{◌≡◌, IsOk, IsTrue};
+ghost use Rattle.replay.specs.Words.{ahead, is_end};
 
-use definition::{FieldKind, Refusal, SignKind, Usage};
+use definition::{FieldKind, Pictured, Refusal, SignKind, Usage};
 use kinds::Coded;
 use replay::case::{Case, Differs, only};
-use replay::lent::{is_untouched, write_pattern};
+use replay::lent::{TEXT_ROOM, is_untouched, patterned};
 
 /// The most bytes that a mask is given room for.
 const ROOM: usize = 300;
@@ -16,11 +18,15 @@ const ROOM: usize = 300;
 /// Whose answers a list has.
 #[derive(Clone, Copy)]
 pub enum Source {
+    /// The Rust's, but of a picture with P those of tools/layout_list.py.
     Rust,
+    /// Those that the Rust cannot give.
     Document,
 }
 
 /// A picture, and the usage and the sign that it is read with.
+// Kept: a case beside it in five functions – no plainer: the case is read on, and a struct over its `&mut` would have
+// to say in each contract that its list stays, as each does now.
 #[derive(Clone, Copy)]
 struct Asked<'a> {
     picture: &'a [u8],
@@ -31,33 +37,37 @@ struct Asked<'a> {
 // ---------------------------------------------------------------- one answer
 
 /// Goes on where the next words are the kind and its details.
+// Kept: the arms of `listing::Sink::details` – no plainer: they tell words of a list where those write bytes of a
+// listing, which has the picture's place behind an edited kind, and a list has no group and no float.
 fn kind(case: &mut Case, kind: FieldKind) -> Result<(), Differs>
     ensures { case.new.list ≡ case.old.list }
 {
+    case.bytes(&[kinds::kind_byte(kind)])?;
     match kind {
-        FieldKind::Text => case.bytes(&[1]),
-        FieldKind::Int { signed, sign } => case.bytes(&[2, signed.code(), sign.code()]),
-        FieldKind::Binary { signed } => case.bytes(&[3, signed.code()]),
+        FieldKind::Text => Ok(()),
+        FieldKind::Int { signed, sign } => case.bytes(&[signed.code(), sign.code()]),
+        FieldKind::Binary { signed } => case.bytes(&[signed.code()]),
         FieldKind::Decimal {
             precision,
             scale,
             repr,
             sign,
-        } => case.bytes(&[4, precision, scale, repr.code(), sign.code()]),
+        } => case.bytes(&[precision, scale, repr.code(), sign.code()]),
         FieldKind::Edited {
             precision,
             scale,
             signed,
-        } => case.bytes(&[5, precision, scale, signed.code()]),
+        } => case.bytes(&[precision, scale, signed.code()]),
         FieldKind::Group | FieldKind::Float { .. } => Err(Differs),
     }
 }
 
-/// An output with room for every mask, as it is before a call.
-fn lent_output() -> [u8; ROOM] {
-    let mut out = [0; ROOM];
-    write_pattern(&mut out);
-    out
+/// Goes on where the next words are the answer of `parse_pic` to a picture that it accepts.
+fn accepted(case: &mut Case, a: Pictured) -> Result<(), Differs>
+    ensures { case.new.list ≡ case.old.list }
+{
+    case.numbers(&[1, a.width as u64])?;
+    kind(case, a.kind)
 }
 
 // ---------------------------------------------------------------- a case of the Rust's list
@@ -67,7 +77,7 @@ fn lent_output() -> [u8; ROOM] {
 fn rust_mask(case: &mut Case, asked: Asked, kind: FieldKind) -> Result<(), Differs>
     ensures { case.new.list ≡ case.old.list }
 {
-    let mut out = lent_output();
+    let mut out = patterned::<ROOM>();
     match (copybook::mask(asked.picture, asked.usage, &mut out), kind) {
         (Ok(n), FieldKind::Edited { .. }) => case.written(&out, n),
         (Ok(n), _) => only(n == 0 && is_untouched(&out, 0)),
@@ -77,7 +87,7 @@ fn rust_mask(case: &mut Case, asked: Asked, kind: FieldKind) -> Result<(), Diffe
 
 /// Goes on where the mask has the same refusal, and the output is untouched.
 fn mask_refused(asked: Asked, refusal: Refusal) -> Result<(), Differs> {
-    let mut out = lent_output();
+    let mut out = patterned::<ROOM>();
     match copybook::mask(asked.picture, asked.usage, &mut out) {
         Ok(_) => Err(Differs),
         Err(r) => only(r == refusal && is_untouched(&out, 0)),
@@ -90,8 +100,7 @@ fn rust_answer(case: &mut Case, asked: Asked) -> Result<(), Differs>
 {
     match copybook::parse_pic(asked.picture, asked.usage, asked.sign) {
         Ok(a) => {
-            case.numbers(&[1, a.width as u64])?;
-            kind(case, a.kind)?;
+            accepted(case, a)?;
             rust_mask(case, asked, a.kind)
         }
         Err(r) => {
@@ -109,23 +118,20 @@ fn document_picture(case: &mut Case, asked: Asked) -> Result<(), Differs>
     ensures { case.new.list ≡ case.old.list }
 {
     match copybook::parse_pic(asked.picture, asked.usage, asked.sign) {
-        Ok(a) => {
-            case.numbers(&[1, a.width as u64])?;
-            kind(case, a.kind)
-        }
+        Ok(a) => accepted(case, a),
         Err(r) => case.refusal(r),
     }
 }
 
 /// Goes on where the answer of `mask`, with so much room, is that of the next words.
-fn document_mask(case: &mut Case, asked: Asked, room: u64) -> Result<(), Differs>
+fn document_mask(case: &mut Case, asked: Asked, room: usize) -> Result<(), Differs>
     ensures { case.new.list ≡ case.old.list }
 {
-    if room > ROOM as u64 {
+    if room > ROOM {
         return Err(Differs);
     }
-    let mut out = lent_output();
-    let answer = copybook::mask(asked.picture, asked.usage, &mut out[..room as usize]);
+    let mut out = patterned::<ROOM>();
+    let answer = copybook::mask(asked.picture, asked.usage, &mut out[..room]);
     case.writing(answer, &out)
 }
 
@@ -133,7 +139,7 @@ fn document_mask(case: &mut Case, asked: Asked, room: u64) -> Result<(), Differs
 fn document_answer(case: &mut Case, asked: Asked) -> Result<(), Differs>
     ensures { case.new.list ≡ case.old.list }
 {
-    let room = case.take_number()?;
+    let room = case.take()?;
     document_picture(case, asked)?;
     document_mask(case, asked, room)
 }
@@ -141,12 +147,15 @@ fn document_answer(case: &mut Case, asked: Asked) -> Result<(), Differs>
 // ---------------------------------------------------------------- a case
 
 /// Goes on where the next words ask and answer, in a list of that source, with so many X before the picture.
+// Kept: a switch – no plainer: both answers are private here, and a closure for one of them would have to be made by
+// the caller, of what a picture is asked with.
 pub fn replay(case: &mut Case, source: Source, before: usize) -> Result<(), Differs>
-    ensures { case.new.list ≡ case.old.list }
+    ensures list { case.new.list ≡ case.old.list }
+    ensures ended { IsOk result → IsTrue (is_end (ahead case.new.list.now case.new.stand)) }
 {
-    let mut room = [b'X'; 65536];
-    let usage = Usage::at((case.take_number()? % 256) as u8);
-    let sign = kinds::clause_at((case.take_number()? % 256) as u8);
+    let mut room = [b'X'; TEXT_ROOM];
+    let usage = Usage::at(case.take()?);
+    let sign = kinds::clause_at(case.take()?);
     let picture = case.input(&mut room, before)?;
     let asked = Asked {
         picture,

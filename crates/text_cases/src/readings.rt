@@ -1,18 +1,19 @@
 //! Readings of copybook texts, in reader/texts.txt and limits.txt. A case: the text, and what tools/reader_list.py
 //! answers, which names the numbers; where the Rust has an answer, that was compared with it when the list was made.
-ghost use Rattle.std.specs.Prelude.{◌≡◌, ◌*◌, ◌≤◌, ◌<◌, length, IfOk};
+ghost use Rattle.std.specs.Prelude.{◌≡◌, ◌*◌, ◌≤◌, ◌<◌, length, IfOk, IsOk, IsTrue};
+ghost use Rattle.replay.specs.Words.{ahead, is_end};
 ghost use Rattle.rows.specs.Columns.{ROW};
 
 use definition::{Clauses, ItemUsage, Refusal, Span, Usage};
 use kinds::Coded;
 use replay::case::{Case, Differs};
-use replay::lent::Lent;
+use replay::lent::{Lent, TEXT_ROOM};
 use rows::{Rows, row_code};
 
 // ---------------------------------------------------------------- one row
 
-// Kept: a function – no plainer: the list has numbers of its own, DISPLAY the third.
 /// The number of what USAGE says; DISPLAY has the third one there.
+// Kept: a function – no plainer: the list has numbers of its own, DISPLAY the third.
 fn usage_number(said: Option<ItemUsage>) -> u64 {
     match said {
         None => 0,
@@ -35,10 +36,7 @@ fn span(case: &mut Case, w: Span) -> Result<(), Differs>
 fn occurs(case: &mut Case, times: Option<u64>) -> Result<(), Differs>
     ensures { case.new.list ≡ case.old.list }
 {
-    match times {
-        None => case.numbers(&[0, 0]),
-        Some(n) => case.numbers(&[1, n]),
-    }
+    case.numbers(&[u64::from(times.is_some()), times.unwrap_or(0)])
 }
 
 /// Goes on where the next words are the clauses.
@@ -82,6 +80,8 @@ fn all_rows(case: &mut Case, rows: Rows) -> Result<(), Differs>
 // ---------------------------------------------------------------- one text
 
 /// The rows of a text that passes the checks of an entry: how many there are.
+// Kept: work memory, and how many rows it holds – no plainer: `tree::read_rows` answers so, and `answer` makes `Rows`
+// of both.
 fn read(text: &[u8], work: &mut [u32]) -> Result<usize, Refusal>
     ensures { IfOk result (λ n. ROW * n ≤ length work.new) }
 {
@@ -104,9 +104,10 @@ fn answer(case: &mut Case, text: &[u8], work: &mut [u32]) -> Result<(), Differs>
 
 /// Goes on where the next words ask and answer, with blanks before the text.
 pub fn replay(case: &mut Case, lent: Lent) -> Result<(), Differs>
-    ensures { case.new.list ≡ case.old.list }
+    ensures list { case.new.list ≡ case.old.list }
+    ensures ended { IsOk result → IsTrue (is_end (ahead case.new.list.now case.new.stand)) }
 {
-    let mut room = [b' '; 65536];
+    let mut room = [b' '; TEXT_ROOM];
     let text = case.input(&mut room, lent.before)?;
     replay::lent::fill(lent.work);
     answer(case, text, lent.work)?;

@@ -1,6 +1,6 @@
 -- `owners::replay_records` meets its contract: the cases that were counted, and those that are still to come, are all
--- cases of the list, and no more records differ than positions.
-use Rattle.std.proofs.Common.{◌≡◌, ◌≤◌, ◌+◌, min, false}
+-- cases of the list; no more records differ than positions, and where none does, no position does.
+use Rattle.std.proofs.Common.{◌≡◌, ◌≤◌, ◌<◌, ◌+◌, min, false}
 use Rattle.replay.specs.Tallies.{most}
 use Rattle.replay.specs.Words.{ahead}
 use Rattle.replay.specs.Counting.{begun, cases}
@@ -11,3 +11,4 @@ invariant-loop-case l =
     (min most (l.records.cases + begun false (ahead l.case-iterator.rest.list.now l.case-iterator.rest.stand))
     ≡ min most (cases l.fn.list))
     × (l.records.cases + l.positions.agree ≤ l.positions.cases + l.records.agree)
+    × (l.records.cases < most → l.records.agree ≡ l.records.cases → l.positions.agree ≡ l.positions.cases)

@@ -18,9 +18,9 @@ const INDICATOR: usize = 7;
 const LAST: usize = 72;
 
 /// The column of the byte after b, which stands in column n.
-// Kept: a column, whether its line is code, and a byte, as in `code_next`, `shown`, `is_refused` and `view_into` – no
-// plainer: the definition takes each on by a function of its own, and of a struct of them each contract would name its
-// parts again.
+// Kept: a column and a byte, with whether its line is code in `code_next` and `shown`, and with the bytes behind in
+// `is_refused` – no plainer: the definition takes each on by a function of its own, and of a struct of them each
+// contract would name its parts again.
 fn column_next(n: usize, b: u8) -> usize
     requires { n ≤ most_bytes }
     ensures { result ≡ column_next n b }

@@ -10,7 +10,8 @@ ghost use Rattle.clauses.specs.Steps.{led, kept_on};
 use definition::{Clauses, Expect, Keyword, Missing, SignWords, Span};
 
 // Kept: a word, its place and the clauses beside one another – no plainer: the definition's `step` takes them so, and
-// the clauses are lent to change, so that each contract is one equation with the definition's.
+// the clauses are lent to change, so that each contract is an equation with the definition's, or one for the answer
+// and one for the clauses.
 
 /// What a statement says before its first clause.
 pub const NO_CLAUSES: Clauses = Clauses {

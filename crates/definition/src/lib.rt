@@ -479,8 +479,8 @@ pub struct KeyColumn {
 }
 
 /// What is written of a copybook's record.
-// Kept: an enum that says which, told apart in one place, by `answer` of `answers` – no plainer: the definition's calls
-// take it, and one entry for each report hands it on.
+// Kept: an enum that says which, told apart in one place of the library, by `answer` of `answers` – no plainer: the
+// definition's calls take it, and the entries for each report, for text and for cards, hand it on.
 #[derive(Clone, Copy)]
 pub enum Report {
     /// The layout listing.

@@ -66,7 +66,7 @@ impl Block {
 // has a block of its own, so that a struct of both would put it aside for an entry's members and take it back then.
 // And `inner` beside them where an entry is closed – no plainer: it is what the walk over the members answers, so that
 // a struct of row, b and `inner` would be made behind each such walk, for the next call alone.
-// Kept: `TableRoom` in the contract of each – no plainer: it asks for room for what that one call builds.
+// Kept: `TableRoom` in the contract of each that builds – no plainer: it asks for room for what that one call builds.
 
 // The item of a row before its members, by itself or as a member of the union that starts there.
 // Kept: casts, as in `close_union` – no plainer: the contract bounds the numbers, so that no TryFrom can fail.

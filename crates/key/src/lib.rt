@@ -140,7 +140,8 @@ pub fn seek_key(text: &[u8], table: Table, name: &[u8]) -> Sought
 // ---------------------------------------------------------------- two keys
 
 // A candidate in its text.
-// Kept: beside `Finding` – no plainer: that one is public and may hold no key, and the two share no method.
+// Kept: beside `Finding` – no plainer: that one is public and may hold no key; its `agrees` asks whether both do, and
+// then calls this one's.
 #[derive(Clone, Copy)]
 struct TextKey<'a> {
     text: &'a [u8],

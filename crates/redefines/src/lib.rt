@@ -64,8 +64,8 @@ pub struct PrintedRows<'a> {
     ghost printed: { Printed text.now rows.work.now rows.count },
 }
 
-// Kept: `last ≤ self.rows.count` in each method, and of `plain_after` and `placers_of` – no plainer: it is an index's
-// bound, as of a slice's part.
+// Kept: `last ≤ self.rows.count` in each method that takes `last`, and of `plain_after` and `placers_of` – no plainer:
+// it is an index's bound, as of a slice's part.
 impl<'a> PrintedRows<'a> {
     /// These rows, whose names stand in this text.
     pub fn new(text: &'a [u8], rows: Rows<'a>) -> Self

@@ -322,8 +322,9 @@ fn look_inside(text: &[u8], at: usize) -> Ahead
 
 /// What a reader finds: a word, the end of a statement, or no more tokens, since the text has ended or the line of a
 /// literal has.
-// Kept: an `End` of its own – no plainer: one loop alone goes on to the end; most callers ask for a word alone or for a
-// period alone, and an `Option` around the two would set each of their patterns one deeper.
+// Kept: an `End` of its own – no plainer: most callers ask for a word alone or for a period alone, and an `Option`
+// around the two would set each of their patterns one deeper; `read_statement` and `begin` of a case tell the three
+// apart.
 #[derive(Clone, Copy)]
 pub enum Next {
     /// A word.

@@ -51,8 +51,8 @@ pub fn fold_check(text: &[u8], rows: Rows, from: usize) -> Result<(), Refusal>
 // ---------------------------------------------------------------- the redefiners linked
 
 // Row k before the rows of its union so far: its base names it then.
-// Kept: work memory and a row, as in `link_unions` – no plainer, as of `rows::put_cell`: a struct over the `&mut` would
-// have to say in the contract that it is the same memory and holds as many rows.
+// Kept: work memory and a row, or rows, as in `link_unions` – no plainer, as of `rows::put_cell`: a struct over the
+// `&mut` would have to say in the contract that it is the same memory and holds as many rows.
 fn link_row(work: &mut [u32], k: usize)
     requires { (ROW * k + ROW ≤ length work.old) × (k < 4294967295) × (cell work.old k BASE ≤ k) }
     ensures { work.new ≡ link_row work.old k }

@@ -30,7 +30,8 @@ span bytes at =
 
 -- ---------------------------------------------------------------- the head
 
--- how many bytes a record has, whether it may have fewer, and how many entries stand at the top, behind kind 0
+-- how many bytes a record has, the fewest where it varies; whether it does; and how many entries stand at the top,
+-- behind kind 0
 abbrev pub head : List ℕ → Head
 head bytes = record {
   length = four bytes 1;

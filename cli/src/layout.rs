@@ -1,35 +1,39 @@
-//! `copybook layout`: the lines of the layout listing, or a table for people, or JSON or CSV for machines.
+//! `copybook layout`: a table for people, the lines of the layout listing, or JSON or CSV for machines.
 
 use crate::facts::Facts;
 use crate::{files, forms, machines, reasons, refusals, table, Arguments, Command, Failure, Status};
 use copybook::{Form, Layout, Reader};
-use std::io::{self, Write};
+use std::io::{self, IsTerminal, Write};
 
 pub const COMMAND: Command = Command {
     name: "layout",
     summary: "where each column starts, how wide it is and what it holds",
     help: "\
-copybook layout [--cards] [--table [--from-1] [--why] | --json | --csv] [FILE]
+copybook layout [--cards] [--table [--from-1] [--why] | --lines | --json | --csv] [FILE]
 
-Where each column of the copybook's record starts, how wide it is and what it holds: a line for the record,
-
-    record LENGTH fixed|variable TOP-COUNT
-
-then one for each entry: depth, name, offset in its group, width of one occurrence, kind (text int bin dec edit
-group), OCCURS count, DEPENDING ON and REDEFINES, with a minus for what is absent. An item and those that redefine
-it stand together in a group of the item's name.
+Where each column of the copybook's record starts, how wide it is and what it holds: a table on a terminal, and the
+listing's lines into a pipe or a file.
 
   --cards   the copybook is on cards with columns: 1 to 6 and those after 72 are ignored, 7 is an indicator
   --table   for people: places in the record, pictures, slack, and what each item holds in words
   --from-1  the table's bytes count from 1, as mainframe tools count, and not from 0
   --why     the table says why each item stands where it does, as copybook reasons does
-  --json    the same facts for machines
+  --lines   for scripts: a line for the record and one for each entry
+  --json    for programs: all the facts of the table and of the lines
   --csv     likewise
+
+Lines: the record has
+
+    record LENGTH fixed|variable TOP-COUNT
+
+and an entry has its depth, name, offset in its group, width of one occurrence, kind (text int bin dec edit group
+float), OCCURS count, DEPENDING ON and REDEFINES, with a minus for what is absent. An item and those that redefine it
+stand together in a group of the item's name.
 
 A copybook that cannot be laid out gives `refused NUMBER POSITION` and exit status 1; standard error says why.
 docs/FORMATS.md says what each format has, docs/REFUSALS.md what each number means.
 ",
-    flags: &[forms::CARDS, "--table", "--from-1", "--why", "--json", "--csv"],
+    flags: &[forms::CARDS, "--table", "--from-1", "--why", "--lines", "--json", "--csv"],
     values: &[],
     run,
 };
@@ -42,15 +46,18 @@ enum Format {
     Csv,
 }
 
+/// The format that is asked for; else a table for people on a terminal, and lines for whatever else reads them.
 fn format(arguments: &Arguments) -> Result<Format, Failure> {
     let (from_1, why) = (arguments.has("--from-1"), arguments.has("--why"));
-    let from = u64::from(from_1);
-    let chosen: Vec<&str> = ["--table", "--json", "--csv"].into_iter().filter(|f| arguments.has(f)).collect();
+    let table = Format::Table { from: u64::from(from_1), why };
+    let formats = ["--table", "--lines", "--json", "--csv"];
+    let chosen: Vec<&str> = formats.into_iter().filter(|f| arguments.has(f)).collect();
     match chosen.as_slice() {
-        [] if !from_1 && !why => Ok(Format::Lines),
-        [] | ["--table"] => Ok(Format::Table { from, why }),
+        [] if from_1 || why || io::stdout().is_terminal() => Ok(table),
+        ["--table"] => Ok(table),
         [other] if from_1 => Err(Failure::Misuse(format!("--from-1 is for the table alone, not for {other}"))),
         [other] if why => Err(Failure::Misuse(format!("--why is for the table alone, not for {other}"))),
+        [] | ["--lines"] => Ok(Format::Lines),
         ["--json"] => Ok(Format::Json),
         [_] => Ok(Format::Csv),
         several => Err(Failure::Misuse(format!("one of {} at a time", several.join(" and ")))),

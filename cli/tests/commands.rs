@@ -69,7 +69,9 @@ fn misuse_says_what_is_wrong() {
     fails(&["layout", "--tables"], "there is no option --tables\nTry: copybook layout --help");
     fails(&["layout", "--table=1"], "--table takes no value");
     fails(&["layout", "--json", "--csv"], "one of --json and --csv at a time");
+    fails(&["layout", "--lines", "--table"], "one of --table and --lines at a time");
     fails(&["layout", "--json", "--from-1"], "--from-1 is for the table alone");
+    fails(&["layout", "--lines", "--why"], "--why is for the table alone, not for --lines");
     fails(&["layout", "a.cpy", "b.cpy"], "b.cpy is a second");
     fails(&["owner", "a.cpy", "five"], "five is no position");
     fails(&["owner", "a.cpy", "5", "6"], "one FILE and one POSITION");
@@ -214,6 +216,7 @@ fn standard_input_where_no_file_is_named() {
     assert_eq!((expected.0, expected.2.as_str()), (0, ""));
     assert!(expected.1.starts_with("record 20 fixed 3\n"));
     assert_eq!(ran(&["layout", "-"], FISH), expected);
+    assert_eq!(ran(&["layout", "--lines"], FISH), expected);
     assert_eq!(ran(&["layout", "--", "-"], FISH), expected);
     assert_eq!(ran(&["owner", "5"], FISH).1, "5 slack before 1 SIRE\n");
     assert_eq!(ran(&["owner", "-", "5"], FISH).1, "5 slack before 1 SIRE\n");
@@ -223,8 +226,8 @@ fn standard_input_where_no_file_is_named() {
 #[test]
 fn a_refusal_goes_to_both_outputs() {
     let text = "01 BREEDING.\n    05 TAG PIC X(5).\n    05 PARTS REDEFINES TAGS PIC X(5).\n";
-    for format in [&["layout"][..], &["layout", "--table"], &["layout", "--json"], &["layout", "--csv"], &["owner"]] {
-        let (status, out, err) = ran(format, text);
+    for words in ["layout", "layout --table", "layout --lines", "layout --json", "layout --csv", "owner"] {
+        let (status, out, err) = ran(&words.split(' ').collect::<Vec<_>>(), text);
         assert_eq!((status, out.as_str()), (1, "refused 28 38\n"));
         assert!(err.starts_with("(standard input):3:5: no earlier item of this list is called TAGS\n"), "{err}");
         assert!(err.contains("\n        ^                  ~~~~\n"), "{err}");

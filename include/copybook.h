@@ -1,9 +1,10 @@
 /*
  * What the columns of a COBOL copybook are: the C interface of the crate `copybook_c`. C99, or C++.
  *
- * `tools/build library` proves the crate and writes target/staticlib/libcopybook_c.a, for x86-64-v2 Linux; link it
- * beside a program, with nothing but the C library (it calls memcpy and memset). tools/install puts both where
- * pkg-config finds them; examples/c shows how they are used.
+ * made/ has the library that the proved crate gives, for x86-64-v2 Linux and for aarch64 Linux; link it beside a
+ * program, with nothing but the C library (it calls memcpy and memset). tools/install puts both where pkg-config finds
+ * them; examples/c shows how they are used. made/wasm64 has it as a WebAssembly module with a memory of 64 bits, which
+ * imports nothing and exports its memory and the calls; examples/wasm shows how.
  *
  * Each call returns 0 if it accepts, or the number of its refusal, and writes the rest of its answer to `answer`:
  * always as many numbers as its comment says. Where `answer` has fewer (k), it is not touched, and the returned number

@@ -1,5 +1,5 @@
 //! Links the static library of the crate `copybook_c`: from the folder that the environment variable COPYBOOK_LIB
-//! names, or else from this repository, where `tools/build library` proves the crate and makes it.
+//! names, as it is, or else from this repository's made/, if its SHA-256 sum is the one that stands there.
 
 use std::path::{Path, PathBuf};
 use std::process::Command;
@@ -11,12 +11,6 @@ fn set(variable: &str) -> String {
     env::var(variable).unwrap_or_else(|_| panic!("cargo sets {variable}"))
 }
 
-/// The library is made for one target alone.
-fn check_target() {
-    let (arch, os) = (set("CARGO_CFG_TARGET_ARCH"), set("CARGO_CFG_TARGET_OS"));
-    assert!(arch == "x86_64" && os == "linux", "{LIBRARY} is for x86-64 Linux, not for {arch} {os}");
-}
-
 /// The folder that COPYBOOK_LIB names.
 fn named(folder: &str) -> PathBuf {
     let folder = fs::canonicalize(folder).unwrap_or_else(|e| panic!("COPYBOOK_LIB ({folder}): {e}"));
@@ -26,48 +20,40 @@ fn named(folder: &str) -> PathBuf {
     folder
 }
 
-/// Has cargo come back when a source of the library changes. What rt makes in a crate's folder `out` is none: it is new
-/// after each run.
-fn watch(repository: &Path) {
-    let crates = repository.join("crates");
-    let folders = fs::read_dir(&crates).unwrap_or_else(|e| panic!("{}: {e}", crates.display()));
-    let parts = folders
-        .map(|folder| folder.unwrap_or_else(|e| panic!("{}: {e}", crates.display())).path())
-        .flat_map(|folder| ["src", "specs", "proofs"].map(|part| folder.join(part)))
-        .filter(|part| part.is_dir());
-    for source in ["crates.txt", "tools/build"].map(|file| repository.join(file)).into_iter().chain(parts) {
-        println!("cargo:rerun-if-changed={}", source.display());
-    }
+/// The SHA-256 sum of a file, as `sha256sum` prints it.
+fn sum(file: &Path) -> String {
+    let ran = Command::new("sha256sum").stdin(fs::File::open(file).expect("a file that is there")).output();
+    let ran = ran.unwrap_or_else(|e| panic!("sha256sum, which checks {}: {e}", file.display()));
+    let said = String::from_utf8_lossy(&ran.stdout);
+    said.split(' ').next().unwrap_or_default().to_owned()
 }
 
-/// Proves the crate and makes the library, in the repository that this crate stands in.
+/// The folder in made/ for the target, in the repository that this crate stands in. Its library has the sum that was
+/// written when it was made.
 fn made() -> PathBuf {
-    let repository = Path::new(&set("CARGO_MANIFEST_DIR")).join("../..");
-    assert!(
-        repository.join("crates/copybook_c").is_dir(),
-        "no crates/copybook_c two folders above this crate: set COPYBOOK_LIB to the folder of {LIBRARY}"
-    );
-    watch(&repository);
-    let build = repository.join("tools/build");
-    let ran = Command::new(&build).arg("library").output().unwrap_or_else(|e| panic!("{}: {e}", build.display()));
-    assert!(
-        ran.status.success(),
-        "tools/build library: {}. It needs rt, the command of the Rattle kit: install it, \
-         or set COPYBOOK_LIB to the folder of a {LIBRARY} that it made\n{}{}",
-        ran.status,
-        String::from_utf8_lossy(&ran.stdout),
-        String::from_utf8_lossy(&ran.stderr)
-    );
-    repository.join("target/staticlib")
+    let made = Path::new(&set("CARGO_MANIFEST_DIR")).join("../../made");
+    let (arch, os) = (set("CARGO_CFG_TARGET_ARCH"), set("CARGO_CFG_TARGET_OS"));
+    let folder = format!("{arch}-{os}-gnu");
+    let name = format!("{folder}/{LIBRARY}");
+    let (library, sums) = (made.join(&name), made.join("SHA256SUMS"));
+    for file in [&library, &sums] {
+        println!("cargo:rerun-if-changed={}", file.display());
+    }
+    let sums = fs::read_to_string(&sums).unwrap_or_else(|e| {
+        panic!("{}: {e}; without the repository set COPYBOOK_LIB to the folder of {LIBRARY}", sums.display())
+    });
+    let written = sums.lines().find_map(|line| line.strip_suffix(&format!("  {name}")));
+    let written = written.unwrap_or_else(|| panic!("made/ has no {LIBRARY} for {arch} {os}"));
+    assert!(sum(&library) == written, "{name} in made/ does not have the SHA-256 sum that made/SHA256SUMS has of it");
+    made.join(folder)
 }
 
 fn main() {
     println!("cargo:rerun-if-changed=build.rs");
     println!("cargo:rerun-if-env-changed=COPYBOOK_LIB");
-    check_target();
     let folder = match env::var("COPYBOOK_LIB") {
-        Ok(folder) => named(&folder),
-        Err(_) => made(),
+        Ok(folder) if !folder.is_empty() => named(&folder),
+        _ => made(),
     };
     println!("cargo:rustc-link-search=native={}", folder.display());
     println!("cargo:rustc-link-lib=static=copybook_c");

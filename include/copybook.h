@@ -15,8 +15,8 @@
  *
  * A call changes no byte of `out` if it refuses, and none past the bytes that it writes. It keeps nothing between
  * calls, and needs no initialisation; calls on different buffers may run at the same time. It takes no memory but
- * stack: at the deepest nesting that is accepted, 66 levels, 64 KB were measured, and 128 KB for cards, whose text is
- * copied there. How much is not proved; COPYBOOK_STACK bytes leave room.
+ * stack: with 800 statements, at the deepest nesting that is accepted, 66 levels, 122 KB were measured, and 186 KB for
+ * cards, whose text is copied there. How much is not proved; COPYBOOK_STACK bytes leave room for a thread's start.
  *
  * Buffers. A slice is handed over as a pointer and the number of its elements. What is proved holds if
  *   - the pointer is good for that many elements during the call, and aligned for its type (4 bytes for `work`, 8 for
@@ -43,11 +43,39 @@ extern "C" {
 /* The version of the library that this header goes with. */
 #define COPYBOOK_VERSION "0.1.0"
 
-/* How many numbers of 32 bits `work` must have. */
+/* The limits; in brackets stands the refusal of what is past them. `work` must have COPYBOOK_WORK numbers; a
+   call keeps nothing there: it asks for so many (3), and leaves zeros. */
+/* made by tools/papers --write: limits */
+/* The most bytes of a text (1). */
+#define COPYBOOK_MOST_BYTES 65535
+/* The fewest numbers of 32 bits that work memory has (3). */
 #define COPYBOOK_WORK 16384
+/* The most statements that are kept (14). */
+#define COPYBOOK_MOST_STATEMENTS 800
+/* The depth of the deepest list; the record's fields are at 0 (20). */
+#define COPYBOOK_DEEPEST 64
+/* The most symbols of a picture (24). */
+#define COPYBOOK_MOST_SYMBOLS 65535
+/* The most digits of a number, P included (27). */
+#define COPYBOOK_MOST_DIGITS 31
+/* The most bytes of a mask (27). */
+#define COPYBOOK_LONGEST_MASK 255
+/* The largest count of OCCURS, aligned cursor, size or end (29). */
+#define COPYBOOK_LARGEST 2147483647
+/* The most top-level items that an extract is chosen from (58). */
+#define COPYBOOK_MOST_ITEMS 16
+/* The smallest weight of an item (59). */
+#define COPYBOOK_LEAST_WEIGHT 1
+/* The largest weight of an item (59). */
+#define COPYBOOK_MOST_WEIGHT 1000
+/* The fewest copybooks of a set (56). */
+#define COPYBOOK_FEWEST_IN_SET 2
+/* The most copybooks of a set (56). */
+#define COPYBOOK_MOST_IN_SET 16
+/* end of limits */
 
 /* How many bytes of stack are enough for every call. */
-#define COPYBOOK_STACK 196608
+#define COPYBOOK_STACK 212992
 
 /* How many numbers `answer` needs. */
 #define COPYBOOK_LAYOUT_ANSWER 2
@@ -63,6 +91,7 @@ extern "C" {
 enum copybook_number {
     COPYBOOK_OK = 0,
 
+    /* made by tools/papers --write: numbers */
     /* the text, and what is lent; a byte over 127 has its position */
     COPYBOOK_TEXT_TOO_LONG = 1,
     COPYBOOK_BYTE_NOT_ASCII = 2,
@@ -78,8 +107,8 @@ enum copybook_number {
     /* a list of siblings; the position is that of its first statement */
     COPYBOOK_TOO_DEEP = 20,
 
-    /* an item; the picture calls give 22 to 27 too, with position 0; 29 may also be of a fold, at its base, or of the
-       record, at the item that ends too late */
+    /* an item; the picture calls give 22 to 27 too, with position 0; 29 may also be of a fold, at its base, or of
+       the record, at the item that ends too late */
     COPYBOOK_NO_PICTURE = 21,
     COPYBOOK_PICTURE_OPEN = 22,
     COPYBOOK_PICTURE_REPEAT = 23,
@@ -123,11 +152,13 @@ enum copybook_number {
     COPYBOOK_EXTRACT_ITEMS = 58,
     COPYBOOK_EXTRACT_WEIGHT = 59,
     COPYBOOK_EXTRACT_BUDGET = 60,
+    /* end of numbers */
 
     COPYBOOK_NO_SUCH_NUMBER = 255 /* a usage or a sign that is none; nothing is touched */
 };
 
 /* The refusals: what was found, and what to do. Expands R(number, found, advice) for each. */
+/* made by tools/papers --write: texts */
 #define COPYBOOK_REFUSALS(R) \
     R(COPYBOOK_TEXT_TOO_LONG, "the text has more than 65,535 bytes", \
       "split the copybook by record; a copybook with more than one record is one record per call anyway") \
@@ -193,6 +224,7 @@ enum copybook_number {
       "weights count against each other alone: scale them into that range") \
     R(COPYBOOK_EXTRACT_BUDGET, "a budget of 0", \
       "let one subset be looked at, at least; 65,536 are all that there can be")
+/* end of texts */
 
 /* Kinds: the first byte of each entry of a listing, and answer[0] of a picture. */
 enum copybook_kind {
@@ -231,11 +263,19 @@ enum copybook_storage { COPYBOOK_STORAGE_DISPLAY = 0, COPYBOOK_STORAGE_COMP_3 = 
 
 /* ---------------------------------------------------------------- the calls */
 
+/* made by tools/papers --write: sets of refusals */
+/*
+ * Refusals that several calls have, in the order in which they are looked for:
+ *   the reader's refusals  1 to 3; on cards 51; 50; 10 to 14; 20 to 30, with 52 in the place of 21
+ *   a picture's refusals   1, 2; 22 to 27
+ */
+/* end of sets of refusals */
+
 /*
  * The layout listing of the copybook in `text`, written to `out`.
  *
  * `work` must have COPYBOOK_WORK numbers; whatever it holds, all of it is zero after every call, also after a refusal.
- * answer[0] is the number of bytes written, answer[1] is 0. Refusals: 1 to 3, 50, 10 to 14, 20 to 30 and 52, 31.
+ * answer[0] is the number of bytes written, answer[1] is 0. Refusals: the reader's, then 31.
  *
  * The listing: one byte of kind, then a body whose length the kind fixes. Numbers are little-endian, 4 bytes unless
  * said. copybook_next reads it.
@@ -252,10 +292,10 @@ enum copybook_storage { COPYBOOK_STORAGE_DISPLAY = 0, COPYBOOK_STORAGE_COMP_3 = 
  * Starts point into `text`. Length 0 means absent, and an absent name means FILLER; absent places hold 0. Offsets count
  * from the start of the list that the entry stands in.
  *
- * A listing has at most 2 entries for each of at most 800 statements, of at most 49 bytes each: an `out` of
- * COPYBOOK_LONGEST_LISTING bytes is never too short.
+ * A listing has at most 2 entries for each statement, of at most 49 bytes each: an `out` of COPYBOOK_LONGEST_LISTING
+ * bytes is never too short.
  */
-#define COPYBOOK_LONGEST_LISTING (10 + 800 * 2 * 49)
+#define COPYBOOK_LONGEST_LISTING (10 + COPYBOOK_MOST_STATEMENTS * 2 * 49)
 
 uint32_t copybook_layout(const uint8_t *text, size_t n, uint32_t *work, size_t w, uint8_t *out, size_t m,
                          uint64_t *answer, size_t k);
@@ -270,11 +310,11 @@ uint32_t copybook_layout(const uint8_t *text, size_t n, uint32_t *work, size_t w
  * length of its picture, of its REDEFINES and of its DEPENDING ON, as the statement has them (8 each, 0 where absent).
  * A group made by folding has its base's position and level, and 0 for slack and for the three places.
  *
- * Of at most 800 statements every group made by folding has two for itself, its base and that one's first redefiner: an
- * `out` of COPYBOOK_LONGEST_DETAILS bytes is never too short.
+ * Every group made by folding has two statements for itself, its base and that one's first redefiner: an `out` of
+ * COPYBOOK_LONGEST_DETAILS bytes is never too short.
  */
 #define COPYBOOK_DETAIL 47
-#define COPYBOOK_LONGEST_DETAILS ((800 + 800 / 2) * COPYBOOK_DETAIL)
+#define COPYBOOK_LONGEST_DETAILS ((COPYBOOK_MOST_STATEMENTS + COPYBOOK_MOST_STATEMENTS / 2) * COPYBOOK_DETAIL)
 
 uint32_t copybook_details(const uint8_t *text, size_t n, uint32_t *work, size_t w, uint8_t *out, size_t m,
                           uint64_t *answer, size_t k);
@@ -283,7 +323,7 @@ uint32_t copybook_details(const uint8_t *text, size_t n, uint32_t *work, size_t 
  * The same two for a copybook on cards, COBOL's reference format. Columns are bytes. Columns 1 to 6 and those after 72
  * are ignored; column 7 is an indicator: a blank for code, * or / for a comment, D for a debugging line, which is
  * dropped; a carriage return that ends a line is no column, and a line shorter than 7 columns is blank. What is left is
- * read as free text is, and starts and positions point into `cards`. Refusal 51 comes after 3 and before 50.
+ * read as free text is, and starts and positions point into `cards`. Refusals: the reader's, 51 with them, then 31.
  */
 uint32_t copybook_layout_cards(const uint8_t *cards, size_t n, uint32_t *work, size_t w, uint8_t *out, size_t m,
                                uint64_t *answer, size_t k);
@@ -303,7 +343,7 @@ enum copybook_reason {
 /*
  * Why an entry of the listing stands where it does, written to `out`: COPYBOOK_REASON bytes for each reason. Entries
  * are numbered from 0 in the order of the listing, COPYBOOK_RECORD not counted. `work` and the answer are those of
- * copybook_layout. Refusals: 1 to 3, 50, 10 to 14, 20 to 30 and 52, 53, 31.
+ * copybook_layout. Refusals: the reader's, then 53, 31.
  *
  * Numbers are little-endian: the reason's kind (1 byte); start and length of the named item's name in `text` (4 each, 0
  * where no item is named, or one without a name); the bytes that it adds (4): 0 for COPYBOOK_FIRST and COPYBOOK_INSIDE,
@@ -314,30 +354,31 @@ enum copybook_reason {
  * none; items are named as the copybook has them, and a group made by folding has its base's reasons. The bytes added
  * up are the entry's first byte in the record; their sum may pass 32 bits, though none of them does.
  *
- * An item stands in at most 64 groups: an `out` of COPYBOOK_LONGEST_REASONS bytes is never too short.
+ * An item stands in at most COPYBOOK_DEEPEST groups: an `out` of COPYBOOK_LONGEST_REASONS bytes is never too short.
  */
 #define COPYBOOK_REASON 13
-#define COPYBOOK_LONGEST_REASONS ((2 + 64 * 2) * COPYBOOK_REASON)
+#define COPYBOOK_LONGEST_REASONS ((2 + COPYBOOK_DEEPEST * 2) * COPYBOOK_REASON)
 
 uint32_t copybook_reasons(const uint8_t *text, size_t n, uint64_t entry, uint32_t *work, size_t w, uint8_t *out,
                           size_t m, uint64_t *answer, size_t k);
 
-/* The same for a copybook on cards. Refusal 51 comes after 3 and before 50. */
+/* The same for a copybook on cards. */
 uint32_t copybook_reasons_cards(const uint8_t *cards, size_t n, uint64_t entry, uint32_t *work, size_t w, uint8_t *out,
                                 size_t m, uint64_t *answer, size_t k);
 
 /*
- * One key for a family of records: the column of the `l` bytes of `name` in a set of `c` copybooks in free text, 2 to
- * 16, which stand one after the other in the `n` bytes of `texts`; `lengths` says how many bytes each has. To `answer`,
- * 2 numbers: the key's offset and its width, in the records of all of them.
+ * One key for a family of records: the column of the `l` bytes of `name` in a set of `c` copybooks in free text, which
+ * stand one after the other in the `n` bytes of `texts`; `lengths` says how many bytes each has. A set has
+ * COPYBOOK_FEWEST_IN_SET to COPYBOOK_MOST_IN_SET copybooks. To `answer`, 2 numbers: the key's offset and its width, in
+ * the records of all of them.
  *
  * Each copybook has exactly one entry of that name at the top of its listing, letter case aside (an absent name means
  * FILLER). It is no group and has neither OCCURS nor REDEFINES, and no entry before it in the listing, at any depth,
  * has a DEPENDING ON. All agree in offset, width, kind and what the listing says of the kind, but for the place of an
  * edited item's picture: its mask is compared. The name is only compared, and may be any bytes.
  *
- * `work` as for copybook_layout. Refusals: 56; then 1 to 3, 50, 10 to 14, 20 to 30 and 52 of the first copybook that
- * has one, the position counted in that copybook; then 57.
+ * `work` as for copybook_layout. Refusals: 56; then the reader's of the first copybook that has one, the position
+ * counted in that copybook; then 57.
  */
 uint32_t copybook_key(const uint8_t *texts, size_t n, const uint64_t *lengths, size_t c, const uint8_t *name, size_t l,
                       uint32_t *work, size_t w, uint64_t *answer, size_t k);
@@ -346,14 +387,14 @@ uint32_t copybook_key(const uint8_t *texts, size_t n, const uint64_t *lengths, s
  * Kind, its details and width of one picture, with a usage and a sign. To `answer`, 7 numbers:
  *     kind, width, signed, sign (copybook_has_sign), precision, scale, storage
  * each 0 where the kind has none: text has none of the five; int has signed and sign; binary signed; decimal sign,
- * precision, scale and storage; edited signed, precision and scale. Refusals: 1, 2, 22 to 27; 255.
+ * precision, scale and storage; edited signed, precision and scale. Refusals: 255, else a picture's.
  */
 uint32_t copybook_picture(const uint8_t *pic, size_t n, uint8_t usage, uint8_t sign, uint64_t *answer, size_t k);
 
 /*
  * The upper-case mask of a picture that is edited under DISPLAY, written to `out`; of any other, 0 bytes. answer[0] is
- * the number of bytes written, answer[1] is 0. A mask has at most 255 bytes. It keeps P, which holds no byte of the
- * item: without P it is as long as the item is wide. Refusals: those of copybook_picture, and 31 last.
+ * the number of bytes written, answer[1] is 0. A mask has at most COPYBOOK_LONGEST_MASK bytes. It keeps P, which holds
+ * no byte of the item: without P it is as long as the item is wide. Refusals: 255, else a picture's, then 31.
  */
 uint32_t copybook_mask(const uint8_t *pic, size_t n, uint8_t usage, uint8_t *out, size_t m, uint64_t *answer,
                        size_t k);
@@ -367,28 +408,26 @@ enum copybook_owned { COPYBOOK_PIECE = 0, COPYBOOK_SLACK = 1 };
  *     byte inside it; or
  *     COPYBOOK_SLACK, the number of the entry that the slack precedes, 0, 0
  * Entries are numbered from 0 in the order of the listing, COPYBOOK_RECORD not counted. `work` as for copybook_layout.
- * Refusals: 1 to 3, 50, 10 to 14, 20 to 30 and 52, 40, 41.
+ * Refusals: the reader's, then 40, 41.
  */
 uint32_t copybook_owner(const uint8_t *text, size_t n, uint64_t position, uint32_t *work, size_t w, uint64_t *answer,
                         size_t k);
 
-/* The same for a copybook on cards. Refusals: 1 to 3, 51, 50, 10 to 14, 20 to 30 and 52, 40, 41. */
+/* The same for a copybook on cards. */
 uint32_t copybook_owner_cards(const uint8_t *cards, size_t n, uint64_t position, uint32_t *work, size_t w,
                               uint64_t *answer, size_t k);
 
 /*
  * An extract that fits: of the top-level items of the copybook in free text, the heaviest choice whose reserved widths
- * (width times OCCURS count) sum to at most `limit` bytes. `weights` has a weight from 1 to 1,000 for each of them, in
- * the order of the listing; c is their number, at most COPYBOOK_MOST_ITEMS. Subsets of the items are numbered in
- * binary, the first item being the lowest bit, and looked at from number 0 up, `budget` of them or all. To `answer`, 4
- * numbers:
+ * (width times OCCURS count) sum to at most `limit` bytes. `weights` has a weight for each of them, from
+ * COPYBOOK_LEAST_WEIGHT to COPYBOOK_MOST_WEIGHT, in the order of the listing; c is their number, at most
+ * COPYBOOK_MOST_ITEMS. Subsets of the items are numbered in binary, the first item being the lowest bit, and looked at
+ * from number 0 up, `budget` of them or all. To `answer`, 4 numbers:
  *     the number of the heaviest fitting subset among them, the earliest if equal; its weight; how many were looked at;
  *     how far off it is at most: 0 if all were, else what all items that fit alone weigh more
  * No choice there is outweighs the one found by more than that. `work` as for copybook_layout; `weights` is only read,
- * and is aligned to 4 bytes. Refusals: 1 to 3, 50, 10 to 14, 20 to 30, 52, 40, 58, 59, 60.
+ * and is aligned to 4 bytes. Refusals: the reader's, then 40, 58, 59, 60.
  */
-#define COPYBOOK_MOST_ITEMS 16
-
 uint32_t copybook_extract(const uint8_t *text, size_t n, const uint32_t *weights, size_t c, uint64_t limit,
                           uint64_t budget, uint32_t *work, size_t w, uint64_t *answer, size_t k);
 

@@ -3,21 +3,20 @@
 
     tools/compare_definition.py ORACLE_SRC COUNT SEED [--repo DIR] [--batch N] [--shrink N] [--scratch DIR]
 
-ORACLE_SRC is the folder with the Rust files; tools/oracle is built from it, and asked. COUNT inputs are made by inputs.py from SEED.
-The definition is the crate `definition` of the repository (--repo names another one). It is copied to a scratch repository, where antt
-computes its answer to each input: the bytes of the listing, read back into the oracle's numbers, or the refusal.
+ORACLE_SRC is the folder with the Rust files; tools/oracle is built from it, and asked. COUNT inputs are made by
+makers/inputs.py from SEED. The definition is the crate `definition` of the repository (--repo names another one). It is
+copied to a scratch repository, where antt computes its answer to each input: the bytes of the listing, read back into
+the oracle's numbers, or the refusal.
 
-Each input must get the same list of numbers, or the same refusal, from both. Left out, and counted by number, are the inputs that the
-definition turns down with a refusal that docs/RULES.md adds to the Rust's; of these, the reason is checked as far as it shows (`due`).
-The Rust has no answer where a literal after VALUE holds a period that would end a statement, or `*>`, or is left open, nor where a
-picture has P, which holds a byte there, nor where a group names a usage, DISPLAY stands after another usage word or a
-word names a float: there the answer of layout_list.py, a reading of docs/RULES.md, stands in its place.
-The exit status is 1 if there is a difference, and 2 if there was no comparison. It needs rt and cargo, and no network.
+Each input must get the same list of numbers, or the same refusal, from both. Left out, and counted by number, are the
+inputs that the definition turns down with a refusal that docs/RULES.md adds to the Rust's; of these, the reason is
+checked as far as it shows (`due`). Where the Rust has no answer (readings/original.py says where), that of the readings
+stands in its place. The exit status is 1 if there is a difference, and 2 if there was no comparison. It needs rt and
+cargo, and no network.
 """
 
 import argparse
 import collections
-import os
 import pathlib
 import re
 import shutil
@@ -27,17 +26,8 @@ import tempfile
 import time
 
 sys.dont_write_bytecode = True
-import layout_list
-import reader_list
-from inputs import generate
-
-HERE = pathlib.Path(__file__).resolve().parent
-
-
-def fail(message):
-    """No comparison: status 2."""
-    print(message, file=sys.stderr)
-    sys.exit(2)
+from beside_rust import ADDED, ROOT, Oracle, due, expected, fail, has_answer, reading
+from makers.inputs import generate
 
 
 # ---------------------------------------------------------------- the definition, in antt
@@ -188,6 +178,16 @@ bit zero k = eqb (k % 2) 1
 bit (suc n) k = bit n (k / 2)
 """
 
+# A crate must have code.
+NOTHING = """// All is in specs/.
+
+#![tactic(auto)]
+
+pub struct Nothing {
+    pub nothing: u8,
+}
+"""
+
 # The claims of a batch follow this.
 CLAIMS = """-- Claims about the answers, each proved by computing or refused.
 use Prim.Native.Nat.{ℕ}
@@ -243,26 +243,29 @@ class Definition:
                 crate = repo / "crates" / name
                 # Where no function is to be proved, the proofs are laws of the definition, and not needed here.
                 code = any("fn " in f.read_text() for f in crate.glob("src/*.rt"))
-                shutil.copytree(crate, self.top / "crates" / name, ignore=shutil.ignore_patterns("must-fail", "out", *([] if code else ["proofs"])))
+                left_out = shutil.ignore_patterns("must-fail", "out", *([] if code else ["proofs"]))
+                shutil.copytree(crate, self.top / "crates" / name, ignore=left_out)
                 lines.append(f"{name}:{deps[name]}")
                 wanted += [d for d in deps[name].split() if d not in wanted]
         (self.top / "crates.txt").write_text("\n".join(lines) + "\n")
         crate = self.top / "crates" / "compare"
         (crate / "src").mkdir(parents=True)
         (crate / "specs").mkdir()
-        (crate / "src" / "lib.rt").write_text("// All is in specs/.\n\n#![tactic(auto)]\n\npub struct Nothing {\n    pub nothing: u8,\n}\n")
+        (crate / "src" / "lib.rt").write_text(NOTHING)
         (crate / "specs" / "Lib.antt").write_text("pub mod Answers\npub mod Claims\n")
         (crate / "specs" / "Answers.antt").write_text(ANSWERS.replace("@CALLS@", CALLS))
         self.claims = crate / "specs" / "Claims.antt"
 
     def run(self, lines, *words):
-        """What antt says of these declarations, and of a false one behind them, which it has to refuse: so it read them all."""
+        """What antt says of these declarations, and of a false one behind them, which it has to refuse: so it read them
+        all."""
         last = "\nlast : T false\nlast = tt\n"
         self.claims.write_text(CLAIMS.replace("@SEALED@", SEALED) + "".join(lines) + last)
         p = subprocess.run(["rt", "check", *words], cwd=self.claims.parents[1], capture_output=True, text=True)
         said = p.stdout + p.stderr
         refused = re.findall(r"^\S*Claims\.antt:\d+:\d+: error: `(\w+)`", said, re.M)
-        if len(refused) != len(re.findall(r"\berror: ", said)) or refused[-1:] != ["last"] or "was not admitted" in said:
+        others = len(refused) != len(re.findall(r"\berror: ", said))
+        if others or refused[-1:] != ["last"] or "was not admitted" in said:
             fail("the claims could not be read:\n" + said[:4000])
         return said, set(refused)
 
@@ -280,114 +283,12 @@ class Definition:
         return [int(n) for n in re.findall(r"\d+", m.group(1))] if m else None
 
 
-# ---------------------------------------------------------------- the oracle
-
-
-class Oracle:
-    """The original Rust, built once."""
-
-    def __init__(self, source):
-        target = HERE.parent / "target" / "oracle"
-        env = dict(os.environ, ORACLE_SRC=str(source.resolve()), CARGO_TARGET_DIR=str(target))
-        subprocess.run(["cargo", "build", "--release", "--offline", "--quiet"], cwd=HERE / "oracle", env=env, check=True)
-        self.program = target / "release" / "oracle"
-
-    def ask(self, inputs):
-        requests = "".join(i.request() + "\n" for i in inputs)
-        p = subprocess.run([self.program], input=requests, capture_output=True, text=True, check=True)
-        answers = [[int(n) for n in line.split()] for line in p.stdout.splitlines()]
-        if len(answers) != len(inputs):
-            fail(f"{len(inputs)} requests, {len(answers)} answers of the oracle")
-        return answers
-
-
-def plain(i):
-    """Whether the Rust has an answer, as far as literals, P and usages go."""
-    if i.usage is not None:
-        return not layout_list.has_scale(i.text)
-    if len(i.text) > 65535 or max(i.text, default=0) > 127:
-        return True
-    return reader_list.plain(i.text) and reader_list.plain_usages(i.text) and not layout_list.scaled(i.text)
-
-
-def read(i):
-    """The answer of layout_list.py, in the oracle's numbers."""
-    if i.usage is None:
-        made = layout_list.answer(i.text)
-        return layout_list.oracle_numbers(i.text, bytes(made[2:])) if made[0] else made[:2]
-    made, mask = layout_list.picture_answer(i.text, i.usage, i.sign)
-    if not made[0]:
-        return made[:2]
-    return made + [len(mask), *mask] if made[2] == layout_list.EDITED else made
-
-
-# ---------------------------------------------------------------- the refusals that are added to the Rust's
-
-ADDED = {1, 2, 3, 14, 24, 27, 29, 30, 31}
-LARGEST = 2147483647
-
-
-def runs(word):
-    """The symbols of a picture with their counts, up to its end or to where it is refused."""
-    i = 0
-    while i < len(word):
-        n, after = 1, i + 1
-        if word[after:after + 1] == b"(":
-            close = word.find(b")", after)
-            number = word[after + 1:close].strip(b"\t\n\x0b\x0c\r ")
-            if close < 0 or not re.fullmatch(rb"\+?[0-9]+", number) or int(number) >= 2 ** 64:
-                return
-            n, after = int(number), close + 1
-        yield word[i:i + 1].upper(), n
-        i = after
-
-
-def symbols(word):
-    return sum(n for _, n in runs(word))
-
-
-def long_picture(i, answer):
-    """27, of a picture that the oracle accepts: over 31 digits, or a mask over 255 bytes."""
-    tally = collections.Counter()
-    for symbol, n in runs(i.text.strip()):
-        tally[symbol] += n
-    digits = sum(tally[s] for s in (b"9", b"Z", b"*", b"P")) + sum(max(0, tally[s] - 1) for s in (b"$", b"+", b"-"))
-    return answer[2] != 1 and (digits > layout_list.MOST_DIGITS or answer[2] == 5 and answer[6] > layout_list.LONGEST_MASK)
-
-
-def expected(i, answer):
-    """The added refusal that the text and the oracle's answer call for, or 0: the right one for a picture and for 1 and 2, else a guess."""
-    accepted = answer[0] == 1
-    if len(i.text) > 65535:
-        return 1
-    if max(i.text, default=0) > 127:
-        return 2
-    if i.usage is not None:
-        return 24 if symbols(i.text.strip()) > 65535 else 27 if accepted and long_picture(i, answer) else 0
-    return 30 if answer == [2] else 24 if answer == [3] else 29 if accepted and max(answer) > LARGEST else 0
-
-
-def due(i, answer, number):
-    """Whether the added refusal, or none (0), can be right, as far as the text and the oracle's answer say."""
-    guess = expected(i, answer)
-    if i.usage is not None or guess in (1, 2):
-        return number == guess
-    words = i.text.split()
-    return {
-        0: guess != 29,
-        14: i.text.count(b".") >= 800,
-        24: any(symbols(w) > 65535 for w in words),
-        27: any(symbols(w) > layout_list.MOST_DIGITS for w in words),
-        29: answer[0] != 1 or guess == 29 or b"DEPENDING" in i.text.upper(),
-        30: answer == [2],
-    }.get(number, False)
-
-
 # ---------------------------------------------------------------- the comparison
 
 
 class Result(collections.namedtuple("Result", "input oracle definition")):
-    """An input with both answers; the definition's is None where antt did not compute it, and [1] where it is too long to show."""
+    """An input with both answers; the definition's is None where antt did not compute it, and [1] where it is too long
+    to show."""
 
     def added(self):
         """The added refusal that the definition gives, or 0."""
@@ -395,22 +296,25 @@ class Result(collections.namedtuple("Result", "input oracle definition")):
         return d[1] if d[0] == 0 and d[1] in ADDED else 0
 
     def differs(self):
-        if not plain(self.input):
+        if not has_answer(self.input):
             return self.oracle != self.definition
         added = self.added()
         return not (added or self.oracle == self.definition) or not due(self.input, self.oracle, added)
 
     def __str__(self):
-        d = {None: "not computed", (1,): "accepted, with an answer too long to show"}.get(self.definition and tuple(self.definition), self.definition)
+        unshown = {None: "not computed", (1,): "accepted, with an answer too long to show"}
+        d = unshown.get(self.definition and tuple(self.definition), self.definition)
         return f"- {self.input}\n    oracle:     {self.oracle}\n    definition: {d}"
 
 
 def compare(oracle, definition, inputs):
     """The results for the inputs, in one or two runs of antt."""
-    answers = [answer if plain(i) else read(i) for i, answer in zip(inputs, oracle.ask(inputs))]
+    answers = [answer if has_answer(i) else reading(i) for i, answer in zip(inputs, oracle.ask(inputs))]
     # First one claim for each: the refusal that is expected of it, or that the answer is the oracle's.
-    claimed = [[0, expected(i, answer)] if plain(i) and expected(i, answer) else answer for i, answer in zip(inputs, answers)]
-    true = definition.holding([(f"c{k}", f"equal ({term(i)}) {listed(c)}") for k, (i, c) in enumerate(zip(inputs, claimed))])
+    claimed = [[0, expected(i, answer)] if has_answer(i) and expected(i, answer) else answer
+               for i, answer in zip(inputs, answers)]
+    claims = [(f"c{k}", f"equal ({term(i)}) {listed(c)}") for k, (i, c) in enumerate(zip(inputs, claimed))]
+    true = definition.holding(claims)
     found = [c if f"c{k}" in true else None for k, c in enumerate(claimed)]
     # Of the others: the number of the refusal, bit by bit, or that there is none.
     rest = [(k, term(i)) for k, i in enumerate(inputs) if found[k] is None]
@@ -445,10 +349,12 @@ def main():
     parser.add_argument("oracle_src", type=pathlib.Path, help="the folder with the Rust files")
     parser.add_argument("count", type=int, help="how many inputs")
     parser.add_argument("seed", type=int)
-    parser.add_argument("--repo", type=pathlib.Path, default=HERE.parent, help="the repository with crates.txt and the crate definition")
+    parser.add_argument("--repo", type=pathlib.Path, default=ROOT,
+                        help="the repository with crates.txt and the crate definition")
     parser.add_argument("--batch", type=int, default=300, help="inputs to one run of antt")
     parser.add_argument("--shrink", type=int, default=0, help="make up to this many differences smaller")
-    parser.add_argument("--scratch", type=pathlib.Path, help="an empty folder for the scratch repository, which is then kept")
+    parser.add_argument("--scratch", type=pathlib.Path,
+                        help="an empty folder for the scratch repository, which is then kept")
     o = parser.parse_args()
 
     oracle = Oracle(o.oracle_src)
@@ -462,7 +368,7 @@ def main():
                 what = "copybooks" if r.input.usage is None else "pictures"
                 if r.differs():
                     differences.append(r)
-                elif not plain(r.input):
+                elif not has_answer(r.input):
                     how = "accepted" if r.oracle[0] == 1 else f"refused {r.oracle[1]}"
                     kinds[what, f"left out, literals, P or usages: {how}"] += 1
                 elif r.added():
@@ -470,7 +376,8 @@ def main():
                 else:
                     kinds[what, "accepted" if r.oracle[0] == 1 else f"refused {r.oracle[1]}"] += 1
             done = min(at + o.batch, len(inputs))
-            print(f"{done} of {len(inputs)} inputs, {len(differences)} differences, {time.time() - began:.0f} s", file=sys.stderr, flush=True)
+            print(f"{done} of {len(inputs)} inputs, {len(differences)} differences, {time.time() - began:.0f} s",
+                  file=sys.stderr, flush=True)
         small = [shrunk(oracle, definition, r) for r in differences[:o.shrink]]
 
     for what in ("copybooks", "pictures"):

@@ -1,12 +1,13 @@
 //! Reading copybooks and writing answers. What goes wrong is said in words.
 
 use crate::Failure;
+use copybook::limits;
 use std::ffi::OsStr;
 use std::fs::File;
 use std::io::{self, BufWriter, ErrorKind, IsTerminal, Read, Write};
 
-/// No copybook is longer: 65,535 bytes are the most that is read, and one more shows that a text is too long.
-const MOST: u64 = 65_536;
+/// No copybook is longer, and one byte more shows that a text is too long.
+const MOST: u64 = limits::MOST_BYTES as u64 + 1;
 
 /// A copybook, and what messages call it.
 pub struct Source {

@@ -8,7 +8,7 @@
 
 #include <stdio.h>
 
-static uint8_t text[65536]; /* one byte more than a copybook may have, so that a longer one is refused */
+static uint8_t text[COPYBOOK_MOST_BYTES + 1]; /* one byte more, so that a longer copybook is refused */
 static uint32_t work[COPYBOOK_WORK];
 static uint8_t listing[COPYBOOK_LONGEST_LISTING];
 static uint8_t details[COPYBOOK_LONGEST_DETAILS];

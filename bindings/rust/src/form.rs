@@ -20,7 +20,7 @@ const BEFORE_INDICATOR: usize = 6;
 const BEFORE_IGNORED: usize = 72;
 
 impl Form {
-    /// The layout of the copybook in `text`. Refusals: 1, 2, 51 on cards, 50, 10 to 30 and 52.
+    /// The layout of the copybook in `text`. Refusals: the reader's.
     pub fn layout(self, text: &[u8]) -> Result<Layout<'_, 'static>, Refusal> {
         let (mut work, mut out) = (vec![0; WORK], vec![0; LONGEST_LISTING]);
         let written = calls::layout(self, text, &mut work, &mut out)?;

@@ -5,13 +5,13 @@ use crate::key::key_of;
 use crate::{calls, Details, Extract, Form, Key, Layout, NoKey, Owner, Reasons, Refusal, Usage};
 use std::borrow::Cow;
 
-/// As [`crate::layout()`], with the listing in `out`. Refusals: 1 to 3, 50, 10 to 14, 20 to 30 and 52, 31; `work` needs
-/// [`crate::WORK`] numbers, and an `out` of [`crate::LONGEST_LISTING`] bytes is never too short.
+/// As [`crate::layout()`], with the listing in `out`. Refusals: the reader's, then 31; `work` needs [`crate::WORK`]
+/// numbers, and an `out` of [`crate::LONGEST_LISTING`] bytes is never too short.
 pub fn layout<'t, 'o>(text: &'t [u8], work: &mut [u32], out: &'o mut [u8]) -> Result<Layout<'t, 'o>, Refusal> {
     layout_of(Form::Free, text, work, out)
 }
 
-/// The same for a copybook of this form; on cards 51 comes before 50.
+/// The same for a copybook of this form.
 pub fn layout_of<'t, 'o>(
     form: Form,
     text: &'t [u8],
@@ -28,7 +28,7 @@ pub fn details<'t, 'o>(text: &'t [u8], work: &mut [u32], out: &'o mut [u8]) -> R
     details_of(Form::Free, text, work, out)
 }
 
-/// The same for a copybook of this form; on cards 51 comes before 50.
+/// The same for a copybook of this form.
 pub fn details_of<'t, 'o>(
     form: Form,
     text: &'t [u8],
@@ -39,8 +39,8 @@ pub fn details_of<'t, 'o>(
     Ok(Details::new(text, Cow::Borrowed(&out[..written])))
 }
 
-/// As [`crate::reasons()`], with their bytes in `out`. Refusals: 1 to 3, 50, 10 to 14, 20 to 30 and 52, 53, 31; an `out`
-/// of [`crate::LONGEST_REASONS`] bytes is never too short.
+/// As [`crate::reasons()`], with their bytes in `out`. Refusals: the reader's, then 53, 31; an `out` of
+/// [`crate::LONGEST_REASONS`] bytes is never too short.
 pub fn reasons<'t, 'o>(
     text: &'t [u8],
     entry: usize,
@@ -50,7 +50,7 @@ pub fn reasons<'t, 'o>(
     reasons_of(Form::Free, text, entry, work, out)
 }
 
-/// The same for a copybook of this form; on cards 51 comes before 50.
+/// The same for a copybook of this form.
 pub fn reasons_of<'t, 'o>(
     form: Form,
     text: &'t [u8],
@@ -62,28 +62,28 @@ pub fn reasons_of<'t, 'o>(
     Ok(Reasons::new(text, Cow::Borrowed(&out[..written])))
 }
 
-/// As [`crate::owner()`]. Refusals: 1 to 3, 50, 10 to 14, 20 to 30 and 52, 40, 41.
+/// As [`crate::owner()`]. Refusals: the reader's, then 40, 41.
 pub fn owner(text: &[u8], position: usize, work: &mut [u32]) -> Result<Owner, Refusal> {
     owner_of(Form::Free, text, position, work)
 }
 
-/// The same for a copybook of this form; on cards 51 comes before 50.
+/// The same for a copybook of this form.
 pub fn owner_of(form: Form, text: &[u8], position: usize, work: &mut [u32]) -> Result<Owner, Refusal> {
     calls::owner(form, text, position, work)
 }
 
-/// As [`crate::extract()`]. Refusals: 1 to 3, 50, 10 to 14, 20 to 30, 52, 40, 58, 59, 60.
+/// As [`crate::extract()`]. Refusals: the reader's, then 40, 58, 59, 60.
 pub fn extract(text: &[u8], weights: &[u32], limit: u64, budget: u64, work: &mut [u32]) -> Result<Extract, Refusal> {
     calls::extract(text, weights, limit, budget, work)
 }
 
 /// As [`crate::key()`], of copybooks that stand one after the other in `texts`; `lengths` says how many bytes each has.
-/// Refusals: 56, where they do not add up to `texts` too; 1 to 3, 50, 10 to 14, 20 to 30, 52; 57.
+/// Refusals: 56, where they do not add up to `texts` too; the reader's of the first copybook that is refused; 57.
 pub fn key(texts: &[u8], lengths: &[u64], name: &[u8], work: &mut [u32]) -> Result<Key, NoKey> {
     key_of(texts, lengths, name, work)
 }
 
-/// As [`crate::mask()`], written to `out`. Refusals: 1, 2, 22 to 27, 31; an `out` of [`crate::LONGEST_MASK`] bytes is
+/// As [`crate::mask()`], written to `out`. Refusals: a picture's, then 31; an `out` of [`crate::LONGEST_MASK`] bytes is
 /// never too short.
 pub fn mask<'o>(picture: &[u8], usage: Usage, out: &'o mut [u8]) -> Result<&'o str, Refusal> {
     let written = calls::mask(picture, usage, out)?;

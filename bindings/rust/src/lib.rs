@@ -31,6 +31,15 @@
 //!     the target must stand before it, under the same group
 //! ");
 //! ```
+//!
+//! Each call names its refusals in the order in which they are looked for. What several have:
+//!
+//! <!-- made by tools/papers --write: sets of refusals -->
+//! - the reader's refusals: 1 to 3; on cards 51; 50; 10 to 14; 20 to 30, with 52 in the place of 21
+//! - a picture's refusals: 1, 2; 22 to 27
+//! <!-- end of sets of refusals -->
+//!
+//! Of these the functions of [`lent`] alone have 3, since all others lend what is needed; so it is with 31.
 
 mod bytes;
 mod calls;
@@ -42,9 +51,11 @@ mod key;
 mod kinds;
 mod layout;
 pub mod lent;
+pub mod limits;
 mod reasons;
 mod refusal;
 mod statement;
+mod texts;
 mod told;
 
 pub use bytes::Word;
@@ -54,30 +65,26 @@ pub use key::{Key, NoKey};
 use kinds::Facts;
 pub use kinds::{FieldKind, NumRepr, SignKind, Usage};
 pub use layout::{Entries, Entry, Layout};
+use limits::{DEEPEST, MOST_STATEMENTS};
+pub use limits::{LONGEST_MASK, MOST_ITEMS, WORK};
 pub use reasons::{Reason, Reasons};
-pub use refusal::{line_and_column, Refusal, Row, REFUSALS};
+pub use refusal::{line_and_column, Refusal, Row};
+pub use texts::REFUSALS;
 pub use told::Told;
 
-/// How many numbers of work memory a call needs.
-pub const WORK: usize = 16_384;
+/// The longest listing: a head, and at most 2 entries of at most 49 bytes for each statement.
+pub const LONGEST_LISTING: usize = 10 + MOST_STATEMENTS * 2 * 49;
 
-/// The longest listing: a head, and at most 2 entries of at most 49 bytes for each of at most 800 statements.
-pub const LONGEST_LISTING: usize = 10 + 800 * 2 * 49;
+/// The longest details: 47 bytes for each entry. A group made by folding has two statements for itself: its base, and
+/// that one's first redefiner.
+pub const LONGEST_DETAILS: usize = (MOST_STATEMENTS + MOST_STATEMENTS / 2) * details::DETAIL;
 
-/// The longest details: 47 bytes for each entry. There are at most 800 statements, and a group made by folding has two
-/// of them for itself: its base, and that one's first redefiner.
-pub const LONGEST_DETAILS: usize = (800 + 800 / 2) * details::DETAIL;
+/// The longest reasons: 13 bytes for each. An item has at most a placing reason and slack, and each group around it,
+/// of which there are at most as many as the deepest list is deep, two reasons.
+pub const LONGEST_REASONS: usize = (2 + DEEPEST * 2) * reasons::REASON;
 
-/// The longest reasons: 13 bytes for each. An item has at most a placing reason and slack, and each of at most 64
-/// groups around it two reasons.
-pub const LONGEST_REASONS: usize = (2 + 64 * 2) * reasons::REASON;
-
-/// No extract is chosen from more items, and so there are no more subsets.
-pub const MOST_ITEMS: usize = 16;
+/// The subsets of the most items of which an extract is chosen.
 pub const ALL_SUBSETS: u64 = 1 << MOST_ITEMS;
-
-/// The longest mask.
-pub const LONGEST_MASK: usize = 255;
 
 /// Kind and width of one picture.
 #[derive(Debug, Clone, Copy, PartialEq, Eq)]
@@ -116,19 +123,18 @@ impl Extract {
     }
 }
 
-/// The layout of the copybook in `text`. Refusals: 1, 2, 50, 10 to 30 and 52.
+/// The layout of the copybook in `text`. Refusals: the reader's.
 pub fn layout(text: &[u8]) -> Result<Layout<'_, 'static>, Refusal> {
     Form::Free.layout(text)
 }
 
-/// The layout of a copybook on cards. Refusals: 1, 2, 51, 50, 10 to 30 and 52. Places and positions are those in
-/// `cards`.
+/// The layout of a copybook on cards. Refusals: the reader's, 51 with them. Places and positions are those in `cards`.
 pub fn layout_cards(cards: &[u8]) -> Result<Layout<'_, 'static>, Refusal> {
     Form::Cards.layout(cards)
 }
 
 /// What the layout does not say of its entries: their places in the record, slack, levels, pictures, REDEFINES. The
-/// details of an entry have its number in the layout. Refusals: 1, 2, 50, 10 to 30 and 52.
+/// details of an entry have its number in the layout. Refusals: the reader's.
 pub fn details(text: &[u8]) -> Result<Details<'_, 'static>, Refusal> {
     Form::Free.details(text)
 }
@@ -143,29 +149,29 @@ pub fn layout_and_details(text: &[u8]) -> Result<(Layout<'_, 'static>, Details<'
     Form::Free.layout_and_details(text)
 }
 
-/// Whose the byte at `position` of the record is. Refusals: 1, 2, 50, 10 to 30 and 52, 40, 41.
+/// Whose the byte at `position` of the record is. Refusals: the reader's, then 40, 41.
 pub fn owner(text: &[u8], position: usize) -> Result<Owner, Refusal> {
     Form::Free.owner(text, position)
 }
 
-/// Whose the byte at `position` of the record that cards describe is. Refusals: 1, 2, 51, 50, 10 to 30 and 52, 40, 41.
+/// Whose the byte at `position` of the record that cards describe is. Refusals as for [`owner()`], 51 with them.
 pub fn owner_cards(cards: &[u8], position: usize) -> Result<Owner, Refusal> {
     Form::Cards.owner(cards, position)
 }
 
-/// Why the entry of that number in the layout, from 0, stands where it does: see [`Reasons`]. Refusals: 1, 2, 50, 10 to
-/// 30 and 52, 53.
+/// Why the entry of that number in the layout, from 0, stands where it does: see [`Reasons`]. Refusals: the reader's,
+/// then 53.
 pub fn reasons(text: &[u8], entry: usize) -> Result<Reasons<'_, 'static>, Refusal> {
     Form::Free.reasons(text, entry)
 }
 
-/// The reasons of an entry of a copybook on cards. Refusals: 1, 2, 51, 50, 10 to 30 and 52, 53.
+/// The reasons of an entry of a copybook on cards. Refusals as for [`reasons()`], 51 with them.
 pub fn reasons_cards(cards: &[u8], entry: usize) -> Result<Reasons<'_, 'static>, Refusal> {
     Form::Cards.reasons(cards, entry)
 }
 
 /// Of the top-level items, each with a weight from 1 to 1,000 in their order, the heaviest choice whose reserved widths
-/// sum to at most `limit` bytes, among the first `budget` subsets. Refusals: 1, 2, 50, 10 to 30, 52, 40, 58, 59, 60.
+/// sum to at most `limit` bytes, among the first `budget` subsets. Refusals: the reader's, then 40, 58, 59, 60.
 ///
 /// ```
 /// let text = b"01 FISH. 05 TAG PIC X(5). 05 SIRE PIC 9(4) COMP SYNC. 05 WT OCCURS 3 PIC 9(3)V9.";
@@ -181,19 +187,19 @@ pub fn extract(text: &[u8], weights: &[u32], limit: u64, budget: u64) -> Result<
 /// Where the key of that name stands in the records of a set of 2 to 16 copybooks in free text: each has exactly one
 /// entry of the name at the top of its layout, letter case aside, which is no group, has neither OCCURS nor REDEFINES,
 /// and stands behind no DEPENDING ON, and all agree in offset, width, kind and kind details, an edited one in its mask.
-/// Refusals: 56; 1, 2, 50, 10 to 30 and 52 of the first copybook that is refused; 57.
+/// Refusals: 56; the reader's of the first copybook that is refused; 57.
 pub fn key(name: &[u8], copybooks: &[&[u8]]) -> Result<Key, NoKey> {
     key::key_in(name, copybooks)
 }
 
-/// Kind and width of a picture, under a usage and with the sign that a SIGN clause gives, if there is one. Refusals: 1,
-/// 2, 22 to 27.
+/// Kind and width of a picture, under a usage and with the sign that a SIGN clause gives, if there is one. Refusals: a
+/// picture's.
 pub fn picture(picture: &[u8], usage: Usage, sign: Option<SignKind>) -> Result<Picture<'_>, Refusal> {
     calls::picture(picture, usage, sign)
 }
 
 /// The upper-case mask of a picture that is edited under the usage; no bytes for any other. It keeps P, which holds no
-/// byte of the item: without P it is as long as the item is wide. Refusals: 1, 2, 22 to 27.
+/// byte of the item: without P it is as long as the item is wide. Refusals: a picture's.
 pub fn mask(picture: &[u8], usage: Usage) -> Result<String, Refusal> {
     lent::mask(picture, usage, &mut [0; LONGEST_MASK]).map(str::to_owned)
 }

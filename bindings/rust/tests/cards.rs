@@ -148,7 +148,7 @@ x:2:7: - in column 7 is none of the four indicators
     assert!(told(b"000100\t05 A PIC X.").starts_with("x:1:7: the byte 0x09 in column 7 is none"));
 }
 
-/// Every call, at the deepest nesting, with as much stack as the header says.
+/// Every call, at the deepest nesting and with the most statements, with as much stack as the header says.
 #[test]
 fn stack() {
     let header = include_str!("../../../include/copybook.h");
@@ -156,7 +156,7 @@ fn stack() {
     let deepest = |form: Form| {
         let before = if form == Form::Cards { "000100 " } else { "" };
         let groups: String = (1..66).map(|level| format!("{before}{level} G.\n")).collect();
-        format!("{groups}{before}66 E PIC X.\n")
+        groups + &format!("{before}66 E PIC X.\n").repeat(735)
     };
     let calls = move || {
         let (mut work, mut out) = (vec![0; WORK], vec![0; LONGEST_LISTING]);

@@ -1,9 +1,8 @@
-//! include/copybook.h says what this crate says: the refusals and their words, the numbers of kinds, usages, signs and
-//! storages, lengths, and the version.
+//! include/copybook.h says what this crate says: the numbers of kinds, usages, signs and storages, lengths, and the
+//! version.
 
-use copybook::{
-    FieldKind, NumRepr, SignKind, Usage, LONGEST_DETAILS, LONGEST_LISTING, LONGEST_REASONS, REFUSALS, WORK,
-};
+use copybook::limits::{DEEPEST, MOST_STATEMENTS};
+use copybook::{FieldKind, NumRepr, SignKind, Usage, LONGEST_DETAILS, LONGEST_LISTING, LONGEST_REASONS};
 
 const HEADER: &str = include_str!("../../../include/copybook.h");
 
@@ -18,36 +17,15 @@ fn numbers(name: &str, begin: &str) -> Vec<(String, u32)> {
     named.collect()
 }
 
-/// A name of this crate as the header writes it: `LeadingSeparate` or `text-too-long` in capitals with underscores.
+/// A name of this crate as the header writes it: `LeadingSeparate` in capitals with underscores.
 fn capitals(name: &str) -> String {
     let mut out = String::new();
     for (i, c) in name.chars().enumerate() {
         let starts = c.is_ascii_uppercase() || c.is_ascii_digit();
         out += if i > 0 && starts { "_" } else { "" };
-        out.push(if c == '-' { '_' } else { c.to_ascii_uppercase() });
+        out.push(c.to_ascii_uppercase());
     }
     out
-}
-
-#[test]
-fn numbers_of_refusals() {
-    let mut expected: Vec<_> = REFUSALS.iter().map(|row| (capitals(row.name), row.number)).collect();
-    expected.insert(0, ("OK".into(), 0));
-    expected.push(("NO_SUCH_NUMBER".into(), 255));
-    assert_eq!(numbers("copybook_number", "COPYBOOK_"), expected);
-}
-
-/// The header's table of refusals has the same words.
-#[test]
-fn words_of_refusals() {
-    let table = HEADER.split("#define COPYBOOK_REFUSALS(R)").nth(1).unwrap().split("\n\n").next().unwrap();
-    let rows = table.split("R(COPYBOOK_").skip(1).map(|row| {
-        let (name, words) = row.split_once(", ").unwrap();
-        let words: Vec<&str> = words.split('"').collect();
-        (name.to_owned(), words[1], words[3], words.len())
-    });
-    let expected = REFUSALS.iter().map(|row| (capitals(row.name), row.found, row.advice, 5));
-    assert_eq!(rows.collect::<Vec<_>>(), expected.collect::<Vec<_>>());
 }
 
 #[test]
@@ -86,15 +64,16 @@ fn numbers_of_usages_signs_and_storages() {
 
 #[test]
 fn lengths() {
-    assert!(HEADER.contains(&format!("#define COPYBOOK_WORK {WORK}\n")));
-    assert!(HEADER.contains("#define COPYBOOK_LONGEST_LISTING (10 + 800 * 2 * 49)\n"));
-    assert_eq!(LONGEST_LISTING, 10 + 800 * 2 * 49);
-    assert!(HEADER.contains("#define COPYBOOK_DETAIL 47\n"));
-    assert!(HEADER.contains("#define COPYBOOK_LONGEST_DETAILS ((800 + 800 / 2) * COPYBOOK_DETAIL)\n"));
-    assert_eq!(LONGEST_DETAILS, (800 + 800 / 2) * 47);
-    assert!(HEADER.contains("#define COPYBOOK_REASON 13\n"));
-    assert!(HEADER.contains("#define COPYBOOK_LONGEST_REASONS ((2 + 64 * 2) * COPYBOOK_REASON)\n"));
-    assert_eq!(LONGEST_REASONS, (2 + 64 * 2) * 13);
+    let statements = "COPYBOOK_MOST_STATEMENTS";
+    let says = |name: &str, length: &str| assert!(HEADER.contains(&format!("#define COPYBOOK_{name} {length}\n")));
+    says("LONGEST_LISTING", &format!("(10 + {statements} * 2 * 49)"));
+    assert_eq!(LONGEST_LISTING, 10 + MOST_STATEMENTS * 2 * 49);
+    says("DETAIL", "47");
+    says("LONGEST_DETAILS", &format!("(({statements} + {statements} / 2) * COPYBOOK_DETAIL)"));
+    assert_eq!(LONGEST_DETAILS, (MOST_STATEMENTS + MOST_STATEMENTS / 2) * 47);
+    says("REASON", "13");
+    says("LONGEST_REASONS", "((2 + COPYBOOK_DEEPEST * 2) * COPYBOOK_REASON)");
+    assert_eq!(LONGEST_REASONS, (2 + DEEPEST * 2) * 13);
 }
 
 #[test]

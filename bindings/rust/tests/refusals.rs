@@ -1,8 +1,6 @@
-//! Refusals: numbers, names, lines and columns; the words in which they are told; and that docs/REFUSALS.md says the
-//! same.
+//! Refusals: numbers, names, lines and columns; the words in which they are told; and that the table has them all.
 
 use copybook::{layout, lent, line_and_column, mask, owner, picture, Refusal, Usage, REFUSALS, WORK};
-use std::fs;
 
 fn refused(text: &[u8]) -> Refusal {
     layout(text).expect_err("a refusal")
@@ -170,28 +168,7 @@ fn lines_that_are_shown() {
     assert_eq!(lines[1].find('~'), Some(mark + 9));
 }
 
-// ---------------------------------------------------------------- the paper
-
-/// The cells of a Markdown table's row.
-fn cells(line: &str) -> Vec<&str> {
-    line.trim_matches('|').split('|').map(str::trim).collect()
-}
-
-/// docs/REFUSALS.md has a row for each refusal, with the words of the table.
-#[test]
-fn words_are_those_of_the_paper() {
-    let paper = fs::read_to_string(concat!(env!("CARGO_MANIFEST_DIR"), "/../../docs/REFUSALS.md")).unwrap();
-    let head = cells(paper.lines().find(|line| line.starts_with("| Number |")).expect("a table of refusals"));
-    let column = |name: &str| head.iter().position(|&cell| cell == name).expect("a column of that name");
-    let [number, found, advice] = ["Number", "What was found", "What to do"].map(column);
-    let rows: Vec<Vec<&str>> = paper.lines().map(cells).filter(|row| row[0].parse::<u32>().is_ok()).collect();
-    let told: Vec<_> = rows.iter().map(|row| (row[number].parse().unwrap(), row[found], row[advice])).collect();
-    let expected: Vec<_> = REFUSALS.iter().map(|row| (row.number, row.found, row.advice)).collect();
-    for (told, expected) in told.iter().zip(&expected) {
-        assert_eq!(told, expected);
-    }
-    assert_eq!(told.len(), expected.len());
-}
+// ---------------------------------------------------------------- the table
 
 /// Each refusal can be brought about, and has its name.
 #[test]

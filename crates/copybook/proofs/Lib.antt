@@ -1,2 +1,2 @@
-pub mod Demand3
+pub mod AskedLaws
 pub mod Same

@@ -1,1 +1,1 @@
-pub mod Answered
+pub mod Questions

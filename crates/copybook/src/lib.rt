@@ -1,35 +1,43 @@
 //! The public entries: what a copybook's columns are, and which of them has a byte, in free text and on cards; and
 //! which of them fit into a short record. Each answers in full or with one refusal of docs/REFUSALS.md; a refusal
 //! changes no byte of the output, and work memory is zero after every call. What is asked of a record is a question of
-//! `answers`. `proofs/Demand3` says what the answers of the listing and of the byte owner have to do with each other.
+//! `answers`.
+//!
+//! The reader's refusals, in this order: 1 a text that is too long; 2 a byte over 127, at the first one; 3 too little
+//! work memory; on cards 51, at the first byte in column 7 that is no blank and marks no line that is ignored; 50 a
+//! literal that its line does not close, at the opening mark of the first one; each statement's 10 to 14; each sibling
+//! list's, item's and fold's 20 to 30, a float's 52 in the place of 21; 29 for a top-level end. A picture's: 1 and 2;
+//! then symbol by symbol 22 no `)`, 23 no repeat count, 24 too many symbols; then 25 no symbol, 26 text mixed with a
+//! digit or editing, 27 too many digits, P included, or too long a mask under DISPLAY; at 0 except 2.
 #![tactic(auto)]
-
-// Kept: an entry for each report, for text and for cards each, parameters, and texts beside their lengths – the C
-// interface: each call of C has its own entry, and is lent each of these as a slice of its own.
 
 ghost use Rattle.std.specs.Prelude.{◌≡◌, []};
 ghost use Rattle.definition.specs.Calls.{left, layout_call, details_call, reasons_call, owner_call};
-ghost use Rattle.definition.specs.Calls.{layout_cards_call, details_cards_call, reasons_cards_call, owner_cards_call};
 ghost use Rattle.definition.specs.Calls.{extract_call, mask_call, picture_answer, record_check};
 ghost use Rattle.definition.specs.Key.{key_call};
 
-use answers::{ExtractBy, OwnerAt, ReportOf};
-use definition::{Extract, KeyColumn, Owner, Pictured, Refusal, Report, SignKind, Usage};
-use subsets::Terms;
+use crate::answers::{ExtractBy, OwnerAt, ReportOf};
+use definition::{Extract, Form, KeyColumn, Owner, Pictured, Refusal, Report, SignKind, Usage};
+use extract::subsets::Terms;
+use key::family;
+use layout::limits;
+use picture::mask;
+use record::asking;
 
-/// The layout listing of a copybook: how many bytes were written. Refusals, in this order: 1 text over 65,535 bytes; 2
-/// a byte over 127, at the first one; 3 work memory under 16,384 numbers; 50 a literal that its line does not close, at
-/// the opening mark of the first one; each statement's 10 to 14; each sibling list's, item's and fold's 20 to 30, a
-/// float's 52 in the place of 21; 29 for a top-level end; 31, with the length of the listing, if the output is shorter.
+pub mod answers;
+
+/// The layout listing of a copybook: how many bytes were written. Refusals: the reader's; then 31, with the length of
+/// the listing, if the output is shorter.
 /// A refusal changes no byte of the output, bytes past the listing keep their values, and work memory is zero after
 /// every call. The contract rules out a program that starts every item at its list's beginning, and one that refuses
 /// every copybook.
 #[tactic(auto, using(crate::proofs::Same::report_steps))]
 pub fn layout_listing(text: &[u8], work: &mut [u32], out: &mut [u8]) -> Result<usize, Refusal>
     ensures { left result out.new work.new
-        ≡ layout_call text.now out.old work.old }
+        ≡ layout_call Form.FreeText text.now out.old work.old }
 {
     asking::answer(
+        Form::FreeText,
         ReportOf {
             what: Report::Listing,
         },
@@ -49,9 +57,10 @@ pub fn layout_listing(text: &[u8], work: &mut [u32], out: &mut [u8]) -> Result<u
 #[tactic(auto, using(crate::proofs::Same::report_steps))]
 pub fn layout_details(text: &[u8], work: &mut [u32], out: &mut [u8]) -> Result<usize, Refusal>
     ensures { left result out.new work.new
-        ≡ details_call text.now out.old work.old }
+        ≡ details_call Form.FreeText text.now out.old work.old }
 {
     asking::answer(
+        Form::FreeText,
         ReportOf {
             what: Report::Details,
         },
@@ -63,14 +72,14 @@ pub fn layout_details(text: &[u8], work: &mut [u32], out: &mut [u8]) -> Result<u
 
 /// The owner of the byte at a position of the record: an occurrence of an elementary item, with its entry's number in
 /// the listing, its first byte in the record and the place inside it, or slack, with the number of the entry it stands
-/// before. Refusals: those of the layout listing but 31, then 40 for a REDEFINES or DEPENDING ON, a dropped root's own
-/// aside, and 41 for a position that is not below the record length. Work memory is zero after every call. The contract
-/// rules out a program that answers with the next occurrence, and one that measures slack from the record's start.
+/// before. Refusals: the reader's; then 40 for a REDEFINES or DEPENDING ON, a dropped root's own aside, and 41 for a
+/// position that is not below the record length. Work memory is zero after every call. The contract rules out a program
+/// that answers with the next occurrence, and one that measures slack from the record's start.
 pub fn byte_owner(text: &[u8], position: usize, work: &mut [u32]) -> Result<Owner, Refusal>
     ensures { left result [] work.new
-        ≡ owner_call text.now position work.old }
+        ≡ owner_call Form.FreeText text.now position work.old }
 {
-    asking::answer(OwnerAt { position }, text, work, &mut [])
+    asking::answer(Form::FreeText, OwnerAt { position }, text, work, &mut [])
 }
 
 /// The reasons of an entry's place, by its number in the listing, from 0: 13 bytes for each, numbers little-endian. Its
@@ -78,10 +87,9 @@ pub fn byte_owner(text: &[u8], position: usize, work: &mut [u32]) -> Result<Owne
 /// group named; start and length of that item's name (4 each, 0 if none or without a name); the bytes that it adds (4).
 /// The item's placing reason comes first, then its slack, then for each group outward kind 5 and the group's own
 /// reasons; a dropped root gives none, and a group made by folding has its base's reasons. Added up they are the
-/// entry's first byte in the record. Refusals: those of the layout listing but 31, then 53 for a number past the
-/// listing, then 31, with the length of the reasons. Answer, output and work memory are as in `layout_listing`. The
-/// contract rules out a program that names the sibling directly before although it is a redefiner, and one that stops
-/// at the first group.
+/// entry's first byte in the record. Refusals: the reader's; then 53 for a number past the listing, and 31, with the
+/// length of the reasons. Answer, output and work memory are as in `layout_listing`. The contract rules out a program
+/// that names the sibling directly before although it is a redefiner, and one that stops at the first group.
 #[tactic(auto, using(crate::proofs::Same::report_steps))]
 pub fn entry_reasons(
     text: &[u8],
@@ -90,25 +98,26 @@ pub fn entry_reasons(
     out: &mut [u8],
 ) -> Result<usize, Refusal>
     ensures { left result out.new work.new
-        ≡ reasons_call text.now number out.old work.old }
+        ≡ reasons_call Form.FreeText text.now number out.old work.old }
 {
     let question = ReportOf {
         what: Report::Reasons(number),
     };
-    asking::answer(question, text, work, out)
+    asking::answer(Form::FreeText, question, text, work, out)
 }
 
 /// The layout listing of cards, a copybook in COBOL reference format: `layout_listing` of what the reader sees of them.
 /// Columns 1 to 6 and those after 72 are ignored, and so are lines with `*`, `/` or `D` in column 7; a carriage return
-/// that ends a line is no column. Refusals: 1, 2 and 3, of the whole text; 51, at the first byte in column 7 that is
-/// none of those and no blank; then as `layout_listing`. Positions and places are those in the card text.
-/// The contract rules out a program that reads column 73, and one whose positions count columns of code alone.
+/// that ends a line is no column. Refusals: the reader's, 1 and 2 of the whole text; then 31. Positions and places are
+/// those in the card text. The contract rules out a program that reads column 73, and one whose positions count columns
+/// of code alone.
 #[tactic(auto, using(crate::proofs::Same::report_steps))]
 pub fn layout_cards(cards: &[u8], work: &mut [u32], out: &mut [u8]) -> Result<usize, Refusal>
     ensures { left result out.new work.new
-        ≡ layout_cards_call cards.now out.old work.old }
+        ≡ layout_call Form.Cards cards.now out.old work.old }
 {
-    asking::answer_cards(
+    asking::answer(
+        Form::Cards,
         ReportOf {
             what: Report::Listing,
         },
@@ -128,9 +137,10 @@ pub fn layout_details_cards(
     out: &mut [u8],
 ) -> Result<usize, Refusal>
     ensures { left result out.new work.new
-        ≡ details_cards_call cards.now out.old work.old }
+        ≡ details_call Form.Cards cards.now out.old work.old }
 {
-    asking::answer_cards(
+    asking::answer(
+        Form::Cards,
         ReportOf {
             what: Report::Details,
         },
@@ -140,8 +150,7 @@ pub fn layout_details_cards(
     )
 }
 
-/// The reasons of an entry of cards: `entry_reasons` of what the reader sees. Refusals: those of `layout_cards` but 31,
-/// then 53, then 31.
+/// The reasons of an entry of cards: `entry_reasons` of what the reader sees. Refusals: the reader's, then 53 and 31.
 /// The contract rules out a program that gives a name's place in the code alone, and one that takes column 7 for code.
 #[tactic(auto, using(crate::proofs::Same::report_steps))]
 pub fn entry_reasons_cards(
@@ -151,33 +160,33 @@ pub fn entry_reasons_cards(
     out: &mut [u8],
 ) -> Result<usize, Refusal>
     ensures { left result out.new work.new
-        ≡ reasons_cards_call cards.now number out.old work.old }
+        ≡ reasons_call Form.Cards cards.now number out.old work.old }
 {
     let question = ReportOf {
         what: Report::Reasons(number),
     };
-    asking::answer_cards(question, cards, work, out)
+    asking::answer(Form::Cards, question, cards, work, out)
 }
 
-/// The owner of a byte of the record that cards describe: `byte_owner` of what the reader sees. Refusals: those of
-/// `layout_cards` but 31, then 40 and 41.
+/// The owner of a byte of the record that cards describe: `byte_owner` of what the reader sees. Refusals: the reader's,
+/// then 40 and 41.
 /// The contract rules out a program that takes a hyphen line for code, and one that reads column 73.
 pub fn byte_owner_cards(cards: &[u8], position: usize, work: &mut [u32]) -> Result<Owner, Refusal>
     ensures { left result [] work.new
-        ≡ owner_cards_call cards.now position work.old }
+        ≡ owner_call Form.Cards cards.now position work.old }
 {
-    asking::answer_cards(OwnerAt { position }, cards, work, &mut [])
+    asking::answer(Form::Cards, OwnerAt { position }, cards, work, &mut [])
 }
 
-/// An extract that fits: of the record's top-level items, each with a weight from 1 to 1,000 in the listing's order,
-/// the heaviest choice whose reserved widths sum to at most the limit, among the first subsets, as many as the budget
-/// says. Subsets are numbered in binary, the first item being the lowest bit. The answer is the number of the heaviest
-/// fitting one, the earliest if equal, its weight, how many were looked at, and how far off it is at most: 0 if all
-/// were, else what all items that fit alone weigh more; no choice there is outweighs it by more (`extracted` of
-/// `definition`). Refusals: those of the layout listing but 31; 40 for a REDEFINES or DEPENDING ON, a dropped root's
-/// own aside; 58 for more than 16 items, or another number of weights than of items; 59 for a weight outside its range;
-/// 60 for a budget of 0. Work memory is zero after every call. The contract rules out a program that answers with the
-/// latest of equals, and one that looks at a subset too many.
+/// An extract that fits: of the record's top-level items, each with a weight in the listing's order, the heaviest
+/// choice whose reserved widths sum to at most the limit, among the first subsets, as many as the budget says. Subsets
+/// are numbered in binary, the first item being the lowest bit. The answer is the number of the heaviest fitting one,
+/// the earliest if equal, its weight, how many were looked at, and how far off it is at most: 0 if all were, else what
+/// all items that fit alone weigh more; no choice there is outweighs it by more (`extracted` of `definition`).
+/// Refusals: the reader's; 40 for a REDEFINES or DEPENDING ON, a dropped root's own aside; 58 for too many items, or
+/// another number of weights than of items; 59 for a weight outside its range; 60 for a budget of 0. Work memory is
+/// zero after every call. The contract rules out a program that answers with the latest of equals, and one that looks
+/// at a subset too many.
 pub fn extract(
     text: &[u8],
     weights: &[u32],
@@ -193,18 +202,18 @@ pub fn extract(
         limit,
         budget,
     };
-    asking::answer(ExtractBy { terms }, text, work, &mut [])
+    asking::answer(Form::FreeText, ExtractBy { terms }, text, work, &mut [])
 }
 
-/// One key for a family of records: the offset and width of the column of that name in a set of 2 to 16 copybooks, free
-/// text each, whose bytes stand one after the other in `texts`; `lengths` says how many each has. Each copybook has
-/// exactly one entry of the name at the top of its folded listing, case aside, an absent name being FILLER; it is no
-/// group and has neither OCCURS nor REDEFINES, no DEPENDING ON stands before it in the listing, at any depth, and all
-/// agree in offset, width, kind and kind details, an edited one in its mask. Refusals: 56, before any reading, for a
-/// set of another size, or whose lengths, added up, are not those bytes; then the reader's (1 to 3, 50, 10 to 14, 20 to
-/// 30, 52) of the first copybook that is refused, its position counted in that copybook; then 57 where there is no such
-/// key. 56 and 57 are at 0. The name is only compared. Work memory is zero after every call. The contract rules out a
-/// program that takes the last of two entries of the name, and one that adds the lengths up modulo 2^64.
+/// One key for a family of records: the offset and width of the column of that name in a set of copybooks, free text
+/// each, whose bytes stand one after the other in `texts`; `lengths` says how many each has. Each copybook has exactly
+/// one entry of the name at the top of its folded listing, case aside, an absent name being FILLER; it is no group and
+/// has neither OCCURS nor REDEFINES, no DEPENDING ON stands before it in the listing, at any depth, and all agree in
+/// offset, width, kind and kind details, an edited one in its mask. Refusals: 56, before any reading, for a set of too
+/// few or too many, or whose lengths, added up, are not those bytes; then the reader's of the first copybook that is
+/// refused, its position counted in that copybook; then 57 where there is no such key. 56 and 57 are at 0. The name is
+/// only compared. Work memory is zero after every call. The contract rules out a program that takes the last of two
+/// entries of the name, and one that adds the lengths up modulo 2^64.
 pub fn set_key(
     texts: &[u8],
     lengths: &[u64],
@@ -217,11 +226,8 @@ pub fn set_key(
     family::set_key(texts, lengths, name, work)
 }
 
-/// Kind, its details and width of one picture with a usage and a sign. Refusals, in this order: 1 over 65,535 bytes; 2
-/// a byte over 127, at the first one; then symbol by symbol 22 no `)`, 23 no repeat count, 24 over 65,535 symbols; then
-/// 25 no symbol, 26 text mixed with a digit or editing, 27 over 31 digits, P included, or an edited DISPLAY mask over
-/// 255; at 0 except 2. The contract rules out a program that counts `$$$9` as four digits, and one that gives a P a
-/// byte under some usage.
+/// Kind, its details and width of one picture with a usage and a sign. Refusals: a picture's. The contract rules out a
+/// program that counts `$$$9` as four digits, and one that gives a P a byte under some usage.
 #[tactic(auto, unfolding(definition::specs::Calls::picture_answer, definition::specs::Basic::and_then))]
 pub fn parse_pic(pic: &[u8], usage: Usage, sign: Option<SignKind>) -> Result<Pictured, Refusal>
     ensures { result ≡ picture_answer usage sign pic.now }
@@ -231,10 +237,9 @@ pub fn parse_pic(pic: &[u8], usage: Usage, sign: Option<SignKind>) -> Result<Pic
 }
 
 /// Writes the mask of a picture that is edited under the usage, and answers its length; 0 of any other picture.
-/// Refusals: those of `parse_pic`, in its order; then 31, with the length of the mask, if it is longer than the output.
-/// A refusal changes no byte of the output, and bytes past the mask keep their values.
-/// The contract rules out a program that writes before it knows that the mask has room, and one that writes S or V, or
-/// leaves P out.
+/// Refusals: a picture's; then 31, with the length of the mask, if it is longer than the output. A refusal changes no
+/// byte of the output, and bytes past the mask keep their values. The contract rules out a program that writes before
+/// it knows that the mask has room, and one that writes S or V, or leaves P out.
 pub fn mask(pic: &[u8], usage: Usage, out: &mut [u8]) -> Result<usize, Refusal>
     ensures { left result out.new [] ≡ mask_call usage pic.now out.old }
 {

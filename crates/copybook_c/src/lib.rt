@@ -1,23 +1,20 @@
 //! The public entries for C: `include/copybook.h` declares them. A slice is a pointer and a length. Each call returns
 //! 0, the number of its refusal, or 255 for a usage or a sign that is none; all but `copybook_check_record` write the
-//! other numbers of their answers to a lent slice, as `numbers` says. Leans on `copybook`, `numbers`, `kinds` and
-//! `definition`.
+//! other numbers of their answers to a lent slice, as `numbers` says.
 #![tactic(auto)]
 
-ghost use Rattle.std.specs.Prelude.{◌≡◌, ◌||◌, if◌then◌else◌};
-ghost use Rattle.definition.specs.Calls.{layout_call, details_call, picture_answer, mask_call, owner_call};
-ghost use Rattle.definition.specs.Calls.{record_check};
-ghost use Rattle.definition.specs.Calls.{reasons_call, layout_cards_call, details_cards_call, owner_cards_call};
-ghost use Rattle.definition.specs.Calls.{reasons_cards_call, extract_call};
+ghost use Rattle.std.specs.Prelude.{◌≡◌, ◌||◌, true, false, []};
+ghost use Rattle.definition.specs.declared.Form.{Form};
+ghost use Rattle.definition.specs.Calls.{layout_call, details_call, reasons_call, owner_call, extract_call};
+ghost use Rattle.definition.specs.Calls.{left, picture_answer, mask_call, record_check};
 ghost use Rattle.definition.specs.Key.{key_call};
-ghost use Rattle.kinds.specs.Kinds.{sign_at};
-ghost use Rattle.kinds.specs.Usages.{usage_at, clause_at};
-ghost use Rattle.numbers.specs.Numbers.{no_usage, no_sign, flagged};
-ghost use Rattle.numbers.specs.Numbers.{returned, writing_numbers, picture_numbers, owner_numbers, answered};
-ghost use Rattle.numbers.specs.Numbers.{extract_numbers, key_numbers};
+ghost use Rattle.rows.specs.Kinds.{sign_at};
+ghost use Rattle.rows.specs.Usages.{usage_at, clause_at};
+ghost use Rattle.copybook_c.specs.Numbers.{no_usage, no_sign, flagged};
+ghost use Rattle.copybook_c.specs.Numbers.{returned, writing_numbers, picture_numbers, owner_numbers};
+ghost use Rattle.copybook_c.specs.Numbers.{extract_numbers, key_numbers, IsHandedOn};
 
-// Kept: a function for each call, alike as some are; usage, sign, flag and refusal as numbers; a parameter for each
-// lent slice – the C interface: C calls them by name, and has no enums and structs of this library.
+pub mod numbers;
 
 /// The layout listing of a copybook, as `copybook::layout_listing` says. To `answer`, 2 numbers: the bytes written, and
 /// 0; or position and needed length.
@@ -30,12 +27,8 @@ pub extern "C" fn copybook_layout(
     out: &mut [u8],
     answer: &mut [u64],
 ) -> u32
-    ensures value { result ≡ returned (layout_call text.now out.old work.old).answer }
-    ensures answer_after { answer.new
-        ≡ answered (writing_numbers (layout_call text.now out.old work.old).answer)
-        answer.old }
-    ensures out_after { out.new ≡ (layout_call text.now out.old work.old).output }
-    ensures work_after { work.new ≡ (layout_call text.now out.old work.old).work }
+    ensures { IsHandedOn writing_numbers (layout_call Form.FreeText text.now out.old work.old) answer.old result
+        answer.new out.new work.new }
 {
     numbers::hand_on(copybook::layout_listing(text, work, out), answer)
 }
@@ -50,13 +43,8 @@ pub extern "C" fn copybook_details(
     out: &mut [u8],
     answer: &mut [u64],
 ) -> u32
-    ensures value { result ≡ returned (details_call text.now out.old work.old).answer }
-    ensures answer_after { answer.new
-        ≡ answered (writing_numbers (details_call text.now out.old work.old).answer)
-        answer.old }
-    ensures out_after { out.new
-        ≡ (details_call text.now out.old work.old).output }
-    ensures work_after { work.new ≡ (details_call text.now out.old work.old).work }
+    ensures { IsHandedOn writing_numbers (details_call Form.FreeText text.now out.old work.old) answer.old result
+        answer.new out.new work.new }
 {
     numbers::hand_on(copybook::layout_details(text, work, out), answer)
 }
@@ -72,16 +60,8 @@ pub extern "C" fn copybook_reasons(
     out: &mut [u8],
     answer: &mut [u64],
 ) -> u32
-    ensures value { result
-        ≡ returned (reasons_call text.now number out.old work.old).answer }
-    ensures answer_after { answer.new
-        ≡ answered
-        (writing_numbers (reasons_call text.now number out.old work.old).answer)
-        answer.old }
-    ensures out_after { out.new
-        ≡ (reasons_call text.now number out.old work.old).output }
-    ensures work_after { work.new
-        ≡ (reasons_call text.now number out.old work.old).work }
+    ensures { IsHandedOn writing_numbers (reasons_call Form.FreeText text.now number out.old work.old) answer.old
+        result answer.new out.new work.new }
 {
     numbers::hand_on(
         copybook::entry_reasons(text, number as usize, work, out),
@@ -98,16 +78,8 @@ pub extern "C" fn copybook_layout_cards(
     out: &mut [u8],
     answer: &mut [u64],
 ) -> u32
-    ensures value { result
-        ≡ returned (layout_cards_call cards.now out.old work.old).answer }
-    ensures answer_after { answer.new
-        ≡ answered
-        (writing_numbers (layout_cards_call cards.now out.old work.old).answer)
-        answer.old }
-    ensures out_after { out.new
-        ≡ (layout_cards_call cards.now out.old work.old).output }
-    ensures work_after { work.new
-        ≡ (layout_cards_call cards.now out.old work.old).work }
+    ensures { IsHandedOn writing_numbers (layout_call Form.Cards cards.now out.old work.old) answer.old result
+        answer.new out.new work.new }
 {
     numbers::hand_on(copybook::layout_cards(cards, work, out), answer)
 }
@@ -122,16 +94,8 @@ pub extern "C" fn copybook_details_cards(
     out: &mut [u8],
     answer: &mut [u64],
 ) -> u32
-    ensures value { result
-        ≡ returned (details_cards_call cards.now out.old work.old).answer }
-    ensures answer_after { answer.new
-        ≡ answered
-        (writing_numbers (details_cards_call cards.now out.old work.old).answer)
-        answer.old }
-    ensures out_after { out.new
-        ≡ (details_cards_call cards.now out.old work.old).output }
-    ensures work_after { work.new
-        ≡ (details_cards_call cards.now out.old work.old).work }
+    ensures { IsHandedOn writing_numbers (details_call Form.Cards cards.now out.old work.old) answer.old result
+        answer.new out.new work.new }
 {
     numbers::hand_on(copybook::layout_details_cards(cards, work, out), answer)
 }
@@ -147,16 +111,8 @@ pub extern "C" fn copybook_reasons_cards(
     out: &mut [u8],
     answer: &mut [u64],
 ) -> u32
-    ensures value { result
-        ≡ returned (reasons_cards_call cards.now number out.old work.old).answer }
-    ensures answer_after { answer.new
-        ≡ answered
-        (writing_numbers (reasons_cards_call cards.now number out.old work.old).answer)
-        answer.old }
-    ensures out_after { out.new
-        ≡ (reasons_cards_call cards.now number out.old work.old).output }
-    ensures work_after { work.new
-        ≡ (reasons_cards_call cards.now number out.old work.old).work }
+    ensures { IsHandedOn writing_numbers (reasons_call Form.Cards cards.now number out.old work.old) answer.old result
+        answer.new out.new work.new }
 {
     numbers::hand_on(
         copybook::entry_reasons_cards(cards, number as usize, work, out),
@@ -176,16 +132,8 @@ pub extern "C" fn copybook_key(
     work: &mut [u32],
     answer: &mut [u64],
 ) -> u32
-    ensures value { result
-        ≡ returned
-        (key_call texts.now lengths.now name.now work.old).answer }
-    ensures answer_after { answer.new
-        ≡ answered
-        (key_numbers
-        (key_call texts.now lengths.now name.now work.old).answer)
-        answer.old }
-    ensures work_after { work.new
-        ≡ (key_call texts.now lengths.now name.now work.old).work }
+    ensures { IsHandedOn key_numbers (key_call texts.now lengths.now name.now work.old) answer.old result answer.new
+        [] work.new }
 {
     numbers::hand_on(copybook::set_key(texts, lengths, name, work), answer)
 }
@@ -196,15 +144,10 @@ pub extern "C" fn copybook_key(
 /// The contract rules out a call that takes sign 4 for leading separate, and one that takes usage 3 for COMP.
 #[unsafe(no_mangle)]
 pub extern "C" fn copybook_picture(pic: &[u8], usage: u8, sign: u8, answer: &mut [u64]) -> u32
-    ensures value { result
-        ≡
-        (if no_usage usage || no_sign sign then 255
-        else returned (picture_answer (usage_at usage) (clause_at sign_at sign) pic.now)) }
-    ensures answer_after { answer.new
-        ≡
-        (if no_usage usage || no_sign sign then answer.old
-        else answered (picture_numbers (picture_answer (usage_at usage) (clause_at sign_at sign) pic.now))
-        answer.old) }
+    ensures unknown { no_usage usage || no_sign sign ≡ true → (result ≡ 255) × (answer.new ≡ answer.old) }
+    ensures known { no_usage usage || no_sign sign ≡ false →
+        IsHandedOn picture_numbers (left (picture_answer (usage_at usage) (clause_at sign_at sign) pic.now) [] [])
+        answer.old result answer.new [] [] }
 {
     let (Some(usage), Some(sign)) = (numbers::usage_of(usage), numbers::sign_of(sign)) else {
         return 255;
@@ -217,19 +160,9 @@ pub extern "C" fn copybook_picture(pic: &[u8], usage: u8, sign: u8, answer: &mut
 /// The contract rules out a call that says 0 bytes of a mask that it wrote, and one that takes usage 3 for COMP.
 #[unsafe(no_mangle)]
 pub extern "C" fn copybook_mask(pic: &[u8], usage: u8, out: &mut [u8], answer: &mut [u64]) -> u32
-    ensures value { result
-        ≡
-        (if no_usage usage then 255
-        else returned (mask_call (usage_at usage) pic.now out.old).answer) }
-    ensures answer_after { answer.new
-        ≡
-        (if no_usage usage then answer.old
-        else answered (writing_numbers (mask_call (usage_at usage) pic.now out.old).answer)
-        answer.old) }
-    ensures out_after { out.new
-        ≡
-        (if no_usage usage then out.old
-        else (mask_call (usage_at usage) pic.now out.old).output) }
+    ensures unknown { no_usage usage ≡ true → (result ≡ 255) × (answer.new ≡ answer.old) × (out.new ≡ out.old) }
+    ensures known { no_usage usage ≡ false →
+        IsHandedOn writing_numbers (mask_call (usage_at usage) pic.now out.old) answer.old result answer.new out.new [] }
 {
     let Some(usage) = numbers::usage_of(usage) else {
         return 255;
@@ -248,11 +181,8 @@ pub extern "C" fn copybook_owner(
     work: &mut [u32],
     answer: &mut [u64],
 ) -> u32
-    ensures value { result ≡ returned (owner_call text.now position work.old).answer }
-    ensures answer_after { answer.new
-        ≡ answered (owner_numbers (owner_call text.now position work.old).answer)
-        answer.old }
-    ensures work_after { work.new ≡ (owner_call text.now position work.old).work }
+    ensures { IsHandedOn owner_numbers (owner_call Form.FreeText text.now position work.old) answer.old result
+        answer.new [] work.new }
 {
     numbers::hand_on(copybook::byte_owner(text, position as usize, work), answer)
 }
@@ -267,11 +197,8 @@ pub extern "C" fn copybook_owner_cards(
     work: &mut [u32],
     answer: &mut [u64],
 ) -> u32
-    ensures value { result ≡ returned (owner_cards_call cards.now position work.old).answer }
-    ensures answer_after { answer.new
-        ≡ answered (owner_numbers (owner_cards_call cards.now position work.old).answer)
-        answer.old }
-    ensures work_after { work.new ≡ (owner_cards_call cards.now position work.old).work }
+    ensures { IsHandedOn owner_numbers (owner_call Form.Cards cards.now position work.old) answer.old result
+        answer.new [] work.new }
 {
     numbers::hand_on(
         copybook::byte_owner_cards(cards, position as usize, work),
@@ -292,15 +219,8 @@ pub extern "C" fn copybook_extract(
     work: &mut [u32],
     answer: &mut [u64],
 ) -> u32
-    ensures value { result
-        ≡ returned (extract_call text.now weights.now limit budget work.old).answer }
-    ensures answer_after { answer.new
-        ≡ answered
-        (extract_numbers
-        (extract_call text.now weights.now limit budget work.old).answer)
-        answer.old }
-    ensures work_after { work.new
-        ≡ (extract_call text.now weights.now limit budget work.old).work }
+    ensures { IsHandedOn extract_numbers (extract_call text.now weights.now limit budget work.old) answer.old result
+        answer.new [] work.new }
 {
     numbers::hand_on(
         copybook::extract(text, weights, limit as usize, budget as usize, work),

@@ -5,23 +5,23 @@
 
 use definition::{LEAST_WORK, MOST_BYTES};
 use printing::depths::Depths;
-use printing::{Entries, Entry, Head, MOST, part_of, read_full};
+use printing::{Entries, Head, ListedEntry, MOST, read_full, text_part};
 use std::io;
 
 // ---------------------------------------------------------------- one entry
 
 /// Prints the line of an entry at a depth.
-fn print_entry(rt: &impl Print, text: &[u8], entry: Entry, depth: usize) -> io::Result<()> {
+fn print_entry(rt: &impl Print, text: &[u8], entry: ListedEntry, depth: usize) -> io::Result<()> {
     print!(rt; "{depth} ")?;
-    rt.write_all(part_of(text, entry.name).unwrap_or(b"FILLER"))?;
+    rt.write_all(text_part(text, entry.name).unwrap_or(b"FILLER"))?;
     print!(rt; " {} {} {}", entry.offset, entry.width, entry.kind)?;
     match entry.occurs {
         Some(times) => print!(rt; " {times} ")?,
         None => print!(rt; " - ")?,
     }
-    rt.write_all(part_of(text, entry.depending).unwrap_or(b"-"))?;
+    rt.write_all(text_part(text, entry.depending).unwrap_or(b"-"))?;
     rt.write_all(b" ")?;
-    rt.write_all(part_of(text, entry.redefines).unwrap_or(b"-"))?;
+    rt.write_all(text_part(text, entry.redefines).unwrap_or(b"-"))?;
     rt.write_all(b"\n")
 }
 
@@ -59,7 +59,7 @@ const MOST_READ: usize = MOST_BYTES + 1;
 
 // A text of 65,536 bytes or more is read up to there, and refused for its length.
 fn main(rt: HostRuntime) -> io::Result<()> {
-    // Kept: an array – a rule of the project: a Vec's memory rests on three axioms more.
+    // An array: a Vec's memory would rest on three axioms more.
     let mut room = [0; MOST_READ];
     let text = read_full(&mut rt.stdin(), &mut room)?;
     print_layout(&rt, text)

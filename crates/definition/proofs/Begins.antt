@@ -14,12 +14,12 @@ use Rattle.definition.specs.declared.Mode.{Mode}
 use Rattle.definition.specs.declared.Mode.TheVariants.{Fresh, Between, Dropped, Within}
 use Rattle.definition.specs.declared.Token.{Token}
 use Rattle.definition.specs.declared.Token.TheVariants.{Word, Stop, Open}
-use Rattle.definition.specs.declared.Said.{Said}
-use Rattle.definition.specs.declared.Said.TheVariants.{Before}
+use Rattle.definition.specs.declared.LiteralState.{LiteralState}
+use Rattle.definition.specs.declared.LiteralState.TheVariants.{Before}
 use Rattle.definition.specs.declared.Statement.{Statement}
 use Rattle.definition.specs.declared.ItemUsage.{ItemUsage}
 use Rattle.definition.specs.declared.Refusal.{Refusal}
-use Rattle.definition.specs.Limits.{most_statements}
+use Rattle.definition.specs.declared.TheConstants.{MOST_STATEMENTS}
 use Rattle.definition.specs.Basic.{Answer, Ok, ◌>>=◌, and_then, refuse_if}
 use Rattle.definition.specs.Words.{byte_kind, next, completed, completed_end, seen, said_next, unless_open, tokens}
 use Rattle.definition.specs.Words.{on_first, sentences, statement_words}
@@ -75,7 +75,7 @@ behind-next m p k h = grind arith
 
 -- a literal that is left open ends the words
 unless-open :
-    (q : Said) (k : ByteKind) (ts : List Token) (n : ℕ) →
+    (q : LiteralState) (k : ByteKind) (ts : List Token) (n : ℕ) →
     Rises n (word_starts ts) →
     Rises n (word_starts (unless_open q k ts))
 unless-open q k ts n r = grind arith
@@ -88,7 +88,7 @@ at-end :
 at-end m p ts h r = grind (arith, rises-from p (suc (low m p)) (word_starts ts))
 
 tokens-rise :
-    (text bs : List ℕ) (q : Said) (m : Mode) (p : ℕ) →
+    (text bs : List ℕ) (q : LiteralState) (m : Mode) (p : ℕ) →
     Behind m p →
     Rises (low m p) (word_starts (tokens text q m p bs))
 unfolding tokens
@@ -155,7 +155,7 @@ module _ (text : List ℕ) where
       elim o [
         | None ↦ statements text k wss
         | Some s ↦ do
-          _ ← refuse_if (leb most_statements k) (Refusal.TooManyStatements s.at)
+          _ ← refuse_if (leb MOST_STATEMENTS k) (Refusal.TooManyStatements s.at)
           ss ← statements text (suc k) wss
           Ok (s ∷ ss)
       ]

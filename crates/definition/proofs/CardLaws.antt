@@ -20,15 +20,16 @@ use Rattle.definition.specs.declared.ByteKind.{ByteKind}
 use Rattle.definition.specs.declared.ByteKind.TheVariants.{Newline}
 use Rattle.definition.specs.declared.Mode.{Mode}
 use Rattle.definition.specs.declared.Mode.TheVariants.{Fresh, Between, Dropped, Within}
-use Rattle.definition.specs.declared.Said.{Said}
-use Rattle.definition.specs.declared.Said.TheVariants.{Before}
+use Rattle.definition.specs.declared.LiteralState.{LiteralState}
+use Rattle.definition.specs.declared.LiteralState.TheVariants.{Before}
 use Rattle.definition.specs.declared.Token.{Token}
 use Rattle.definition.specs.declared.Token.TheVariants.{Word, Stop, Open}
 use Rattle.definition.specs.Basic.{white, span, part, Ok, and_then}
 use Rattle.definition.specs.Words.{byte_kind, next, completed, completed_end, seen, said_next}
 use Rattle.definition.specs.Words.{unless_open, tokens, tokens_of, on_first, sentences, statement_words}
-use Rattle.definition.specs.Cards.{column_next, code_next, view_from, view, Form, free_text}
-use Rattle.definition.specs.Cards.{card_text, view_in}
+use Rattle.definition.specs.Cards.{column_next, code_next, view_from, view}
+use Rattle.definition.specs.declared.Form.{Form}
+use Rattle.definition.specs.Cards.{view_in}
 use Rattle.definition.specs.Calls.{first_wide, text_checks, entry_checks}
 use Rattle.definition.proofs.Lists.{order}
 use Rattle.definition.proofs.SpanLaws.{Sentences}
@@ -64,7 +65,7 @@ view-byte cards i h = view-from-byte cards 1 false i h
 -- ---------------------------------------------------------------- words
 
 not_white :
-    (b : ℕ) (bs : List ℕ) (q : Said) →
+    (b : ℕ) (bs : List ℕ) (q : LiteralState) →
     stays_within (seen q (byte_kind b bs)) ≡ true →
     eqb b 10 || white b ≡ false
 unfolding byte_kind
@@ -123,15 +124,15 @@ module _
         (m : Mode) (k : ByteKind) (p : ℕ) (ts : List Token) → SoFar p m → AllSame ts → AllSame (completed m p k ++ ts)
     all-completed m k p ts x a = grind arith
 
-    all-open : (q : Said) (k : ByteKind) (ts : List Token) → AllSame ts → AllSame (unless_open q k ts)
+    all-open : (q : LiteralState) (k : ByteKind) (ts : List Token) → AllSame ts → AllSame (unless_open q k ts)
     all-open q k ts a = grind arith
 
-    all_end : (m : Mode) (q : Said) (p : ℕ) → SoFar p m → AllSame (completed_end m p ++ unless_open q Newline [])
+    all_end : (m : Mode) (q : LiteralState) (p : ℕ) → SoFar p m → AllSame (completed_end m p ++ unless_open q Newline [])
     all_end m q p x = grind (arith, all-open q Newline [] tt)
 
     -- every word of the first text has the same bytes in the second
     all_same :
-        (n : ℕ) (q : Said) (m : Mode) (p : ℕ) → length v ≤ p + n → SoFar p m → AllSame (tokens v q m p (drop p v))
+        (n : ℕ) (q : LiteralState) (m : Mode) (p : ℕ) → length v ≤ p + n → SoFar p m → AllSame (tokens v q m p (drop p v))
     all_same zero q m p l x = rw (tokens-end v q m p (omega arith)) (all_end m q p x)
     all_same (suc n) q m p l x =
         ⊎_elim
@@ -167,8 +168,8 @@ module _
 pub view-words :
     (form : Form) (text : List ℕ) →
     Sentences (λ w. part (view_in form text) w ≡ part text w) (statement_words (view_in form text))
-view-words free_text text = words_same text text refl (λ i h. refl)
-view-words card_text text = words_same (view text) text (view-length text) (view-byte text)
+view-words Form.FreeText text = words_same text text refl (λ i h. refl)
+view-words Form.Cards text = words_same (view text) text (view-length text) (view-byte text)
 
 -- ---------------------------------------------------------------- the checks of the view
 

@@ -9,7 +9,7 @@ use native.Mathlib.Nat.{add-zero, zero-add}
 use Rattle.definition.specs.declared.Pictured.{Pictured}
 use Rattle.definition.specs.declared.Statement.{Statement}
 use Rattle.std.specs.Prelude.{if◌then◌else◌}
-use Rattle.definition.specs.Basic.{given, Ok}
+use Rattle.definition.specs.Basic.{is_given, Ok}
 use Rattle.definition.specs.Tree.{Forest, leaf, item}
 use Rattle.definition.specs.Fold.{Entries, end, entry, Place, place_of, times, entry_end}
 use Rattle.definition.specs.Fold.{redefiners, fold_check, folded_list, folded_below, folded_all}
@@ -25,8 +25,8 @@ use Rattle.definition.proofs.Pieces.{extent-append, extent-repeated}
 
 -- no statement, at any depth, has a REDEFINES or a DEPENDING ON
 pub record PlainStatement (s : Statement) : Type 0 where
-  pub redefines : given s.clauses.redefines ≡ false
-  pub depending : given s.clauses.depending ≡ false
+  pub redefines : is_given s.clauses.redefines ≡ false
+  pub depending : is_given s.clauses.depending ≡ false
 
 abbrev pub Plain : Forest → Type 0
 Plain leaf = Unit {0}
@@ -42,7 +42,7 @@ plain (item s kids later) h = grind (arith, plain kids, plain later)
 -- no entry of the list itself redefines
 abbrev pub Unfolded : Entries → Type 0
 Unfolded end = Unit {0}
-Unfolded (entry e members later) = (given e.redefines ≡ false) × Unfolded later
+Unfolded (entry e members later) = (is_given e.redefines ≡ false) × Unfolded later
 
 module _ (text : List ℕ) where
   no-redefiners : (base : Place) (es : Entries) → Unfolded es → redefiners text base es ≡ end
@@ -73,7 +73,7 @@ module _ (text : List ℕ) where
   -- without REDEFINES an item starts after its slack
   pub start-given :
       (k place : ℕ) (seen : List Place) (s : Statement) (kids : Forest) (w : ℕ) →
-      given s.clauses.redefines ≡ false →
+      is_given s.clauses.redefines ≡ false →
       start text s (content_of text s kids w) seen place ≡ Ok (place + extent (slack_before text k place s kids))
   start-given k place seen s kids w r = grind arith
 

@@ -1,6 +1,6 @@
--- Demand 3: of an accepted copybook, free text or cards, without REDEFINES and DEPENDING ON, a dropped root's own
--- aside, every byte has exactly one owner, and the byte owner names it; the listing has the record length, offsets and
--- widths of the owner rule; a record is the pieces it is cut into.
+-- Of an accepted copybook, free text or cards, without REDEFINES and DEPENDING ON, a dropped root's own aside, every byte
+-- has exactly one owner, and the byte owner names it; the listing has the record length, offsets and widths of the owner
+-- rule; a record is the pieces it is cut into.
 -- Assumes nothing.
 use Prim.Native.Nat.{ℕ, ◌-◌, ◌≤◌, ◌<◌}
 use mathlib.Core.Path.{◌≡◌, refl, sym, ◌∙◌, ap, subst}
@@ -17,29 +17,30 @@ use Rattle.definition.specs.Words.{statement_words}
 use Rattle.definition.specs.Tree.{Forest}
 use Rattle.definition.specs.Fold.{Entries}
 use Rattle.definition.specs.Record.{record_length, layout}
-use Rattle.definition.specs.Cards.{Form, view_in}
-use Rattle.definition.specs.Calls.{kept_statements, record_fields, entries, owner_in, byte_owner, called}
+use Rattle.definition.specs.Cards.{view_in}
+use Rattle.definition.specs.declared.Form.{Form}
+use Rattle.definition.specs.Calls.{kept_statements, record_fields, entries, asked, owner_in, called}
 use Rattle.definition.specs.Owner.{extent, pieces, owner_from, owner_of, overlaid, cut, join}
 use Rattle.definition.specs.Placed.{placed}
 use Rattle.definition.specs.Search.{seek, Row, rows, walk}
-use Rattle.definition.specs.Demand.{Tells, Spot, told, spots, EachSpan, owner_on, Demand, Kept}
-use Rattle.definition.proofs.Answers.{through, given-same, refused-through}
-use Rattle.definition.proofs.CallsLaws.{called-as}
+use Rattle.definition.specs.Demand.{Tells, Spot, spots_of, spots, EachSpan, owner_on, Demand, Kept}
+use Rattle.definition.proofs.Answers.{through, given-same}
+use Rattle.definition.proofs.CallsLaws.{called-as, asked-of}
 use Rattle.definition.proofs.SpanLaws.{ForestSpans, statements-spans, record-spans, layout-spans}
 use Rattle.definition.proofs.CardLaws.{view-words}
 use Rattle.definition.proofs.Pieces.{Found, found, owner_none, join-cut}
 use Rattle.definition.proofs.Cover.{plain, layout-placed, placed-length}
 use Rattle.definition.proofs.Seek.{seek-owner}
 use Rattle.definition.proofs.Walk.{walk-seek}
-use Rattle.definition.proofs.Told.{tells-placed, told-laid}
+use Rattle.definition.proofs.SpotLaws.{tells-placed, told-laid}
 
 -- ---------------------------------------------------------------- the fields of a record, however they were read
 
-module _ (text : List ℕ) (f : Forest) (es : Entries) (laid_out : layout text f ≡ Ok es) where
+module _ (text : List ℕ) (f : Forest) (tree : Entries) where
   -- a kept REDEFINES or DEPENDING ON is refused, wherever the position
-  pub refuses-40 : overlaid f ≡ true → (q : ℕ) → owner_in text f q ≡ Err Refusal.Overlaid
+  pub refuses-40 : overlaid f ≡ true → (q : ℕ) → owner_in q text f tree ≡ Err Refusal.Overlaid
   unfolding owner_in and_then
-  refuses-40 o q = rw (laid_out, o)
+  refuses-40 o q = rw o
 
 module _ (text : List ℕ) (f : Forest) (es : Entries) (laid_out : layout text f ≡ Ok es) (free : overlaid f ≡ false) where
   -- The entries of the listing are those that the owner rule places: each offset is the place that its sibling list has
@@ -56,25 +57,25 @@ module _ (text : List ℕ) (f : Forest) (es : Entries) (laid_out : layout text f
   items = subst (Tells text 0 f) (sym offsets) (tells-placed text f 0 0 (plain f free))
 
   -- and the pieces are those that it tells.
-  pub in_order : spots 0 (pieces text f) ≡ told 0 0 0 es
-  in_order = sym (ap (told 0 0 0) offsets ∙ told-laid text f 0 0 0)
+  pub in_order : spots 0 (pieces text f) ≡ spots_of 0 0 0 es
+  in_order = sym (ap (spots_of 0 0 0) offsets ∙ told-laid text f 0 0 0)
 
   -- For each position below the record length exactly one piece has it, and the search names that one.
-  pub one-owner : (q : ℕ) → q < record_length es → Found (told 0 0 0 es) q (owner_of (pieces text f) q)
+  pub one-owner : (q : ℕ) → q < record_length es → Found (spots_of 0 0 0 es) q (owner_of (pieces text f) q)
   one-owner q h =
       let here : q - 0 ≡ q = omega arith in
       subst (λ (xs : List Spot). Found xs q (owner_of (pieces text f) q)) in_order
       (subst (λ (n : ℕ). Found (spots 0 (pieces text f)) q (owner_from 0 (pieces text f) n)) here (found (pieces text f) 0 q (omega arith) (omega (arith, cover))))
 
   -- and the byte owner call answers with it
-  pub answers : (q : ℕ) {o : Owner} → owner_of (pieces text f) q ≡ Some o → owner_in text f q ≡ Ok o
+  pub answers : (q : ℕ) (tree : Entries) {o : Owner} → owner_of (pieces text f) q ≡ Some o → owner_in q text f tree ≡ Ok o
   unfolding owner_in and_then
-  answers q h = rw (laid_out, free, h)
+  answers q tree h = rw (free, h)
 
   -- a position that is not below it is refused
-  pub refuses-41 : (q : ℕ) → record_length es ≤ q → owner_in text f q ≡ Err Refusal.OutsideRecord
+  pub refuses-41 : (q : ℕ) (tree : Entries) → record_length es ≤ q → owner_in q text f tree ≡ Err Refusal.OutsideRecord
   unfolding owner_in and_then
-  refuses-41 q h = rw (laid_out, free, owner_none 0 (pieces text f) q (omega (arith, cover)))
+  refuses-41 q tree h = rw (free, owner_none 0 (pieces text f) q (omega (arith, cover)))
 
   -- A record of that length, cut into the pieces and joined again, is itself.
   pub whole : (bs : List ℕ) → length bs ≡ record_length es → join (cut (pieces text f) bs) ≡ bs
@@ -95,26 +96,10 @@ module _ (text : List ℕ) (f : Forest) (es : Entries) (laid_out : layout text f
       ∙ sym (one-owner q h).names
 
   -- this is what the code of the byte owner computes, after the reader's refusals, 40 and 41.
-  pub computed : (q : ℕ) {o : Owner} → q < record_length es → walk 0 0 0 (rows es) q ≡ Some o → owner_in text f q ≡ Ok o
-  computed q h w = answers q (sym (walked q h) ∙ w)
+  pub computed : (q : ℕ) (tree : Entries) {o : Owner} → q < record_length es → walk 0 0 0 (rows es) q ≡ Some o → owner_in q text f tree ≡ Ok o
+  computed q tree h w = answers q tree (sym (walked q h) ∙ w)
 
 -- ---------------------------------------------------------------- a copybook
-
--- what the calls of a copybook answer is what its fields have: `Demand3` speaks of every accepted copybook
-pub read-fields :
-    (text : List ℕ) (work : ℕ) (f : Forest) →
-    record_fields text work ≡ Ok f →
-    (entries text work ≡ layout text f) × ((q : ℕ) → byte_owner text work q ≡ owner_in text f q)
-unfolding entries byte_owner and_then
-read-fields text work f h = (rw h, λ q. rw h)
-
--- the refusals of the reader are those of the byte owner
-pub reader-refuses :
-    (text : List ℕ) (work q : ℕ) (r : Refusal) →
-    entries text work ≡ Err r →
-    byte_owner text work q ≡ Err r
-unfolding entries byte_owner owner_in
-reader-refuses text work q r h = refused-through (record_fields text work) (layout text) _ r h
 
 -- the fields that are read, and the entries laid from them, name places that stand so in the copybook's own text
 module _ (form : Form) (text : List ℕ) (work : ℕ) (f : Forest) where
@@ -140,41 +125,42 @@ module _ (form : Form) (text : List ℕ) (work : ℕ) (f : Forest) where
 
 -- of fields without REDEFINES and DEPENDING ON, where the byte owner answers as in those fields
 demanded :
-    (text : List ℕ) (owner : ℕ → Answer Owner) (f : Forest) (es : Entries) →
-    ((q : ℕ) → owner q ≡ owner_in text f q) →
+    (text : List ℕ) (owner : ℕ → Answer Owner) (f : Forest) (tree es : Entries) →
+    ((q : ℕ) → owner q ≡ owner_in q text f tree) →
     layout text f ≡ Ok es →
     overlaid f ≡ false →
     Demand text owner f es
-demanded text owner f es asked laid_out free =
+demanded text owner f tree es asks laid_out free =
     let one = one-owner text f es laid_out free in
     record {
       items = items text f es laid_out free;
       in_order = in_order text f es laid_out free;
       covered = sym (cover text f es laid_out free);
       one-owner = λ q l. (one q l).one;
-      named = λ q l. asked q ∙ answers text f es laid_out free q (one q l).names;
+      named = λ q l. asks q ∙ answers text f es laid_out free q tree (one q l).names;
       whole = whole text f es laid_out free;
     }
 
--- Demand 3, whole: every accepted copybook keeps it
+-- the whole demand: every accepted copybook keeps it
 pub demand3 :
     (form : Form) (text : List ℕ) (work : ℕ) (es : Entries) →
     called form (λ t. entries t work) text work ≡ Ok es →
     Kept form text work es
-unfolding entries
+unfolding entries layout
 demand3 form text work es h =
     let seen = view_in form text in
     let laying : List ℕ → Answer Entries = λ t. entries t work in
     let accepted : entries seen work ≡ Ok es = sym (called-as laying laying form text work h) ∙ h in
     through _ _ accepted λ f read laid_out.
-    let asked : (q : ℕ) → owner_on form text work q ≡ owner_in seen f q =
-    λ q. called-as laying (λ t. byte_owner t work q) form text work h ∙ (read-fields seen work f read).1 q in
+    through _ _ laid_out λ tree unfolds _.
+    let asks : (q : ℕ) → owner_on form text work q ≡ owner_in q seen f tree =
+    λ q. called-as laying (λ t. asked (owner_in q) t work) form text work h ∙ asked-of (owner_in q) seen work f tree read unfolds in
     record {
       of = f;
       read = read;
       laid_out = laid_out;
       spelt = view-spans form text work f es read laid_out;
-      demand = demanded seen (owner_on form text work) f es asked laid_out;
-      outside = λ o q l. asked q ∙ refuses-41 seen f es laid_out o q l;
-      refuses = λ o q. asked q ∙ refuses-40 seen f es laid_out o q;
+      demand = demanded seen (owner_on form text work) f tree es asks laid_out;
+      outside = λ o q l. asks q ∙ refuses-41 seen f es laid_out o q tree l;
+      refuses = λ o q. asks q ∙ refuses-40 seen f tree o q;
     }

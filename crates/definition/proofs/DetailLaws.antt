@@ -12,7 +12,7 @@ use Rattle.definition.specs.declared.Entry.{Entry}
 use Rattle.definition.specs.declared.Pictured.{Pictured}
 use Rattle.definition.specs.declared.Statement.{Statement}
 use Rattle.std.specs.Prelude.{if◌then◌else◌}
-use Rattle.definition.specs.Basic.{given, Ok}
+use Rattle.definition.specs.Basic.{is_given, Ok}
 use Rattle.definition.specs.Tree.{Forest, leaf, item}
 use Rattle.definition.specs.Fold.{Entries, end, entry, append, entry_end, Place, place_of}
 use Rattle.definition.specs.Fold.{redefiners, with_redefiners, folded_list, folded_below}
@@ -100,7 +100,7 @@ module _ (text : List ℕ) where
   -- an item without REDEFINES does not start before the cursor
   start-low :
       (s : Statement) (c : Pictured) (seen : List Place) (cursor offset : ℕ) →
-      given s.clauses.redefines ≡ false →
+      is_given s.clauses.redefines ≡ false →
       start text s c seen cursor ≡ Ok offset →
       cursor ≤ offset
   start-low s c seen cursor offset g h = grind arith

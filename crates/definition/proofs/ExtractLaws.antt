@@ -9,13 +9,18 @@ use native.Mathlib.Nat.{pow-suc}
 use native.Mathlib.Omega.{arith}
 use lib.ListN.{length}
 use Rattle.definition.specs.declared.Extract.{Extract}
-use Rattle.definition.specs.Basic.{Ok}
+use Rattle.definition.specs.declared.Refusal.{Refusal}
+use Rattle.definition.specs.Basic.{Answer, Ok, ◌>>=◌, refuse_if}
 use Rattle.definition.specs.Demand.{Among}
-use Rattle.definition.specs.Extract.{Item, widths, items, bytes_of, weight_of, chosen, subsets#, up_from}
+use Rattle.definition.specs.Extract.{WeightedItem, widths, items, bytes_of, weight_of, chosen, subsets#, up_from}
 use Rattle.definition.specs.Extract.{heavier, heaviest, alone, off_by, extract}
 use Rattle.definition.specs.Extracted.{Choice, none, with, without, LookedAt, Best, Extracted}
-use Rattle.definition.specs.Calls.{extract_of, extract_in, extract_answer}
-use Rattle.definition.proofs.Answers.{through, given-same}
+use Rattle.definition.specs.Fold.{Entries, folded_all}
+use Rattle.definition.specs.Record.{layout}
+use Rattle.definition.specs.Tree.{Forest}
+use Rattle.definition.specs.Owner.{overlaid}
+use Rattle.definition.specs.Calls.{record_fields, asked, extract_of, extract_in}
+use Rattle.definition.proofs.Answers.{give-next, through, given-same}
 use Rattle.definition.proofs.Lists.{order}
 
 -- ---------------------------------------------------------------- the numbers looked at
@@ -30,12 +35,12 @@ pub record Within (k n x : ℕ) : Type 0 where
   pub low : k ≤ x
   pub high : x < k + n
 
-among-within : (x k n : ℕ) → Among x (up_from k n) → Within k n x
+pub among-within : (x k n : ℕ) → Among x (up_from k n) → Within k n x
 unfolding up_from
 among-within x k zero h = absurd h
 among-within x k (suc n) h = grind (arith, among-within x (suc k) n)
 
-within-among : (x k n : ℕ) → Within k n x → Among x (up_from k n)
+pub within-among : (x k n : ℕ) → Within k n x → Among x (up_from k n)
 unfolding up_from
 within-among x k zero h = absurd (omega arith)
 within-among x k (suc n) h =
@@ -43,7 +48,7 @@ within-among x k (suc n) h =
 
 -- ---------------------------------------------------------------- the heaviest of them
 
-module _ (limit : ℕ) (is : List Item) where
+module _ (limit : ℕ) (is : List WeightedItem) where
   -- what the subset of a number weighs, and what it takes
   abbrev weight : ℕ → ℕ
   weight n = weight_of (chosen n is)
@@ -85,24 +90,24 @@ module _ (limit : ℕ) (is : List Item) where
 -- ---------------------------------------------------------------- choices
 
 -- the empty subset takes and weighs nothing
-pub chosen-zero : (is : List Item) → chosen 0 is ≡ []
+pub chosen-zero : (is : List WeightedItem) → chosen 0 is ≡ []
 unfolding chosen
 chosen-zero [] = refl
 chosen-zero (i ∷ is) = chosen-zero is
 
 -- every number is that of a choice,
-chosen-choice : (n : ℕ) (is : List Item) → Choice (chosen n is) is
+pub chosen-choice : (n : ℕ) (is : List WeightedItem) → Choice (chosen n is) is
 unfolding chosen
 chosen-choice n [] = none
 chosen-choice n (i ∷ is) = grind (arith, with, without, chosen-choice (n / 2) is)
 
 -- and every choice has a number
-record Numbered (cs is : List Item) : Type 0 where
+record Numbered (cs is : List WeightedItem) : Type 0 where
   number : ℕ
   below : number < subsets# is
   same : chosen number is ≡ cs
 
-numbered : {cs is : List Item} → Choice cs is → Numbered cs is
+numbered : {cs is : List WeightedItem} → Choice cs is → Numbered cs is
 unfolding chosen
 numbered none = record { number = 0; below = omega arith; same = refl }
 numbered (with {i} {cs} {is} c) =
@@ -112,7 +117,7 @@ numbered (with {i} {cs} {is} c) =
     record {
       number = 2 * n.number + 1;
       below = omega (arith, n.below, pow-suc 2 (length is));
-      same = rw (odd, half) (ap (λ (l : List Item). i ∷ l) n.same);
+      same = rw (odd, half) (ap (λ (l : List WeightedItem). i ∷ l) n.same);
     }
 numbered (without {i} {cs} {is} c) =
     let n = numbered c in
@@ -126,7 +131,7 @@ numbered (without {i} {cs} {is} c) =
 
 -- a choice that fits weighs no more than the items that fit alone
 alone-above :
-    (limit : ℕ) {cs is : List Item} → Choice cs is → bytes_of cs ≤ limit → weight_of cs ≤ weight_of (alone limit is)
+    (limit : ℕ) {cs is : List WeightedItem} → Choice cs is → bytes_of cs ≤ limit → weight_of cs ≤ weight_of (alone limit is)
 unfolding alone
 alone-above limit none h = omega arith
 alone-above limit (with {i} {cs} {is} c) h = grind (arith, alone-above limit c)
@@ -135,11 +140,11 @@ alone-above limit (without {i} {cs} {is} c) h = grind (arith, alone-above limit 
 -- ---------------------------------------------------------------- the answer
 
 -- there is always a subset
-pub subsets-pos : (is : List Item) → 0 < subsets# is
+pub subsets-pos : (is : List WeightedItem) → 0 < subsets# is
 subsets-pos [] = omega arith
 subsets-pos (i ∷ is) = omega (arith, subsets-pos is, pow-suc 2 (length is))
 
-module _ (limit : ℕ) (is : List Item) where
+module _ (limit : ℕ) (is : List WeightedItem) where
   -- how far off: nothing, with all looked at;
   pub off-all : (looked found : ℕ) → subsets# is ≤ looked → off_by limit is looked found ≡ 0
   off-all looked found h = grind arith
@@ -161,11 +166,11 @@ module _ (limit : ℕ) (is : List Item) where
 
     -- and no choice outweighs it by more than it is off
     no_more :
-        looked ≤ subsets# is → (cs : List Item) → Choice cs is → bytes_of cs ≤ limit →
+        looked ≤ subsets# is → (cs : List WeightedItem) → Choice cs is → bytes_of cs ≤ limit →
         weight_of cs ≤ found + off_by limit is looked found
     no_more small cs c h =
         let n = numbered c in
-        let fits-too = subst (λ (l : List Item). bytes_of l ≤ limit) (sym n.same) h in
+        let fits-too = subst (λ (l : List WeightedItem). bytes_of l ≤ limit) (sym n.same) h in
         grind (
           arith,
           off_less looked found,
@@ -208,31 +213,43 @@ module _ (limit : ℕ) (is : List Item) where
         less = λ h. omega (arith, is-off, off_less looked found (omega arith) (found-small top looked t));
       }
 
--- every extract that is not refused is the best one of its items
-pub extracted :
-    (text : List ℕ) (work : ℕ) (weights : List ℕ) (limit budget : ℕ) {a : Extract} →
-    extract_answer text work weights limit budget ≡ Ok a →
+-- of items that were laid out
+of_items :
+    (text : List ℕ) (work : ℕ) (weights : List ℕ) (limit budget : ℕ) (f : Forest) (es : Entries) {a : Extract} →
+    record_fields text work ≡ Ok f →
+    layout text f ≡ Ok es →
+    (refuse_if (overlaid f) Refusal.Overlaid >>= λ _. extract_of (widths es) weights limit budget) ≡ Ok a →
     Extracted text work weights limit budget a
-unfolding extract_answer extract_in extract_of
-extracted text work weights limit budget {a} h =
-    through _ _ h λ f e₁ h₁.
-    through _ _ h₁ λ es e₂ h₂.
+unfolding extract_of
+of_items text work weights limit budget f es {a} read laid_out h =
+    through _ _ h λ _ e₁ h₁.
+    through _ _ h₁ λ _ e₂ h₂.
     through _ _ h₂ λ _ e₃ h₃.
     through _ _ h₃ λ _ e₄ h₄.
-    through _ _ h₄ λ _ e₅ h₅.
-    through _ _ h₅ λ _ e₆ h₆.
     let some : 0 < budget = grind arith in
     record {
       of = f;
       shown = es;
-      read = e₁;
-      laid_out = e₂;
+      read = read;
+      laid_out = laid_out;
       plain = grind arith;
       few = grind arith;
       paired = grind arith;
       weighed = grind arith;
       some = some;
       best =
-          subst (Best limit budget (items (widths es) weights)) (given-same h₆)
+          subst (Best limit budget (items (widths es) weights)) (given-same h₄)
           (best limit (items (widths es) weights) budget some);
     }
+
+-- every extract that is not refused is the best one of its items
+pub extracted :
+    (text : List ℕ) (work : ℕ) (weights : List ℕ) (limit budget : ℕ) {a : Extract} →
+    asked (extract_in weights limit budget) text work ≡ Ok a →
+    Extracted text work weights limit budget a
+unfolding asked extract_in layout
+extracted text work weights limit budget h =
+    through _ _ h λ f read h₁.
+    through _ _ h₁ λ tree laid_out h₂.
+    let shown = ap (λ (x : Answer Entries). x >>= λ es. Ok (folded_all text es)) laid_out ∙ give-next tree _ in
+    of_items text work weights limit budget f (folded_all text tree) read shown h₂

@@ -7,7 +7,7 @@ use mathlib.Core.List.{List, [], ◌∷◌}
 use Rattle.std.specs.Prelude.{None, Some}
 use Rattle.definition.specs.declared.Span.{Span}
 use Rattle.definition.specs.declared.Entry.{Entry}
-use Rattle.definition.specs.Basic.{given}
+use Rattle.definition.specs.Basic.{is_given}
 use Rattle.definition.specs.Fold.{Entries, end, entry, append}
 use Rattle.definition.specs.Fold.{same_name, Place, place_of, Search, one_more, search_back, find}
 use Rattle.definition.specs.Fold.{rebased, redefiners, fold_check}
@@ -53,7 +53,7 @@ module _ (text : List ℕ) where
 
     module _ (e : Entry) (members later : Entries) where
       -- a redefiner of that name; one of another name
-      module _ (g : given e.redefines ≡ true) where
+      module _ (g : is_given e.redefines ≡ true) where
         pub redefiners-hit :
             same_name text base.name e.redefines ≡ true →
             redefiners text base (entry e members later) ≡ entry (rebased base.offset e) members (redefiners text base later)
@@ -67,7 +67,7 @@ module _ (text : List ℕ) where
         redefiners-miss h = rw (h, g)
 
       -- the next base of that name; one of another name
-      module _ (g : given e.redefines ≡ false) where
+      module _ (g : is_given e.redefines ≡ false) where
         pub redefiners-ends :
             same_name text base.name e.name ≡ true →
             redefiners text base (entry e members later) ≡ end
@@ -85,7 +85,7 @@ module _ (text : List ℕ) where
   -- a base is looked for among the later ones
   pub check-base :
       (bases : List Place) (e : Entry) (members later : Entries) →
-      given e.redefines ≡ false →
+      is_given e.redefines ≡ false →
       fold_check text bases (entry e members later) ≡ fold_check text (place_of e ∷ bases) later
   unfolding fold_check
   check-base bases e members later g = rw (g, fold_check)

@@ -2,7 +2,6 @@ pub mod Lists
 pub mod Answers
 pub mod NumberLaws
 pub mod WordLaws
-pub mod QuoteLaws
 pub mod PictureLaws
 pub mod StatementLaws
 pub mod SpanLaws
@@ -10,9 +9,7 @@ pub mod CardLaws
 pub mod TreeLaws
 pub mod ParentLaws
 pub mod UsageLaws
-pub mod UngroupedLaws
 pub mod LayoutLaws
-pub mod DistanceLaws
 pub mod ListingLaws
 pub mod CallsLaws
 pub mod Pieces
@@ -22,9 +19,8 @@ pub mod Cover
 pub mod DetailLaws
 pub mod Seek
 pub mod Walk
-pub mod Told
+pub mod SpotLaws
 pub mod Demand3
 pub mod Begins
 pub mod Why
 pub mod ExtractLaws
-pub mod KeyLaws

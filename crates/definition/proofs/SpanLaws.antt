@@ -9,15 +9,15 @@ use Rattle.std.specs.Prelude.{Option, None, Some}
 use native.Mathlib.Omega.{arith}
 use lib.Dec.{leb}
 use Rattle.definition.specs.declared.Clauses.{Clauses}
-use Rattle.definition.specs.declared.Expect.{Expect}
-use Rattle.definition.specs.declared.Expect.TheVariants.{Clause}
+use Rattle.definition.specs.declared.ParseState.{ParseState}
+use Rattle.definition.specs.declared.ParseState.TheVariants.{Clause}
 use Rattle.definition.specs.declared.ItemUsage.{ItemUsage}
 use Rattle.definition.specs.declared.Span.{Span}
 use Rattle.definition.specs.declared.Refusal.{Refusal}
 use Rattle.definition.specs.declared.Statement.{Statement}
 use Rattle.definition.specs.declared.Entry.{Entry}
 use Rattle.definition.specs.declared.Refusal.{Refusal}
-use Rattle.definition.specs.Limits.{most_statements}
+use Rattle.definition.specs.declared.TheConstants.{MOST_STATEMENTS}
 use Rattle.std.specs.Prelude.{if◌then◌else◌}
 use Rattle.definition.specs.Basic.{absent, uppers, part, Answer, Err, Ok, ◌>>=◌, and_then}
 use Rattle.definition.specs.Basic.{refuse_if}
@@ -58,7 +58,7 @@ module _ (P : Span → Type 0) where
   AnswerSpans (Ok c) = Spans P c
   AnswerSpans (Err r) = Unit
 
-  pub finish-spans : (at : ℕ) (e : Expect) {c : Clauses} → Spans P c → AnswerSpans (finish at e c)
+  pub finish-spans : (at : ℕ) (e : ParseState) {c : Clauses} → Spans P c → AnswerSpans (finish at e c)
   finish-spans at e f = grind arith
 
   -- of every word of a statement, and of all statements
@@ -161,7 +161,7 @@ module _ (P : Span → Type 0) where
 
     -- a word, by what is expected
     clause-step-spans :
-        (e : Expect) (w : Span) (u : List ℕ) (c : Clauses) → P w → Spans P c → StepSpans (clause_step e w u c)
+        (e : ParseState) (w : Span) (u : List ℕ) (c : Clauses) → P w → Spans P c → StepSpans (clause_step e w u c)
     unfolding clause_step
     clause-step-spans e w u c h f = grind (arith, nothing)
 
@@ -170,20 +170,20 @@ module _ (P : Span → Type 0) where
     separated-spans u s f = grind arith
 
     -- a step, at a word of which it holds
-    pub step-spans : (e : Expect) (w : Span) (u : List ℕ) (c : Clauses) → P w → Spans P c → StepSpans (step e w u c)
+    pub step-spans : (e : ParseState) (w : Span) (u : List ℕ) (c : Clauses) → P w → Spans P c → StepSpans (step e w u c)
     unfolding step
     step-spans e w u c h f = separated-spans u (clause_step e w u c) (clause-step-spans e w u c h f)
 
     after-step :
         (text : List ℕ) (at : ℕ) (ws : List Span) {d : Clauses} (s : Step) →
         StepSpans s →
-        ((e : Expect) (c : Clauses) → Spans P c → clauses text at e c ws ≡ Ok d → Spans P d) →
+        ((e : ParseState) (c : Clauses) → Spans P c → clauses text at e c ws ≡ Ok d → Spans P d) →
         ◌≡◌ {A = Answer Clauses} (elim s [ Ok (e, c) ↦ clauses text at e c ws | Err m ↦ Err (missing at m) ]) (Ok d) →
         Spans P d
     after-step text at ws s g ih k = grind arith
 
     clauses-spans :
-        (ws : List Span) (text : List ℕ) (at : ℕ) (e : Expect) (c : Clauses) {d : Clauses} →
+        (ws : List Span) (text : List ℕ) (at : ℕ) (e : ParseState) (c : Clauses) {d : Clauses} →
         Words ws →
         Spans P c →
         clauses text at e c ws ≡ Ok d →
@@ -223,7 +223,7 @@ module _ (P : Span → Type 0) where
         ◌≡◌ {A = Answer (List Statement)} (elim r [
           | None ↦ statements text n wss
           | Some s ↦
-              refuse_if (leb most_statements n) (Refusal.TooManyStatements s.at) >>= λ _. statements text (suc n) wss >>= λ ts. Ok (s ∷ ts)
+              refuse_if (leb MOST_STATEMENTS n) (Refusal.TooManyStatements s.at) >>= λ _. statements text (suc n) wss >>= λ ts. Ok (s ∷ ts)
         ]) (Ok ss) →
         AllSpans ss
     unfolding and_then

@@ -7,25 +7,25 @@ use Rattle.std.specs.Prelude.{None, Some}
 use borrow.Author.Tests.{eq-eqb, ne_eqb, le-leb, lt-leb}
 use Rattle.definition.specs.declared.Span.{Span}
 use Rattle.definition.specs.declared.Clauses.{Clauses}
-use Rattle.definition.specs.declared.Expect.{Expect}
+use Rattle.definition.specs.declared.ParseState.{ParseState}
 use Rattle.definition.specs.declared.Missing.{Missing}
 use Rattle.definition.specs.declared.Statement.{Statement}
 use Rattle.definition.specs.declared.Refusal.{Refusal}
-use Rattle.definition.specs.Limits.{most_statements}
+use Rattle.definition.specs.declared.TheConstants.{MOST_STATEMENTS}
 use Rattle.definition.specs.Basic.{uppers, absent, part, number, Err, Ok, ◌>>=◌, and_then}
 use Rattle.definition.specs.Statement.{no_clauses, missing, step, finish, clauses, statement_of, named, statement}
 use Rattle.definition.specs.Statement.{statements}
 
 -- ---------------------------------------------------------------- clauses
 
-module _ (text : List ℕ) (at : ℕ) (e : Expect) (c : Clauses) where
+module _ (text : List ℕ) (at : ℕ) (e : ParseState) (c : Clauses) where
   pub clauses-none : clauses text at e c [] ≡ finish at e c
   unfolding clauses
   clauses-none = refl
 
   module _ (w : Span) (ws : List Span) where
     pub clauses-go :
-        {e' : Expect} {c' : Clauses} →
+        {e' : ParseState} {c' : Clauses} →
         step e w (uppers (part text w)) c ≡ Ok (e', c') →
         clauses text at e c (w ∷ ws) ≡ clauses text at e' c' ws
     unfolding clauses
@@ -48,14 +48,14 @@ module _ (text : List ℕ) (at level : ℕ) where
   module _ (w : Span) (ws : List Span) where
     pub named-given :
         {c : Clauses} →
-        clauses text at Expect.Clause no_clauses ws ≡ Ok c →
+        clauses text at ParseState.Clause no_clauses ws ≡ Ok c →
         named text at level (w ∷ ws) ≡ Ok (statement_of level at w c)
     unfolding named and_then
     named-given p = rw p
 
     pub named-refused :
         {r : Refusal} →
-        clauses text at Expect.Clause no_clauses ws ≡ Err r →
+        clauses text at ParseState.Clause no_clauses ws ≡ Err r →
         named text at level (w ∷ ws) ≡ Err r
     unfolding named and_then
     named-refused p = rw p
@@ -104,12 +104,12 @@ module _ (text : List ℕ) where
       statements-skipped h = rw h
 
       module _ {s : Statement} (h : statement text ws ≡ Ok (Some s)) where
-        pub statements-full : most_statements ≤ n → statements text n (ws ∷ wss) ≡ Err (Refusal.TooManyStatements s.at)
+        pub statements-full : MOST_STATEMENTS ≤ n → statements text n (ws ∷ wss) ≡ Err (Refusal.TooManyStatements s.at)
         unfolding statements and_then
-        statements-full l = rw (h, le-leb most_statements n l)
+        statements-full l = rw (h, le-leb MOST_STATEMENTS n l)
 
         pub statements-kept :
-            n < most_statements →
+            n < MOST_STATEMENTS →
             statements text n (ws ∷ wss) ≡ (statements text (suc n) wss >>= λ ss. Ok (s ∷ ss))
         unfolding statements and_then
-        statements-kept l = rw (h, lt-leb most_statements n l)
+        statements-kept l = rw (h, lt-leb MOST_STATEMENTS n l)

@@ -10,7 +10,7 @@ use Rattle.std.specs.Prelude.{Some}
 use Rattle.definition.specs.declared.Entry.{Entry}
 use Rattle.definition.specs.declared.Owner.{Owner}
 use Rattle.definition.specs.Fold.{Entries, end, entry, total}
-use Rattle.definition.specs.Search.{entries#, start_in, place_in, inside, seek, Row, row_of, rows, walk}
+use Rattle.definition.specs.Search.{entries#, start_in, place_in, inside, seek, Row, row_of_entry, rows, walk}
 use Rattle.definition.proofs.Lists.{order}
 use Rattle.definition.proofs.Seek.{seek-slack, seek-in, seek-later}
 
@@ -65,7 +65,7 @@ in_entry :
     (seek (suc k) (start_in first e q) members (place_in e q) ≡ Some o →
     walk 0 (suc k) (start_in first e q) (rows members ++ (rows later ++ rs)) (place_in e q) ≡ Some o) →
     inside k (start_in first e q) (place_in e q) members (seek (suc k) (start_in first e q) members (place_in e q)) ≡ Some o →
-    walk 0 k first (row_of e (entries# members) ∷ (rows members ++ (rows later ++ rs))) q ≡ Some o
+    walk 0 k first (row_of_entry e (entries# members) ∷ (rows members ++ (rows later ++ rs))) q ≡ Some o
 unfolding rows seek
 in_entry e members later k first q rs g l ih h = grind (arith, walk-piece, walk-in, ih)
 
@@ -77,7 +77,7 @@ pub walk-seek :
 unfolding rows walk seek
 walk-seek end k first q rs {o} h = absurd (cc)
 walk-seek (entry e members later) k first q rs {o} h =
-    let r = row_of e (entries# members) in
+    let r = row_of_entry e (entries# members) in
     let behind = rows members ++ (rows later ++ rs) in
     let ih = walk-seek members (suc k) (start_in first e q) (place_in e q) (rows later ++ rs) {o = o} in
     let ihs = walk-seek later (suc k + entries# members) first q rs {o = o} in

@@ -15,7 +15,7 @@ use Rattle.definition.specs.declared.Entry.{Entry}
 use Rattle.definition.specs.declared.Reason.{Reason}
 use Rattle.definition.specs.declared.Refusal.{Refusal}
 use Rattle.std.specs.Prelude.{if◌then◌else◌}
-use Rattle.definition.specs.Basic.{Err, same, uppers, given, Answer, Ok, ◌>>=◌, and_then}
+use Rattle.definition.specs.Basic.{Err, same, uppers, is_given, Answer, Ok, and_then}
 use Rattle.definition.specs.Basic.{or_refuse}
 use Rattle.definition.specs.Tree.{Forest, leaf, item}
 use Rattle.definition.specs.Fold.{Entries, end, entry, append, reserved, entry_end, name_of, same_name, Place}
@@ -25,23 +25,24 @@ use Rattle.definition.specs.Layout.{Laid, start, slack_from, entry_of, advance, 
 use Rattle.definition.specs.Record.{unfolded, layout}
 use Rattle.definition.specs.Owner.{extent, slack_before}
 use Rattle.definition.specs.Placed.{content_of}
-use Rattle.definition.specs.Cards.{Form, view_in}
-use Rattle.definition.specs.Calls.{record_fields, fitting, entries, entry_reasons, called}
+use Rattle.definition.specs.Cards.{view_in}
+use Rattle.definition.specs.declared.Form.{Form}
+use Rattle.definition.specs.declared.Report.{Report}
+use Rattle.definition.specs.Calls.{record_fields, asked, entries, report, called}
 use Rattle.definition.specs.Demand.{Starts, aligned, Among}
 use Rattle.definition.specs.Reasons.{adds, after, slack_of, inside, latest, plain, has_name, or_first}
 use Rattle.definition.specs.Reasons.{placing, own, Chain, chain, chains, chain_at, flat, numbered, reasons_in}
-use Rattle.definition.specs.Reasons.{reasons_bytes}
 use Rattle.definition.specs.Explained.{inside_names, Latest, Turn, Because, Explains, added, is_placing, placings#}
 use Rattle.definition.specs.Explained.{insides, every, from_start, placed_for, groups_around, Reasoned, Explained}
 use Rattle.definition.proofs.Lists.{by_cases}
 use Rattle.definition.proofs.WordLaws.{same-equal, same_self}
-use Rattle.definition.proofs.CallsLaws.{called-as}
-use Rattle.definition.proofs.Answers.{give-next, through, given-same}
+use Rattle.definition.proofs.CallsLaws.{called-as, asked-of}
+use Rattle.definition.proofs.Answers.{through, given-same}
 use Rattle.definition.proofs.LayoutLaws.{find-hit, find-miss}
 use Rattle.definition.proofs.LayoutLaws.{check-base}
 use Rattle.definition.proofs.Cover.{item-laid, laid-out, content-given, start-given}
 use Rattle.definition.proofs.Pieces.{among-left, among-right}
-use Rattle.definition.proofs.Told.{starts-placed}
+use Rattle.definition.proofs.SpotLaws.{starts-placed}
 use Rattle.definition.proofs.Begins.{Rises, beginnings, fields-begin}
 
 -- ---------------------------------------------------------------- one item
@@ -104,7 +105,7 @@ latest-is has (e ∷ seen) t h =
 -- the latest sibling without REDEFINES after an entry
 pub latest-next :
     (e : Entry) (seen : List Entry) (b : Bool) →
-    given e.redefines ≡ b →
+    is_given e.redefines ≡ b →
     latest plain (e ∷ seen) ≡ (if b then latest plain seen else Some e)
 unfolding latest
 latest-next e seen b h = grind arith
@@ -135,7 +136,7 @@ module _ (text : List ℕ) where
     module _ (same : c ≡ content_of text s kids w)
         (begins : start text s c (map place_of seen) (reached_by seen) ≡ Ok offset) where
       over-target :
-          given s.clauses.redefines ≡ true →
+          is_given s.clauses.redefines ≡ true →
           (t : Entry)
           × Latest (has_name text s.clauses.redefines) seen t
           × (own text seen it ≡ Reason.Over t.name t.offset ∷ [])
@@ -146,7 +147,7 @@ module _ (text : List ℕ) where
           let t = find-latest s.clauses.redefines seen offset (grind arith) in
           (t.0, latest-is (has_name text s.clauses.redefines) seen t.0 t.1, grind arith, t.2)
 
-      module _ (g : given s.clauses.redefines ≡ false) where
+      module _ (g : is_given s.clauses.redefines ≡ false) where
         at_offset : reached_by seen + extent (slack_before text 0 (reached_by seen) s kids) ≡ offset
         at_offset =
             given-same (
@@ -185,7 +186,7 @@ module _ (text : List ℕ) where
   -- the cursor after an entry
   moves :
       (e : Entry) (seen : List Entry) (b : Bool) →
-      given e.redefines ≡ b →
+      is_given e.redefines ≡ b →
       advance (reached_by seen) e ≡ reached_by (e ∷ seen)
   unfolding latest
   moves e seen b h = grind arith
@@ -198,8 +199,8 @@ module _ (text : List ℕ) where
       Because text s kids seen e →
       (latest plain seen ≡ None → seen ≡ []) →
       (b : Bool) →
-      given s.clauses.redefines ≡ b →
-      given e.redefines ≡ b →
+      is_given s.clauses.redefines ≡ b →
+      is_given e.redefines ≡ b →
       latest plain (e ∷ seen) ≡ None →
       e ∷ seen ≡ []
   first_next s kids e seen r first true g h q =
@@ -227,10 +228,10 @@ module _ (text : List ℕ) where
       subst (λ (n : ℕ). Because text s kids seen (entry_of s r.has r.offset (slack_from n s r.offset))) (sym q)
       (because s kids seen r.inner.width r.has r.offset same begins first) in
       let inner = explains kids (suc depth) [] 0 0 r.inner refl (λ _. refl) r.inner-laid in
-      let moved = ap (λ (n : ℕ). advance n e) q ∙ moves e seen (given e.redefines) refl in
+      let moved = ap (λ (n : ℕ). advance n e) q ∙ moves e seen (is_given e.redefines) refl in
       let others =
       explains later depth (e ∷ seen) (advance cursor e) (max reach (entry_end e)) r.rest moved
-      (first_next s kids e seen because-it first (given s.clauses.redefines) refl refl) r.later-laid in
+      (first_next s kids e seen because-it first (is_given s.clauses.redefines) refl refl) r.later-laid in
       subst (λ (x : Laid). Explains text seen (item s kids later) x.entries) (sym r.result)
       ((refl, refl), because-it, inner, others)
 
@@ -347,7 +348,7 @@ module _ (text : List ℕ) where
 
   checked-entry :
       (bases : List Place) (e : Entry) (members later : Entries) →
-      given e.redefines ≡ true →
+      is_given e.redefines ≡ true →
       fold_check text bases (entry e members later) ≡ Ok tt →
       CheckedEntry bases e later
   unfolding fold_check and_then
@@ -410,7 +411,7 @@ module _ (text : List ℕ) where
     unfolding redefiners fold_check and_then
     all-redefiners end base bases b found h a = tt
     all-redefiners (entry e members later) base bases b found h a =
-        by_cases (given e.redefines)
+        by_cases (is_given e.redefines)
         (λ g.
         let x = checked-entry bases e members later g h in
         let l = λ (n : same_name text base.name e.redefines ≡ true). x.starts-in base.offset (found e.redefines n) in
@@ -440,7 +441,7 @@ module _ (text : List ℕ) where
     unfolding folded_list
     all-folded end bases b h a = tt
     all-folded (entry e members later) bases b h a =
-        by_cases (given e.redefines)
+        by_cases (is_given e.redefines)
         (λ g. grind (arith, all-folded later bases b (checked-entry bases e members later g h).rest a.2))
         (λ g.
         let next = sym (check-base text bases e members later g) ∙ h in
@@ -615,7 +616,7 @@ module _ (text : List ℕ) where
         (n : ℕ) (e : Entry) →
         numbered n (flat (folded_all text tree)) ≡ Some e →
         (c : Chain) × Among c (chains text [] [] tree) × (c.at ≡ e.at) ×
-        (added c.reasons ≡ get_or (from_start 0 (folded_all text tree)) n 0) × (reasons_in text f n ≡ Ok c.reasons)
+        (added c.reasons ≡ get_or (from_start 0 (folded_all text tree)) n 0) × (reasons_in n text tree ≡ Ok c.reasons)
     unfolding reasons_in and_then
     answered n e q =
         let cs = chains text [] [] tree in
@@ -628,11 +629,11 @@ module _ (text : List ℕ) where
         (all-flat P (folded_all text tree) 0 folded) q in
         let found = ap (λ (x : ℕ). chain_at x cs) (sym r.2)
         ∙ chain-of cs 0 r.0 (subst (Rises 0) (sym (chains-begin f tree [] [] w.rules)) rise) r.1 in
-        (r.0, r.1, r.2, r.3, rw (laid_out, q) (ap Ok found))
+        (r.0, r.1, r.2, r.3, rw q (ap Ok found))
 
-    pub past : (n : ℕ) → numbered n (flat (folded_all text tree)) ≡ None → reasons_in text f n ≡ Err Refusal.NoSuchEntry
+    pub past : (n : ℕ) → numbered n (flat (folded_all text tree)) ≡ None → reasons_in n text tree ≡ Err Refusal.NoSuchEntry
     unfolding reasons_in and_then
-    past n q = rw (laid_out, q)
+    past n q = rw q
 
 -- every accepted copybook has its reasons
 reasoned :
@@ -653,7 +654,7 @@ reasoned text work f tree es read laid_out folds =
       one-chain = λ c d. one-chain text cs 0 c d (subst (Rises 0) (sym (chains-begin text f tree [] [] rules)) rise);
       answered = λ n e q.
           subst (λ (x : Entries). (c : Chain) × Among c cs × (c.at ≡ e.at) ×
-          (added c.reasons ≡ get_or (from_start 0 x) n 0) × (reasons_in text f n ≡ Ok c.reasons)) folds
+          (added c.reasons ≡ get_or (from_start 0 x) n 0) × (reasons_in n text tree ≡ Ok c.reasons)) folds
           (answered text f tree laid_out rise n e (ap (λ (x : Entries). numbered n (flat x)) folds ∙ q));
       past = λ n q. past text f tree laid_out rise n (ap (λ (x : Entries). numbered n (flat x)) folds ∙ q);
     }
@@ -662,7 +663,7 @@ pub explained :
     (form : Form) (text : List ℕ) (work : ℕ) (es : Entries) →
     called form (λ t. entries t work) text work ≡ Ok es →
     Explained form text work es
-unfolding entries layout entry_reasons
+unfolding entries layout report
 explained form text work es h =
     let seen = view_in form text in
     let laying : List ℕ → Answer Entries = λ t. entries t work in
@@ -678,7 +679,6 @@ explained form text work es h =
       folds = sym folds;
       reasoned = reasoned seen work f tree es read laid_out folds;
       calls = λ n room.
-          called-as laying (λ t. entry_reasons t work n room) form text work h
-          ∙ ap (λ (x : Answer Forest). x >>= λ f. reasons_in seen f n >>= λ rs. fitting room (reasons_bytes rs)) read
-          ∙ give-next f (λ g. reasons_in seen g n >>= λ rs. fitting room (reasons_bytes rs));
+          called-as laying (λ t. asked (report (Report.Reasons n) room) t work) form text work h
+          ∙ asked-of (report (Report.Reasons n) room) seen work f tree read laid_out;
     }

@@ -13,13 +13,13 @@ use Rattle.definition.specs.declared.ByteKind.{ByteKind}
 use Rattle.definition.specs.declared.ByteKind.TheVariants.{Newline, Blank, Cut, Star, Period, Other}
 use Rattle.definition.specs.declared.Mode.{Mode}
 use Rattle.definition.specs.declared.Mode.TheVariants.{Fresh, Between, Dropped, Within}
-use Rattle.definition.specs.declared.Said.{Said}
-use Rattle.definition.specs.declared.Said.TheVariants.{Literal}
+use Rattle.definition.specs.declared.LiteralState.{LiteralState}
+use Rattle.definition.specs.declared.LiteralState.TheVariants.{Literal}
 use Rattle.definition.specs.declared.Token.{Token}
 use Rattle.definition.specs.declared.Token.TheVariants.{Word, Stop, Open}
 use Rattle.definition.specs.Basic.{white, same, span, part}
-use Rattle.definition.specs.Words.{ends, byte_kind, next, up_to, completed, completed_end, seen, marked}
-use Rattle.definition.specs.Words.{heard, said_next, unless_open, tokens, first_open, first_words, after_stop}
+use Rattle.definition.specs.Words.{ends, byte_kind, next, up_to, completed, completed_end, seen, after_byte}
+use Rattle.definition.specs.Words.{after_word, said_next, unless_open, tokens, first_open, first_words, after_stop}
 use Rattle.definition.specs.Words.{on_first, sentences}
 use Rattle.definition.specs.Unquoted.{closed}
 
@@ -70,11 +70,11 @@ dropped-on b bs p n = grind arith
 abbrev pub kind_at : List ℕ → ℕ → ByteKind
 kind_at t i = byte_kind (get_or t i 0) (drop (i + 1) t)
 
-abbrev pub seen_at : List ℕ → Said → ℕ → ByteKind
+abbrev pub seen_at : List ℕ → LiteralState → ℕ → ByteKind
 seen_at t q i = seen q (kind_at t i)
 
 -- the tokens from a place on: one byte, and the end
-module _ (t : List ℕ) (q : Said) (m : Mode) (i : ℕ) where
+module _ (t : List ℕ) (q : LiteralState) (m : Mode) (i : ℕ) where
   pub tokens-next :
       i < length t →
       tokens t q m i (drop i t)
@@ -90,23 +90,23 @@ module _ (t : List ℕ) (q : Said) (m : Mode) (i : ℕ) where
 -- ---------------------------------------------------------------- literals
 
 -- where no literal is open every byte is what it is, and no end of a line leaves one open
-pub closed-seen : (q : Said) (k : ByteKind) → closed q ≡ true → seen q k ≡ k
+pub closed-seen : (q : LiteralState) (k : ByteKind) → closed q ≡ true → seen q k ≡ k
 closed-seen q k h = grind arith
 
-pub closed_on : (q : Said) (k : ByteKind) (ts : List Token) → closed q ≡ true → unless_open q k ts ≡ ts
+pub closed_on : (q : LiteralState) (k : ByteKind) (ts : List Token) → closed q ≡ true → unless_open q k ts ≡ ts
 closed_on q k ts h = grind arith
 
 -- a word that ends opens none and closes none
-pub heard-closed : (q : Said) (bs : List ℕ) → closed q ≡ true → closed (heard q bs) ≡ true
-heard-closed q bs h = grind arith
+pub after_word-closed : (q : LiteralState) (bs : List ℕ) → closed q ≡ true → closed (after_word q bs) ≡ true
+after_word-closed q bs h = grind arith
 
-pub heard-seen : (q : Said) (bs : List ℕ) (k : ByteKind) → seen (heard q bs) k ≡ seen q k
-heard-seen q bs k = grind (arith, heard-closed, closed-seen)
+pub after_word-seen : (q : LiteralState) (bs : List ℕ) (k : ByteKind) → seen (after_word q bs) k ≡ seen q k
+after_word-seen q bs k = grind (arith, after_word-closed, closed-seen)
 
-pub heard-on :
-    (q : Said) (bs : List ℕ) (k : ByteKind) (ts : List Token) →
-    unless_open (heard q bs) k ts ≡ unless_open q k ts
-heard-on q bs k ts = grind (arith, heard-closed, closed_on)
+pub after_word-on :
+    (q : LiteralState) (bs : List ℕ) (k : ByteKind) (ts : List Token) →
+    unless_open (after_word q bs) k ts ≡ unless_open q k ts
+after_word-on q bs k ts = grind (arith, after_word-closed, closed_on)
 
 -- a byte of this kind goes on with a word
 abbrev pub stays_within : ByteKind → Bool
@@ -118,30 +118,30 @@ stays_within Period = false
 stays_within Other = true
 
 -- and then leaves nothing open
-in_on : (q : Said) (k : ByteKind) (ts : List Token) → stays_within k ≡ true → unless_open q k ts ≡ ts
+in_on : (q : LiteralState) (k : ByteKind) (ts : List Token) → stays_within k ≡ true → unless_open q k ts ≡ ts
 in_on q k ts h = grind arith
 
-module _ (t : List ℕ) (s p b : ℕ) (more : Said → Mode → List Token) where
+module _ (t : List ℕ) (s p b : ℕ) (more : LiteralState → Mode → List Token) where
   -- what a byte of kind k gives and leads to
-  abbrev pub stepped : Said → Mode → ByteKind → List Token
+  abbrev pub stepped : LiteralState → Mode → ByteKind → List Token
   stepped q m k = completed m p k ++ unless_open q k (more (said_next t q m p b k) (next m p k))
 
-  word_on : (q : Said) (k : ByteKind) → stays_within k ≡ true → stepped q (Within s) k ≡ more (marked q p b) (Within s)
+  word_on : (q : LiteralState) (k : ByteKind) → stays_within k ≡ true → stepped q (Within s) k ≡ more (after_byte q p b) (Within s)
   unfolding said_next
   word_on q k h = grind (arith, in_on)
 
   -- the word that ends before p, heard
-  abbrev word_heard : Said → Said
-  word_heard q = heard q (part t (span s (p - s)))
+  abbrev word_heard : LiteralState → LiteralState
+  word_heard q = after_word q (part t (span s (p - s)))
 
   word-done :
-      (q : Said) (k : ByteKind) →
+      (q : LiteralState) (k : ByteKind) →
       stays_within k ≡ false →
       stepped q (Within s) k ≡ up_to s p ∷ stepped (word_heard q) Between k
   unfolding said_next
-  word-done q k h = grind (arith, heard-on)
+  word-done q k h = grind (arith, after_word-on)
 
-  word-begun : (q : Said) (k : ByteKind) → stays_within k ≡ true → stepped q Between k ≡ more (marked q p b) (Within p)
+  word-begun : (q : LiteralState) (k : ByteKind) → stays_within k ≡ true → stepped q Between k ≡ more (after_byte q p b) (Within p)
   unfolding said_next
   word-begun q k h = grind (arith, in_on)
 
@@ -166,7 +166,7 @@ module _ (t : List ℕ) (m a i : ℕ) (h : i < length t) where
   pub literal-word :
       white (get_or t i 0) ≡ false →
       tokens t (Literal m a) Between i (drop i t)
-      ≡ tokens t (marked (Literal m a) i (get_or t i 0)) (Within i) (i + 1) (drop (i + 1) t)
+      ≡ tokens t (after_byte (Literal m a) i (get_or t i 0)) (Within i) (i + 1) (drop (i + 1) t)
   literal-word w =
       tokens-next t (Literal m a) Between i h
       ∙ word-begun
@@ -180,11 +180,11 @@ module _ (t : List ℕ) (m a i : ℕ) (h : i < length t) where
       (literal-goes m a (get_or t i 0) (drop (i + 1) t) w)
 
 -- a byte of a word, and the end of the word
-module _ (t : List ℕ) (q : Said) (s i : ℕ) where
+module _ (t : List ℕ) (q : LiteralState) (s i : ℕ) where
   pub word_next :
       i < length t →
       stays_within (seen_at t q i) ≡ true →
-      tokens t q (Within s) i (drop i t) ≡ tokens t (marked q i (get_or t i 0)) (Within s) (i + 1) (drop (i + 1) t)
+      tokens t q (Within s) i (drop i t) ≡ tokens t (after_byte q i (get_or t i 0)) (Within s) (i + 1) (drop (i + 1) t)
   word_next h y =
       tokens-next t q (Within s) i h
       ∙ word_on t s i (get_or t i 0) (λ r m. tokens t r m (i + 1) (drop (i + 1) t)) q (seen_at t q i) y
@@ -193,28 +193,28 @@ module _ (t : List ℕ) (q : Said) (s i : ℕ) where
       i < length t →
       stays_within (seen_at t q i) ≡ false →
       tokens t q (Within s) i (drop i t)
-      ≡ up_to s i ∷ tokens t (heard q (part t (span s (i - s)))) Between i (drop i t)
+      ≡ up_to s i ∷ tokens t (after_word q (part t (span s (i - s)))) Between i (drop i t)
   word-stop h n =
       tokens-next t q (Within s) i h
       ∙ word-done t s i (get_or t i 0) (λ r m. tokens t r m (i + 1) (drop (i + 1) t)) q (seen_at t q i) n
       ∙ rw (
-        tokens-next t (heard q (part t (span s (i - s)))) Between i h,
-        heard-seen q (part t (span s (i - s))) (kind_at t i),
+        tokens-next t (after_word q (part t (span s (i - s)))) Between i h,
+        after_word-seen q (part t (span s (i - s))) (kind_at t i),
       )
 
   pub word-last :
       length t ≤ i →
       tokens t q (Within s) i (drop i t)
-      ≡ up_to s i ∷ tokens t (heard q (part t (span s (i - s)))) Between i (drop i t)
+      ≡ up_to s i ∷ tokens t (after_word q (part t (span s (i - s)))) Between i (drop i t)
   word-last h =
       rw (
         tokens-end t q (Within s) i h,
-        tokens-end t (heard q (part t (span s (i - s)))) Between i h,
-        heard-on q (part t (span s (i - s))) Newline [],
+        tokens-end t (after_word q (part t (span s (i - s)))) Between i h,
+        after_word-on q (part t (span s (i - s))) Newline [],
       )
 
 -- what is dropped of a line, where no literal is open
-module _ (t : List ℕ) (q : Said) (c : closed q ≡ true) (i : ℕ) (h : i < length t) where
+module _ (t : List ℕ) (q : LiteralState) (c : closed q ≡ true) (i : ℕ) (h : i < length t) where
   pub dropped-newline : get_or t i 0 ≡ 10 → tokens t q Dropped i (drop i t) ≡ tokens t q Fresh (i + 1) (drop (i + 1) t)
   unfolding said_next
   dropped-newline e =
@@ -256,12 +256,12 @@ open_after (Open p ∷ ts) = refl
 open_after (Word v ∷ ts) = open_after ts
 
 -- where the tokens end, with a literal that is left open or not, there is no word
-pub end-words : (q : Said) → first_words (unless_open q Newline []) ≡ []
+pub end-words : (q : LiteralState) → first_words (unless_open q Newline []) ≡ []
 end-words q = grind arith
 
-pub end_after : (q : Said) → after_stop (unless_open q Newline []) ≡ unless_open q Newline []
+pub end_after : (q : LiteralState) → after_stop (unless_open q Newline []) ≡ unless_open q Newline []
 end_after q = grind arith
 
-pub end-sentences : (q : Said) → sentences (unless_open q Newline []) ≡ []
+pub end-sentences : (q : LiteralState) → sentences (unless_open q Newline []) ≡ []
 unfolding sentences
 end-sentences q = grind arith

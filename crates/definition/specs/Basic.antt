@@ -56,8 +56,8 @@ span s n = record { start = s; len = n }
 abbrev pub absent : Span
 absent = span 0 0
 
-abbrev pub given : Span → Bool
-given w = ltb 0 w.len
+abbrev pub is_given : Span → Bool
+is_given w = ltb 0 w.len
 
 -- the bytes that a span has in the text
 abbrev pub part : List ℕ → Span → List ℕ

@@ -1,7 +1,7 @@
--- The calls: the layout listing, its details, the reasons of an entry and the byte owner, of free text and of cards;
--- the extract, the picture answer, the mask and the record check; each from what the caller hands in to what the call
--- answers and leaves. Checks run in the order of document 01's table, and then of document 02's; a line of a `do` is a
--- check or a stage.
+-- The calls, each from what the caller hands in to what the call answers and leaves. Most ask something of a copybook's
+-- record, in free text or on cards: the layout listing, its details, the reasons of an entry, the byte owner and the
+-- extract; then the picture answer, the mask and the record check. A line of a `do` is a check or a stage, and they come
+-- in that order.
 -- Assumes nothing.
 use Rattle.std.specs.Prelude.{ℕ, ◌+◌, Bool, ◌&&◌, ◌||◌, not, List, [], ◌∷◌, ◌++◌, eqb, ltb, length, drop, replicate, if◌then◌else◌}
 use Rattle.std.specs.Prelude.{Option, None, Some}
@@ -12,17 +12,18 @@ use Rattle.definition.specs.declared.Pictured.{Pictured}
 use Rattle.definition.specs.declared.Owner.{Owner}
 use Rattle.definition.specs.declared.Extract.{Extract}
 use Rattle.definition.specs.declared.Report.{Report}
+use Rattle.definition.specs.declared.Form.{Form}
 use Rattle.definition.specs.declared.Refusal.{Refusal}
-use Rattle.definition.specs.Limits.{most_bytes, least_work, most_items}
+use Rattle.definition.specs.declared.TheConstants.{MOST_BYTES, LEAST_WORK, MOST_ITEMS}
 use Rattle.definition.specs.Basic.{Answer, Err, Ok, ◌>>=◌, refuse_if, or_refuse}
 use Rattle.definition.specs.Words.{tokens_of, first_open, statement_words}
-use Rattle.definition.specs.Cards.{view, first_other, Form, free_text, card_text}
+use Rattle.definition.specs.Cards.{view, first_other}
 use Rattle.definition.specs.Statement.{statements}
 use Rattle.definition.specs.Tree.{Forest}
 use Rattle.definition.specs.Usages.{record_of}
 use Rattle.definition.specs.Picture.{picture, symbols, is_masked, mask}
-use Rattle.definition.specs.Fold.{Entries}
-use Rattle.definition.specs.Record.{layout}
+use Rattle.definition.specs.Fold.{Entries, folded_all}
+use Rattle.definition.specs.Record.{unfolded, layout}
 use Rattle.definition.specs.Listing.{listing}
 use Rattle.definition.specs.Owner.{pieces, owner_of, overlaid}
 use Rattle.definition.specs.Details.{entries_details}
@@ -36,17 +37,17 @@ unfoldable pub first_wide : ℕ → List ℕ → Option ℕ
 first_wide p [] = None
 first_wide p (b ∷ bs) = if ltb 127 b then Some p else first_wide (p + 1) bs
 
--- 1: text over 65,535 bytes; 2: a byte over 127
+-- 1: text over `MOST_BYTES` bytes; 2: a byte over 127
 unfoldable pub text_checks : List ℕ → Answer (Unit {0})
 text_checks text = do
-  _ ← refuse_if (ltb most_bytes (length text)) Refusal.TextTooLong
+  _ ← refuse_if (ltb MOST_BYTES (length text)) Refusal.TextTooLong
   elim (first_wide 0 text) [ None ↦ Ok tt | Some p ↦ Err (Refusal.WideByte p) ]
 
--- and 3: lent work memory under 16,384 numbers
+-- and 3: lent work memory under `LEAST_WORK` numbers
 unfoldable pub entry_checks : List ℕ → ℕ → Answer (Unit {0})
 entry_checks text work = do
   _ ← text_checks text
-  refuse_if (ltb work least_work) Refusal.WorkTooShort
+  refuse_if (ltb work LEAST_WORK) Refusal.WorkTooShort
 
 -- 50: the first unclosed literal, at its opening mark
 unfoldable pub literal_check : List ℕ → Answer (Unit {0})
@@ -71,37 +72,57 @@ entries text work = do
   f ← record_fields text work
   layout text f
 
--- ---------------------------------------------------------------- the answers
+-- ---------------------------------------------------------------- what is asked of a record
+
+-- a question of a record: what it answers of a text, of the fields that were read from it, and of their entries, laid
+-- out, as the copybook has them before folding
+abbrev pub Question : Type 0 → Type 0
+Question A = List ℕ → Forest → Entries → Answer A
+
+-- the answer about a copybook: its text is read, then laid out, then asked, and the first refusal is given
+unfoldable pub asked : {A : Type 0} → Question A → List ℕ → ℕ → Answer A
+asked question text work = do
+  f ← record_fields text work
+  es ← unfolded text f
+  question text f es
 
 -- the bytes to be written, or 31 and their number where the lent output has only `room` bytes
 abbrev pub fitting : ℕ → List ℕ → Answer (List ℕ)
 fitting room bs =
     if ltb room (length bs) then Err (Refusal.OutputTooShort (length bs)) else Ok bs
 
--- the layout listing
-unfoldable pub layout_listing : List ℕ → ℕ → ℕ → Answer (List ℕ)
-layout_listing text work room = do
-  es ← entries text work
-  fitting room (listing es)
-
--- the details of its entries
-unfoldable pub layout_details : List ℕ → ℕ → ℕ → Answer (List ℕ)
-layout_details text work room = do
-  es ← entries text work
-  fitting room (entries_details es)
-
--- the reasons of an entry by its number: 53 comes after all refusals of the reader but 31
-unfoldable pub entry_reasons : List ℕ → ℕ → ℕ → ℕ → Answer (List ℕ)
-entry_reasons text work number room = do
-  f ← record_fields text work
-  rs ← reasons_in text f number
+-- what is written of a record: the layout listing, the details of its entries, or the reasons of an entry by its number:
+-- 53 comes after all refusals of the reader but 31
+unfoldable pub report : Report → ℕ → Question (List ℕ)
+report Report.Listing room text f es = fitting room (listing (folded_all text es))
+report Report.Details room text f es = fitting room (entries_details (folded_all text es))
+report (Report.Reasons number) room text f es = do
+  rs ← reasons_in number text es
   fitting room (reasons_bytes rs)
 
--- what is written of a copybook's record
-abbrev pub report : Report → List ℕ → ℕ → ℕ → Answer (List ℕ)
-report Report.Listing text work room = layout_listing text work room
-report Report.Details text work room = layout_details text work room
-report (Report.Reasons number) text work room = entry_reasons text work number room
+-- the owner of a position: 40 for a kept REDEFINES or DEPENDING ON, 41 for a position that no piece has, so for one not
+-- below record length (`refuses-41`, of the proofs, says so)
+unfoldable pub owner_in : ℕ → Question Owner
+owner_in position text f es = do
+  _ ← refuse_if (overlaid f) Refusal.Overlaid
+  or_refuse Refusal.OutsideRecord (owner_of (pieces text f) position)
+
+-- an extract of items of these widths: 58 for more than 16 of them or another number of weights, 59 for a weight
+-- outside its range, 60 for a budget of 0
+unfoldable pub extract_of : List ℕ → List ℕ → ℕ → ℕ → Answer Extract
+extract_of bytes weights limit budget = do
+  _ ← refuse_if (ltb MOST_ITEMS (length bytes) || not (eqb (length weights) (length bytes))) Refusal.WrongItems
+  _ ← refuse_if (misweighed weights) Refusal.BadWeight
+  _ ← refuse_if (eqb budget 0) Refusal.NoBudget
+  Ok (extract limit budget (items bytes weights))
+
+-- an extract of a record's top-level items: 40 for a kept REDEFINES or DEPENDING ON
+unfoldable pub extract_in : List ℕ → ℕ → ℕ → Question Extract
+extract_in weights limit budget text f es = do
+  _ ← refuse_if (overlaid f) Refusal.Overlaid
+  extract_of (widths (folded_all text es)) weights limit budget
+
+-- ---------------------------------------------------------------- pictures and records
 
 -- the picture answer
 unfoldable pub picture_answer : Usage → Option SignKind → List ℕ → Answer Pictured
@@ -115,42 +136,6 @@ picture_mask usage bs room = do
   _ ← text_checks bs
   l ← symbols 0 usage bs
   fitting room (if is_masked usage l then mask l else [])
-
--- the owner of a position in a record of these fields: 40 for a kept REDEFINES or DEPENDING ON, 41 for a position that no
--- piece has, so for one not below record length (`refuses-41`, of the proofs, says so)
-unfoldable pub owner_in : List ℕ → Forest → ℕ → Answer Owner
-owner_in text f position = do
-  _ ← layout text f
-  _ ← refuse_if (overlaid f) Refusal.Overlaid
-  or_refuse Refusal.OutsideRecord (owner_of (pieces text f) position)
-
--- the byte owner
-unfoldable pub byte_owner : List ℕ → ℕ → ℕ → Answer Owner
-byte_owner text work position = do
-  f ← record_fields text work
-  owner_in text f position
-
--- an extract of items of these widths: 58 for more than 16 of them or another number of weights, 59 for a weight
--- outside its range, 60 for a budget of 0
-unfoldable pub extract_of : List ℕ → List ℕ → ℕ → ℕ → Answer Extract
-extract_of bytes weights limit budget = do
-  _ ← refuse_if (ltb most_items (length bytes) || not (eqb (length weights) (length bytes))) Refusal.WrongItems
-  _ ← refuse_if (misweighed weights) Refusal.BadWeight
-  _ ← refuse_if (eqb budget 0) Refusal.NoBudget
-  Ok (extract limit budget (items bytes weights))
-
--- an extract of a record of these fields: 40 for a kept REDEFINES or DEPENDING ON
-unfoldable pub extract_in : List ℕ → Forest → List ℕ → ℕ → ℕ → Answer Extract
-extract_in text f weights limit budget = do
-  es ← layout text f
-  _ ← refuse_if (overlaid f) Refusal.Overlaid
-  extract_of (widths es) weights limit budget
-
--- the extract
-unfoldable pub extract_answer : List ℕ → ℕ → List ℕ → ℕ → ℕ → Answer Extract
-extract_answer text work weights limit budget = do
-  f ← record_fields text work
-  extract_in text f weights limit budget
 
 -- the record check: 42 for a record of `len` bytes that is too short, only if not variable
 abbrev pub record_check : ℕ → Bool → ℕ → Answer (Unit {0})
@@ -177,8 +162,8 @@ on_cards call text work = do
 
 -- a call for a copybook of either form
 abbrev pub called : {A : Type 0} → Form → (List ℕ → Answer A) → List ℕ → ℕ → Answer A
-called free_text call text work = call text
-called card_text call text work = on_cards call text work
+called Form.FreeText call text work = call text
+called Form.Cards call text work = on_cards call text work
 
 -- ---------------------------------------------------------------- what a call leaves
 
@@ -211,56 +196,32 @@ abbrev pub after_writing : Answer (List ℕ) → List ℕ → List ℕ → After
 after_writing a out work = record { answer = written a; output = output_after a out; work = cleared work }
 
 -- a report of a copybook of this form, with an output and work memory lent
-abbrev pub report_call_in : Form → Report → List ℕ → List ℕ → List ℕ → After ℕ
-report_call_in form what text out work =
-    after_writing (called form (λ t. report what t (length work) (length out)) text (length work)) out work
+abbrev pub report_call : Form → Report → List ℕ → List ℕ → List ℕ → After ℕ
+report_call form what text out work =
+    after_writing (called form (λ t. asked (report what (length out)) t (length work)) text (length work)) out work
 
 -- its layout listing, the details of its entries, and the reasons of one
-abbrev pub layout_call_in : Form → List ℕ → List ℕ → List ℕ → After ℕ
-layout_call_in form = report_call_in form Report.Listing
+abbrev pub layout_call : Form → List ℕ → List ℕ → List ℕ → After ℕ
+layout_call form = report_call form Report.Listing
 
-abbrev pub details_call_in : Form → List ℕ → List ℕ → List ℕ → After ℕ
-details_call_in form = report_call_in form Report.Details
+abbrev pub details_call : Form → List ℕ → List ℕ → List ℕ → After ℕ
+details_call form = report_call form Report.Details
 
-abbrev pub reasons_call_in : Form → List ℕ → ℕ → List ℕ → List ℕ → After ℕ
-reasons_call_in form text number = report_call_in form (Report.Reasons number) text
+abbrev pub reasons_call : Form → List ℕ → ℕ → List ℕ → List ℕ → After ℕ
+reasons_call form text number = report_call form (Report.Reasons number) text
 
 -- the mask of a picture, with an output lent
 abbrev pub mask_call : Usage → List ℕ → List ℕ → After ℕ
 mask_call usage bs out = after_writing (picture_mask usage bs (length out)) out []
 
--- the byte owner, with work memory lent
-abbrev pub owner_call_in : Form → List ℕ → ℕ → List ℕ → After Owner
-owner_call_in form text position work =
-    left (called form (λ t. byte_owner t (length work) position) text (length work)) [] (cleared work)
+-- a question of a copybook of this form whose answer is not written, with work memory lent
+abbrev pub silent_call : {A : Type 0} → Form → Question A → List ℕ → List ℕ → After A
+silent_call form question text work =
+    left (called form (λ t. asked question t (length work)) text (length work)) [] (cleared work)
 
--- the extract, of free text, with work memory lent
+-- the byte owner, and the extract, of free text
+abbrev pub owner_call : Form → List ℕ → ℕ → List ℕ → After Owner
+owner_call form text position = silent_call form (owner_in position) text
+
 abbrev pub extract_call : List ℕ → List ℕ → ℕ → ℕ → List ℕ → After Extract
-extract_call text weights limit budget work =
-    left (extract_answer text (length work) weights limit budget) [] (cleared work)
-
--- these four for free text,
-abbrev pub layout_call : List ℕ → List ℕ → List ℕ → After ℕ
-layout_call = layout_call_in free_text
-
-abbrev pub details_call : List ℕ → List ℕ → List ℕ → After ℕ
-details_call = details_call_in free_text
-
-abbrev pub owner_call : List ℕ → ℕ → List ℕ → After Owner
-owner_call = owner_call_in free_text
-
-abbrev pub reasons_call : List ℕ → ℕ → List ℕ → List ℕ → After ℕ
-reasons_call = reasons_call_in free_text
-
--- and for cards
-abbrev pub layout_cards_call : List ℕ → List ℕ → List ℕ → After ℕ
-layout_cards_call = layout_call_in card_text
-
-abbrev pub details_cards_call : List ℕ → List ℕ → List ℕ → After ℕ
-details_cards_call = details_call_in card_text
-
-abbrev pub owner_cards_call : List ℕ → ℕ → List ℕ → After Owner
-owner_cards_call = owner_call_in card_text
-
-abbrev pub reasons_cards_call : List ℕ → ℕ → List ℕ → List ℕ → After ℕ
-reasons_cards_call = reasons_call_in card_text
+extract_call text weights limit budget = silent_call Form.FreeText (extract_in weights limit budget) text

@@ -8,6 +8,7 @@
 -- Assumes nothing.
 use Rattle.std.specs.Prelude.{ℕ, ◌+◌, Bool, true, false, ◌&&◌, ◌||◌, not, List, [], ◌∷◌, eqb, leb, if◌then◌else◌}
 use Rattle.std.specs.Prelude.{Option, None, Some}
+use Rattle.definition.specs.declared.Form.{Form}
 use Rattle.definition.specs.Basic.{among}
 
 abbrev pub indicator_column : ℕ
@@ -65,12 +66,7 @@ first_other p n (b ∷ bs) =
 
 -- ---------------------------------------------------------------- forms
 
--- a copybook is free text, or cards
-pub data Form : Type 0 where
-  free_text : Form
-  card_text : Form
-
--- and this is what the reader sees of its text
+-- what the reader sees of the text of a copybook, which is free text or cards
 abbrev pub view_in : Form → List ℕ → List ℕ
-view_in free_text text = text
-view_in card_text text = view text
+view_in Form.FreeText text = text
+view_in Form.Cards text = view text

@@ -14,13 +14,11 @@ use Rattle.definition.specs.Record.{record_length, variable, ends_fit, unfolded,
 use Rattle.definition.specs.Listing.{entry_bytes, entries_bytes, listing}
 use Rattle.definition.specs.Owner.{laid, owner_from, overlaid}
 use Rattle.definition.specs.Calls.{first_wide, text_checks, entry_checks, literal_check, kept_statements, record_fields}
-use Rattle.definition.specs.Calls.{entries, layout_listing, layout_details, picture_answer, picture_mask, owner_in}
-use Rattle.definition.specs.Calls.{byte_owner, entry_reasons}
+use Rattle.definition.specs.Calls.{entries, asked, report, picture_answer, picture_mask, owner_in}
 use Rattle.definition.specs.Calls.{indicator_check, card_checks, on_cards}
 use Rattle.definition.specs.Cards.{view_from, first_other}
-use Rattle.definition.specs.Ungrouped.{lasting, lasting_all, plain_groups}
 use Rattle.definition.specs.Extract.{misweighed, chosen, up_from, heaviest, alone}
-use Rattle.definition.specs.Calls.{extract_of, extract_in, extract_answer}
+use Rattle.definition.specs.Calls.{extract_of, extract_in}
 use Rattle.definition.specs.Details.{details_in, detail_bytes, details_bytes}
 use Rattle.definition.specs.Reasons.{latest, chains, chain_at, reasons_in, reasons_bytes}
 use Rattle.definition.specs.Key.{named_in, key_in, all_agree, keys_in, copybooks, key_of_texts}
@@ -36,11 +34,9 @@ unfolding
     lay record_length variable ends_fit unfolded layout entry_bytes entries_bytes listing
     laid owner_from overlaid
     details_in detail_bytes details_bytes latest chains chain_at reasons_in reasons_bytes
-    misweighed chosen up_from heaviest alone extract_of extract_in extract_answer
-    first_wide text_checks entry_checks literal_check kept_statements record_fields entries layout_listing layout_details
-    picture_answer picture_mask owner_in byte_owner
-    entry_reasons
+    misweighed chosen up_from heaviest alone extract_of extract_in
+    first_wide text_checks entry_checks literal_check kept_statements record_fields entries asked report
+    picture_answer picture_mask owner_in
     named_in key_in all_agree keys_in sum copybooks key_of_texts
     view_from first_other indicator_check card_checks on_cards
-    lasting lasting_all plain_groups
 computing = tt

@@ -1,6 +1,6 @@
--- Demand 3, as one statement (`demand3`, of the proofs, keeps it): what holds of every accepted copybook, free text or
--- cards, without REDEFINES and DEPENDING ON, a dropped root's own clauses aside. It is said by the statements and the
--- listing: nobody has to read how pieces are laid or searched.
+-- Every byte has one owner, as one statement (`demand3`, of the proofs, keeps it): what holds of every accepted
+-- copybook, free text or cards, without REDEFINES and DEPENDING ON, a dropped root's own clauses aside. It is said by the
+-- statements and the listing: nobody has to read how pieces are laid or searched.
 -- Assumes nothing.
 use Rattle.std.specs.Prelude.{ℕ, zero, suc, ◌+◌, ◌-◌, ◌%◌, ◌≤◌, ◌<◌, ◌≡◌, Bool, true, false, List, [], ◌∷◌, ◌++◌, ◌⊎◌, length}
 use Rattle.definition.specs.declared.Span.{Span}
@@ -17,8 +17,9 @@ use Rattle.definition.specs.Owner.{Holder, occurrence, slack, Piece, extent, is_
 use Rattle.definition.specs.Owner.{join}
 use Rattle.definition.specs.Placed.{content_of}
 use Rattle.definition.specs.Search.{entries#}
-use Rattle.definition.specs.Cards.{Form, view_in}
-use Rattle.definition.specs.Calls.{record_fields, byte_owner, called}
+use Rattle.definition.specs.Cards.{view_in}
+use Rattle.definition.specs.declared.Form.{Form}
+use Rattle.definition.specs.Calls.{record_fields, asked, owner_in, called}
 
 -- ---------------------------------------------------------------- offsets and widths
 
@@ -80,13 +81,13 @@ single k width (entry e members later) first inner = inner
 -- what a listing says of the record, in copybook order: the slack before each entry and each of its occurrences. The
 -- first entry of the list has number k; the list starts at the byte `base`, and the entry before, if any, ends
 -- `reached` bytes after that
-unfoldable pub told : ℕ → ℕ → ℕ → Entries → List Spot
-told k base reached end = []
-told k base reached (entry e members later) =
+unfoldable pub spots_of : ℕ → ℕ → ℕ → Entries → List Spot
+spots_of k base reached end = []
+spots_of k base reached (entry e members later) =
     gap k (base + reached) (e.offset - reached)
     ++ each (times e.occurs) (base + e.offset) e.width
-    (λ first. single k e.width members first (told (suc k) first 0 members))
-    ++ told (suc k + entries# members) base (e.offset + total e) later
+    (λ first. single k e.width members first (spots_of (suc k) first 0 members))
+    ++ spots_of (suc k + entries# members) base (e.offset + total e) later
 
 -- what pieces lay from the byte `first` on
 abbrev pub spot_of : Holder → ℕ → ℕ → List Spot
@@ -139,7 +140,7 @@ EachSpan P (entry e members later) = EntrySpans P e × EachSpan P members × Eac
 
 -- the byte owner of a copybook of this form
 abbrev pub owner_on : Form → List ℕ → ℕ → ℕ → Answer Owner
-owner_on form text work q = called form (λ t. byte_owner t work q) text work
+owner_on form text work q = called form (λ t. asked (owner_in q) t work) text work
 
 -- text is what the reader sees, f are the fields of the record, es the entries of its listing, and the byte owner
 -- answers with `owner`
@@ -149,11 +150,11 @@ pub record Demand (text : List ℕ) (owner : ℕ → Answer Owner) (f : Forest) 
   pub items : Tells text 0 f es
   -- the record is, in copybook order, one piece for each occurrence of each elementary item, where the listing says,
   -- and that slack,
-  pub in_order : spots 0 (pieces text f) ≡ told 0 0 0 es
+  pub in_order : spots 0 (pieces text f) ≡ spots_of 0 0 0 es
   -- with nothing left over
   pub covered : extent (pieces text f) ≡ record_length es
   -- every byte below the record length has exactly one owner,
-  pub one-owner : (q : ℕ) → q < record_length es → One (told 0 0 0 es) q
+  pub one-owner : (q : ℕ) → q < record_length es → One (spots_of 0 0 0 es) q
   -- and the byte owner call names it
   pub named :
       (q : ℕ) (l : q < record_length es) →

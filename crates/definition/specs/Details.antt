@@ -4,7 +4,7 @@
 use Rattle.std.specs.Prelude.{ℕ, suc, ◌+◌, max, ◌≡◌, true, false, List, [], ◌∷◌, ◌++◌, ltb, if◌then◌else◌}
 use Rattle.std.specs.Prelude.{Option, None, Some}
 use Rattle.definition.specs.declared.Entry.{Entry}
-use Rattle.definition.specs.Basic.{given, le4, le8}
+use Rattle.definition.specs.Basic.{is_given, le4, le8}
 use Rattle.definition.specs.Fold.{Entries, end, entry}
 use Rattle.definition.specs.Layout.{advance}
 use Rattle.definition.specs.Listing.{flag, span_bytes}
@@ -73,7 +73,7 @@ height (entry e members later) = max (suc (height members)) (height later)
 abbrev pub Following : ℕ → Entries → Type 0
 Following cursor end = Unit {0}
 Following cursor (entry e members later) =
-    (given e.redefines ≡ true → e.slack ≡ 0)
-    × (given e.redefines ≡ false → e.offset ≡ cursor + e.slack)
+    (is_given e.redefines ≡ true → e.slack ≡ 0)
+    × (is_given e.redefines ≡ false → e.offset ≡ cursor + e.slack)
     × Following 0 members
     × Following (advance cursor e) later

@@ -8,12 +8,14 @@ use Rattle.definition.specs.declared.Statement.{Statement}
 use Rattle.definition.specs.declared.Entry.{Entry}
 use Rattle.definition.specs.declared.Reason.{Reason}
 use Rattle.definition.specs.declared.Refusal.{Refusal}
-use Rattle.definition.specs.Basic.{Err, given, Ok, ◌>>=◌}
+use Rattle.definition.specs.Basic.{Err, is_given, Ok, ◌>>=◌}
 use Rattle.definition.specs.Tree.{Forest, leaf, item}
 use Rattle.definition.specs.Fold.{Entries, end, entry, reserved, folded_all}
 use Rattle.definition.specs.Record.{unfolded}
-use Rattle.definition.specs.Cards.{Form, view_in}
-use Rattle.definition.specs.Calls.{record_fields, fitting, entry_reasons, called}
+use Rattle.definition.specs.Cards.{view_in}
+use Rattle.definition.specs.declared.Form.{Form}
+use Rattle.definition.specs.declared.Report.{Report}
+use Rattle.definition.specs.Calls.{record_fields, asked, fitting, report, called}
 use Rattle.definition.specs.Demand.{Starts, aligned, Among}
 use Rattle.definition.specs.Reasons.{adds, slack_of, plain, has_name, own, Chain, chains, flat, numbered}
 use Rattle.definition.specs.Reasons.{reasons_in, reasons_bytes}
@@ -45,7 +47,7 @@ pub record Because (text : List ℕ) (s : Statement) (kids : Forest) (seen : Lis
   -- with REDEFINES one reason, kind 4: it names the latest earlier sibling of that name and adds its offset, at which
   -- the item stands
   pub laid-over :
-      given s.clauses.redefines ≡ true →
+      is_given s.clauses.redefines ≡ true →
       (t : Entry)
       × Latest (has_name text s.clauses.redefines) seen t
       × (own text seen e ≡ Reason.Over t.name t.offset ∷ [])
@@ -53,7 +55,7 @@ pub record Because (text : List ℕ) (s : Statement) (kids : Forest) (seen : Lis
   -- else kind 1, where no sibling is earlier, or kind 2: it names the latest earlier sibling without REDEFINES and adds
   -- its end; then the slack
   pub in-turn :
-      given s.clauses.redefines ≡ false →
+      is_given s.clauses.redefines ≡ false →
       ((seen ≡ []) × Turn text s kids seen e Reason.First)
       ⊎ ((t : Entry) × Latest plain seen t × Turn text s kids seen e (Reason.After t.name (t.offset + reserved t)))
 
@@ -149,9 +151,9 @@ pub record Reasoned (text : List ℕ) (f : Forest) (tree es : Entries) : Type 0 
       × Among c (chains text [] [] tree)
       × (c.at ≡ e.at)
       × (added c.reasons ≡ get_or (from_start 0 es) n 0)
-      × (reasons_in text f n ≡ Ok c.reasons)
+      × (reasons_in n text tree ≡ Ok c.reasons)
   -- past the listing is 53
-  pub past : (n : ℕ) → numbered n (flat es) ≡ None → reasons_in text f n ≡ Err Refusal.NoSuchEntry
+  pub past : (n : ℕ) → numbered n (flat es) ≡ None → reasons_in n text tree ≡ Err Refusal.NoSuchEntry
 
 -- what holds of every accepted copybook
 pub record Explained (form : Form) (text : List ℕ) (work : ℕ) (es : Entries) : Type 0 where
@@ -164,5 +166,5 @@ pub record Explained (form : Form) (text : List ℕ) (work : ℕ) (es : Entries)
   -- the call answers with the bytes of the reasons, where the lent output has room for them
   pub calls :
       (n room : ℕ) →
-      called form (λ t. entry_reasons t work n room) text work
-      ≡ (reasons_in (view_in form text) of n >>= λ rs. fitting room (reasons_bytes rs))
+      called form (λ t. asked (report (Report.Reasons n) room) t work) text work
+      ≡ (reasons_in n (view_in form text) tree >>= λ rs. fitting room (reasons_bytes rs))

@@ -3,30 +3,30 @@
 -- Assumes nothing.
 use Rattle.std.specs.Prelude.{ℕ, ◌+◌, ◌≤◌, ◌<◌, ◌≡◌, false, List, [], ◌∷◌, length}
 use Rattle.definition.specs.declared.Extract.{Extract}
-use Rattle.definition.specs.Limits.{most_items}
+use Rattle.definition.specs.declared.TheConstants.{MOST_ITEMS}
 use Rattle.definition.specs.Basic.{Ok}
 use Rattle.definition.specs.Tree.{Forest}
 use Rattle.definition.specs.Fold.{Entries}
 use Rattle.definition.specs.Record.{layout}
 use Rattle.definition.specs.Owner.{overlaid}
 use Rattle.definition.specs.Demand.{Among}
-use Rattle.definition.specs.Extract.{Item, widths, items, misweighed, bytes_of, weight_of}
+use Rattle.definition.specs.Extract.{WeightedItem, widths, items, misweighed, bytes_of, weight_of}
 use Rattle.definition.specs.Extract.{chosen, subsets#, examined, alone}
 use Rattle.definition.specs.Calls.{record_fields}
 
 -- a choice of the items, whatever its number: each of them is in it or not
-pub data Choice : List Item → List Item → Type 0 where
+pub data Choice : List WeightedItem → List WeightedItem → Type 0 where
   none : Choice [] []
-  with : {i : Item} {cs is : List Item} → Choice cs is → Choice (i ∷ cs) (i ∷ is)
-  without : {i : Item} {cs is : List Item} → Choice cs is → Choice cs (i ∷ is)
+  with : {i : WeightedItem} {cs is : List WeightedItem} → Choice cs is → Choice (i ∷ cs) (i ∷ is)
+  without : {i : WeightedItem} {cs is : List WeightedItem} → Choice cs is → Choice cs (i ∷ is)
 
 -- a choice that fits, and is one of those looked at
-pub record LookedAt (limit budget : ℕ) (is : List Item) (n : ℕ) : Type 0 where
+pub record LookedAt (limit budget : ℕ) (is : List WeightedItem) (n : ℕ) : Type 0 where
   pub looked-at : Among n (examined budget is)
   pub fits : bytes_of (chosen n is) ≤ limit
 
 -- what holds of the answer to a limit and a budget
-pub record Best (limit budget : ℕ) (is : List Item) (a : Extract) : Type 0 where
+pub record Best (limit budget : ℕ) (is : List WeightedItem) (a : Extract) : Type 0 where
   -- it was looked at, and it fits
   pub seen : LookedAt limit budget is a.subset
   pub weighs : a.weight ≡ weight_of (chosen a.subset is)
@@ -37,7 +37,7 @@ pub record Best (limit budget : ℕ) (is : List Item) (a : Extract) : Type 0 whe
   -- so many were looked at
   pub counted : a.examined ≡ length (examined budget is)
   -- no choice there is outweighs it by more than the answer says;
-  pub bound : (cs : List Item) → Choice cs is → bytes_of cs ≤ limit → weight_of cs ≤ a.weight + a.off
+  pub bound : (cs : List WeightedItem) → Choice cs is → bytes_of cs ≤ limit → weight_of cs ≤ a.weight + a.off
   -- with all looked at, none outweighs it,
   pub all : subsets# is ≤ budget → a.off ≡ 0
   -- and else the items that fit alone weigh just so much more
@@ -53,7 +53,7 @@ pub record Extracted (text : List ℕ) (work : ℕ) (weights : List ℕ) (limit 
   -- without REDEFINES and DEPENDING ON,
   pub plain : overlaid of ≡ false
   -- at most 16 at the top, a weight for each, each in its range,
-  pub few : length (widths shown) ≤ most_items
+  pub few : length (widths shown) ≤ MOST_ITEMS
   pub paired : length weights ≡ length (widths shown)
   pub weighed : misweighed weights ≡ false
   -- and a subset to look at

@@ -7,7 +7,7 @@ use Rattle.definition.specs.declared.Span.{Span}
 use Rattle.definition.specs.declared.FieldKind.{FieldKind}
 use Rattle.definition.specs.declared.Entry.{Entry}
 use Rattle.definition.specs.declared.Refusal.{Refusal}
-use Rattle.definition.specs.Basic.{bytes, same, uppers, absent, given, part, Answer, Ok}
+use Rattle.definition.specs.Basic.{bytes, same, uppers, absent, is_given, part, Answer, Ok}
 use Rattle.definition.specs.Basic.{◌>>=◌, refuse_if}
 
 -- ---------------------------------------------------------------- entries
@@ -31,7 +31,7 @@ abbrev pub total : Entry → ℕ
 total e = e.width * times e.occurs
 
 abbrev pub reserved : Entry → ℕ
-reserved e = if given e.depending then 0 else total e
+reserved e = if is_given e.depending then 0 else total e
 
 -- offset plus reserved width
 abbrev pub entry_end : Entry → ℕ
@@ -41,7 +41,7 @@ entry_end e = e.offset + reserved e
 
 -- the bytes of a name; an absent one means FILLER
 abbrev pub name_of : List ℕ → Span → List ℕ
-name_of text w = if given w then part text w else bytes "FILLER"
+name_of text w = if is_given w then part text w else bytes "FILLER"
 
 -- the same name, case aside, and case included
 abbrev pub same_name : List ℕ → Span → Span → Bool
@@ -109,7 +109,7 @@ rebased start e =
 unfoldable pub redefiners : List ℕ → Place → Entries → Entries
 redefiners text base end = end
 redefiners text base (entry e members later) =
-    if given e.redefines then
+    if is_given e.redefines then
     (if same_name text base.name e.redefines
     then entry (rebased base.offset e) members (redefiners text base later)
     else redefiners text base later)
@@ -157,7 +157,7 @@ with_redefiners text e members (entry r ms rs) later =
 unfoldable pub fold_check : List ℕ → List Place → Entries → Answer (Unit {0})
 fold_check text bases end = Ok tt
 fold_check text bases (entry e members later) =
-    if given e.redefines then
+    if is_given e.redefines then
     (elim (find text e.redefines bases) [
       | None ↦ fold_check text bases later
       | Some base ↦ do
@@ -175,7 +175,7 @@ has_base (Some base) = true
 unfoldable pub folded_list : List ℕ → List Place → Entries → Entries
 folded_list text bases end = end
 folded_list text bases (entry e members later) =
-    elim (given e.redefines) [
+    elim (is_given e.redefines) [
       | true ↦
           if has_base (find text e.redefines bases) then folded_list text bases later
           else entry e members (folded_list text bases later)

@@ -1,7 +1,7 @@
 -- One key for a family of records: the column of one name that each copybook of a set has in the same place, so that
 -- their records are sorted by it. Names, places and kinds are those of the folded listings.
 -- Assumes nothing.
-use Rattle.std.specs.Prelude.{ℕ, ◌≡◌, Bool, true, false, ◌&&◌, ◌||◌, not, List, [], ◌∷◌, eqb, leb, length, take, drop, if◌then◌else◌}
+use Rattle.std.specs.Prelude.{ℕ, Bool, true, false, ◌&&◌, ◌||◌, not, List, [], ◌∷◌, eqb, leb, length, take, drop, if◌then◌else◌}
 use Rattle.std.specs.Prelude.{Option, None, Some}
 use Rattle.definition.specs.declared.Span.{Span}
 use Rattle.definition.specs.declared.Usage.{Usage}
@@ -9,10 +9,10 @@ use Rattle.definition.specs.declared.FieldKind.{FieldKind}
 use Rattle.definition.specs.declared.Entry.{Entry}
 use Rattle.definition.specs.declared.KeyColumn.{KeyColumn}
 use Rattle.definition.specs.declared.Refusal.{Refusal}
-use Rattle.definition.specs.Limits.{longest_mask, fewest_in_set, most_in_set}
-use Rattle.definition.specs.Basic.{same, uppers, absent, given, part, sum}
+use Rattle.definition.specs.declared.TheConstants.{LONGEST_MASK, FEWEST_IN_SET, MOST_IN_SET}
+use Rattle.definition.specs.Basic.{same, uppers, absent, is_given, part, sum}
 use Rattle.definition.specs.Basic.{Answer, Err, Ok, ◌>>=◌, refuse_if, or_refuse}
-use Rattle.definition.specs.Fold.{Entries, end, entry, append, name_of}
+use Rattle.definition.specs.Fold.{Entries, end, entry, name_of}
 use Rattle.definition.specs.Record.{variable}
 use Rattle.definition.specs.Listing.{kind_byte, details}
 use Rattle.definition.specs.Calls.{entries, picture_mask, After, left, cleared}
@@ -36,7 +36,7 @@ named e behind = record { own = e; behind = behind }
 unfoldable pub named_in : List ℕ → List ℕ → Bool → Entries → List Named
 named_in text name behind end = []
 named_in text name behind (entry e members later) =
-    let more = named_in text name (behind || (given e.depending || variable members)) later in
+    let more = named_in text name (behind || (is_given e.depending || variable members)) later in
     if is_named text name e then named e behind ∷ more else more
 
 -- ---------------------------------------------------------------- the key of a copybook
@@ -58,7 +58,7 @@ is_group (FieldKind.Float bits) = false
 -- an entry may be a key: without OCCURS or REDEFINES, with no DEPENDING ON before it, and no group
 abbrev pub may_be_key : Named → Bool
 may_be_key x =
-    not x.behind && (is_once x.own.occurs && (not (given x.own.redefines) && not (is_group x.own.kind)))
+    not x.behind && (is_once x.own.occurs && (not (is_given x.own.redefines) && not (is_group x.own.kind)))
 
 -- the mask that is answered of a picture; that of an accepted copybook's edited item is not refused
 abbrev pub mask_answered : Answer (List ℕ) → List ℕ
@@ -72,7 +72,7 @@ key_mask text (FieldKind.Int signed sign) w = []
 key_mask text (FieldKind.Binary signed) w = []
 key_mask text (FieldKind.Decimal precision scale repr sign) w = []
 key_mask text (FieldKind.Edited precision scale signed) w =
-    mask_answered (picture_mask Usage.Display (part text w) longest_mask)
+    mask_answered (picture_mask Usage.Display (part text w) LONGEST_MASK)
 key_mask text FieldKind.Group w = []
 key_mask text (FieldKind.Float bits) w = []
 
@@ -145,7 +145,7 @@ copybooks (n ∷ ns) bs = take n bs ∷ copybooks ns (drop n bs)
 -- 2 to 16 copybooks, whose stated lengths add up to the bytes lent
 abbrev pub is_set : List ℕ → List ℕ → Bool
 is_set lengths texts =
-    leb fewest_in_set (length lengths) && (leb (length lengths) most_in_set && eqb (sum lengths) (length texts))
+    leb FEWEST_IN_SET (length lengths) && (leb (length lengths) MOST_IN_SET && eqb (sum lengths) (length texts))
 
 -- the offset and width of the key that all copybooks of a set have: 56 before any reading, 57 after it
 unfoldable pub key_of_texts : List ℕ → List ℕ → List ℕ → ℕ → Answer KeyColumn
@@ -158,49 +158,3 @@ key_of_texts texts lengths name work = do
 -- the call, with work memory lent
 abbrev pub key_call : List ℕ → List ℕ → List ℕ → List ℕ → After KeyColumn
 key_call texts lengths name work = left (key_of_texts texts lengths name (length work)) [] (cleared work)
-
--- ---------------------------------------------------------------- what holds of it (`KeyLaws`, of the proofs)
-
--- no entry of a list has the name
-abbrev pub NoEntryNamed : List ℕ → List ℕ → Entries → Type 0
-NoEntryNamed text name end = Unit {0}
-NoEntryNamed text name (entry e members later) = (is_named text name e ≡ false) × NoEntryNamed text name later
-
--- k is the key of a listing: it is that of the one entry of its name at the top, which stands between those before and
--- those after it, is no group, and has neither OCCURS nor REDEFINES; nothing before it, at any depth, has a DEPENDING
--- ON
-pub record IsKey (text name : List ℕ) (es : Entries) (k : Key) : Type 0 where
-  pub own : Entry
-  pub before : Entries
-  pub members : Entries
-  pub after : Entries
-  pub stands : es ≡ append before (entry own members after)
-  pub name-is : is_named text name own ≡ true
-  pub none_before : NoEntryNamed text name before
-  pub none_after : NoEntryNamed text name after
-  pub fixed : variable before ≡ false
-  pub once : own.occurs ≡ None
-  pub plain : given own.redefines ≡ false
-  pub no-group : is_group own.kind ≡ false
-  pub offset-is : own.offset ≡ k.offset
-  pub width_is : own.width ≡ k.width
-  pub kind-is : own.kind ≡ k.kind
-  pub mask_is : key_mask text own.kind own.picture ≡ k.mask
-
--- a copybook is read, and k is its key
-pub record HasKey (work : ℕ) (name : List ℕ) (k : Key) (text : List ℕ) : Type 0 where
-  pub listing : Entries
-  pub read : entries text work ≡ Ok listing
-  pub key : IsKey text name listing k
-
-abbrev pub AllHave : ℕ → List ℕ → Key → List (List ℕ) → Type 0
-AllHave work name k [] = Unit {0}
-AllHave work name k (text ∷ texts) = HasKey work name k text × AllHave work name k texts
-
--- the answered offset and width are those of one key that every copybook of the set has; and where all copybooks of a
--- set have one key, its offset and width are answered, so that 57 is not said too often (`KeyLaws.answered`)
-pub record Shared (texts lengths name : List ℕ) (work offset width : ℕ) : Type 0 where
-  pub key : Key
-  pub offset-is : offset ≡ key.offset
-  pub width_is : width ≡ key.width
-  pub all : AllHave work name key (copybooks lengths texts)

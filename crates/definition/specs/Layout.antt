@@ -1,7 +1,7 @@
 -- Offsets: the entries of a sibling list, before it is folded: `layout_nodes` and `elementary` of the Rust.
 -- Groups nest, and each sibling list counts from 0. An item reserves width × count, count 1 without OCCURS; DEPENDING
 -- ON reserves 0. A group is as wide as the largest offset plus reserved width in its list before folding.
--- A float has no picture: COMP-1 takes 4 bytes, COMP-2 takes 8 (A.6).
+-- A float has no picture: COMP-1 takes 4 bytes, COMP-2 takes 8.
 -- Departures from COBOL: alignment restarts in each group; 8-byte binary items align to 8, IBM's to 4; a REDEFINES may
 -- name any earlier sibling, and is not aligned; slack is not added between the occurrences of a group.
 -- Assumes nothing.
@@ -13,8 +13,8 @@ use Rattle.definition.specs.declared.Pictured.{Pictured}
 use Rattle.definition.specs.declared.Statement.{Statement}
 use Rattle.definition.specs.declared.Entry.{Entry}
 use Rattle.definition.specs.declared.Refusal.{Refusal}
-use Rattle.definition.specs.Limits.{deepest, largest}
-use Rattle.definition.specs.Basic.{given, part, fewest, Answer, Ok, ◌>>=◌}
+use Rattle.definition.specs.declared.TheConstants.{DEEPEST, LARGEST}
+use Rattle.definition.specs.Basic.{is_given, part, fewest, Answer, Ok, ◌>>=◌}
 use Rattle.definition.specs.Basic.{refuse_if, or_refuse}
 use Rattle.definition.specs.Statement.{sign_of}
 use Rattle.definition.specs.Tree.{Forest, leaf, item}
@@ -25,18 +25,18 @@ use Rattle.definition.specs.Fold.{fold_check}
 -- 20: a list too deep, at its first statement; record fields are depth 0
 abbrev pub shallow : ℕ → Forest → Answer (Unit {0})
 shallow depth leaf = Ok tt
-shallow depth (item s kids later) = refuse_if (ltb deepest depth) (Refusal.TooDeep s.at)
+shallow depth (item s kids later) = refuse_if (ltb DEEPEST depth) (Refusal.TooDeep s.at)
 
 -- kind and width by the picture, which must be there (21): it says them (22 to 27)
 abbrev pub by_picture : List ℕ → Statement → Usage → Answer Pictured
 by_picture text s usage = do
-  _ ← refuse_if (not (given s.clauses.picture)) (Refusal.NoPicture s.at)
+  _ ← refuse_if (not (is_given s.clauses.picture)) (Refusal.NoPicture s.at)
   picture s.at usage (sign_of s.clauses.sign) (part text s.clauses.picture)
 
 -- a float of so many bytes, which has no picture (52)
 abbrev pub float : Statement → ℕ → Answer Pictured
 float s width = do
-  _ ← refuse_if (given s.clauses.picture) (Refusal.FloatWithPicture s.at)
+  _ ← refuse_if (is_given s.clauses.picture) (Refusal.FloatWithPicture s.at)
   Ok (pictured (FieldKind.Float (8 * width)) width)
 
 -- kind and width of an elementary item, by a usage
@@ -59,13 +59,13 @@ content text s leaf width = elementary text s
 -- the latest first
 abbrev pub start : List ℕ → Statement → Pictured → List Place → ℕ → Answer ℕ
 start text s c seen cursor =
-    if given s.clauses.redefines then or_refuse (Refusal.NoTarget s.at) (find text s.clauses.redefines seen)
+    if is_given s.clauses.redefines then or_refuse (Refusal.NoTarget s.at) (find text s.clauses.redefines seen)
     else if s.clauses.sync && is_alignable c.kind then Ok (cursor + fewest c.width cursor)
     else Ok cursor
 
 -- the slack directly before an item: the bytes from the cursor to the item, and none before a redefiner
 abbrev pub slack_from : ℕ → Statement → ℕ → ℕ
-slack_from cursor s offset = if given s.clauses.redefines then 0 else offset - cursor
+slack_from cursor s offset = if is_given s.clauses.redefines then 0 else offset - cursor
 
 -- the entry of an item at an offset, after so much slack
 abbrev pub entry_of : Statement → Pictured → ℕ → ℕ → Entry
@@ -89,11 +89,11 @@ entry_of s c offset slack =
 -- 29: kept count, aligned cursor, width × count or end above the largest number
 abbrev pub too_large : Entry → Bool
 too_large e =
-    ltb largest (times e.occurs) || ltb largest e.offset || ltb largest (total e) || ltb largest (entry_end e)
+    ltb LARGEST (times e.occurs) || ltb LARGEST e.offset || ltb LARGEST (total e) || ltb LARGEST (entry_end e)
 
 -- the cursor after an entry: a REDEFINES never moves it
 abbrev pub advance : ℕ → Entry → ℕ
-advance cursor e = if given e.redefines then cursor else entry_end e
+advance cursor e = if is_given e.redefines then cursor else entry_end e
 
 -- the entries of a list, with the lists below them, as the copybook has them before folding, and how wide the list is
 pub record Laid : Type 0 where

@@ -1,5 +1,4 @@
 pub mod Basic
-pub mod Limits
 pub mod Words
 pub mod Unquoted
 pub mod Statement
@@ -7,7 +6,6 @@ pub mod Tree
 pub mod Usages
 pub mod Picture
 pub mod Fold
-pub mod Distance
 pub mod Layout
 pub mod Record
 pub mod Refusals
@@ -20,7 +18,6 @@ pub mod Cards
 pub mod Extract
 pub mod Calls
 pub mod Key
-pub mod Ungrouped
 pub mod Computing
 pub mod Placed
 pub mod Demand

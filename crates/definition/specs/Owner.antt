@@ -9,7 +9,7 @@ use Rattle.definition.specs.declared.FieldKind.{FieldKind}
 use Rattle.definition.specs.declared.Pictured.{Pictured}
 use Rattle.definition.specs.declared.Statement.{Statement}
 use Rattle.definition.specs.declared.Owner.{Owner}
-use Rattle.definition.specs.Basic.{given, fewest, Answer, Err, Ok}
+use Rattle.definition.specs.Basic.{is_given, fewest, Answer, Err, Ok}
 use Rattle.definition.specs.Tree.{Forest, leaf, item}
 use Rattle.definition.specs.Picture.{pictured, is_alignable}
 use Rattle.definition.specs.Fold.{times}
@@ -109,7 +109,7 @@ owner_of ps q = owner_from 0 ps q
 unfoldable pub overlaid : Forest → Bool
 overlaid leaf = false
 overlaid (item s kids later) =
-    given s.clauses.redefines || given s.clauses.depending || overlaid kids || overlaid later
+    is_given s.clauses.redefines || is_given s.clauses.depending || overlaid kids || overlaid later
 
 -- ---------------------------------------------------------------- records
 

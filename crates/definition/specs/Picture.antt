@@ -2,7 +2,7 @@
 -- edited picture. Symbols are repeated by `(n)`, then judged one by one: X A text; 9 Z * digit; P fraction digit; V and
 -- `.` start the fraction; S sign; `, / B 0 $ + - CR DB` editing, as Z, * and `.` are too; `+ - CR DB` also mean signed,
 -- as S does. Refusals 22 to 27 carry the position that the caller names.
--- P holds no byte: the storage width counts digits without it, the edited width the mask without it (A.3).
+-- P holds no byte: the storage width counts digits without it, the edited width the mask without it.
 -- Departures from COBOL: symbols may stand in any order and number; P is a fraction digit wherever it stands.
 -- Assumes nothing.
 use Rattle.std.specs.Prelude.{ℕ, zero, suc, ◌+◌, ◌-◌, ◌/◌, max, Bool, true, false, ◌&&◌, ◌||◌, not, List, [], ◌∷◌, ◌++◌, reverse, eqb, leb, ltb, length, replicate, if◌then◌else◌}
@@ -14,7 +14,7 @@ use Rattle.definition.specs.declared.NumRepr.{NumRepr}
 use Rattle.definition.specs.declared.FieldKind.{FieldKind}
 use Rattle.definition.specs.declared.Pictured.{Pictured}
 use Rattle.definition.specs.declared.Refusal.{Refusal}
-use Rattle.definition.specs.Limits.{most_symbols, most_digits, longest_mask}
+use Rattle.definition.specs.declared.TheConstants.{MOST_SYMBOLS, MOST_DIGITS, LONGEST_MASK}
 use Rattle.definition.specs.Basic.{is, among, white, upper, count, Answer, Ok, ◌>>=◌}
 use Rattle.definition.specs.Basic.{refuse_if, or_refuse}
 
@@ -55,7 +55,7 @@ expand at n skip [] = Ok []
 expand at n (suc skip) (b ∷ bs) = expand at n skip bs
 expand at n zero (b ∷ bs) = do
   r ← repeat at bs
-  _ ← refuse_if (ltb most_symbols (n + r.0)) (Refusal.TooManySymbols at)
+  _ ← refuse_if (ltb MOST_SYMBOLS (n + r.0)) (Refusal.TooManySymbols at)
   l ← expand at (n + r.0) r.1 bs
   Ok (replicate r.0 (upper b) ++ l)
 
@@ -204,10 +204,10 @@ kinded usage clause l =
 abbrev pub mixed : List ℕ → Bool
 mixed l = is_text l && (ltb 0 (all_digits l) || is_edited l)
 
--- 27: non-text with over 31 digits, P included, or an edited DISPLAY mask over 255
+-- 27: non-text with over `MOST_DIGITS` digits, P included, or an edited DISPLAY mask over `LONGEST_MASK`
 abbrev pub too_long : Usage → List ℕ → Bool
 too_long usage l =
-    not (is_text l) && (ltb most_digits (all_digits l) || is_masked usage l && ltb longest_mask (length (mask l)))
+    not (is_text l) && (ltb MOST_DIGITS (all_digits l) || is_masked usage l && ltb LONGEST_MASK (length (mask l)))
 
 -- the symbols of a picture, if it is not refused; white space around it is trimmed
 unfoldable pub symbols : ℕ → Usage → List ℕ → Answer (List ℕ)

@@ -7,10 +7,8 @@ use Rattle.definition.specs.declared.Span.{Span}
 use Rattle.definition.specs.declared.Entry.{Entry}
 use Rattle.definition.specs.declared.Reason.{Reason}
 use Rattle.definition.specs.declared.Refusal.{Refusal}
-use Rattle.definition.specs.Basic.{absent, given, le4, Answer, Ok, ◌>>=◌, or_refuse}
-use Rattle.definition.specs.Tree.{Forest}
+use Rattle.definition.specs.Basic.{absent, is_given, le4, Answer, Ok, ◌>>=◌, or_refuse}
 use Rattle.definition.specs.Fold.{Entries, end, entry, entry_end, same_name, folded_all}
-use Rattle.definition.specs.Record.{unfolded}
 use Rattle.definition.specs.Listing.{span_bytes}
 
 -- ---------------------------------------------------------------- reasons
@@ -65,7 +63,7 @@ latest has (e ∷ seen) = if has e then Some e else latest has seen
 
 -- it is without REDEFINES; it has that name, case aside
 abbrev pub plain : Entry → Bool
-plain e = not (given e.redefines)
+plain e = not (is_given e.redefines)
 
 abbrev pub has_name : List ℕ → Span → Entry → Bool
 has_name text w e = same_name text w e.name
@@ -78,7 +76,7 @@ or_first r (Some e) = r e
 -- earlier one without REDEFINES, or first in its list
 abbrev pub placing : List ℕ → List Entry → Entry → Reason
 placing text seen e =
-    if given e.redefines then or_first over (latest (has_name text e.redefines) seen) else or_first after
+    if is_given e.redefines then or_first over (latest (has_name text e.redefines) seen) else or_first after
     (latest plain seen)
 
 -- the placing reason comes first, then the slack
@@ -121,11 +119,10 @@ numbered n [] = None
 numbered zero (e ∷ es) = Some e
 numbered (suc n) (e ∷ es) = numbered n es
 
--- the chain of an entry by its number: that of the statement behind it; a folded group has its base's chain, for it
--- begins where its base does. An entry number past the listing is 53
-unfoldable pub reasons_in : List ℕ → Forest → ℕ → Answer (List Reason)
-reasons_in text f number = do
-  es ← unfolded text f
+-- the chain of an entry by its number, where a record's entries are these before folding: that of the statement behind
+-- it; a folded group has its base's chain, for it begins where its base does. An entry number past the listing is 53
+unfoldable pub reasons_in : ℕ → List ℕ → Entries → Answer (List Reason)
+reasons_in number text es = do
   e ← or_refuse Refusal.NoSuchEntry (numbered number (flat (folded_all text es)))
   Ok (chain_at e.at (chains text [] [] es))
 

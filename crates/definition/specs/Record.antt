@@ -2,8 +2,8 @@
 -- Assumes nothing.
 use Rattle.definition.specs.declared.Refusal.{Refusal}
 use Rattle.std.specs.Prelude.{ℕ, max, Bool, false, ◌||◌, List, [], ltb}
-use Rattle.definition.specs.Limits.{largest}
-use Rattle.definition.specs.Basic.{given, Answer, Ok, ◌>>=◌, refuse_if}
+use Rattle.definition.specs.declared.TheConstants.{LARGEST}
+use Rattle.definition.specs.Basic.{is_given, Answer, Ok, ◌>>=◌, refuse_if}
 use Rattle.definition.specs.Tree.{Forest}
 use Rattle.definition.specs.Fold.{Entries, end, entry, entry_end, fold_check, folded_all}
 use Rattle.definition.specs.Layout.{lay}
@@ -16,13 +16,13 @@ record_length (entry e members later) = max (entry_end e) (record_length later)
 -- some entry, at any depth, has a DEPENDING ON
 unfoldable pub variable : Entries → Bool
 variable end = false
-variable (entry e members later) = given e.depending || variable members || variable later
+variable (entry e members later) = is_given e.depending || variable members || variable later
 
 -- 29 again, for a top-level end; for a fold it carries its base's position
 unfoldable pub ends_fit : Entries → Answer (Unit {0})
 ends_fit end = Ok tt
 ends_fit (entry e members later) = do
-  _ ← refuse_if (ltb largest (entry_end e)) (Refusal.TooLarge e.at)
+  _ ← refuse_if (ltb LARGEST (entry_end e)) (Refusal.TooLarge e.at)
   ends_fit later
 
 -- the fields of the record, laid out, as the copybook has them before folding

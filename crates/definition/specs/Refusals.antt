@@ -40,9 +40,7 @@ refusal_number Refusal.NoBudget = 60
 
 -- the position that it is about, 0 where there is none
 abbrev pub refusal_position : Refusal → ℕ
-refusal_position Refusal.TextTooLong = 0
 refusal_position (Refusal.WideByte p) = p
-refusal_position Refusal.WorkTooShort = 0
 refusal_position (Refusal.BadLevel p) = p
 refusal_position (Refusal.BadCount p) = p
 refusal_position (Refusal.BadBound p) = p
@@ -59,51 +57,12 @@ refusal_position (Refusal.TooLong p) = p
 refusal_position (Refusal.NoTarget p) = p
 refusal_position (Refusal.TooLarge p) = p
 refusal_position (Refusal.StartsBeforeBase p) = p
-refusal_position (Refusal.OutputTooShort n) = 0
-refusal_position Refusal.Overlaid = 0
-refusal_position Refusal.OutsideRecord = 0
-refusal_position Refusal.RecordTooShort = 0
 refusal_position (Refusal.UnclosedLiteral p) = p
 refusal_position (Refusal.BadIndicator p) = p
 refusal_position (Refusal.FloatWithPicture p) = p
-refusal_position Refusal.NoSuchEntry = 0
-refusal_position Refusal.NotASet = 0
-refusal_position Refusal.NoCommonKey = 0
-refusal_position Refusal.WrongItems = 0
-refusal_position Refusal.BadWeight = 0
-refusal_position Refusal.NoBudget = 0
+refusal_position _ = 0
 
 -- the length that the output should have had, 0 where it is not about the output
 abbrev pub refusal_needed : Refusal → ℕ
-refusal_needed Refusal.TextTooLong = 0
-refusal_needed (Refusal.WideByte p) = 0
-refusal_needed Refusal.WorkTooShort = 0
-refusal_needed (Refusal.BadLevel p) = 0
-refusal_needed (Refusal.BadCount p) = 0
-refusal_needed (Refusal.BadBound p) = 0
-refusal_needed (Refusal.NoDependingName p) = 0
-refusal_needed (Refusal.TooManyStatements p) = 0
-refusal_needed (Refusal.TooDeep p) = 0
-refusal_needed (Refusal.NoPicture p) = 0
-refusal_needed (Refusal.UnclosedRepeat p) = 0
-refusal_needed (Refusal.BadRepeat p) = 0
-refusal_needed (Refusal.TooManySymbols p) = 0
-refusal_needed (Refusal.BadSymbol p) = 0
-refusal_needed (Refusal.MixedPicture p) = 0
-refusal_needed (Refusal.TooLong p) = 0
-refusal_needed (Refusal.NoTarget p) = 0
-refusal_needed (Refusal.TooLarge p) = 0
-refusal_needed (Refusal.StartsBeforeBase p) = 0
 refusal_needed (Refusal.OutputTooShort n) = n
-refusal_needed Refusal.Overlaid = 0
-refusal_needed Refusal.OutsideRecord = 0
-refusal_needed Refusal.RecordTooShort = 0
-refusal_needed (Refusal.UnclosedLiteral p) = 0
-refusal_needed (Refusal.BadIndicator p) = 0
-refusal_needed (Refusal.FloatWithPicture p) = 0
-refusal_needed Refusal.NoSuchEntry = 0
-refusal_needed Refusal.NotASet = 0
-refusal_needed Refusal.NoCommonKey = 0
-refusal_needed Refusal.WrongItems = 0
-refusal_needed Refusal.BadWeight = 0
-refusal_needed Refusal.NoBudget = 0
+refusal_needed _ = 0

@@ -46,13 +46,13 @@ pub record Row : Type 0 where
   pub count : ℕ
   pub below : ℕ
 
-abbrev pub row_of : Entry → ℕ → Row
-row_of e below = record { offset = e.offset; width = e.width; count = times e.occurs; below = below }
+abbrev pub row_of_entry : Entry → ℕ → Row
+row_of_entry e below = record { offset = e.offset; width = e.width; count = times e.occurs; below = below }
 
 -- the entries in the order of the listing
 unfoldable pub rows : Entries → List Row
 rows end = []
-rows (entry e members later) = row_of e (entries# members) ∷ (rows members ++ rows later)
+rows (entry e members later) = row_of_entry e (entries# members) ∷ (rows members ++ rows later)
 
 -- the search as a walk from row to row: `skip` rows are passed over
 unfoldable pub walk : ℕ → ℕ → ℕ → List Row → ℕ → Option Owner

@@ -15,14 +15,14 @@ use Rattle.definition.specs.declared.SignKind.{SignKind}
 use Rattle.definition.specs.declared.SignWords.{SignWords}
 use Rattle.definition.specs.declared.Clauses.{Clauses}
 use Rattle.definition.specs.declared.Keyword.{Keyword}
-use Rattle.definition.specs.declared.Expect.{Expect}
-use Rattle.definition.specs.declared.Expect.TheVariants.{Clause, IsPicture, APicture, Target, ACount, To, Bound}
-use Rattle.definition.specs.declared.Expect.TheVariants.{Times, DependingOn, OnName, AName, UsageIs, SignIs}
-use Rattle.definition.specs.declared.Expect.TheVariants.{SignWord, Side, Nothing}
+use Rattle.definition.specs.declared.ParseState.{ParseState}
+use Rattle.definition.specs.declared.ParseState.TheVariants.{Clause, IsPicture, APicture, Target, ACount, To, Bound}
+use Rattle.definition.specs.declared.ParseState.TheVariants.{Times, DependingOn, OnName, AName, UsageIs, SignIs}
+use Rattle.definition.specs.declared.ParseState.TheVariants.{SignWord, Side, Nothing}
 use Rattle.definition.specs.declared.Missing.{Missing}
 use Rattle.definition.specs.declared.Statement.{Statement}
 use Rattle.definition.specs.declared.Refusal.{Refusal}
-use Rattle.definition.specs.Limits.{most_statements}
+use Rattle.definition.specs.declared.TheConstants.{MOST_STATEMENTS}
 use Rattle.definition.specs.Basic.{bytes, same, uppers, absent, part, number, count, Answer}
 use Rattle.definition.specs.Basic.{Ok, Err, ◌>>=◌, refuse_if, or_refuse}
 
@@ -116,9 +116,9 @@ with_redefines v c = clauses_of c.picture c.usage c.sign c.sync c.occurs c.depen
 
 -- a word leads on to what is expected next and the clauses so far, or something is missing
 abbrev pub Step : Type 0
-Step = Result (Expect × Clauses) Missing
+Step = Result (ParseState × Clauses) Missing
 
-abbrev pub go : Expect → Clauses → Step
+abbrev pub go : ParseState → Clauses → Step
 go e c = Ok (e, c)
 
 -- what is missing in a statement that begins at a position
@@ -128,7 +128,7 @@ missing at Missing.Bound = Refusal.BadBound at
 missing at Missing.Name = Refusal.NoDependingName at
 
 -- a count that was read is the number of occurrences, and e is expected next; without one m is missing
-abbrev pub counted : Missing → Expect → Clauses → Option ℕ → Step
+abbrev pub counted : Missing → ParseState → Clauses → Option ℕ → Step
 counted m e c None = Err m
 counted m e c (Some k) = go e (with_occurs k c)
 
@@ -159,7 +159,7 @@ abbrev pub on_sign : List ℕ → Clauses → Step
 on_sign u c = go Clause (with_sign (Some (sign_words (key "LEADING" u) false)) c)
 
 -- the word w, which is u in upper case
-unfoldable pub clause_step : Expect → Span → List ℕ → Clauses → Step
+unfoldable pub clause_step : ParseState → Span → List ℕ → Clauses → Step
 clause_step Clause w u c = on_clause u c
 clause_step IsPicture w u c = if key "IS" u then go APicture c else go Clause (with_picture w c)
 clause_step APicture w u c = go Clause (with_picture w c)
@@ -187,11 +187,11 @@ abbrev pub separated : List ℕ → Step → Step
 separated u (Err m) = Err m
 separated u (Ok (e, c)) = if key "SEPARATE" u then go e (with_sign (separately c.sign) c) else go e c
 
-unfoldable pub step : Expect → Span → List ℕ → Clauses → Step
+unfoldable pub step : ParseState → Span → List ℕ → Clauses → Step
 step e w u c = separated u (clause_step e w u c)
 
 -- the statement ends: a count, a bound or a name may be missing
-abbrev pub finish : ℕ → Expect → Clauses → Answer Clauses
+abbrev pub finish : ℕ → ParseState → Clauses → Answer Clauses
 finish at ACount c = Err (missing at Missing.Count)
 finish at Bound c = Err (missing at Missing.Bound)
 finish at OnName c = Err (missing at Missing.Name)
@@ -210,7 +210,7 @@ finish at Side c = Ok c
 finish at Nothing c = Ok c
 
 -- the clauses of the words ws of a statement that begins at a position
-unfoldable pub clauses : List ℕ → ℕ → Expect → Clauses → List Span → Answer Clauses
+unfoldable pub clauses : List ℕ → ℕ → ParseState → Clauses → List Span → Answer Clauses
 clauses text at e c [] = finish at e c
 clauses text at e c (w ∷ ws) =
     elim (step e w (uppers (part text w)) c) [ Ok (e', c') ↦ clauses text at e' c' ws | Err m ↦ Err (missing at m) ]
@@ -254,7 +254,7 @@ statement text (w ∷ ws) = do
     s ← named text w.start level ws
     Ok (Some s)
 
--- the kept statements, of which there may be 800: n are kept already
+-- the kept statements, of which there may be `MOST_STATEMENTS`: n are kept already
 unfoldable pub statements : List ℕ → ℕ → List (List Span) → Answer (List Statement)
 statements text n [] = Ok []
 statements text n (ws ∷ wss) = do
@@ -262,7 +262,7 @@ statements text n (ws ∷ wss) = do
   elim r [
     | None ↦ statements text n wss
     | Some s ↦ do
-      _ ← refuse_if (leb most_statements n) (Refusal.TooManyStatements s.at)
+      _ ← refuse_if (leb MOST_STATEMENTS n) (Refusal.TooManyStatements s.at)
       ss ← statements text (suc n) wss
       Ok (s ∷ ss)
   ]

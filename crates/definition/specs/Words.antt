@@ -15,8 +15,8 @@ use Rattle.definition.specs.declared.ByteKind.{ByteKind}
 use Rattle.definition.specs.declared.ByteKind.TheVariants.{Newline, Blank, Cut, Star, Period, Other}
 use Rattle.definition.specs.declared.Mode.{Mode}
 use Rattle.definition.specs.declared.Mode.TheVariants.{Fresh, Between, Dropped, Within}
-use Rattle.definition.specs.declared.Said.{Said}
-use Rattle.definition.specs.declared.Said.TheVariants.{Before, Value, Literal}
+use Rattle.definition.specs.declared.LiteralState.{LiteralState}
+use Rattle.definition.specs.declared.LiteralState.TheVariants.{Before, Value, Literal}
 use Rattle.definition.specs.declared.Token.{Token}
 use Rattle.definition.specs.declared.Token.TheVariants.{Word, Stop, Open}
 use Rattle.definition.specs.Basic.{bytes, is, among, starts, white, same, uppers, span, part}
@@ -85,31 +85,31 @@ completed_end (Within s) p = up_to s p ∷ []
 -- ---------------------------------------------------------------- literals
 
 -- neither a period nor `*>` counts inside a literal
-abbrev pub seen : Said → ByteKind → ByteKind
+abbrev pub seen : LiteralState → ByteKind → ByteKind
 seen (Before n) = λ k. k
 seen Value = λ k. k
 seen (Literal mark at) =
     elim [ Newline ↦ Newline | Blank ↦ Blank | Cut ↦ Other | Star ↦ Star | Period ↦ Other | Other ↦ Other ]
 
 -- a byte b of a word, at position p: after VALUE each quote or apostrophe opens a literal, that closes at the same mark
-abbrev pub marked : Said → ℕ → ℕ → Said
-marked (Before n) p b = Before n
-marked Value p b = if among "'\"" b then Literal b p else Value
-marked (Literal mark at) p b = if eqb b mark then Value else Literal mark at
+abbrev pub after_byte : LiteralState → ℕ → ℕ → LiteralState
+after_byte (Before n) p b = Before n
+after_byte Value p b = if among "'\"" b then Literal b p else Value
+after_byte (Literal mark at) p b = if eqb b mark then Value else Literal mark at
 
 abbrev pub is_value : List ℕ → Bool
 is_value bs = same (uppers bs) (bytes "VALUE") || same (uppers bs) (bytes "VALUES")
 
 -- a word with the bytes bs ends, after n words: it is third or later, or not
-abbrev pub heard : Said → List ℕ → Said
-heard (Before n) bs = if leb 2 n then if is_value bs then Value else Before n else Before (n + 1)
-heard Value bs = Value
-heard (Literal mark at) bs = Literal mark at
+abbrev pub after_word : LiteralState → List ℕ → LiteralState
+after_word (Before n) bs = if leb 2 n then if is_value bs then Value else Before n else Before (n + 1)
+after_word Value bs = Value
+after_word (Literal mark at) bs = Literal mark at
 
 -- tokens of the text end: a period ends the statement
-abbrev pub ended : List ℕ → Said → List Token → Said
+abbrev pub ended : List ℕ → LiteralState → List Token → LiteralState
 ended text q [] = q
-ended text q (Word w ∷ ts) = ended text (heard q (part text w)) ts
+ended text q (Word w ∷ ts) = ended text (after_word q (part text w)) ts
 ended text q (Stop ∷ ts) = ended text (Before 0) ts
 ended text q (Open p ∷ ts) = ended text q ts
 
@@ -121,11 +121,11 @@ in_word Dropped = false
 in_word (Within s) = true
 
 -- what is said after a byte b at position p, which mode m sees as k
-unfoldable pub said_next : List ℕ → Said → Mode → ℕ → ℕ → ByteKind → Said
-said_next text q m p b k = if in_word (next m p k) then marked q p b else ended text q (completed m p k)
+unfoldable pub said_next : List ℕ → LiteralState → Mode → ℕ → ℕ → ByteKind → LiteralState
+said_next text q m p b k = if in_word (next m p k) then after_byte q p b else ended text q (completed m p k)
 
 -- a literal must close on its own line: the line's end, or the text's, leaves it open, and then no tokens ts follow
-abbrev pub unless_open : Said → ByteKind → List Token → List Token
+abbrev pub unless_open : LiteralState → ByteKind → List Token → List Token
 unless_open (Before n) k ts = ts
 unless_open Value k ts = ts
 unless_open (Literal mark at) k ts =
@@ -134,7 +134,7 @@ unless_open (Literal mark at) k ts =
 -- ---------------------------------------------------------------- tokens
 
 -- the tokens of the text from position p on, where it has the bytes that follow
-unfoldable pub tokens : List ℕ → Said → Mode → ℕ → List ℕ → List Token
+unfoldable pub tokens : List ℕ → LiteralState → Mode → ℕ → List ℕ → List Token
 tokens text q m p [] = completed_end m p ++ unless_open q Newline []
 tokens text q m p (b ∷ bs) =
     let k = seen q (byte_kind b bs) in

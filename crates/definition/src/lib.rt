@@ -5,15 +5,16 @@
 
 #![tactic(auto)]
 
-ghost use Rattle.std.specs.Prelude.{◌≡◌, ◌+◌, ◌≤◌, length, Some};
-ghost use Rattle.definition.specs.Basic.{given, part};
+ghost use Rattle.std.specs.Prelude.{◌≡◌, ◌+◌, ◌-◌, ◌≤◌, length, Some};
+ghost use Rattle.definition.specs.Basic.{is_given, part, span};
+ghost use Rattle.definition.specs.declared.TheConstants.{MOST_BYTES};
 ghost use Rattle.definition.specs.Picture.{is_alignable};
 ghost use Rattle.definition.specs.Refusals.{refusal_number, refusal_position, refusal_needed};
 ghost use Rattle.definition.specs.Statement.{missing, sign_of};
 
-// ---------------------------------------------------------------- limits, as `specs/Limits` has them
+// ---------------------------------------------------------------- limits
 
-// In brackets stands the refusal of what is past them.
+// The code and the definition both take them from here. In brackets stands the refusal of what is past them.
 
 /// The most bytes of a text (1).
 pub const MOST_BYTES: usize = 65535;
@@ -36,11 +37,11 @@ pub const MOST_DIGITS: usize = 31;
 /// The most bytes of a mask (27).
 pub const LONGEST_MASK: usize = 255;
 
-/// The largest aligned cursor, size or end, in bytes (29).
+/// The largest count of OCCURS, aligned cursor, size or end (29).
 pub const LARGEST: usize = 2147483647;
 
-/// The largest count of OCCURS (29).
-pub const LARGEST_COUNT: u64 = 2147483647;
+/// The same, as a count has it.
+pub const LARGEST_COUNT: u64 = LARGEST as u64;
 
 /// The most top-level items that an extract is chosen from (58).
 pub const MOST_ITEMS: usize = 16;
@@ -59,25 +60,34 @@ pub const MOST_IN_SET: usize = 16;
 
 // ---------------------------------------------------------------- the text
 
-/// A place in the text: a word, a name, a picture.
+/// A place in the text: a word, a name, a picture. A text has at most 65,535 bytes, so 16 bits hold either number.
 #[derive(Clone, Copy)]
 pub struct Span {
     /// Its first byte.
-    pub start: usize,
+    pub start: u16,
     /// Its length in bytes; 0 means absent.
-    pub len: usize,
+    pub len: u16,
 }
 
 impl Span {
     /// No place in the text.
-    // Kept: length 0 for an absent place – no plainer: a row, the listing and what C is handed have 0 and 0 for it, and
-    // what is read there is no byte, as at any place of length 0; an Option would be taken apart at each of these
-    // first.
+    // Not an Option: a row, the listing and what C is handed have length 0 for it.
     pub const ABSENT: Span = Span { start: 0, len: 0 };
+
+    /// The bytes from one place of the text up to another.
+    pub fn between(start: usize, end: usize) -> Span
+        requires { (start ≤ end) × (end ≤ MOST_BYTES) }
+        ensures { result ≡ span start (end - start) }
+    {
+        Span {
+            start: start as u16,
+            len: (end - start) as u16,
+        }
+    }
 
     /// Whether it is a place in the text.
     pub fn is_given(self) -> bool
-        ensures { result ≡ given self }
+        ensures { result ≡ is_given self }
     {
         0 < self.len
     }
@@ -87,7 +97,8 @@ impl Span {
         requires { self.start + self.len ≤ length text.now }
         ensures { result.now ≡ part text.now self }
     {
-        &text[self.start..self.start + self.len]
+        let start = usize::from(self.start);
+        &text[start..start + usize::from(self.len)]
     }
 }
 
@@ -109,8 +120,6 @@ pub enum ByteKind {
 }
 
 /// Where the reader is.
-// Kept: declared here, as `Token`, though no code holds one – no plainer: they stand beside `ByteKind` and `Said`,
-// which the definition takes and gives with them; as `data` of specs they would have the same arms.
 #[derive(Clone, Copy)]
 pub enum Mode {
     /// Before the first non-blank of a line.
@@ -124,10 +133,8 @@ pub enum Mode {
 }
 
 /// What a statement has said so far, as far as its literals go.
-// Kept: a number of words that ends at 2 – no plainer: variants for none, one and more would be three arms where one
-// number is counted up and compared; and in `FieldKind` `signed` beside `sign` – the C interface: a listing tells both.
 #[derive(Clone, Copy)]
-pub enum Said {
+pub enum LiteralState {
     /// This many words, 2 standing for more, and no VALUE from the third on.
     Before(u8),
     /// VALUE: a quote or an apostrophe opens a literal.
@@ -315,7 +322,7 @@ pub enum Keyword {
 
 /// What the reader of a statement expects.
 #[derive(Clone, Copy)]
-pub enum Expect {
+pub enum ParseState {
     /// A clause.
     Clause,
     /// IS or a picture.
@@ -363,9 +370,10 @@ pub enum Missing {
 
 impl Missing {
     /// Why the statement that begins at that byte is refused.
-    pub fn at(self, position: usize) -> Refusal
+    pub fn at(self, position: u16) -> Refusal
         ensures { result ≡ missing position self }
     {
+        let position = usize::from(position);
         match self {
             Missing::Count => Refusal::BadCount { position },
             Missing::Bound => Refusal::BadBound { position },
@@ -380,7 +388,7 @@ pub struct Statement {
     /// Its level, the number that is its first word.
     pub level: u8,
     /// The first byte of its first word.
-    pub at: usize,
+    pub at: u16,
     /// Its second word.
     pub name: Span,
     /// What its own clauses say.
@@ -478,9 +486,16 @@ pub struct KeyColumn {
     pub width: usize,
 }
 
+/// How a copybook is written.
+#[derive(Clone, Copy, PartialEq, Eq)]
+pub enum Form {
+    /// Free text: a line has no columns.
+    FreeText,
+    /// Cards, COBOL's reference format: what a line's columns hold depends on their number.
+    Cards,
+}
+
 /// What is written of a copybook's record.
-// Kept: an enum that says which, told apart in one place of the library, by `answer` of `answers` – no plainer: the
-// definition's calls take it, and the entries for each report, for text and for cards, hand it on.
 #[derive(Clone, Copy)]
 pub enum Report {
     /// The layout listing.
@@ -565,7 +580,6 @@ pub enum Refusal {
 
 impl Refusal {
     /// Its number.
-    // Kept: a number for a refusal, by a `match` – the C interface: C is told these, which docs/REFUSALS.md lists.
     pub fn number(self) -> u32
         ensures { result ≡ refusal_number self }
     {
@@ -606,7 +620,6 @@ impl Refusal {
     }
 
     /// The position that it is about, 0 where there is none.
-    // Kept: 0 for none, as in `needed` – the C interface: an answer has a number there for each refusal.
     pub fn position(self) -> usize
         ensures { result ≡ refusal_position self }
     {

@@ -1,6 +1,7 @@
 -- Laws of the items' bytes: one law for each way through the loop that gathers them; they are the reserved widths, as
 -- many as the record has items, and none is too large.
 -- Assumes nothing.
+use Rattle.rows.specs.declared.Row.{Row}
 use Prim.Native.Nat.{ℕ, zero, suc, ◌+◌, ◌-◌, ◌≤◌, ◌<◌}
 use mathlib.Core.Path.{◌≡◌, refl, sym, ◌∙◌, ap, ap₂}
 use mathlib.Core.Bool.{false}
@@ -11,42 +12,42 @@ use lib.ListN.{length, get_or, set, length-set, take}
 use Rattle.std.proofs.Math.Seq.{take-suc-set}
 use Rattle.std.proofs.lemmas.List.{take_all}
 use Rattle.definition.specs.declared.Statement.{Statement}
-use Rattle.definition.specs.Limits.{largest}
+use Rattle.definition.specs.declared.TheConstants.{LARGEST}
 use Rattle.std.specs.Prelude.{if◌then◌else◌}
-use Rattle.definition.specs.Basic.{given}
+use Rattle.definition.specs.Basic.{is_given}
 use Rattle.definition.specs.Extract.{widths}
 use Rattle.definition.specs.Fold.{Entries, end, entry, total}
 use Rattle.definition.specs.Listing.{members#}
 use Rattle.definition.specs.Owner.{size, overlaid}
 use Rattle.definition.specs.Tree.{Forest, leaf, item}
 use Rattle.definition.proofs.Cover.{Plain, plain}
-use Rattle.places.specs.Children.{ChildrenEnd, ListCounted}
-use Rattle.places.specs.Places.{entry_in, entries_in, rows_forest}
-use Rattle.places.proofs.EntriesLaws.{Rows, rows-forest, linked-counted}
-use Rattle.unions.specs.Shown.{list_in, Marked, Tree, SizedRow, Measured}
-use Rattle.unions.proofs.ShownLaws.{list-none, list-split, marked_step, marked-linked}
+use Rattle.layout.specs.Children.{ChildrenEnd, ListCounted}
+use Rattle.layout.specs.Places.{entry_in, entries_in, rows_forest}
+use Rattle.layout.proofs.EntriesLaws.{Rows, rows-forest, linked-counted}
+use Rattle.layout.specs.Shown.{list_in, Marked, Tree, SizedRow, Measured}
+use Rattle.layout.proofs.ShownLaws.{list-none, list-split, marked_step, marked-linked}
 use Rattle.extract.specs.Gathered.{totals, Gatherable}
 
 -- ---------------------------------------------------------------- the loop
 
 -- the bytes of the first i items are gathered, and those from row k on are the others
-pub record Gathering (w : List ℕ) (from to : ℕ) (out : List ℕ) (k i : ℕ) : Type 0 where
+pub record Gathering (w : List Row) (from to : ℕ) (out : List ℕ) (k i : ℕ) : Type 0 where
   pub text : List ℕ
   pub tree : Tree text w from to
   pub last : ℕ
   pub low : from ≤ k
   pub few : i + (to - k) ≤ to
-  pub marked : Marked text w k last (rows_forest w k to)
+  pub marks : Marked text w k last (rows_forest w k to)
   pub room : i + length (totals (list_in w k to)) ≡ length out
   pub same : totals (list_in w from to) ≡ take i out ++ totals (list_in w k to)
 
 -- each of the rows counts the rows below it
-pub gather-counted : {w : List ℕ} {from to : ℕ} {out : List ℕ} → Gatherable w from to out → ListCounted w from to
+pub gather-counted : {w : List Row} {from to : ℕ} {out : List ℕ} → Gatherable w from to out → ListCounted w from to
 gather-counted {w} {from} {to} g =
     let f = rows_forest w from to in
-    linked-counted g.text w f from 0 (marked-linked g.text w f from 0 g.tree.marked)
+    linked-counted g.text w f from 0 (marked-linked g.text w f from 0 g.tree.marks)
 
-module _ {w : List ℕ} {from to : ℕ} {out : List ℕ} {k i : ℕ} (g : Gathering w from to out k i) where
+module _ {w : List Row} {from to : ℕ} {out : List ℕ} {k i : ℕ} (g : Gathering w from to out k i) where
   -- all items are passed
   pub gathering-ends : to ≤ k → out ≡ totals (list_in w from to)
   unfolding totals
@@ -82,7 +83,7 @@ module _ {w : List ℕ} {from to : ℕ} {out : List ℕ} {k i : ℕ} (g : Gather
             last = suc k;
             low = omega (arith, g.low, c.low);
             few = omega (arith, g.few, c.low, c.high);
-            marked = (marked_step w k to j c g.text g.last g.marked).2;
+            marks = (marked_step w k to j c g.text g.last g.marks).2;
             room = omega (arith, g.room, ap length first-is, length-set out i t);
             same =
                 g.same
@@ -96,18 +97,18 @@ module _ {w : List ℕ} {from to : ℕ} {out : List ℕ} {k i : ℕ} (g : Gather
 
 -- without DEPENDING ON all bytes are reserved
 plain-widths :
-    (w : List ℕ) (f : Forest) (k : ℕ) → Plain f → Rows w k f → totals (entries_in w k f) ≡ widths (entries_in w k f)
+    (w : List Row) (f : Forest) (k : ℕ) → Plain f → Rows w k f → totals (entries_in w k f) ≡ widths (entries_in w k f)
 unfolding entries_in totals
 plain-widths w leaf k p r = refl
 plain-widths w (item s kids later) k p r =
-    let free : given (entry_in w k).depending ≡ false =
-    ap (λ (x : Statement). given x.clauses.depending) r.0 ∙ p.0.depending in
-    let own : total (entry_in w k) ≡ (if given (entry_in w k).depending then 0 else total (entry_in w k)) = rw free in
+    let free : is_given (entry_in w k).depending ≡ false =
+    ap (λ (x : Statement). is_given x.clauses.depending) r.0 ∙ p.0.depending in
+    let own : total (entry_in w k) ≡ (if is_given (entry_in w k).depending then 0 else total (entry_in w k)) = rw free in
     let rest = plain-widths w later (suc k + size kids) p.2 r.2 in
     λ i. own i ∷ rest i
 
 pub list-widths :
-    (w : List ℕ) (from to : ℕ) →
+    (w : List Row) (from to : ℕ) →
     overlaid (rows_forest w from to) ≡ false →
     totals (list_in w from to) ≡ widths (list_in w from to)
 list-widths w from to free =
@@ -120,9 +121,9 @@ widths-length (entry e members later) = ap suc (widths-length later)
 
 -- none is too large
 pub totals-small :
-    (w : List ℕ) (f : Forest) (k : ℕ) →
-    ((j : ℕ) → k ≤ j → j < k + size f → total (entry_in w j) ≤ largest) →
-    (i : ℕ) → i < length (totals (entries_in w k f)) → get_or (totals (entries_in w k f)) i 0 ≤ largest
+    (w : List Row) (f : Forest) (k : ℕ) →
+    ((j : ℕ) → k ≤ j → j < k + size f → total (entry_in w j) ≤ LARGEST) →
+    (i : ℕ) → i < length (totals (entries_in w k f)) → get_or (totals (entries_in w k f)) i 0 ≤ LARGEST
 unfolding entries_in totals
 totals-small w leaf k each i h = absurd (omega arith)
 totals-small w (item s kids later) k each zero h = each k (omega arith) (omega arith)

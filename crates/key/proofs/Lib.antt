@@ -1,2 +1,4 @@
 pub mod KindLaws
+pub mod ReadLaws
+pub mod SetLaws
 pub mod SoughtLaws

@@ -1,6 +1,7 @@
 -- The search of a table finds the definition's key: the entries at the top of the folded listing are those of depth 0,
 -- and what stands below an entry stands before the later ones.
 -- Assumes nothing.
+use Rattle.rows.specs.declared.Row.{Row}
 use Prim.Native.Nat.{ℕ, ◌+◌, ◌≤◌, ◌<◌}
 use mathlib.Core.Path.{◌≡◌, refl, sym, ◌∙◌, ap, ap₂}
 use mathlib.Core.Bool.{Bool, true, false, ◌||◌}
@@ -13,12 +14,12 @@ use Rattle.std.proofs.lemmas.List.{at_drop_more, at_drop_all}
 use Rattle.std.proofs.Math.Bool.{or_assoc, or-false}
 use borrow.Author.Tests.{ne_eqb}
 use Rattle.std.specs.Prelude.{if◌then◌else◌}
-use Rattle.definition.specs.Basic.{given}
+use Rattle.definition.specs.Basic.{is_given}
 use Rattle.definition.specs.Fold.{Entries, end, entry}
 use Rattle.definition.specs.Record.{variable}
 use Rattle.definition.specs.Key.{is_named, Named, named, named_in, may_be_key, key_of, one_key, key_among}
-use Rattle.table.specs.declared.Item.{Item}
-use Rattle.table.specs.Entered.{Shown, flat_in, own_of, shown_of, shown_all}
+use Rattle.fold.specs.declared.table.TableEntry.{TableEntry}
+use Rattle.fold.specs.Entered.{Shown, flat_in, own_of, shown_of, shown_all}
 use Rattle.key.specs.declared.Sought.{Sought}
 use Rattle.key.specs.Sought.{column_of, found_key, met, sought_at, sought_in}
 
@@ -69,18 +70,18 @@ module _ (text name : List ℕ) where
       let deep : eqb (d + 1) 0 ≡ false = ne_eqb (d + 1) 0 (λ z. omega arith) in
       ap
       (λ (b : Bool).
-      sought_in text name (v || given e.depending)
+      sought_in text name (v || is_given e.depending)
       (if b then (if is_named text name e then met s (named e v) else s) else s)
       ((flat_in (d + 1 + 1) ms ++ flat_in (d + 1) later) ++ l))
       deep
       ∙ ap
-      (sought_in text name (v || given e.depending) s)
+      (sought_in text name (v || is_given e.depending) s)
       (append_assoc (flat_in (d + 1 + 1) ms) (flat_in (d + 1) later) l)
-      ∙ below_top ms (d + 1) (v || given e.depending) s (flat_in (d + 1) later ++ l)
-      ∙ below_top later d ((v || given e.depending) || variable ms) s l
+      ∙ below_top ms (d + 1) (v || is_given e.depending) s (flat_in (d + 1) later ++ l)
+      ∙ below_top later d ((v || is_given e.depending) || variable ms) s l
       ∙ ap
       (λ (b : Bool). sought_in text name b s l)
-      (or_inside v (given e.depending) (variable ms) (variable later))
+      (or_inside v (is_given e.depending) (variable ms) (variable later))
 
   -- the search over the listing meets the entries of the name at the top
   at_top :
@@ -89,23 +90,23 @@ module _ (text name : List ℕ) where
   unfolding sought_in flat_in named_in met_all
   at_top end v s = refl
   at_top (entry e ms later) v s =
-      below_top ms 0 (v || given e.depending)
+      below_top ms 0 (v || is_given e.depending)
       (if is_named text name e then met s (named e v) else s)
       (flat_in 0 later)
-      ∙ at_top later ((v || given e.depending) || variable ms)
+      ∙ at_top later ((v || is_given e.depending) || variable ms)
       (if is_named text name e then met s (named e v) else s)
       ∙ ap
       (λ (b : Bool). met_all (if is_named text name e then met s (named e v) else s) (named_in text name b later))
-      (or_assoc v (given e.depending) (variable ms))
+      (or_assoc v (is_given e.depending) (variable ms))
       ∙ by-test (is_named text name e)
     where
       by-test :
           (b : Bool) →
           met_all (if b then met s (named e v) else s)
-          (named_in text name (v || (given e.depending || variable ms)) later)
+          (named_in text name (v || (is_given e.depending || variable ms)) later)
           ≡ met_all s
-          (if b then named e v ∷ named_in text name (v || (given e.depending || variable ms)) later
-          else named_in text name (v || (given e.depending || variable ms)) later)
+          (if b then named e v ∷ named_in text name (v || (is_given e.depending || variable ms)) later
+          else named_in text name (v || (is_given e.depending || variable ms)) later)
       by-test true = refl
       by-test false = refl
 
@@ -117,7 +118,7 @@ module _ (text name : List ℕ) where
 
 -- ---------------------------------------------------------------- the loop
 
-module _ (text name w : List ℕ) (t : List Item) (k : ℕ) (b : Bool) (f : Sought) where
+module _ (text name : List ℕ) (w : List Row) (t : List TableEntry) (k : ℕ) (b : Bool) (f : Sought) where
   -- no item is left
   pub seek-none : length t ≤ k → sought_in text name b f (shown_all w (drop k t)) ≡ f
   unfolding sought_in shown_all
@@ -125,11 +126,11 @@ module _ (text name w : List ℕ) (t : List Item) (k : ℕ) (b : Bool) (f : Soug
 
   -- one more is looked at
   pub seek-next :
-      (x : Item) →
+      (x : TableEntry) →
       k < length t →
       {s : Sought} {b' : Bool} →
       s ≡ sought_at text name b f (shown_of w (get_or t k x)) →
-      b' ≡ (b || given (own_of w (get_or t k x)).depending) →
+      b' ≡ (b || is_given (own_of w (get_or t k x)).depending) →
       sought_in text name b f (shown_all w (drop k t)) ≡ sought_in text name b' s (shown_all w (drop (k + 1) t))
   unfolding sought_in shown_all
   seek-next x h p q =

@@ -4,9 +4,9 @@ use Rattle.std.specs.Prelude.{ℕ, Bool, ◌||◌, List, [], ◌∷◌, eqb, if�
 use Rattle.std.specs.Prelude.{Option, None, Some}
 use Rattle.definition.specs.declared.Entry.{Entry}
 use Rattle.definition.specs.declared.KeyColumn.{KeyColumn}
-use Rattle.definition.specs.Basic.{given}
+use Rattle.definition.specs.Basic.{is_given}
 use Rattle.definition.specs.Key.{is_named, Named, named, may_be_key, key_mask, Key}
-use Rattle.table.specs.Entered.{Shown}
+use Rattle.fold.specs.Entered.{Shown}
 use Rattle.key.specs.declared.Candidate.{Candidate}
 use Rattle.key.specs.declared.Sought.{Sought}
 
@@ -53,4 +53,4 @@ sought_at text name behind found x =
 unfoldable pub sought_in : List ℕ → List ℕ → Bool → Sought → List Shown → Sought
 sought_in text name behind found [] = found
 sought_in text name behind found (x ∷ xs) =
-    sought_in text name (behind || given x.own.depending) (sought_at text name behind found x) xs
+    sought_in text name (behind || is_given x.own.depending) (sought_at text name behind found x) xs

@@ -1,18 +1,21 @@
-//! The key of a record laid out in work memory: the one entry of a name at the top, found in the table of entries, and
-//! whether two copybooks' keys agree. Leans on `text`, `names`, `mask` and `table`.
+//! The key of a laid record: the one entry of a name at the top, found in the table of entries, and whether two
+//! copybooks' keys agree; in a module the key of a set of copybooks. Leans on `record`.
 #![tactic(auto)]
 
 ghost use Rattle.std.specs.Prelude.{◌≡◌, length};
 ghost use Rattle.std.proofs.Math.Bool.{Bool.false};
-ghost use Rattle.definition.specs.Limits.{longest_mask};
 ghost use Rattle.definition.specs.Basic.{same};
 ghost use Rattle.definition.specs.Key.{is_named, named, may_be_key};
 ghost use Rattle.definition.specs.Key.{same_key, agree};
-ghost use Rattle.table.specs.Entered.{shown_of, shown_all};
+ghost use Rattle.fold.specs.Entered.{shown_of, shown_all};
 ghost use Rattle.key.specs.Sought.{column_of, key_column, key_at, candidate, found_key, met, sought_at, sought_in};
 
 use definition::{Entry, FieldKind, KeyColumn, LONGEST_MASK, Span, Usage};
-use table::{RowItem, Table};
+use fold::table::{RowItem, Table};
+use picture::mask;
+use text::names;
+
+pub mod family;
 
 /// A column that may be a key: its place, what it holds, and its picture in the text.
 #[derive(Clone, Copy)]
@@ -52,8 +55,6 @@ impl From<Candidate> for KeyColumn {
 }
 
 /// What a search has found.
-// Kept: three arms – no plainer: an `Option` of an `Option` has a `None` for no entry of the name and one for a name
-// that no longer can be a key, and the arms say which.
 #[derive(Clone, Copy)]
 pub enum Sought {
     /// No entry of the name.
@@ -67,8 +68,6 @@ pub enum Sought {
 // ---------------------------------------------------------------- an entry
 
 // Whether an entry has the name, case aside; an absent one means FILLER.
-// Kept: text and name, as in `sought_at`, and `behind` beside an entry, as in `may_be_key` and `with` – no plainer:
-// `seek_key` is public and takes the two so, and `behind` changes from item to item.
 fn is_named(text: &[u8], name: &[u8], e: Entry) -> bool
     ensures { result ≡ is_named text.now name.now e }
 {
@@ -109,7 +108,7 @@ impl Sought {
 // What is found with one more item, which counts where it stands at the top and has the name.
 fn sought_at(text: &[u8], x: RowItem, name: &[u8], behind: bool, found: Sought) -> Sought
     ensures { result ≡ sought_at text.now name.now behind found
-        (shown_of x.entry.rows.work.now x.entry.item.now) }
+        (shown_of x.entry.rows.all.now x.entry.item.now) }
 {
     if 0 < x.item.depth {
         return found;
@@ -125,7 +124,7 @@ fn sought_at(text: &[u8], x: RowItem, name: &[u8], behind: bool, found: Sought) 
 #[tactic(auto, using(crate::proofs::SoughtLaws::seeking))]
 pub fn seek_key(text: &[u8], table: Table, name: &[u8]) -> Sought
     ensures { result ≡ sought_in text.now name.now false Sought.Nothing
-        (shown_all table.entry.rows.work.now table.entry.items.now) }
+        (shown_all table.entry.rows.all.now table.entry.items.now) }
 {
     let mut found = Sought::Nothing;
     let mut behind = false;
@@ -140,8 +139,6 @@ pub fn seek_key(text: &[u8], table: Table, name: &[u8]) -> Sought
 // ---------------------------------------------------------------- two keys
 
 // A candidate in its text.
-// Kept: beside `Finding` – no plainer: that one is public and may hold no key; its `agrees` asks whether both do, and
-// then calls this one's.
 #[derive(Clone, Copy)]
 struct TextKey<'a> {
     text: &'a [u8],
@@ -151,12 +148,12 @@ struct TextKey<'a> {
 impl<'a> TextKey<'a> {
     // What an edited key is compared by, its mask, written to an output; of any other kind nothing.
     fn mask<'b>(self, out: &'b mut [u8]) -> &'b [u8]
-        requires { length out.old ≡ longest_mask }
+        requires { length out.old ≡ LONGEST_MASK }
         ensures { result.now ≡ (key_at self.entry.text.now self.entry.column).mask }
     {
         match self.column.kind {
             FieldKind::Edited { .. } => {
-                let pic = names::part_of(self.text, self.column.picture);
+                let pic = names::part_within(self.text, self.column.picture);
                 let n = mask::picture_mask(pic, Usage::Display, out).unwrap_or(0);
                 &out[..n]
             }
@@ -176,8 +173,7 @@ impl<'a> TextKey<'a> {
     }
 
     // Whether two keys agree in offset, width, kind and kind details.
-    // Kept: parts compared one by one – no plainer: of the pictures the masks are compared, each in its own text, and
-    // not the places, as a derived `==` would.
+    // Of pictures the masks are compared, each in its own text, and not the places, as a derived `==` would.
     #[tactic(auto, using(crate::proofs::KindLaws::kind_steps))]
     fn agrees(self, other: TextKey) -> bool
         ensures { result

@@ -5,33 +5,30 @@ use mathlib.Core.Path.{◌≡◌, refl, sym, ap, subst, ◌∙◌}
 use mathlib.Core.Bool.{Bool, true, false, ◌&&◌, ◌||◌, not}
 use mathlib.Core.List.{List, [], ◌∷◌, ◌++◌}
 use native.Mathlib.Omega.{arith}
-use lib.Dec.{eqb, leb, ltb}
+use lib.Dec.{leb, ltb}
 use lib.ListN.{length, replicate, length-append, length-replicate}
 use borrow.Author.Tests.{ltb-false}
 use Rattle.std.proofs.lemmas.Bool.{or_parts}
 use Rattle.definition.specs.declared.Usage.{Usage}
 use Rattle.definition.specs.declared.ItemUsage.{ItemUsage}
 use Rattle.definition.specs.declared.SignKind.{SignKind}
-use Rattle.definition.specs.declared.NumRepr.{NumRepr}
-use Rattle.definition.specs.declared.FieldKind.{FieldKind}
 use Rattle.definition.specs.declared.Pictured.{Pictured}
 use Rattle.definition.specs.declared.Statement.{Statement}
-use Rattle.definition.specs.Limits.{most_bytes, most_digits, longest_mask}
+use Rattle.definition.specs.declared.TheConstants.{MOST_BYTES, MOST_DIGITS, LONGEST_MASK}
 use Rattle.std.specs.Prelude.{if◌then◌else◌, Option}
 use Rattle.definition.specs.Basic.{upper, Ok}
-use Rattle.definition.specs.Tree.{Forest, leaf, item}
+use Rattle.definition.specs.Tree.{leaf}
 use Rattle.definition.specs.Picture.{expand, all_digits, stored_digits, fraction, is_text, is_masked, mask, pictured}
-use Rattle.definition.specs.Picture.{is_embedded, sign_bytes, storage_width, display, numeric, kinded, too_long, symbols}
+use Rattle.definition.specs.Picture.{sign_bytes, storage_width, numeric, kinded, too_long, symbols}
 use Rattle.definition.specs.Picture.{picture}
 use Rattle.definition.specs.Layout.{under_usage, content}
 use Rattle.definition.proofs.Answers.{through, given-same, not-refused}
 use Rattle.definition.proofs.PictureLaws.{tally-le, without-length, mask-width}
-use Rattle.kinds.specs.Kinds.{Bytes}
 
 -- ---------------------------------------------------------------- symbols
 
--- no more than 65,535 symbols stand
-few : (bs : List ℕ) (at n skip : ℕ) {l : List ℕ} → n ≤ most_bytes → expand at n skip bs ≡ Ok l → n + length l ≤ most_bytes
+-- no more than `MOST_SYMBOLS` symbols stand
+few : (bs : List ℕ) (at n skip : ℕ) {l : List ℕ} → n ≤ MOST_BYTES → expand at n skip bs ≡ Ok l → n + length l ≤ MOST_BYTES
 unfolding expand
 few [] at n skip h e = let same : [] ≡ _ = given-same e in rw (← same) (omega arith)
 few (b ∷ bs) at n (suc skip) h e = few bs at n skip h e
@@ -39,26 +36,21 @@ few (b ∷ bs) at n zero h e =
     through _ _ e λ r e₁ h₁.
     through _ _ h₁ λ u e₂ h₂.
     through _ _ h₂ λ m e₃ h₃.
-    let ok : n + r.0 ≤ most_bytes = ltb-false most_bytes (n + r.0) (not-refused (ltb most_bytes (n + r.0)) _ e₂) in
+    let ok : n + r.0 ≤ MOST_BYTES = ltb-false MOST_BYTES (n + r.0) (not-refused (ltb MOST_BYTES (n + r.0)) _ e₂) in
     let ih = few bs at (n + r.0) r.1 ok e₃ in
     let same : replicate r.0 (upper b) ++ m ≡ _ = given-same h₃ in
     rw (← same, length-append, length-replicate) (omega arith)
 
 -- ---------------------------------------------------------------- kind and width
 
--- a width of at most 65,536, and a kind whose numbers are bytes
+-- a width of at most 65,536
 pub record Bounded (c : Pictured) : Type 0 where
   pub width : c.width ≤ 65536
-  pub bytes : Bytes c.kind
 
 -- by a test
 by-test : (b : Bool) (c d : Pictured) → (b ≡ true → Bounded c) → (b ≡ false → Bounded d) → Bounded (if b then c else d)
 by-test true c d p q = p refl
 by-test false c d p q = q refl
-
-bytes-test : (b : Bool) (k l : FieldKind) → Bytes k → Bytes l → Bytes (if b then k else l)
-bytes-test true k l p q = p
-bytes-test false k l p q = q
 
 one_byte : (g : SignKind) → sign_bytes g ≤ 1
 one_byte SignKind.Unsigned = omega arith
@@ -71,31 +63,27 @@ eight true b = omega arith
 eight false true = omega arith
 eight false false = omega arith
 
-module _ (precision scale digits : ℕ) (h : precision ≤ most_digits) (l : scale ≤ precision) (d : digits ≤ precision) (signed : Bool) (g : SignKind) where
-  display-bytes : Bytes (display precision scale signed g)
-  display-bytes =
-      bytes-test (eqb scale 0 && not (signed && is_embedded g)) (FieldKind.Int signed g) (FieldKind.Decimal precision scale (if signed && is_embedded g then NumRepr.Zoned else NumRepr.Display) g) tt (omega arith, omega arith)
-
+module _ (precision scale digits : ℕ) (h : precision ≤ MOST_DIGITS) (l : scale ≤ precision) (d : digits ≤ precision) (signed : Bool) (g : SignKind) where
   numeric-bounded : (u : Usage) → Bounded (pictured (numeric u precision scale signed g) (storage_width u g digits))
-  numeric-bounded Usage.Display = record { width = omega (arith, one_byte g); bytes = display-bytes }
-  numeric-bounded Usage.Comp3 = record { width = omega arith; bytes = (omega arith, omega arith) }
-  numeric-bounded Usage.Comp = record { width = omega (arith, eight (leb digits 4) (leb digits 9)); bytes = tt }
+  numeric-bounded Usage.Display = record { width = omega (arith, one_byte g) }
+  numeric-bounded Usage.Comp3 = record { width = omega arith }
+  numeric-bounded Usage.Comp = record { width = omega (arith, eight (leb digits 4) (leb digits 9)) }
 
-module _ (u : Usage) (g : Option SignKind) (l : List ℕ) (h : length l ≤ most_bytes) (n : too_long u l ≡ false) where
-  short : is_text l ≡ false → all_digits l ≤ most_digits
+module _ (u : Usage) (g : Option SignKind) (l : List ℕ) (h : length l ≤ MOST_BYTES) (n : too_long u l ≡ false) where
+  short : is_text l ≡ false → all_digits l ≤ MOST_DIGITS
   short e =
-      let q : (ltb most_digits (all_digits l) || is_masked u l && ltb longest_mask (length (mask l))) ≡ false = ap (λ (b : Bool). not b && (ltb most_digits (all_digits l) || is_masked u l && ltb longest_mask (length (mask l)))) (sym e) ∙ n in
-      ltb-false most_digits (all_digits l) (or_parts (ltb most_digits (all_digits l)) (is_masked u l && ltb longest_mask (length (mask l))) q).0
+      let q : (ltb MOST_DIGITS (all_digits l) || is_masked u l && ltb LONGEST_MASK (length (mask l))) ≡ false = ap (λ (b : Bool). not b && (ltb MOST_DIGITS (all_digits l) || is_masked u l && ltb LONGEST_MASK (length (mask l)))) (sym e) ∙ n in
+      ltb-false MOST_DIGITS (all_digits l) (or_parts (ltb MOST_DIGITS (all_digits l)) (is_masked u l && ltb LONGEST_MASK (length (mask l))) q).0
 
   kinded-bounded : Bounded (kinded u g l)
   unfolding kinded
   kinded-bounded =
       by-test (is_text l) _ _
-      (λ e. record { width = omega (arith, tally-le "XA" l); bytes = tt })
+      (λ e. record { width = omega (arith, tally-le "XA" l) })
       (λ e.
       let d = short e in
       by-test (is_masked u l) _ _
-      (λ m. record { width = omega (arith, without-length "SV" l, mask-width l); bytes = (omega arith, omega arith) })
+      (λ m. record { width = omega (arith, without-length "SV" l, mask-width l) })
       (λ m. numeric-bounded (all_digits l) (fraction l) (stored_digits l) d (omega arith) (omega arith) _ _ u))
 
 -- ---------------------------------------------------------------- an item
@@ -116,15 +104,10 @@ picture-bounded at u g bs e =
 under-bounded : (text : List ℕ) (s : Statement) (u : ItemUsage) {c : Pictured} → under_usage text s u ≡ Ok c → Bounded c
 under-bounded text s (ItemUsage.Picture u) e = through _ _ e λ x e₁ h₁. picture-bounded s.at _ _ _ h₁
 under-bounded text s ItemUsage.Comp1 e =
-    through _ _ e λ x e₁ h₁. subst Bounded (given-same h₁) (record { width = omega arith; bytes = omega arith })
+    through _ _ e λ x e₁ h₁. subst Bounded (given-same h₁) (record { width = omega arith })
 under-bounded text s ItemUsage.Comp2 e =
-    through _ _ e λ x e₁ h₁. subst Bounded (given-same h₁) (record { width = omega arith; bytes = omega arith })
+    through _ _ e λ x e₁ h₁. subst Bounded (given-same h₁) (record { width = omega arith })
 
 -- an item without children
 pub leaf-bounded : (text : List ℕ) (s : Statement) (w : ℕ) {c : Pictured} → content text s leaf w ≡ Ok c → Bounded c
 leaf-bounded text s w e = under-bounded text s s.usage e
-
--- the kind of any item
-pub content-bytes : (text : List ℕ) (s : Statement) (kids : Forest) (w : ℕ) {c : Pictured} → content text s kids w ≡ Ok c → Bytes c.kind
-content-bytes text s leaf w e = (leaf-bounded text s w e).bytes
-content-bytes text s (item t kids later) w e = subst (λ (x : Pictured). Bytes x.kind) (given-same e) tt

@@ -10,8 +10,8 @@ use Rattle.definition.specs.declared.Pictured.{Pictured}
 use Rattle.definition.specs.Basic.{Err, Ok, and_then}
 use Rattle.definition.specs.Fold.{Place}
 use Rattle.definition.specs.Layout.{start, slack_from, entry_of, too_large}
-use Rattle.limits.specs.Ends.{end_of}
-use Rattle.limits.proofs.EndLaws.{ends-not}
+use Rattle.layout.specs.Ends.{end_of}
+use Rattle.layout.proofs.EndLaws.{ends-not}
 use Rattle.layout.specs.Bare.{placed_entry}
 
 module _ (text : List ℕ) (s : Statement) (c : Pictured) (seen : List Place) (cursor : ℕ) where

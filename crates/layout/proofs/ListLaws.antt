@@ -9,16 +9,15 @@ use Rattle.definition.specs.declared.Statement.{Statement}
 use Rattle.definition.specs.declared.Entry.{Entry}
 use Rattle.definition.specs.declared.Pictured.{Pictured}
 use Rattle.definition.specs.declared.Refusal.{Refusal}
-use Rattle.definition.specs.Limits.{largest}
+use Rattle.definition.specs.declared.TheConstants.{LARGEST}
 use Rattle.definition.specs.Basic.{Answer, Err, Ok, ◌>>=◌, and_then, refuse_if}
 use Rattle.definition.specs.Tree.{Forest, leaf, item}
 use Rattle.definition.specs.Fold.{entry, entry_end, Place, place_of, fold_check}
 use Rattle.definition.specs.Layout.{shallow, content, start, slack_from, entry_of, too_large, advance, Laid, lay}
 use Rattle.definition.proofs.Answers.{through, given-same, not-refused}
-use Rattle.places.proofs.EntriesLaws.{EntryOf, Of}
-use Rattle.limits.proofs.EndLaws.{within}
+use Rattle.layout.proofs.EntriesLaws.{EntryOf, Of}
+use Rattle.layout.proofs.EndLaws.{within}
 use Rattle.layout.specs.Bare.{ItemLaid, placed_entry, bare_item}
-use Rattle.layout.proofs.ContentLaws.{content-bytes}
 
 -- ---------------------------------------------------------------- the first item, and the rest
 
@@ -105,12 +104,12 @@ item-is text depth seen cursor s kids h =
 -- what a laid list has of its forest
 pub record BareIs (f : Forest) (l : Laid) : Type 0 where
   pub of : Of f l.entries
-  pub width : l.width ≤ largest
+  pub width : l.width ≤ LARGEST
 
 module _ (text : List ℕ) where
   pub bare-is :
       (f : Forest) (depth : ℕ) (seen : List Place) (cursor reach : ℕ) {l : Laid} →
-      reach ≤ largest →
+      reach ≤ LARGEST →
       lay text depth seen cursor reach f ≡ Ok l →
       BareIs f l
   unfolding lay
@@ -121,9 +120,9 @@ module _ (text : List ℕ) where
       let i = item-is text depth seen cursor s kids e₁ in
       let members = bare-is kids (suc depth) [] 0 0 (omega arith) i.inner-laid in
       let ends = (within (entry_of s i.contents i.offset i.slack) i.fits).ends in
-      let ends' : entry_end x.own ≤ largest = subst (λ (y : Entry). entry_end y ≤ largest) i.own ends in
+      let ends' : entry_end x.own ≤ LARGEST = subst (λ (y : Entry). entry_end y ≤ LARGEST) i.own ends in
       let rest = bare-is later depth (place_of x.own ∷ seen) (advance cursor x.own) (max reach (entry_end x.own)) (omega arith) e₂ in
       let own : EntryOf s x.own =
-      record { place = i.offset; slack = i.slack; contents = i.contents; is = sym i.own; bytes = content-bytes text s kids i.inner.width i.contents-are } in
+      record { place = i.offset; slack = i.slack; contents = i.contents; is = sym i.own } in
       subst (BareIs (item s kids later)) (given-same h₂)
       (record { of = (own, subst (Of kids) i.members members.of, rest.of); width = rest.width })

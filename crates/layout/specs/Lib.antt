@@ -1,2 +1,11 @@
 pub mod Bare
+pub mod Checks
+pub mod Children
+pub mod Ends
+pub mod Fingerprints
+pub mod Marks
 pub mod Outcomes
+pub mod Places
+pub mod Shown
+pub mod Single
+pub mod Targets

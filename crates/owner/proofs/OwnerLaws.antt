@@ -16,26 +16,26 @@ use Rattle.std.proofs.Math.Bool.{or_assoc}
 use Rattle.definition.specs.declared.Owner.{Owner}
 use Rattle.definition.specs.declared.Refusal.{Refusal}
 use Rattle.definition.specs.declared.Statement.{Statement}
-use Rattle.definition.specs.Basic.{given, Answer, Err, Ok, ◌>>=◌, and_then}
+use Rattle.definition.specs.Basic.{is_given, Answer, Err, Ok, ◌>>=◌, and_then}
 use Rattle.definition.specs.Calls.{owner_in}
 use Rattle.definition.specs.Fold.{Entries, entry, total, folded_list, folded_below, folded_all}
 use Rattle.definition.specs.Owner.{size, overlaid}
 use Rattle.definition.specs.Record.{record_length, layout}
-use Rattle.definition.specs.Search.{entries#, Row, row_of, rows, walk}
+use Rattle.definition.specs.Search.{entries#, Row as Step, row_of_entry, rows, walk}
 use Rattle.definition.specs.Tree.{Forest, leaf, item, above, not_above, forest}
 use Rattle.definition.proofs.Cover.{Plain, plain, Unfolded, fold-plain}
 use Rattle.definition.proofs.Demand3.{refuses-40, refuses-41, one-owner, walked, computed}
 use Rattle.definition.proofs.Lists.{order, tested}
 use Rattle.definition.proofs.Walk.{walk-slack, walk-piece, walk-in, walk-later, walk-skip}
-use Rattle.rows.specs.Columns.{ROW, OFFSET, WIDTH, BELOW}
-use Rattle.rows.specs.Table.{cell, statement_at, statements_from}
-use Rattle.places.specs.Places.{entry_in, entries_in, rows_forest}
+use Rattle.rows.specs.declared.Row.{Row}
+use Rattle.rows.specs.Rows.{statement_at, statements_from, row_in}
+use Rattle.layout.specs.Places.{entry_in, entries_in, rows_forest}
 use Rattle.record.proofs.LaidLaws.{layout_is}
-use Rattle.places.proofs.EntriesLaws.{size-stretch, Rows, rows-forest, linked-counted}
-use Rattle.unions.proofs.ShownLaws.{entries-size, marked-linked}
+use Rattle.layout.proofs.EntriesLaws.{size-stretch, Rows, rows-forest, linked-counted}
+use Rattle.layout.proofs.ShownLaws.{entries-size, marked-linked}
 use Rattle.record.specs.Laying.{Listed}
-use Rattle.unions.specs.Shown.{list_in, Measured}
-use Rattle.places.specs.Children.{BelowCounted}
+use Rattle.layout.specs.Shown.{list_in, Measured}
+use Rattle.layout.specs.Children.{BelowCounted}
 use Rattle.owner.specs.Walked.{overlays, row_at, table_rows, Walkable}
 
 -- ---------------------------------------------------------------- a REDEFINES or a DEPENDING ON
@@ -51,7 +51,7 @@ unfolding above not_above overlaid
 overlaid-sides n leaf = refl
 overlaid-sides n (item s kids later) =
     let ih = overlaid-sides n later in
-    let own = given s.clauses.redefines || given s.clauses.depending || overlaid kids in
+    let own = is_given s.clauses.redefines || is_given s.clauses.depending || overlaid kids in
     tested n s.level
     (λ p _. simp p (or_assoc own (overlaid (above n later)) (overlaid (not_above n later))
     ∙ ap (λ (b : Bool). own || b) ih))
@@ -68,7 +68,7 @@ overlaid-forest (s ∷ ss) =
     ∙ ap (λ (b : Bool). overlays s || b) (overlaid-sides n f ∙ overlaid-forest ss)
 
 -- and a list of statements where one of its rows has
-rows-overlay : (w : List ℕ) (n k : ℕ) →
+rows-overlay : (w : List Row) (n k : ℕ) →
     list_any (λ j. overlays (statement_at w j)) (range_with_len k n) ≡ any_overlays (statements_from w k n)
 unfolding any_overlays statements_from
 rows-overlay w zero k = refl
@@ -77,50 +77,50 @@ rows-overlay w (suc n) k =
     (ap (λ (i : ℕ). list_any (λ j. overlays (statement_at w j)) (range_with_len i n)) (add-one k)
     ∙ rows-overlay w n (suc k))
 
-pub rows-overlaid : (w : List ℕ) (from to : ℕ) →
+pub rows-overlaid : (w : List Row) (from to : ℕ) →
     list_any (λ j. overlays (statement_at w j)) (range_with_len from (to - from)) ≡ overlaid (rows_forest w from to)
 rows-overlaid w from to = rows-overlay w (to - from) from ∙ sym (overlaid-forest (statements_from w from (to - from)))
 
 -- ---------------------------------------------------------------- the rows of the table
 
 -- m rows and then n rows
-table-append : (w : List ℕ) (m n k : ℕ) → table_rows w k (m + n) ≡ table_rows w k m ++ table_rows w (k + m) n
+table-append : (w : List Row) (m n k : ℕ) → table_rows w k (m + n) ≡ table_rows w k m ++ table_rows w (k + m) n
 unfolding table_rows
 table-append w zero n k = rw (zero-add, add-zero)
 table-append w (suc m) n k =
     let e : suc k + m ≡ k + suc m = omega arith in
-    rw suc-add (ap (λ (l : List Row). row_at w k ∷ l) (table-append w m n (suc k)
+    rw suc-add (ap (λ (l : List Step). row_at w k ∷ l) (table-append w m n (suc k)
     ∙ ap (λ (j : ℕ). table_rows w (suc k) m ++ table_rows w j n) e))
 
-table-length : (w : List ℕ) (m k : ℕ) → length (table_rows w k m) ≡ m
+table-length : (w : List Row) (m k : ℕ) → length (table_rows w k m) ≡ m
 unfolding table_rows
 table-length w zero k = refl
 table-length w (suc m) k = ap suc (table-length w m (suc k))
 
 -- the first of the rows up to `to`, and the others; or none
-table-next : (w : List ℕ) (to k : ℕ) → k < to → table_rows w k (to - k) ≡ row_at w k ∷ table_rows w (suc k) (to - suc k)
+table-next : (w : List Row) (to k : ℕ) → k < to → table_rows w k (to - k) ≡ row_at w k ∷ table_rows w (suc k) (to - suc k)
 unfolding table_rows
 table-next w to k h = ap (table_rows w k) (let e : to - k ≡ suc (to - suc k) = omega arith in e)
 
-table_none : (w : List ℕ) (to k : ℕ) → to ≤ k → table_rows w k (to - k) ≡ []
+table_none : (w : List Row) (to k : ℕ) → to ≤ k → table_rows w k (to - k) ≡ []
 unfolding table_rows
 table_none w to k h = ap (table_rows w k) (let e : to - k ≡ 0 = omega arith in e)
 
 -- the rows of the listing are those of the table, where each counts the rows below it
-rows-table : (w : List ℕ) (f : Forest) (k : ℕ) → BelowCounted w k f → rows (entries_in w k f) ≡ table_rows w k (size f)
+rows-table : (w : List Row) (f : Forest) (k : ℕ) → BelowCounted w k f → rows (entries_in w k f) ≡ table_rows w k (size f)
 unfolding rows entries_in table_rows
 rows-table w leaf k c = refl
 rows-table w (item s kids later) k c =
-    let own : row_of (entry_in w k) (entries# (entries_in w (suc k) kids))
-    ≡ row_at w k = ap (row_of (entry_in w k)) (entries-size w kids (suc k) ∙ sym c.0) in
+    let own : row_of_entry (entry_in w k) (entries# (entries_in w (suc k) kids))
+    ≡ row_at w k = ap (row_of_entry (entry_in w k)) (entries-size w kids (suc k) ∙ sym c.0) in
     let inner = rows-table w kids (suc k) c.1 in
     let rest = rows-table w later (suc k + size kids) c.2 in
     (λ i. own i ∷ (inner i ++ rest i))
-    ∙ ap (λ (l : List Row). row_at w k ∷ l) (sym (table-append w (size kids) (size later) (suc k)))
+    ∙ ap (λ (l : List Step). row_at w k ∷ l) (sym (table-append w (size kids) (size later) (suc k)))
 
 -- the rows below a row end where its list ends, or before
-rows-nested : (w : List ℕ) (f : Forest) (k : ℕ) → BelowCounted w k f → (m : ℕ) → k ≤ m → m < k + size f →
-    suc m + cell w m BELOW ≤ k + size f
+rows-nested : (w : List Row) (f : Forest) (k : ℕ) → BelowCounted w k f → (m : ℕ) → k ≤ m → m < k + size f →
+    suc m + (row_in w m).below ≤ k + size f
 rows-nested w leaf k c m l u = absurd (omega arith)
 rows-nested w (item s kids later) k c m l u =
     let inner = rows-nested w kids (suc k) c.1 m in
@@ -133,32 +133,32 @@ rows-nested w (item s kids later) k c m l u =
     (order m (suc k + size kids)))
     (λ (p : m ≤ k).
     let e : k ≡ m = omega arith in
-    let n = subst (λ (x : ℕ). cell w x BELOW ≡ size kids) e c.0 in
+    let n = subst (λ (x : ℕ). (row_in w x).below ≡ size kids) e c.0 in
     omega arith)
     (order k m)
 
 -- ---------------------------------------------------------------- the walk
 
 -- m rows passed over
-walk-past : (w : List ℕ) (m k n number first q : ℕ) →
+walk-past : (w : List Row) (m k n number first q : ℕ) →
     walk m number first (table_rows w k (m + n)) q ≡ walk 0 (number + m) first (table_rows w (k + m) n) q
 walk-past w m k n number first q =
     let ss = table_rows w k m in
     let rs = table_rows w (k + m) n in
-    ap (λ (l : List Row). walk m number first l q) (table-append w m n k)
+    ap (λ (l : List Step). walk m number first l q) (table-append w m n k)
     ∙ ap (λ (x : ℕ). walk x number first (ss ++ rs) q) (sym (table-length w m k))
     ∙ walk-skip number first ss rs q
     ∙ ap (λ (x : ℕ). walk 0 (number + x) first rs q) (table-length w m k)
 
 -- where the walk is: what is left of it gives the answer
-pub record At (w : List ℕ) (from to position k first q : ℕ) : Type 0 where
+pub record At (w : List Row) (from to position k first q : ℕ) : Type 0 where
   pub held : Walkable w from to
-  pub fits : ROW * to ≤ length w
+  pub fits : to ≤ length w
   pub low : from ≤ k
   pub same : walk 0 0 0 (rows (list_in w from to)) position ≡ walk 0 (k - from) first (table_rows w k (to - k)) q
   pub whole : first + q ≡ position
 
-pub walk-starts : {w : List ℕ} {from to position : ℕ} → Walkable w from to → At w from to position from 0 position
+pub walk-starts : {w : List Row} {from to position : ℕ} → Walkable w from to → At w from to position from 0 position
 walk-starts {w} {from} {to} {position} h =
     let all = rows-table w (rows_forest w from to) from h.counted ∙ ap (table_rows w from) (size-stretch w from to) in
     let e : 0 ≡ from - from = omega arith in
@@ -166,14 +166,14 @@ walk-starts {w} {from} {to} {position} h =
       held = h;
       fits = h.fits;
       low = omega arith;
-      same = ap (λ (l : List Row). walk 0 0 0 l position) all
+      same = ap (λ (l : List Step). walk 0 0 0 l position) all
           ∙ ap (λ (n : ℕ). walk 0 n 0 (table_rows w from (to - from)) position) e;
       whole = omega arith;
     }
 
-module _ {w : List ℕ} {from to position k first q : ℕ} (a : At w from to position k first q) where
+module _ {w : List Row} {from to position k first q : ℕ} (a : At w from to position k first q) where
   -- the rows below row k are there
-  pub row-nested : k < to → k + 1 + cell w k BELOW ≤ to
+  pub row-nested : k < to → k + 1 + (row_in w k).below ≤ to
   row-nested h =
       let many = size-stretch w from to in
       omega (arith, many, rows-nested w (rows_forest w from to) from a.held.counted k a.low (omega (arith, many)))
@@ -181,10 +181,10 @@ module _ {w : List ℕ} {from to position k first q : ℕ} (a : At w from to pos
   at_row : k < to →
       walk 0 0 0 (rows (list_in w from to)) position
       ≡ walk 0 (k - from) first (row_at w k ∷ table_rows w (suc k) (to - suc k)) q
-  at_row h = a.same ∙ ap (λ (l : List Row). walk 0 (k - from) first l q) (table-next w to k h)
+  at_row h = a.same ∙ ap (λ (l : List Step). walk 0 (k - from) first l q) (table-next w to k h)
 
   -- a byte before the row
-  pub found-slack : k < to → {o : ℕ} → o ≡ cell w k OFFSET → q < o →
+  pub found-slack : k < to → {o : ℕ} → o ≡ (row_in w k).place.offset → q < o →
       Some (Owner.Slack (k - from)) ≡ walk 0 0 0 (rows (list_in w from to)) position
   found-slack h e l = sym (at_row h
       ∙ walk-slack (k - from) first (row_at w k) (table_rows w (suc k) (to - suc k)) q (omega arith))
@@ -192,23 +192,23 @@ module _ {w : List ℕ} {from to position k first q : ℕ} (a : At w from to pos
   -- no row is left
   pub found_none : to ≤ k → None ≡ walk 0 0 0 (rows (list_in w from to)) position
   unfolding walk
-  found_none h = sym (a.same ∙ ap (λ (l : List Row). walk 0 (k - from) first l q) (table_none w to k h))
+  found_none h = sym (a.same ∙ ap (λ (l : List Step). walk 0 (k - from) first l q) (table_none w to k h))
 
 -- a byte that does not stand before row k, where so much is known of the row
-module _ {w : List ℕ} {from to position k first q : ℕ} (a : At w from to position k first q) (h : k < to)
-    {offset width below all : ℕ} (o : offset ≡ cell w k OFFSET) (d : width ≡ cell w k WIDTH)
-    (b : below ≡ cell w k BELOW) (t : Measured (total (entry_in w k)) all) (r : offset ≤ q) where
+module _ {w : List Row} {from to position k first q : ℕ} (a : At w from to position k first q) (h : k < to)
+    {offset width below all : ℕ} (o : offset ≡ (row_in w k).place.offset) (d : width ≡ (row_in w k).place.width)
+    (b : below ≡ (row_in w k).below) (t : Measured (total (entry_in w k)) all) (r : offset ≤ q) where
   -- a byte in an occurrence of the row
   module _ (l : q - offset < all) where
-    inside-row : q < cell w k OFFSET + total (entry_in w k)
+    inside-row : q < (row_in w k).place.offset + total (entry_in w k)
     inside-row = omega (arith, o, t.is)
 
     -- the walk's start and place are the code's
-    known_start : first + cell w k OFFSET + (q - cell w k OFFSET) / cell w k WIDTH * cell w k WIDTH
+    known_start : first + (row_in w k).place.offset + (q - (row_in w k).place.offset) / (row_in w k).place.width * (row_in w k).place.width
         ≡ first + (offset + (q - offset) / width * width)
     known_start = ap₂ (λ (x y : ℕ). first + x + (q - x) / y * y) (sym o) (sym d) ∙ omega arith
 
-    known-place : (q - cell w k OFFSET) % cell w k WIDTH ≡ (q - offset) % width
+    known-place : (q - (row_in w k).place.offset) % (row_in w k).place.width ≡ (q - offset) % width
     known-place = ap₂ (λ (x y : ℕ). (q - x) % y) (sym o) (sym d)
 
     pub found-piece :
@@ -275,16 +275,16 @@ module _ (text : List ℕ) where
   list-plain bases es u = fold-plain text bases es u
 
   -- no entry of a list in the table redefines, where no statement does
-  rows-unfolded : (w : List ℕ) (f : Forest) (k : ℕ) → Plain f → Rows w k f → Unfolded (entries_in w k f)
+  rows-unfolded : (w : List Row) (f : Forest) (k : ℕ) → Plain f → Rows w k f → Unfolded (entries_in w k f)
   unfolding entries_in
   rows-unfolded w leaf k p r = tt
   rows-unfolded w (item s kids later) k p r = (
-    ap (λ (x : Statement). given x.clauses.redefines) r.0 ∙ p.0.redefines,
+    ap (λ (x : Statement). is_given x.clauses.redefines) r.0 ∙ p.0.redefines,
     rows-unfolded w later (suc k + size kids) p.2 r.2,
   )
 
   -- the lists below
-  below_plain : (w : List ℕ) (f : Forest) (k : ℕ) → Plain f → Rows w k f →
+  below_plain : (w : List Row) (f : Forest) (k : ℕ) → Plain f → Rows w k f →
       folded_below text (entries_in w k f) ≡ entries_in w k f
   unfolding entries_in folded_below
   below_plain w leaf k p r = refl
@@ -295,7 +295,7 @@ module _ (text : List ℕ) where
       λ i. entry (entry_in w k) (inner i) (rest i)
 
   -- and all of them
-  pub folded-plain : (w : List ℕ) (from to : ℕ) → overlaid (rows_forest w from to) ≡ false →
+  pub folded-plain : (w : List Row) (from to : ℕ) → overlaid (rows_forest w from to) ≡ false →
       folded_all text (list_in w from to) ≡ list_in w from to
   folded-plain w from to free =
       let f = rows_forest w from to in
@@ -307,14 +307,14 @@ module _ (text : List ℕ) where
 -- ---------------------------------------------------------------- the answer
 
 -- rows that hold a record can be walked
-pub listed-walkable : {text : List ℕ} {read : Answer Forest} {w : List ℕ} {from to length : ℕ} →
+pub listed-walkable : {text : List ℕ} {read : Answer Forest} {w : List Row} {from to length : ℕ} →
     Listed text read w from to length → Walkable w from to
 listed-walkable {text} {w = w} {from} {to} l =
     let f = rows_forest w from to in
-    let linked = marked-linked text w f from 0 l.tree.marked in
+    let linked = marked-linked text w f from 0 l.tree.marks in
     record { fits = l.tree.fits; sized = l.tree.sized; counted = linked-counted text w f from 0 linked }
 
-module _ {text w : List ℕ} {from to length : ℕ} (l : Listed text (Ok (rows_forest w from to)) w from to length) where
+module _ {text : List ℕ} {w : List Row} {from to length : ℕ} (l : Listed text (Ok (rows_forest w from to)) w from to length) where
   -- the record's layout
   pub laid_out : layout text (rows_forest w from to) ≡ Ok (folded_all text (list_in w from to))
   unfolding and_then
@@ -324,16 +324,15 @@ module _ {text w : List ℕ} {from to length : ℕ} (l : Listed text (Ok (rows_f
 
   module _ {b : Bool} (p : b ≡ overlaid (rows_forest w from to)) (q : ℕ) where
     -- 40
-    pub answers-40 : b ≡ true → Err Refusal.Overlaid ≡ owner_in text (rows_forest w from to) q
-    answers-40 e = sym (refuses-40 text (rows_forest w from to) (folded_all text (list_in w from to)) laid_out
-        (sym p ∙ e) q)
+    pub answers-40 : b ≡ true → Err Refusal.Overlaid ≡ owner_in q text (rows_forest w from to) (list_in w from to)
+    answers-40 e = sym (refuses-40 text (rows_forest w from to) (list_in w from to) (sym p ∙ e) q)
 
     module _ (e : b ≡ false) where
       -- 41
-      pub answers-41 : length ≤ q → Err Refusal.OutsideRecord ≡ owner_in text (rows_forest w from to) q
+      pub answers-41 : length ≤ q → Err Refusal.OutsideRecord ≡ owner_in q text (rows_forest w from to) (list_in w from to)
       answers-41 h =
           sym (refuses-41 text (rows_forest w from to) (folded_all text (list_in w from to)) laid_out (sym p ∙ e) q
-          (omega (arith, l.long)))
+          (list_in w from to) (omega (arith, l.long)))
 
       module _ (h : q < length) {o : Option Owner} (f : o ≡ walk 0 0 0 (rows (list_in w from to)) q) where
         below_length : q < record_length (folded_all text (list_in w from to))
@@ -354,7 +353,7 @@ module _ {text w : List ℕ} {from to length : ℕ} (l : Listed text (Ok (rows_f
             subst IsSome (sym named) refl
 
         -- and what the walk finds is that one
-        pub found : {x : Owner} → o ≡ Some x → Ok x ≡ owner_in text (rows_forest w from to) q
+        pub found : {x : Owner} → o ≡ Some x → Ok x ≡ owner_in q text (rows_forest w from to) (list_in w from to)
         found s =
             sym (computed text (rows_forest w from to) (folded_all text (list_in w from to)) laid_out (sym p
-            ∙ e) q below_length (sym of-listing ∙ s))
+            ∙ e) q (list_in w from to) below_length (sym of-listing ∙ s))

@@ -1,5 +1,5 @@
-//! The byte owner over a record laid out in work memory: which piece or slack a byte belongs to, found from row to row
-//! with no piece laid. Leans on `rows`, `unions` and `record`.
+//! The byte owner over a laid record: which piece or slack a byte belongs to, found from row to row with no piece laid.
+//! Leans on `record`.
 #![tactic(auto)]
 
 ghost use Rattle.std.specs.Prelude.{◌≡◌, ◌-◌, ◌<◌};
@@ -8,39 +8,38 @@ ghost use Rattle.definition.specs.Basic.{Ok};
 ghost use Rattle.definition.specs.Calls.{owner_in};
 ghost use Rattle.definition.specs.Owner.{overlaid};
 ghost use Rattle.definition.specs.Search.{rows as rows_of, walk};
-ghost use Rattle.rows.specs.Table.{statement_at};
-ghost use Rattle.places.specs.Places.{rows_forest};
-ghost use Rattle.unions.specs.Shown.{list_in};
+ghost use Rattle.rows.specs.Rows.{statement_at};
+ghost use Rattle.layout.specs.Places.{rows_forest};
+ghost use Rattle.layout.specs.Shown.{list_in};
 ghost use Rattle.owner.specs.Walked.{overlays, Searchable, Walkable};
 
 use definition::{Owner, Refusal};
+use layout::unions;
 use record::LaidRecord;
 use rows::Rows;
 
 // Whether row k has a REDEFINES or a DEPENDING ON.
 fn is_overlay(rows: Rows, k: usize) -> bool
     requires { k < rows.count }
-    ensures { result ≡ overlays (statement_at rows.entry.work.now k) }
+    ensures { result ≡ overlays (statement_at rows.entry.all.now k) }
 {
-    rows.redefines(k).is_given() || rows.depending(k).is_given()
+    rows.row(k).statement.clauses.redefines.is_given()
+        || rows.row(k).statement.clauses.depending.is_given()
 }
 
 // Whether one of the rows from `from` on has one.
-// Kept: beside `is_overlaid`, which calls it alone – no plainer: what `any` answers is proved against the same question
-// of a list of rows, which this promises, and that promise is then one step of the proof of what the definition says.
+// `is_overlaid` says it of the forest; this is a step of that proof.
 fn some_overlay(rows: Rows, from: usize) -> bool
     ensures { result
-        ≡ list_any (λ k. overlays (statement_at rows.entry.work.now k))
+        ≡ list_any (λ k. overlays (statement_at rows.entry.all.now k))
         (range_with_len from (rows.entry.count - from)) }
 {
     (from..rows.count).any(|k| is_overlay(rows, k))
 }
 
 /// Whether some row from `from` on has a REDEFINES or a DEPENDING ON.
-// Kept: rows and `from`, as of `some_overlay` and `walk_rows` – no plainer: both stand in a `LaidRecord`, of whose
-// text, entries and length these ask nothing; a struct of the two would be made of it for each call, and hold no more.
 pub fn is_overlaid(rows: Rows, from: usize) -> bool
-    ensures { result ≡ overlaid (rows_forest rows.entry.work.now from rows.entry.count) }
+    ensures { result ≡ overlaid (rows_forest rows.entry.all.now from rows.entry.count) }
 {
     some_overlay(rows, from)
 }
@@ -49,21 +48,21 @@ pub fn is_overlaid(rows: Rows, from: usize) -> bool
 /// occurrence of the row, or of a row below it; else the next row that is not below it; none behind them all.
 #[tactic(auto, using(crate::proofs::OwnerLaws::walk_steps))]
 pub fn walk_rows(rows: Rows, from: usize, position: usize) -> Option<Owner>
-    requires { Walkable rows.work.now from rows.count }
-    ensures { result ≡ walk 0 0 0 (rows_of (list_in rows.entry.work.now from rows.entry.count)) position }
+    requires { Walkable rows.all.now from rows.count }
+    ensures { result ≡ walk 0 0 0 (rows_of (list_in rows.entry.all.now from rows.entry.count)) position }
 {
     let mut k = from;
     let mut first = 0;
     let mut q = position;
-    // Kept: a `while` over rows – no plainer: a byte in a row is sought in the first row below it, with `first` and `q`
-    // set anew, and another behind all of these; an iterator's step goes one way, and takes nothing from the body.
+    // The walk goes into a row or past it, so no iterator gives the next one.
     while k < rows.count {
-        let offset = rows.offset(k);
+        let row = rows.row(k);
+        let offset = row.place.offset as usize;
         if q < offset {
             return Some(Owner::Slack { entry: k - from });
         }
-        let width = rows.width(k);
-        let below = rows.below(k);
+        let width = row.place.width as usize;
+        let below = row.below as usize;
         let r = q - offset;
         if r < unions::row_total(rows, k) {
             first += offset + r / width * width;
@@ -88,8 +87,9 @@ pub fn walk_rows(rows: Rows, from: usize, position: usize) -> Option<Owner>
 pub fn owner_of(laid: LaidRecord, position: usize) -> Result<Owner, Refusal>
     requires { Searchable laid }
     ensures { result
-        ≡ owner_in laid.entry.text.now
-        (rows_forest laid.entry.table.rows.work.now laid.entry.from laid.entry.table.rows.count) position }
+        ≡ owner_in position laid.entry.text.now
+        (rows_forest laid.entry.table.rows.all.now laid.entry.from laid.entry.table.rows.count)
+        (list_in laid.entry.table.rows.all.now laid.entry.from laid.entry.table.rows.count) }
 {
     if is_overlaid(laid.table.rows, laid.from) {
         return Err(Refusal::Overlaid);

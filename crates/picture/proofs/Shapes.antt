@@ -16,13 +16,13 @@ use Rattle.definition.specs.Picture.{trim, expand, tally, before_point, fraction
 use Rattle.definition.specs.Picture.{mixed, too_long, symbols, picture, kinded}
 use Rattle.definition.proofs.Answers.{bound, through, given-same, map-refused}
 use Rattle.definition.proofs.PictureLaws.{tally-sides, without-length, mask-width}
-use Rattle.symbols.specs.declared.Tallies.{Tallies}
-use Rattle.symbols.specs.declared.Half.{Half}
+use Rattle.picture.specs.declared.symbols.Tallies.{Tallies}
+use Rattle.picture.specs.declared.symbols.Half.{Half}
 use Rattle.picture.specs.declared.PicShape.{PicShape}
-use Rattle.symbols.specs.Shape.{tallies, halves, nothing, counts}
+use Rattle.picture.specs.Shape.{tallies, halves, nothing, counts}
 use Rattle.picture.specs.Kinds.{stored_of, shape_of, shape_for, mixed_by, long_by, kinded_by, checked, shaped, Fit}
-use Rattle.symbols.proofs.Halves.{legal-halves}
-use Rattle.symbols.proofs.Counting.{no_digit}
+use Rattle.picture.proofs.Halves.{legal-halves}
+use Rattle.picture.proofs.Counting.{no_digit}
 
 -- the shape by the tallies
 module _ (l : List ℕ) where

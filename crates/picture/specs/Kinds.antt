@@ -6,14 +6,14 @@ use Rattle.definition.specs.declared.SignKind.{SignKind}
 use Rattle.definition.specs.declared.FieldKind.{FieldKind}
 use Rattle.definition.specs.declared.Pictured.{Pictured}
 use Rattle.definition.specs.declared.Refusal.{Refusal}
-use Rattle.definition.specs.Limits.{most_digits, longest_mask}
+use Rattle.definition.specs.declared.TheConstants.{MOST_DIGITS, LONGEST_MASK}
 use Rattle.definition.specs.Basic.{Answer, Ok, ◌>>=◌, refuse_if}
 use Rattle.definition.specs.Picture.{tally, without, mask, fraction, all_digits, stored_digits, is_signed, is_edited}
 use Rattle.definition.specs.Picture.{pictured, is_display, resolve_sign, storage_width, numeric, symbols}
-use Rattle.symbols.specs.declared.Tallies.{Tallies}
-use Rattle.symbols.specs.declared.Half.{Half}
+use Rattle.picture.specs.declared.symbols.Tallies.{Tallies}
+use Rattle.picture.specs.declared.symbols.Half.{Half}
 use Rattle.picture.specs.declared.PicShape.{PicShape}
-use Rattle.symbols.specs.Shape.{nothing}
+use Rattle.picture.specs.Shape.{nothing}
 
 -- the shape of a list of symbols
 abbrev pub shape_for : List ℕ → PicShape
@@ -57,7 +57,7 @@ mixed_by s = ltb 0 s.text && (ltb 0 s.digits || s.edited)
 
 -- too many digits, or too long a mask
 abbrev pub long_by : Usage → PicShape → Bool
-long_by usage s = not (ltb 0 s.text) && (ltb most_digits s.digits || masked_by usage s && ltb longest_mask s.mask)
+long_by usage s = not (ltb 0 s.text) && (ltb MOST_DIGITS s.digits || masked_by usage s && ltb LONGEST_MASK s.mask)
 
 -- kind and width
 abbrev pub kinded_by : Usage → Option SignKind → PicShape → Pictured

@@ -1,1 +1,4 @@
 pub mod Kinds
+pub mod Masks
+pub mod Repeats
+pub mod Shape

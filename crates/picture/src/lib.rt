@@ -1,19 +1,21 @@
-//! The picture reader: kind and width of a picture with a usage and a sign; `parse_pic` of the Rust. Leans on
-//! `definition` and `symbols`.
+//! Pictures: kind and width of a picture with a usage and a sign, `parse_pic` of the Rust; in modules its symbols and
+//! their count, and the mask of an edited one. Leans on `text`.
 #![tactic(auto)]
 
 ghost use Rattle.std.specs.Prelude.{ℕ, ◌+◌, ◌≤◌, ◌≡◌, ◌&&◌, IfOk};
-ghost use Rattle.definition.specs.Limits.{most_digits};
 ghost use Rattle.definition.specs.Picture.{is_display, resolve_sign, is_embedded, sign_bytes};
 ghost use Rattle.definition.specs.Picture.{comp_width, byte_width, storage_width, display as display_of};
 ghost use Rattle.definition.specs.Picture.{numeric as numeric_of, picture as picture_in};
-ghost use Rattle.symbols.specs.Shape.{Small};
+ghost use Rattle.picture.specs.Shape.{Small};
 ghost use Rattle.picture.specs.Kinds.{shape_of, masked_by, mixed_by, long_by, checked, shaped, kinded_by, Fit};
 
+use crate::symbols::{Half, Tallies};
 use definition::{
     FieldKind, LONGEST_MASK, MOST_DIGITS, NumRepr, Pictured, Refusal, SignKind, Usage,
 };
-use symbols::{Half, Tallies};
+
+pub mod mask;
+pub mod symbols;
 
 // ---------------------------------------------------------------- the shape, and the last checks
 
@@ -45,8 +47,6 @@ pub struct PicShape {
     pub width: usize,
 }
 
-// Kept: bounds of digits in three contracts – no plainer: `is_long` asks no bound of a shape with text, so that the
-// shape itself can't hold them; each asks those that it needs, and `pictured` has all of `Fit`.
 impl PicShape {
     /// The shape by the tallies: each of `$`, `+`, `-` adds its count less one to the digits; P is a digit of the
     /// fraction that holds no byte.
@@ -87,7 +87,7 @@ impl PicShape {
         0 < self.text && (0 < self.digits || self.edited)
     }
 
-    /// Whether a picture that is no text has over 31 digits, P included, or an edited DISPLAY one a mask over 255.
+    /// Whether a picture that is no text has too many digits, P included, or an edited DISPLAY one too long a mask.
     fn is_long(self, usage: Usage) -> bool
         ensures { result ≡ long_by usage self }
     {
@@ -96,9 +96,6 @@ impl PicShape {
     }
 
     /// The last checks, in order: 25 a byte that is no symbol, 26 text mixed with a digit or editing, 27 too long.
-    // Kept: a position beside the shape, as in `read_shape` and `picture_at` beside the picture – no plainer: all of 22
-    // to 27 stand at one position, known before the picture is read, and the definition's `symbols` and `picture` take
-    // it too, so that `read_shape` and `picture_at` are each equal to one of them. What is `Missing` has none there.
     #[tactic(auto, using(crate::proofs::Shapes::check_steps))]
     fn check(self, half: Half, usage: Usage, at: usize) -> Result<(), Refusal>
         ensures { result ≡ checked at usage self half }
@@ -117,7 +114,7 @@ impl PicShape {
 
     /// The bytes that a number takes: P holds none.
     fn storage_width(self, usage: Usage, sign: SignKind) -> usize
-        requires { self.stored ≤ most_digits }
+        requires { self.stored ≤ MOST_DIGITS }
         ensures { result ≡ storage_width usage sign self.stored }
     {
         match usage {
@@ -129,7 +126,7 @@ impl PicShape {
 
     /// The kind of a number in DISPLAY.
     fn display(self, sign: SignKind) -> FieldKind
-        requires { (self.digits ≤ most_digits) × (self.scale ≤ most_digits) }
+        requires { (self.digits ≤ MOST_DIGITS) × (self.scale ≤ MOST_DIGITS) }
         ensures { result ≡ display_of self.digits self.scale self.signed sign }
     {
         let zoned = is_zoned(self.signed, sign);
@@ -153,7 +150,7 @@ impl PicShape {
 
     /// The kind of a number.
     fn numeric(self, usage: Usage, sign: SignKind) -> FieldKind
-        requires { (self.digits ≤ most_digits) × (self.scale ≤ most_digits) }
+        requires { (self.digits ≤ MOST_DIGITS) × (self.scale ≤ MOST_DIGITS) }
         ensures { result ≡ numeric_of usage self.digits self.scale self.signed sign }
     {
         match usage {

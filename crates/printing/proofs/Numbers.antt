@@ -27,4 +27,4 @@ four_last bytes at l =
     let n = length-take-le 8 (drop at bytes) (grind (arith, nat_tests, length-drop at bytes)) in
     grind (arith, nat_tests, n, four_bytes bytes at 4 4 (omega arith))
 
-pub ruleset span_steps = (nat_tests, four_first, four_last)
+pub ruleset part_steps = (nat_tests, four_first, four_last)

@@ -1,20 +1,22 @@
 -- What the bytes of a listing say, where they are read back: numbers, places, and an entry's kind and body.
 -- Assumes nothing.
-use Rattle.std.specs.Prelude.{ℕ, ◌+◌, Bool, not, List, eqb, leb, ◌&&◌, get_or, take, drop, length, codes}
+use Rattle.std.specs.Prelude.{ℕ, ◌+◌, Bool, not, List, eqb, ltb, leb, ◌&&◌, get_or, take, drop, length, codes}
 use Rattle.std.specs.Prelude.{Option, None, Some, if◌then◌else◌}
 use Rattle.std.specs.Int.{w32, from_le_bytes}
-use Rattle.definition.specs.declared.Span.{Span}
-use Rattle.definition.specs.Basic.{given}
+use Rattle.printing.specs.declared.TextPart.{TextPart}
 use Rattle.printing.specs.declared.Kind.{Kind}
 use Rattle.printing.specs.declared.Kind.TheVariants.{Text, Int, Binary, Decimal, Edited, Group, Float}
-use Rattle.printing.specs.declared.Entry.{Entry}
+use Rattle.printing.specs.declared.ListedEntry.{ListedEntry}
 use Rattle.printing.specs.declared.Head.{Head}
 
--- ---------------------------------------------------------------- places of a text
+-- ---------------------------------------------------------------- parts of a text
 
--- a place is given, and lies in the text
-abbrev pub stands : List ℕ → Span → Bool
-stands text w = given w && leb (w.start + w.len) (length text)
+abbrev pub is_given : TextPart → Bool
+is_given p = ltb 0 p.len
+
+-- a part is given, and lies in the text
+abbrev pub stands : List ℕ → TextPart → Bool
+stands text p = is_given p && leb (p.start + p.len) (length text)
 
 -- ---------------------------------------------------------------- numbers
 
@@ -22,9 +24,9 @@ stands text w = given w && leb (w.start + w.len) (length text)
 abbrev pub four : List ℕ → ℕ → ℕ
 four bytes at = if leb (at + 4) (length bytes) then from_le_bytes w32 (take 4 (drop at bytes)) else 0
 
--- the start and the length in eight bytes, and no place where they are not all there
-abbrev pub span : List ℕ → ℕ → Span
-span bytes at =
+-- the start and the length in eight bytes, and no part where they are not all there
+abbrev pub part : List ℕ → ℕ → TextPart
+part bytes at =
     if leb (at + 8) (length bytes) then record { start = four bytes at; len = four bytes (at + 4) }
     else record { start = 0; len = 0 }
 
@@ -74,27 +76,27 @@ members Group bytes = Some (four bytes 38)
 members k bytes = None
 
 -- the entry of a kind that these bytes begin with
-abbrev pub entry : Kind → List ℕ → Entry
+abbrev pub entry : Kind → List ℕ → ListedEntry
 entry k bytes = record {
   kind = k;
-  name = span bytes 1;
+  name = part bytes 1;
   offset = four bytes 9;
   width = four bytes 13;
   occurs = if eqb (get_or bytes 17 0) 0 then None else Some (four bytes 18);
-  depending = span bytes 22;
-  redefines = span bytes 30;
+  depending = part bytes 22;
+  redefines = part bytes 30;
   members = members k bytes;
 }
 
 -- it, if the kind is one and all of it is there
-abbrev pub entry_of : Option Kind → List ℕ → Option Entry
+abbrev pub entry_of : Option Kind → List ℕ → Option ListedEntry
 entry_of None bytes = None
 entry_of (Some k) bytes = if leb (size k) (length bytes) then Some (entry k bytes) else None
 
-abbrev pub first_entry : List ℕ → Option Entry
+abbrev pub first_entry : List ℕ → Option ListedEntry
 first_entry bytes = entry_of (kind (get_or bytes 0 0)) bytes
 
 -- what is left after it
-abbrev pub behind : Option Entry → List ℕ → List ℕ
+abbrev pub behind : Option ListedEntry → List ℕ → List ℕ
 behind None bytes = bytes
 behind (Some e) bytes = drop (size e.kind) bytes

@@ -1,4 +1,5 @@
 //! How deep the entries of a listing stand.
+
 ghost use Rattle.std.specs.Prelude.{◌≡◌, ◌≤◌, ◌∷◌, replicate};
 ghost use Rattle.printing.specs.Depths.{still_open, taken, opened};
 
@@ -13,7 +14,6 @@ pub struct Depths {
     pub left: [u32; 256],
 }
 
-// Kept: that a depth is at most 255, in each – no plainer: callers print a depth as the number that it is.
 impl Depths {
     /// The beginning of a listing, whose top list has so many entries.
     pub fn new(top: u32) -> Depths

@@ -10,17 +10,15 @@ ghost use Rattle.std.specs.Prelude.{MatchOption, Some, IfOk};
 ghost use Rattle.std.specs.Result.{result_ok};
 ghost use Rattle.std.specs.Io.KnownBytes.{Consumes, IsAtEnd};
 ghost use Rattle.std.specs.Iterator.{at_most};
-ghost use Rattle.definition.specs.Basic.{part};
-ghost use Rattle.printing.specs.Read.{stands, four, span, head, kind, size, name, entry, first_entry, behind};
+ghost use Rattle.printing.specs.Read.{is_given, stands, four, part, head, kind, size, name, entry, first_entry, behind};
 
-use definition::{MOST_STATEMENTS, Span};
+use definition::MOST_STATEMENTS;
 use std::io::Read;
 use std::{fmt, io};
 
 // ---------------------------------------------------------------- what is read
 
 /// Reads until the input ends or the buffer is full, and gives back what was read.
-// Kept: a `while` – no plainer: how far a turn goes the reader says, so that no range and no chunks tell it.
 #[tactic(auto, using(crate::proofs::Filling::fill_steps))]
 pub fn read_full<'a, R: Read>(input: &mut R, buf: &'a mut [u8]) -> io::Result<&'a [u8]>
     ensures within { IfOk result (λ s. length s.now ≤ length buf.old) }
@@ -39,16 +37,34 @@ pub fn read_full<'a, R: Read>(input: &mut R, buf: &'a mut [u8]) -> io::Result<&'
 
 // ---------------------------------------------------------------- parts of a text
 
-/// The part of a text that a place is, if it is given and lies in the text.
-pub fn part_of(text: &[u8], place: Span) -> Option<&[u8]>
+/// A part of a text, as a listing has it.
+#[derive(Clone, Copy)]
+pub struct TextPart {
+    /// Its first byte.
+    pub start: usize,
+    /// Its length in bytes; 0 means absent.
+    pub len: usize,
+}
+
+impl TextPart {
+    /// Whether there is one.
+    fn is_given(self) -> bool
+        ensures { result ≡ is_given self }
+    {
+        0 < self.len
+    }
+}
+
+/// The bytes of a part of a text, if it is given and lies in the text.
+pub fn text_part(text: &[u8], part: TextPart) -> Option<&[u8]>
     ensures { MatchOption result
-        (stands text.now place ≡ false)
-        (λ s. (stands text.now place ≡ true) × (s.now ≡ part text.now place)) }
+        (stands text.now part ≡ false)
+        (λ s. (stands text.now part ≡ true) × (s.now ≡ take part.len (drop part.start text.now))) }
 {
-    if !place.is_given() {
+    if !part.is_given() {
         return None;
     }
-    text.get(place.start..)?.get(..place.len)
+    text.get(part.start..)?.get(..part.len)
 }
 
 // ---------------------------------------------------------------- numbers and places
@@ -80,16 +96,16 @@ pub fn four_at(listing: &[u8], at: usize) -> u32
 }
 
 /// The start and the length in the eight bytes at a place of a listing.
-#[tactic(auto, using(crate::proofs::Numbers::span_steps))]
-pub fn span_at(listing: &[u8], at: usize) -> Span
-    ensures { result ≡ span listing.now at }
+#[tactic(auto, using(crate::proofs::Numbers::part_steps))]
+pub fn part_at(listing: &[u8], at: usize) -> TextPart
+    ensures { result ≡ part listing.now at }
 {
     match chunk_at::<8>(listing, at) {
-        Some(bytes) => Span {
+        Some(bytes) => TextPart {
             start: four_at(bytes, 0) as usize,
             len: four_at(bytes, 4) as usize,
         },
-        None => Span::ABSENT,
+        None => TextPart { start: 0, len: 0 },
     }
 }
 
@@ -122,8 +138,6 @@ impl Head {
 // ---------------------------------------------------------------- entries
 
 /// The kind of an entry.
-// Kept: beside `FieldKind`, which has the same arms – no plainer: five of those hold details, of which the program
-// reads none.
 #[derive(Clone, Copy, PartialEq)]
 pub enum Kind {
     /// Characters.
@@ -147,8 +161,6 @@ pub enum Kind {
 pub struct NoKind;
 
 // The kind that a byte of a listing stands for.
-// Kept: numbers for kinds – no plainer: the way back that `kinds` has takes a number of no kind for a group, and here
-// the listing ends at one.
 impl TryFrom<u8> for Kind {
     type Error = NoKind;
 
@@ -202,14 +214,12 @@ impl fmt::Display for Kind {
 }
 
 /// An entry of a listing: names are places of the text, offset and width are bytes, and a group has so many members.
-// Kept: beside `listing::Line` – no plainer: a line is made of rows, with its details and its picture, to be written.
-// This is read from bytes, as wide as they have it, and holds how many members follow.
 #[derive(Clone, Copy)]
-pub struct Entry {
+pub struct ListedEntry {
     /// Its kind.
     pub kind: Kind,
     /// Its name.
-    pub name: Span,
+    pub name: TextPart,
     /// Where it begins, from the start of the group around it.
     pub offset: u32,
     /// The bytes of one occurrence.
@@ -217,26 +227,26 @@ pub struct Entry {
     /// How often it occurs, if it is a table.
     pub occurs: Option<u32>,
     /// The name behind DEPENDING ON.
-    pub depending: Span,
+    pub depending: TextPart,
     /// The name behind REDEFINES.
-    pub redefines: Span,
+    pub redefines: TextPart,
     /// How many members it has, if it is a group.
     pub members: Option<u32>,
 }
 
-impl Entry {
+impl ListedEntry {
     /// The entry of a kind that these bytes begin with.
-    fn read(kind: Kind, bytes: &[u8]) -> Entry
+    fn read(kind: Kind, bytes: &[u8]) -> ListedEntry
         ensures { result ≡ entry kind bytes.now }
     {
-        Entry {
+        ListedEntry {
             kind,
-            name: span_at(bytes, 1),
+            name: part_at(bytes, 1),
             offset: four_at(bytes, 9),
             width: four_at(bytes, 13),
             occurs: (byte_at(bytes, 17) != 0).then_some(four_at(bytes, 18)),
-            depending: span_at(bytes, 22),
-            redefines: span_at(bytes, 30),
+            depending: part_at(bytes, 22),
+            redefines: part_at(bytes, 30),
             members: (kind == Kind::Group).then_some(four_at(bytes, 38)),
         }
     }
@@ -261,16 +271,16 @@ impl<'a> Entries<'a> {
 }
 
 impl<'a> Iterator for Entries<'a> {
-    type Item = Entry;
+    type Item = ListedEntry;
 
     ghost next_gives = { λ s r t. (r ≡ first_entry s.bytes.now) × (t.bytes.now ≡ behind r s.bytes.now) };
 
     ghost remaining = { λ s. at_most (length s.bytes.now) };
 
-    fn next(&mut self) -> Option<Entry> {
+    fn next(&mut self) -> Option<ListedEntry> {
         let kind = Kind::try_from(byte_at(self.bytes, 0)).ok()?;
         let behind = self.bytes.get(kind.size()..)?;
-        let entry = Entry::read(kind, self.bytes);
+        let entry = ListedEntry::read(kind, self.bytes);
         self.bytes = behind;
         Some(entry)
     }

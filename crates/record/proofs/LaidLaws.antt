@@ -1,21 +1,24 @@
 -- A table that was laid: every row is linked, and none is too large; the record of the table.
 -- Assumes nothing.
-use Prim.Native.Nat.{ℕ, suc, ◌+◌, ◌*◌, ◌-◌, max, ◌≤◌, ◌<◌}
+use Prim.Native.Nat.{ℕ, suc, ◌+◌, ◌-◌, max, ◌≤◌, ◌<◌}
 use mathlib.Core.Path.{◌≡◌, refl, sym, ap, subst, ◌∙◌}
 use mathlib.Core.Bool.{false, ◌||◌}
 use mathlib.Core.List.{List, [], ◌∷◌}
 use mathlib.Core.Logic.{⊎_elim}
 use native.Mathlib.Omega.{arith}
-use lib.Dec.{lit<, ltb}
-use lib.ListN.{length}
+use lib.Dec.{ltb}
+use lib.ListN.{length, get_or}
+use Rattle.std.specs.Prelude.{Option}
+use Rattle.text.specs.Fingerprints.{name_fingerprint}
+use Rattle.definition.proofs.ParentLaws.{parents-forest}
 use borrow.Author.Tests.{ltb-false}
 use Rattle.std.proofs.lemmas.Bool.{or_parts}
 use Rattle.definition.specs.declared.Refusal.{Refusal}
 use Rattle.definition.specs.declared.Entry.{Entry}
-use Rattle.definition.specs.Limits.{least_work, most_statements, largest}
+use Rattle.definition.specs.declared.TheConstants.{MOST_STATEMENTS, LARGEST}
 use Rattle.definition.specs.Basic.{Answer, Err, Ok, ◌>>=◌, and_then}
 use Rattle.definition.specs.declared.Statement.{Statement}
-use Rattle.definition.specs.Tree.{Forest, leaf, item, forest, fields, parents_in}
+use Rattle.definition.specs.Tree.{Forest, leaf, item, forest, fields, parents}
 use Rattle.definition.specs.Fold.{Entries, end, entry, times, total, entry_end, Place, place_of, fold_check, folded_all}
 use Rattle.definition.specs.Layout.{entry_of, too_large, advance, Laid, lay}
 use Rattle.definition.specs.Owner.{size}
@@ -24,39 +27,38 @@ use Rattle.definition.proofs.Lists.{order}
 use Rattle.definition.specs.Calls.{kept_statements}
 use Rattle.definition.specs.Usages.{record_of, inherit_along}
 use Rattle.definition.proofs.UsageLaws.{length-along, along-forest}
-use Rattle.rows.specs.Columns.{ROW, PARENT, BELOW, OFFSET, NEXT}
-use Rattle.rows.specs.Table.{cell, statement_at, statements_from, parents_from}
-use Rattle.rows.proofs.TableLaws.{statements-same}
-use Rattle.tree.proofs.ReadingLaws.{Stored}
+use Rattle.rows.specs.declared.Row.{Row}
+use Rattle.rows.specs.Rows.{row_in, row_of_code, row_code, new_row, no_statement, statement_at, statements_from}
+use Rattle.rows.proofs.RowLaws.{code-back, statements-by}
+use Rattle.statement.proofs.ReadingLaws.{Stored}
 use Rattle.definition.specs.Record.{record_length, ends_fit, unfolded, layout}
-use Rattle.places.specs.Places.{put_places, entry_in, entries_in, rows_forest}
-use Rattle.redefines.specs.Targets.{seen_from}
-use Rattle.redefines.specs.Prints.{PrintsPut}
+use Rattle.layout.specs.Places.{put_places, entry_in, entries_in, rows_forest}
+use Rattle.layout.specs.Targets.{seen_from}
 use Rattle.layout.specs.Outcomes.{stopped, ready, lay_table, Room}
-use Rattle.places.specs.Children.{ChildrenEnd, BelowPut}
-use Rattle.places.proofs.EntriesLaws.{size-forest, size-stretch, counted_step, counted-kept}
+use Rattle.layout.specs.Children.{ChildrenEnd, BelowPut, uncounted}
+use Rattle.layout.proofs.EntriesLaws.{size-forest, size-stretch, counted_step}
 use Rattle.layout.proofs.ListLaws.{bare-split, item-is}
 use Rattle.layout.proofs.LayLaws.{LaidRows, laid-rows, stopped-was}
-use Rattle.places.proofs.RowLaws.{children-end, forest-split, forest-empty}
-use Rattle.places.proofs.PlaceLaws.{length-places, kept-places, statements-places, places-next}
-use Rattle.unions.specs.Shown.{list_in}
-use Rattle.unions.specs.Marks.{UnionsLinked}
-use Rattle.unions.proofs.KeptLaws.{forest-kept, list-kept, Ready, marked-tree}
-use Rattle.record.proofs.ParentLaws.{under-parents, under_same}
-use Rattle.record.specs.Laying.{Under, FieldsFrom, fields_of, laid_of, Listed}
+use Rattle.layout.proofs.RowLaws.{children-end, forest-split, forest-empty}
+use Rattle.layout.proofs.PlaceLaws.{length-places, known-places, statements-places, places-next}
+use Rattle.layout.specs.Shown.{list_in}
+use Rattle.layout.specs.Marks.{UnionsLinked}
+use Rattle.layout.proofs.KeptLaws.{forest-kept, list-kept, Ready, marked-tree}
+use Rattle.record.proofs.ParentLaws.{under-by, under_same}
+use Rattle.record.specs.Laying.{Under, Fielded, FieldsFrom, fields_of, laid_of, Listed}
 
 -- ---------------------------------------------------------------- no entry is too large
 
--- every entry of a list and of those below it has at most 2,147,483,647 bytes
+-- every entry of a list and of those below it has at most `LARGEST` bytes
 abbrev SizedAll : Entries → Type 0
 SizedAll end = Unit {0}
-SizedAll (entry e members later) = (total e ≤ largest) × SizedAll members × SizedAll later
+SizedAll (entry e members later) = (total e ≤ LARGEST) × SizedAll members × SizedAll later
 
-total-within : (e : Entry) → too_large e ≡ false → total e ≤ largest
+total-within : (e : Entry) → too_large e ≡ false → total e ≤ LARGEST
 total-within e h =
-    let a = or_parts (ltb largest (times e.occurs) || ltb largest e.offset || ltb largest (total e)) (ltb largest (entry_end e)) h in
-    let b = or_parts (ltb largest (times e.occurs) || ltb largest e.offset) (ltb largest (total e)) a.0 in
-    ltb-false largest (total e) b.1
+    let a = or_parts (ltb LARGEST (times e.occurs) || ltb LARGEST e.offset || ltb LARGEST (total e)) (ltb LARGEST (entry_end e)) h in
+    let b = or_parts (ltb LARGEST (times e.occurs) || ltb LARGEST e.offset) (ltb LARGEST (total e)) a.0 in
+    ltb-false LARGEST (total e) b.1
 
 bare-sized :
     (text : List ℕ) (f : Forest) (depth : ℕ) (seen : List Place) (cursor reach : ℕ) {l : Laid} →
@@ -70,11 +72,11 @@ bare-sized text (item s kids later) depth seen cursor reach e =
     let i = item-is text depth seen cursor s kids e₁ in
     let members = bare-sized text kids (suc depth) [] 0 0 i.inner-laid in
     let rest = bare-sized text later depth (place_of x.own ∷ seen) (advance cursor x.own) (max reach (entry_end x.own)) e₂ in
-    let own : total x.own ≤ largest = subst (λ (y : Entry). total y ≤ largest) i.own (total-within (entry_of s i.contents i.offset i.slack) i.fits) in
+    let own : total x.own ≤ LARGEST = subst (λ (y : Entry). total y ≤ LARGEST) i.own (total-within (entry_of s i.contents i.offset i.slack) i.fits) in
     subst (λ (l : Laid). SizedAll l.entries) (given-same h₂) (own, subst SizedAll i.members members, rest)
 
 -- and no row that holds one
-rows-sized : (w : List ℕ) (f : Forest) (k : ℕ) → SizedAll (entries_in w k f) → (m : ℕ) → k ≤ m → m < k + size f → total (entry_in w m) ≤ largest
+rows-sized : (w : List Row) (f : Forest) (k : ℕ) → SizedAll (entries_in w k f) → (m : ℕ) → k ≤ m → m < k + size f → total (entry_in w m) ≤ LARGEST
 unfolding entries_in
 rows-sized w leaf k h m l u = absurd (omega arith)
 rows-sized w (item s kids later) k h m l u =
@@ -82,21 +84,23 @@ rows-sized w (item s kids later) k h m l u =
     let rest = rows-sized w later (suc k + size kids) h.2 m in
     ⊎_elim
     (λ (p : k < m). ⊎_elim (λ (q : m < suc k + size kids). inner (omega arith) q) (λ (q : suc k + size kids ≤ m). rest q (omega arith)) (order m (suc k + size kids)))
-    (λ (p : m ≤ k). subst (λ (n : ℕ). total (entry_in w n) ≤ largest) (let e : k ≡ m = omega arith in e) h.0)
+    (λ (p : m ≤ k). subst (λ (n : ℕ). total (entry_in w n) ≤ LARGEST) (let e : k ≡ m = omega arith in e) h.0)
     (order k m)
 
 -- ---------------------------------------------------------------- a list that was laid
 
-module _ (text w : List ℕ) (a b depth : ℕ) {width : ℕ} {w₁ : List ℕ} (h : a ≤ b) (fits : ROW * b ≤ length w) (n : LaidRows text w a b depth width w₁) where
+module _ (text : List ℕ) (w : List Row) (a b depth : ℕ) {width : ℕ} {c : Answer (Unit {0})} {w₁ : List Row} (h : a ≤ b) (fits : b ≤ length w) (n : LaidRows text w a b depth width c w₁) where
   -- the statements are as they were
   same-places : rows_forest w a b ≡ rows_forest (put_places text w a 0 n.laid.entries) a b
   same-places = ap forest (sym (statements-places text n.laid.entries w a 0 a (b - a)))
 
   pub same-fields : rows_forest w a b ≡ rows_forest w₁ a b
-  same-fields = same-places ∙ ap (λ (x : List ℕ). rows_forest x a b) n.put
+  same-fields = same-places ∙ ap (λ (x : List Row). rows_forest x a b) n.put
 
-  pub same-column : (k c : ℕ) → c < OFFSET → cell w₁ k c ≡ cell w k c
-  same-column k c l = subst (λ (x : List ℕ). cell x k c ≡ cell w k c) n.put (kept-places text n.laid.entries w a 0 k c l)
+  pub same-parent : (k : ℕ) → (row_in w₁ k).parent ≡ (row_in w k).parent
+  same-parent k =
+      subst (λ (x : List Row). (row_in x k).parent ≡ (row_in w k).parent) n.put
+      (ap (λ (y : Statement × ℕ × ℕ × Option ℕ). y.3) (known-places text n.laid.entries w a 0 k))
 
   pub laid-ready : Ready text w₁ a b
   laid-ready =
@@ -105,16 +109,16 @@ module _ (text w : List ℕ) (a b depth : ℕ) {width : ℕ} {w₁ : List ℕ} (
       let sized : SizedAll (entries_in w₁ a (rows_forest w₁ a b)) = subst SizedAll (sym n.held.entries) (bare-sized text f depth [] 0 0 n.is) in
       let many₁ = size-stretch w₁ a b in
       record {
-        fits = subst (λ (x : List ℕ). ROW * b ≤ length x) n.put (omega (arith, length-places text es w a 0));
+        fits = subst (λ (x : List Row). b ≤ length x) n.put (omega (arith, length-places text es w a 0));
         linked = n.held.linked;
-        nexts = subst (λ (x : List ℕ). (k : ℕ) → a ≤ k → k < b → cell x k NEXT ≡ 0) n.put (λ k l u. places-next text es w a 0 (omega (arith, n.many)) k l (omega (arith, n.many)));
+        nexts = subst (λ (x : List Row). (k : ℕ) → a ≤ k → k < b → row_code (row_in x k).place.next ≡ 0) n.put (λ k l u. ap row_code (places-next text es w a 0 (omega (arith, n.many)) k l (omega (arith, n.many))));
         sized = record { totals = λ k l u. rows-sized w₁ (rows_forest w₁ a b) a sized k l (omega (arith, many₁)) };
       }
 
 -- ---------------------------------------------------------------- the fields of a record
 
 -- an only root with children is dropped
-only-root : (w : List ℕ) (n : ℕ) → 1 < n → ChildrenEnd w 0 n n → fields (rows_forest w 0 n) ≡ rows_forest w 1 n
+only-root : (w : List Row) (n : ℕ) → 1 < n → ChildrenEnd w 0 n n → fields (rows_forest w 0 n) ≡ rows_forest w 1 n
 unfolding fields
 only-root w n h c =
     let k = children-end w 1 n h in
@@ -124,7 +128,7 @@ only-root w n h c =
     ∙ ap (λ (f : Forest). fields (item (statement_at w 0) f leaf)) kids
     ∙ sym kids
 
-pub root-dropped : (w : List ℕ) (n : ℕ) {j : ℕ} → 2 ≤ n → ChildrenEnd w 0 n j → n ≤ j → FieldsFrom w n 1
+pub root-dropped : (w : List Row) (n : ℕ) {j : ℕ} → 2 ≤ n → ChildrenEnd w 0 n j → n ≤ j → FieldsFrom w n 1
 root-dropped w n {j} h c l =
     let all = subst (ChildrenEnd w 0 n) (let e : j ≡ n = omega (arith, c.high) in e) c in
     record {
@@ -135,7 +139,7 @@ root-dropped w n {j} h c l =
     }
 
 -- of several roots none is
-pub roots_kept : (w : List ℕ) (n : ℕ) {j : ℕ} → ChildrenEnd w 0 n j → j < n → FieldsFrom w n 0
+pub roots_kept : (w : List Row) (n : ℕ) {j : ℕ} → ChildrenEnd w 0 n j → j < n → FieldsFrom w n 0
 unfolding fields
 roots_kept w n {j} c l =
     let whole = forest-split w 0 n j c in
@@ -154,7 +158,7 @@ roots_kept w n {j} c l =
     kept (item u a b) = refl
 
 -- nor is a root without children
-one-row : (w : List ℕ) (n : ℕ) {j : ℕ} → n < 2 → ChildrenEnd w 0 n j → fields (rows_forest w 0 n) ≡ rows_forest w 0 n
+one-row : (w : List Row) (n : ℕ) {j : ℕ} → n < 2 → ChildrenEnd w 0 n j → fields (rows_forest w 0 n) ≡ rows_forest w 0 n
 unfolding fields
 one-row w n {j} h c =
     let later = ap (item (statement_at w 0) (rows_forest w 1 j)) (forest-empty w j n (omega (arith, c.low))) in
@@ -162,7 +166,7 @@ one-row w n {j} h c =
     let both = forest-split w 0 n j c ∙ later ∙ kids in
     ap fields both ∙ sym both
 
-pub few-rows : (w : List ℕ) (n : ℕ) → n < 2 → FieldsFrom w n 0
+pub few-rows : (w : List Row) (n : ℕ) → n < 2 → FieldsFrom w n 0
 unfolding fields
 few-rows w n h =
     record {
@@ -183,10 +187,10 @@ pub layout_is : (text : List ℕ) (f : Forest) → layout text f ≡ (unfolded t
 unfolding layout
 layout_is text f = refl
 
-module _ (text w : List ℕ) (a b : ℕ) where
+module _ (text : List ℕ) (w : List Row) (a b : ℕ) where
   -- the list is laid
   pub list-laid :
-      {w₁ : List ℕ} {width last : ℕ} → a ≤ b → Room text w a b → ready width last w₁ ≡ lay_table text w a b 0 → LaidRows text w a b 0 width w₁
+      {w₁ : List Row} {width : ℕ} {c : Answer (Unit {0})} → a ≤ b → Room text w a b → ready width c w₁ ≡ lay_table text w a b 0 → LaidRows text w a b 0 width c w₁
   list-laid h room p = laid-rows text w a b 0 h room (sym p)
 
   -- or refused
@@ -194,9 +198,9 @@ module _ (text w : List ℕ) (a b : ℕ) where
   unfolding unfolded seen_from and_then
   list-refused p =
       ap (λ (y : Answer Laid). y >>= λ l. fold_check text [] l.entries >>= λ _. ends_fit (folded_all text l.entries) >>= λ _. Ok l.entries)
-      (stopped-was text w a 0 (lay text 0 [] 0 0 (rows_forest w a b)) (sym p))
+      (stopped-was text w a 0 (Ok tt) (lay text 0 [] 0 0 (rows_forest w a b)) (sym p))
 
-  module _ {width : ℕ} {w₁ : List ℕ} (n : LaidRows text w a b 0 width w₁) where
+  module _ {width : ℕ} {c : Answer (Unit {0})} {w₁ : List Row} (n : LaidRows text w a b 0 width c w₁) where
     -- the checks of the list, as the rows hold it
     record-split :
         laid_of text (Ok (rows_forest w a b))
@@ -206,7 +210,10 @@ module _ (text w : List ℕ) (a b : ℕ) where
         ap (λ (x : Answer Laid). x >>= λ l. fold_check text [] l.entries >>= λ _. ends_fit (folded_all text l.entries) >>= λ _. Ok l.entries) n.is
         ∙ ap (λ (es : Entries). fold_check text [] es >>= λ _. ends_fit (folded_all text es) >>= λ _. Ok es) (sym n.held.entries)
 
-    module _ {c : Answer (Unit {0})} (p : c ≡ fold_check text [] (list_in w₁ a b)) where
+    module _ where
+      p : c ≡ fold_check text [] (list_in w₁ a b)
+      p = n.check ∙ ap (fold_check text []) (sym n.held.entries)
+
       checked : (x : Answer (Unit {0})) → c ≡ x → laid_of text (Ok (rows_forest w a b)) ≡ (x >>= λ _. ends_fit (folded_all text (list_in w₁ a b)) >>= λ _. Ok (list_in w₁ a b))
       checked x e =
           record-split
@@ -217,7 +224,7 @@ module _ (text w : List ℕ) (a b : ℕ) where
       unfolding and_then
       fold-refused {r} e = checked (Err r) e
 
-      module _ (e : c ≡ Ok tt) {w₂ : List ℕ} (m : UnionsLinked w₁ a b w₂) {d : Answer (Unit {0})} (q : d ≡ ends_fit (folded_all text (list_in w₂ a b))) where
+      module _ (e : c ≡ Ok tt) {w₂ : List Row} (m : UnionsLinked w₁ a b w₂) {d : Answer (Unit {0})} (q : d ≡ ends_fit (folded_all text (list_in w₂ a b))) where
         passed : (x : Answer (Unit {0})) → d ≡ x → laid_of text (Ok (rows_forest w a b)) ≡ (x >>= λ _. Ok (list_in w₂ a b))
         unfolding and_then
         passed x f =
@@ -234,8 +241,8 @@ module _ (text w : List ℕ) (a b : ℕ) where
         pub laid-listed :
             d ≡ Ok tt →
             a ≤ b →
-            ROW * b ≤ length w →
-            b ≤ most_statements →
+            b ≤ length w →
+            b ≤ MOST_STATEMENTS →
             Under w a a (rows_forest w a b) →
             {l : ℕ} →
             l ≡ record_length (folded_all text (list_in w₂ a b)) →
@@ -247,7 +254,7 @@ module _ (text w : List ℕ) (a b : ℕ) where
             record {
               fields = ap Ok forests;
               low = h;
-              under = subst (Under w₂ a a) forests (under_same w w₂ (λ k. sym (m.kept.same k PARENT (lit< tt) ∙ same-column text w a b 0 h fits n k PARENT (lit< tt))) (rows_forest w a b) a a under);
+              under = subst (Under w₂ a a) forests (under_same w w₂ (λ k. sym (ap row_code (ap (λ (r : Row). r.parent) (m.kept.same k) ∙ same-parent text w a b 0 h fits n k))) (rows_forest w a b) a a under);
               is = passed (Ok tt) f;
               tree = marked-tree text a b h ready m;
               few = few;
@@ -261,44 +268,57 @@ pub reading-refused : (text : List ℕ) {r : Refusal} → kept_statements text �
 unfolding fields_of and_then
 reading-refused text e = ap (λ (x : Answer (List Statement)). x >>= λ ss. Ok (record_of ss)) e
 
--- its statements stand in n rows, which got the counts of the rows below them and the fingerprints of their names
-module _
-    {text w w₀ : List ℕ} {n : ℕ} (s : Stored text w w₀ n) {w₁ w₂ : List ℕ} (b : BelowPut w₀ n w₁)
-    (p : PrintsPut text w₁ n w₂) where
-  same : (k c : ℕ) → c < BELOW → cell w₀ k c ≡ cell w₂ k c
-  same k c l = sym (p.same k c (omega arith) ∙ b.same k c l)
+-- its statements stand in n rows, which got the counts of the rows below them
+module _ {text : List ℕ} {w₀ : List Row} {n : ℕ} (s : Stored text w₀ n) {w : List Row} (b : BelowPut w₀ n w) where
+  abbrev held : List Statement
+  held = inherit_along [] 0 s.kept
 
-  same_rows : rows_forest w₀ 0 n ≡ rows_forest w₂ 0 n
-  same_rows = ap forest (statements-same w₀ w₂ same 0 (n - 0))
+  many : n ≡ length held
+  many = s.many ∙ sym (length-along [] 0 s.kept)
 
-  pub rows-read : fields_of text ≡ Ok (fields (rows_forest w₂ 0 n))
+  -- but for the counts, they are the rows of the statements
+  row-there : (j : ℕ) → j < n → uncounted (row_in w j) ≡ new_row text (get_or held j no_statement) (row_of_code (get_or (parents [] 0 held) j 0))
+  row-there j l = b.same j ∙ ap uncounted (s.rows j l)
+
+  row-at : (j : ℕ) → j < n → uncounted (row_in w (0 + j)) ≡ new_row text (get_or held j no_statement) (row_of_code (get_or (parents [] 0 held) j 0))
+  row-at j l = ap (λ (m : ℕ). uncounted (row_in w m)) (let e : 0 + j ≡ j = omega arith in e) ∙ row-there j l
+
+  whole : rows_forest w 0 n ≡ forest held
+  whole =
+      ap forest
+      (ap (statements_from w 0) (let e : n - 0 ≡ length held = omega (arith, many) in e)
+      ∙ statements-by w held 0 (λ j l. ap (λ (r : Row). r.statement) (row-at j (omega (arith, many)))))
+
+  pub rows-read : fields_of text ≡ Ok (fields (rows_forest w 0 n))
   unfolding fields_of and_then
   rows-read =
       ap (λ (x : Answer (List Statement)). x >>= λ ss. Ok (record_of ss)) s.are
-      ∙ ap (λ (x : Forest). Ok (fields x)) (sym (along-forest s.kept))
-      ∙ ap (λ (ss : List Statement). Ok (fields (forest ss)))
-      (sym s.back ∙ ap (statements_from w₀ 0) (let e : n ≡ n - 0 = omega arith in e))
-      ∙ ap (λ (x : Forest). Ok (fields x)) same_rows
+      ∙ ap (λ (x : Forest). Ok (fields x)) (sym (along-forest s.kept) ∙ sym whole)
 
-  -- under their parents
-  pub rows_under : Under w₂ 0 0 (rows_forest w₂ 0 n)
-  rows_under =
-      let held = inherit_along [] 0 s.kept in
-      let all : n - 0 ≡ n = omega arith in
-      let whole : rows_forest w₂ 0 n ≡ forest held =
-      sym same_rows ∙ ap forest (ap (statements_from w₀ 0) all ∙ s.back) in
-      let many : n ≡ size (forest held) = s.many ∙ sym (length-along [] 0 s.kept) ∙ sym (size-forest held) in
-      let parents : parents_from w₀ 0 n ≡ parents_in 0 0 (forest held) =
-      s.under ∙ ap (parents_in 0 0) (sym (along-forest s.kept)) in
-      under_same w₀ w₂ (λ k. same k PARENT (lit< tt)) (rows_forest w₂ 0 n) 0 0
-      (subst (Under w₀ 0 0) (sym whole) (under-parents w₀ (forest held) 0 0 n many parents))
-
-  -- and there is room to lay them
-  pub rows-room : least_work ≤ length w → Room text w₂ 0 n
-  rows-room h =
+  -- under their parents, and there is room to lay them
+  pub rows-fielded : Fielded text w n
+  rows-fielded =
+      let size : size (forest held) ≡ n = size-forest held ∙ sym many in
       record {
-        fits = omega (arith, s.few, s.long, h, b.long, p.long);
-        small = omega (arith, s.few);
-        printed = p.printed;
-        counted = counted-kept w₁ w₂ (λ k c l. sym (p.same k c (omega arith))) 0 n b.counted;
+        under =
+            subst (Under w 0 0) (sym whole)
+            (under-by w (forest held) 0 0
+            (λ j l.
+            ap (λ (ps : List ℕ). get_or ps j 0) (sym (parents-forest held))
+            ∙ sym (code-back (get_or (parents [] 0 held) j 0))
+            ∙ sym (ap (λ (r : Row). row_code r.parent) (row-at j (omega (arith, size))))));
+        few = s.few;
+        room =
+            record {
+              fits = omega (arith, s.there, b.long);
+              few = s.few;
+              fingerprinted =
+                  record {
+                    rows =
+                        λ k l.
+                        ap (λ (r : Row). r.fingerprint) (row-there k l)
+                        ∙ sym (ap (λ (r : Row). name_fingerprint text r.statement.name) (row-there k l));
+                  };
+              counted = b.counted;
+            };
       }

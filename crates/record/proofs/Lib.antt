@@ -1,3 +1,3 @@
-pub mod ParentLaws
-pub mod LaidLaws
 pub mod EntryLaws
+pub mod LaidLaws
+pub mod ParentLaws

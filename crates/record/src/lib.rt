@@ -1,51 +1,47 @@
-//! A record laid out in work memory: a copybook read, laid and checked, its redefiners linked and its table made.
+//! A record: a copybook read into rows, laid out and checked, with the table of its entries; in a module what is asked
+//! of it, as a question, of free text and of cards. Leans on `statement` and `fold`.
 #![tactic(auto)]
 
-ghost use Rattle.std.specs.Prelude.{MatchResult, ◌≡◌, ◌*◌, ◌≤◌, length, take};
-ghost use Rattle.definition.specs.Limits.{most_statements};
+ghost use Rattle.std.specs.Prelude.{MatchResult, ◌≡◌, ◌≤◌, length, take};
+ghost use Rattle.definition.specs.declared.TheConstants.{MOST_STATEMENTS};
 ghost use Rattle.definition.specs.Basic.{Ok, Err};
 ghost use Rattle.definition.specs.Calls.{record_fields};
-ghost use Rattle.places.specs.Places.{rows_forest};
-ghost use Rattle.places.specs.Children.{BelowCounted};
+ghost use Rattle.statement.specs.TreeReading.{rows_needed};
+ghost use Rattle.definition.specs.Tree.{fields};
+ghost use Rattle.layout.specs.Places.{rows_forest};
+ghost use Rattle.layout.specs.Children.{BelowCounted};
 ghost use Rattle.layout.specs.Outcomes.{Room};
-ghost use Rattle.entries.specs.Building.{Roomy};
-ghost use Rattle.record.specs.Laying.{Under, FieldsFrom, Laid, LaidIn, laid_of, Read};
+ghost use Rattle.fold.specs.Building.{Roomy};
+ghost use Rattle.record.specs.Laying.{Under, FieldsFrom, Fielded, Laid, LaidBy, LaidIn, laid_of, Read};
 
 use definition::{DEEPEST, Refusal};
-use rows::Rows;
-use table::{Item, Table};
-use unions::MarkedRows;
+use fold::entries;
+use fold::table::{Table, TableEntry};
+use layout::unions::MarkedRows;
+use layout::{places, unions};
+use rows::{Row, Rows};
+use statement::tree;
+
+pub mod asking;
 
 // ---------------------------------------------------------------- the rows
 
-/// Checks what a caller lends and reads the text into rows of work memory, with the counts of the rows below them and
-/// the fingerprints of their names, and answers how many they are; or says why not: 1, 2, 3, then 50, then the
-/// statements' 10 to 14. Every entry that speaks of a copybook's record starts so.
-pub fn read_rows(text: &[u8], work: &mut [u32]) -> Result<usize, Refusal>
-    ensures { MatchResult result (λ n. Read text.now work.new n)
-        (λ r. record_fields text.now (length work.new) ≡ Err r) }
+/// Checks what a caller lends, a text and so much work memory, and reads the text into rows, with the counts of the rows
+/// below them, and answers how many they are; or says why not: 1, 2, 3, then 50, then the statements' 10 to 14. Every
+/// entry that speaks of a copybook's record starts so.
+pub fn read_text(text: &[u8], work: usize, rows: &mut [Row]) -> Result<usize, Refusal>
+    requires { rows_needed text.now ≤ length rows.old }
+    ensures { MatchResult result (λ n. Read text.now work rows.new n) (λ r. record_fields text.now work ≡ Err r) }
 {
-    text::entry_checks(text, work.len())?;
-    let n = tree::read_rows(text, work)?;
-    places::count_below(work, n);
-    redefines::put_prints(text, work, n);
+    text::entry_checks(text, work)?;
+    let n = tree::read_rows(text, rows)?;
+    places::count_below(rows, n);
     Ok(n)
 }
-
-/// How many rows are few: for no more a small table of entries will do, which is sooner made.
-pub const FEW_ROWS: usize = 128;
-
-/// How many entries a table needs for few rows.
-pub const FEW_ENTRIES: usize = 192;
-
-/// How many entries a table needs for as many rows as there may be.
-pub const ENTRIES: usize = 1200;
 
 // ---------------------------------------------------------------- a record
 
 /// The rows that hold a record, its length, and how many entries its table has, in all and at the top.
-// Kept: numbers beside work memory and entries – no plainer: callers go on with work memory, and where a function lends
-// parts of two `&mut` back, it may say of one alone what becomes of it. `with` cuts the parts.
 #[derive(Clone, Copy)]
 pub struct Record {
     /// The first row of its fields.
@@ -76,18 +72,23 @@ pub struct LaidRecord<'a> {
 }
 
 impl Record {
-    /// The same with its text, work memory that holds its rows, and a table that begins with its entries.
-    pub fn with<'a>(self, text: &'a [u8], work: &'a [u32], entries: &'a [Item]) -> LaidRecord<'a>
-        requires { LaidIn text.now (record_fields text.now (length work.now)) work.now entries.now self }
+    /// The same with its text, its rows, and a table that begins with its entries.
+    pub fn with<'a>(
+        self,
+        text: &'a [u8],
+        rows: &'a [Row],
+        entries: &'a [TableEntry],
+    ) -> LaidRecord<'a>
+        requires { LaidBy text.now rows.now entries.now self }
         ensures laid { Laid result }
-        ensures same { (result.text.now ≡ text.now) × (result.table.rows.work.now ≡ work.now)
+        ensures same { (result.text.now ≡ text.now) × (result.table.rows.all.now ≡ rows.now)
             × (result.table.items.now ≡ take self.count entries.now) × (result.from ≡ self.from)
             × (result.table.rows.count ≡ self.to) × (result.length ≡ self.length) × (result.top ≡ self.top) }
     {
         LaidRecord {
             text,
             table: Table {
-                rows: Rows::new(work, self.to),
+                rows: Rows::new(rows, self.to),
                 items: &entries[..self.count],
             },
             from: self.from,
@@ -99,8 +100,8 @@ impl Record {
 
 /// The first row of the fields of a record: an only root with children is dropped.
 pub fn first_field(rows: Rows) -> usize
-    requires { BelowCounted rows.work.now 0 (rows_forest rows.work.now 0 rows.count) }
-    ensures { FieldsFrom rows.entry.work.now rows.entry.count result }
+    requires { BelowCounted rows.all.now 0 (rows_forest rows.all.now 0 rows.count) }
+    ensures { FieldsFrom rows.entry.all.now rows.entry.count result }
 {
     let n = rows.count;
     if n < 2 {
@@ -111,53 +112,50 @@ pub fn first_field(rows: Rows) -> usize
 
 /// Lays out the fields in the rows from `from` up to `to`: their places, then 30, then 29 for an end in the folded
 /// list.
-// Kept: text, from and to beside work memory – no plainer, as of `rows::put_cell`: a struct over the `&mut` would have
-// to say in the contract that text and memory are the same and that it holds as many rows.
 pub fn lay_fields(
     text: &[u8],
-    work: &mut [u32],
-    entries: &mut [Item],
+    rows: &mut [Row],
+    entries: &mut [TableEntry],
     from: usize,
     to: usize,
 ) -> Result<Record, Refusal>
-    requires { (from ≤ to) × Room text.now work.old from to × (to ≤ most_statements) × Roomy entries.old to
-        × Under work.old from from (rows_forest work.old from to) }
-    ensures { MatchResult result (LaidIn text.now (Ok (rows_forest work.old from to)) work.new entries.new)
-        (λ r. laid_of text.now (Ok (rows_forest work.old from to)) ≡ Err r) }
+    requires { (from ≤ to) × Room text.now rows.old from to × (to ≤ MOST_STATEMENTS) × Roomy entries.old to
+        × Under rows.old from from (rows_forest rows.old from to) }
+    ensures { MatchResult result (LaidIn text.now (Ok (rows_forest rows.old from to)) rows.new entries.new)
+        (λ r. laid_of text.now (Ok (rows_forest rows.old from to)) ≡ Err r) }
 {
-    layout::lay_list(text, work, from, to, DEEPEST)?;
-    unions::fold_check(text, Rows::new(work, to), from)?;
-    unions::link_unions(work, from, to);
-    let rows = Rows::new(work, to);
-    let fields = MarkedRows::new(text, rows, from);
+    let list = layout::lay_list(text, rows, from, to, DEEPEST)?;
+    list.checked?;
+    unions::link_unions(rows, from, to);
+    let laid = Rows::new(rows, to);
+    let fields = MarkedRows::new(text, laid, from);
     let made = entries::make_entries(fields, entries);
     let table = Table {
-        rows,
-        items: &entries[..made.next],
+        rows: laid,
+        items: &entries[..made.next as usize],
     };
     table.ends_fit()?;
     Ok(Record {
         from,
         to,
         length: table.length(),
-        count: made.next,
-        top: made.count,
+        count: made.next as usize,
+        top: made.count as usize,
     })
 }
 
 /// Lays out the record that was read into n rows, or says why not: 20 to 30 and 52. The table has room for the entries
 /// of so many rows.
-// Kept: text and n beside work memory – no plainer, as of `lay_fields`.
 pub fn lay_record(
     text: &[u8],
-    work: &mut [u32],
+    rows: &mut [Row],
     n: usize,
-    entries: &mut [Item],
+    entries: &mut [TableEntry],
 ) -> Result<Record, Refusal>
-    requires { Read text.now work.old n × Roomy entries.old n }
-    ensures { MatchResult result (LaidIn text.now (record_fields text.now (length work.old)) work.new entries.new)
-        (λ r. laid_of text.now (record_fields text.now (length work.old)) ≡ Err r) }
+    requires { Fielded text.now rows.old n × Roomy entries.old n }
+    ensures { MatchResult result (LaidIn text.now (Ok (fields (rows_forest rows.old 0 n))) rows.new entries.new)
+        (λ r. laid_of text.now (Ok (fields (rows_forest rows.old 0 n))) ≡ Err r) }
 {
-    let from = first_field(Rows::new(work, n));
-    lay_fields(text, work, entries, from, n)
+    let from = first_field(Rows::new(rows, n));
+    lay_fields(text, rows, entries, from, n)
 }

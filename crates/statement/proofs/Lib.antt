@@ -1,1 +1,5 @@
 pub mod EndLaws
+pub mod LevelLaws
+pub mod PeriodLaws
+pub mod ReadingLaws
+pub mod StepLaws

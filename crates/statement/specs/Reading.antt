@@ -4,7 +4,7 @@ use Rattle.std.specs.Prelude.{ℕ, ◌<◌, ◌≤◌, ◌≡◌, List, [], ◌�
 use Rattle.std.specs.Prelude.{None, Some}
 use Rattle.definition.specs.declared.ByteKind.TheVariants.{Newline}
 use Rattle.definition.specs.declared.Clauses.{Clauses}
-use Rattle.definition.specs.declared.Expect.{Expect}
+use Rattle.definition.specs.declared.ParseState.{ParseState}
 use Rattle.definition.specs.declared.Refusal.{Refusal}
 use Rattle.definition.specs.declared.Span.{Span}
 use Rattle.definition.specs.declared.Statement.{Statement}
@@ -12,9 +12,9 @@ use Rattle.definition.specs.declared.Token.{Token}
 use Rattle.definition.specs.Basic.{Answer, Err, Ok}
 use Rattle.definition.specs.Statement.{no_clauses, clauses, named, statement}
 use Rattle.definition.specs.Words.{unless_open, first_open, sentences, first_words, after_stop}
-use Rattle.tokens.specs.declared.Stand.{Stand}
-use Rattle.tokens.specs.Tokens.{tokens_at}
-use Rattle.clauses.specs.Places.{SpanInside, Fits}
+use Rattle.text.specs.declared.tokens.Cursor.{Cursor}
+use Rattle.text.specs.Tokens.{tokens_at}
+use Rattle.statement.specs.Places.{SpanInside, Fits}
 use Rattle.statement.specs.declared.StatementRead.{StatementRead}
 
 -- ---------------------------------------------------------------- places in the text
@@ -28,55 +28,55 @@ pub record StatementFits (text : List ℕ) (s : Statement) : Type 0 where
 -- ---------------------------------------------------------------- the words of a statement
 
 -- the words of the statement that goes on there
-abbrev pub words_from : List ℕ → Stand → List Span
+abbrev pub words_from : List ℕ → Cursor → List Span
 words_from text from = first_words (tokens_at text from)
 
 -- the statement that goes on at `from` ends before `next`
-pub record Ends (text : List ℕ) (from next : Stand) : Type 0 where
+pub record Ends (text : List ℕ) (from next : Cursor) : Type 0 where
   pub up : from.at ≤ next.at
   pub within : next.at ≤ length text
   pub rest : after_stop (tokens_at text from) ≡ tokens_at text next
 
 -- the clauses of the words from a place on, and where they end
-pub record ClausesDone (text : List ℕ) (at : ℕ) (from : Stand) (c : Clauses) (next : Stand) : Type 0 where
-  pub is : clauses text at Expect.Clause no_clauses (words_from text from) ≡ Ok c
+pub record ClausesDone (text : List ℕ) (at : ℕ) (from : Cursor) (c : Clauses) (next : Cursor) : Type 0 where
+  pub is : clauses text at ParseState.Clause no_clauses (words_from text from) ≡ Ok c
   pub fits : Fits text c
   pub ends : Ends text from next
 
 -- what an answer says of the clauses from a place on, of the statement that begins at a position, where the reader
 -- stands at `next` then
-abbrev pub ClausesAre : List ℕ → ℕ → Stand → Answer Clauses → Stand → Type 0
+abbrev pub ClausesAre : List ℕ → ℕ → Cursor → Answer Clauses → Cursor → Type 0
 ClausesAre text at from (Ok c) next = ClausesDone text at from c next
-ClausesAre text at from (Err r) next = clauses text at Expect.Clause no_clauses (words_from text from) ≡ Err r
+ClausesAre text at from (Err r) next = clauses text at ParseState.Clause no_clauses (words_from text from) ≡ Err r
 
 -- the statement of the name and the clauses from a place on, and where they end
-pub record NamedDone (text : List ℕ) (at level : ℕ) (from : Stand) (s : Statement) (next : Stand) : Type 0 where
+pub record NamedDone (text : List ℕ) (at level : ℕ) (from : Cursor) (s : Statement) (next : Cursor) : Type 0 where
   pub is : named text at level (words_from text from) ≡ Ok s
   pub fits : StatementFits text s
   pub ends : Ends text from next
 
 -- what an answer says of the words after the level
-abbrev pub NamedAre : List ℕ → ℕ → ℕ → Stand → Answer Statement → Stand → Type 0
+abbrev pub NamedAre : List ℕ → ℕ → ℕ → Cursor → Answer Statement → Cursor → Type 0
 NamedAre text at level from (Ok s) next = NamedDone text at level from s next
 NamedAre text at level from (Err r) next = named text at level (words_from text from) ≡ Err r
 
 -- ---------------------------------------------------------------- the first statement of the tokens
 
 -- the other statements, and the first literal that is left open, are those from `next` on, which is `low` or after it
-pub record Followed (ts : List Token) (text : List ℕ) (low : ℕ) (next : Stand) : Type 0 where
+pub record Followed (ts : List Token) (text : List ℕ) (low : ℕ) (next : Cursor) : Type 0 where
   pub all_are : sentences ts ≡ first_words ts ∷ sentences (tokens_at text next)
   pub opens : first_open ts ≡ first_open (tokens_at text next)
   pub up : low ≤ next.at
   pub within : next.at ≤ length text
 
 -- the first statement is kept
-pub record FirstKept (ts : List Token) (text : List ℕ) (low : ℕ) (s : Statement) (next : Stand) : Type 0 where
+pub record FirstKept (ts : List Token) (text : List ℕ) (low : ℕ) (s : Statement) (next : Cursor) : Type 0 where
   pub is : statement text (first_words ts) ≡ Ok (Some s)
   pub fits : StatementFits text s
   pub followed : Followed ts text low next
 
 -- it is skipped
-pub record FirstSkipped (ts : List Token) (text : List ℕ) (low : ℕ) (next : Stand) : Type 0 where
+pub record FirstSkipped (ts : List Token) (text : List ℕ) (low : ℕ) (next : Cursor) : Type 0 where
   pub is : statement text (first_words ts) ≡ Ok None
   pub followed : Followed ts text low next
 
@@ -86,12 +86,12 @@ pub record FirstRefused (ts : List Token) (text : List ℕ) (r : Refusal) : Type
   pub all_are : sentences ts ≡ first_words ts ∷ sentences (after_stop ts)
 
 -- there is none: the tokens end where the reader stands at `next`
-pub record FirstNone (ts : List Token) (text : List ℕ) (next : Stand) : Type 0 where
-  pub ends : ts ≡ unless_open next.said Newline []
+pub record FirstNone (ts : List Token) (text : List ℕ) (next : Cursor) : Type 0 where
+  pub ends : ts ≡ unless_open next.literals Newline []
   pub within : next.at ≤ length text
 
 -- what an answer says of the first statement of the tokens, where the reader stands at `next` then
-abbrev pub FirstStatement : List Token → List ℕ → ℕ → Answer StatementRead → Stand → Type 0
+abbrev pub FirstStatement : List Token → List ℕ → ℕ → Answer StatementRead → Cursor → Type 0
 FirstStatement ts text low (Ok (StatementRead.Kept s)) next = FirstKept ts text low s next
 FirstStatement ts text low (Ok StatementRead.Skipped) next = FirstSkipped ts text low next
 FirstStatement ts text low (Ok StatementRead.End) next = FirstNone ts text next

@@ -1,22 +1,24 @@
 //! Lists of questions: a list is read from its file and replayed, case by case. In a list of limits each case begins
 //! with two numbers more: how much work memory is lent, and how many bytes stand before the text: blanks, or X before a
 //! picture.
-ghost use Rattle.std.specs.Prelude.{◌≡◌, ◌≤◌, length, IfOk};
-ghost use Rattle.replay.specs.Counting.{Onward, Counted};
 
+ghost use Rattle.std.specs.Prelude.{◌≡◌, ◌≤◌, length, IfOk};
+ghost use Rattle.test_lists.specs.Counting.{Onward, Counted};
+
+use crate::record_cases::owners::Counts;
+use crate::record_cases::{extracts, keys, owners};
+use crate::replay::case::{Case, Differs};
+use crate::replay::cases::Cases;
+use crate::replay::lent::Lent;
+use crate::replay::lists::read_list;
+use crate::replay::tally::Tally;
+use crate::report_cases;
+use crate::report_cases::Kind;
+use crate::text_cases::pictures::Source;
+use crate::text_cases::{pictures, readings};
 use definition::LEAST_WORK;
-use record_cases::owners::Counts;
-use record_cases::{extracts, keys, owners};
-use replay::case::{Case, Differs};
-use replay::cases::Cases;
-use replay::lent::Lent;
-use replay::lists::read_list;
-use replay::tally::Tally;
-use report_cases::Kind;
 use std::io;
 use std::rt::Files;
-use text_cases::pictures::Source;
-use text_cases::{pictures, readings};
 
 /// The most numbers of work memory that a case lends.
 const MOST_WORK: usize = 17000;
@@ -40,7 +42,7 @@ pub enum Question {
 
 /// Whether a case says how much work memory is lent, and how many bytes stand before its text.
 #[derive(Clone, Copy)]
-pub enum Form {
+pub enum CaseHead {
     /// It doesn't.
     Plain,
     /// It does.
@@ -57,12 +59,12 @@ pub struct List<'a> {
     /// What its cases ask for.
     pub question: Question,
     /// What its cases begin with.
-    pub form: Form,
+    pub form: CaseHead,
 }
 
 impl<'a> List<'a> {
     /// A list of cases of a form.
-    pub fn new(file: &'a [u8], what: &'a str, question: Question, form: Form) -> List<'a>
+    pub fn new(file: &'a [u8], what: &'a str, question: Question, form: CaseHead) -> List<'a>
         ensures file { result.file ≡ file.entry }
         ensures what { result.what ≡ what.entry }
         ensures question { result.question ≡ question }
@@ -77,15 +79,13 @@ impl<'a> List<'a> {
     }
 
     /// Goes on where a case agrees: its words ask and answer the question.
-    // Kept: a switch – no plainer: lists of different questions stand in one slice, so that a closure for each would be
-    // a `dyn`, whose bound would promise again of the list what the `replay` functions promise.
     fn agrees(self, case: &mut Case) -> Result<(), Differs>
         ensures { case.new.list ≡ case.old.list }
     {
         let mut room = [0; MOST_WORK];
         let (work, before) = match self.form {
-            Form::Plain => (LEAST_WORK, 0),
-            Form::Limits => (case.take()?, case.take()?),
+            CaseHead::Plain => (LEAST_WORK, 0),
+            CaseHead::Limits => (case.take()?, case.take()?),
         };
         if work > MOST_WORK {
             return Err(Differs);
@@ -137,21 +137,19 @@ fn print_difference(
 }
 
 /// Reads lists one after the other, and prints how many of their cases agree.
-// Kept: `Onward` and `Counted` in their contracts – no plainer: they speak of a tally before and after, and a ghost
-// field speaks of one value alone.
 #[derive(Drop)]
 pub(crate) struct Lists<'a, R> {
     /// Where they are read and printed.
     pub rt: &'a R,
     /// Room for a list.
-    // Kept: an array – a rule of the project: a Vec's memory rests on three axioms more.
+    // An array: a Vec's memory would rest on three axioms more.
     pub room: [u8; 400_000],
 }
 
 impl<'a, R: Files + Print> Lists<'a, R> {
     /// Reads a list and replays it, after the cases of others. What a file holds has no word in a contract: as many
     /// cases are counted as what was read has, which is at most what there is room for.
-    #[tactic(auto, using(replay::proofs::TallyLaws::tally_steps))]
+    #[tactic(auto, using(crate::proofs::TallyLaws::tally_steps))]
     pub(crate) fn replay(&mut self, list: List, counted: &mut Tally) -> io::Result<()>
         ensures onward { Onward counted.old counted.new }
         ensures all { IfOk result (λ _. (read : _)

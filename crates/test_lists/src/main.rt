@@ -6,10 +6,15 @@
 
 mod lists;
 
-use lists::{Form, List, Lists, Question};
-use report_cases::Kind;
+use crate::report_cases::Kind;
+use crate::text_cases::pictures::Source;
+use lists::{CaseHead, List, Lists, Question};
 use std::io;
-use text_cases::pictures::Source;
+
+pub mod record_cases;
+pub mod replay;
+pub mod report_cases;
+pub mod text_cases;
 
 fn main(rt: HostRuntime) -> io::Result<()> {
     let mut lists = Lists {
@@ -23,31 +28,36 @@ fn main(rt: HostRuntime) -> io::Result<()> {
                 b"picture/pictures.txt",
                 "pictures",
                 Question::Picture(Source::Rust),
-                Form::Plain,
+                CaseHead::Plain,
             ),
             List::new(
                 b"picture/document.txt",
                 "document",
                 Question::Picture(Source::Document),
-                Form::Plain,
+                CaseHead::Plain,
             ),
             List::new(
                 b"picture/limits.txt",
                 "long pictures",
                 Question::Picture(Source::Document),
-                Form::Limits,
+                CaseHead::Limits,
             ),
         ],
     )?;
     lists.print_all(
         "readings",
         &[
-            List::new(b"reader/texts.txt", "texts", Question::Reading, Form::Plain),
+            List::new(
+                b"reader/texts.txt",
+                "texts",
+                Question::Reading,
+                CaseHead::Plain,
+            ),
             List::new(
                 b"reader/limits.txt",
                 "limits",
                 Question::Reading,
-                Form::Limits,
+                CaseHead::Limits,
             ),
         ],
     )?;
@@ -56,10 +66,10 @@ fn main(rt: HostRuntime) -> io::Result<()> {
     lists.print_as_one(
         "parse",
         &[
-            List::new(b"layout/layouts1.txt", "parse", listing, Form::Plain),
-            List::new(b"layout/layouts2.txt", "parse", listing, Form::Plain),
-            List::new(b"layout/layouts3.txt", "parse", listing, Form::Plain),
-            List::new(b"layout/layouts4.txt", "parse", listing, Form::Plain),
+            List::new(b"layout/layouts1.txt", "parse", listing, CaseHead::Plain),
+            List::new(b"layout/layouts2.txt", "parse", listing, CaseHead::Plain),
+            List::new(b"layout/layouts3.txt", "parse", listing, CaseHead::Plain),
+            List::new(b"layout/layouts4.txt", "parse", listing, CaseHead::Plain),
         ],
     )?;
     for list in [
@@ -67,19 +77,19 @@ fn main(rt: HostRuntime) -> io::Result<()> {
             b"layout/document.txt",
             "document",
             Question::Report(Kind::Listing),
-            Form::Plain,
+            CaseHead::Plain,
         ),
         List::new(
             b"layout/cards.txt",
             "cards",
             Question::Report(Kind::CardListing),
-            Form::Plain,
+            CaseHead::Plain,
         ),
         List::new(
             b"layout/limits.txt",
             "limits",
             Question::Report(Kind::Listing),
-            Form::Limits,
+            CaseHead::Limits,
         ),
     ] {
         lists.print(list)?;
@@ -87,8 +97,18 @@ fn main(rt: HostRuntime) -> io::Result<()> {
     println!(lists.rt; "of owners")?;
     lists.print_records(b"owner/records.txt")?;
     for list in [
-        List::new(b"owner/asked.txt", "asked", Question::Owner, Form::Plain),
-        List::new(b"owner/limits.txt", "limits", Question::Owner, Form::Limits),
+        List::new(
+            b"owner/asked.txt",
+            "asked",
+            Question::Owner,
+            CaseHead::Plain,
+        ),
+        List::new(
+            b"owner/limits.txt",
+            "limits",
+            Question::Owner,
+            CaseHead::Limits,
+        ),
     ] {
         lists.print(list)?;
     }
@@ -99,13 +119,13 @@ fn main(rt: HostRuntime) -> io::Result<()> {
                 b"details/details.txt",
                 "details",
                 Question::Report(Kind::Details),
-                Form::Plain,
+                CaseHead::Plain,
             ),
             List::new(
                 b"details/limits.txt",
                 "limits",
                 Question::Report(Kind::Details),
-                Form::Limits,
+                CaseHead::Limits,
             ),
         ],
     )?;
@@ -116,13 +136,13 @@ fn main(rt: HostRuntime) -> io::Result<()> {
                 b"reasons/reasons.txt",
                 "reasons",
                 Question::Report(Kind::Reasons),
-                Form::Plain,
+                CaseHead::Plain,
             ),
             List::new(
                 b"reasons/limits.txt",
                 "limits",
                 Question::Report(Kind::Reasons),
-                Form::Limits,
+                CaseHead::Limits,
             ),
         ],
     )?;
@@ -133,21 +153,21 @@ fn main(rt: HostRuntime) -> io::Result<()> {
                 b"extract/extracts.txt",
                 "extracts",
                 Question::Extract,
-                Form::Plain,
+                CaseHead::Plain,
             ),
             List::new(
                 b"extract/limits.txt",
                 "limits",
                 Question::Extract,
-                Form::Limits,
+                CaseHead::Limits,
             ),
         ],
     )?;
     lists.print_all(
         "keys",
         &[
-            List::new(b"key/keys.txt", "keys", Question::Key, Form::Plain),
-            List::new(b"key/limits.txt", "limits", Question::Key, Form::Limits),
+            List::new(b"key/keys.txt", "keys", Question::Key, CaseHead::Plain),
+            List::new(b"key/limits.txt", "limits", Question::Key, CaseHead::Limits),
         ],
     )
 }

@@ -1,5 +1,6 @@
-//! The copybook text: its bytes, words and numbers, and the checks of the text itself. A word is the part of the text
-//! that it fills.
+//! The copybook text: its bytes, words and numbers, and the checks of the text itself; in modules its tokens and the
+//! word reader, the keyword that a word is, the names in it, and what a reader sees of cards. A word is the part of the
+//! text that it fills.
 #![tactic(auto)]
 
 ghost use Rattle.std.specs.Prelude.{◌≡◌, ◌↔◌, IsTrue, nat_lt, position};
@@ -7,6 +8,12 @@ ghost use Rattle.definition.specs.Basic.{white, upper as upper_of, uppers, same,
 ghost use Rattle.definition.specs.Calls.{text_checks, entry_checks};
 
 use definition::{LEAST_WORK, MOST_BYTES, Refusal};
+
+pub mod cards;
+pub mod keywords;
+pub mod names;
+pub mod tokens;
+pub mod words;
 
 /// Whether a byte is white space.
 pub fn is_white(b: u8) -> bool
@@ -23,10 +30,8 @@ pub fn upper(b: u8) -> u8
 }
 
 /// Whether a word in upper case is this one.
-// Kept: a function under `same_key` – the proof didn't close in one: the check follows the lengths and `all` over a
-// `zip` under the clause `IsTrue result ↔ ..` alone; under `result ≡ same ..` both ways out of the body stayed open.
-// Kept: equality by `all` – no plainer: `eq_ignore_ascii_case` would raise the key too, and `same_key`, which is
-// public, promises that a key in small letters is no word's.
+// Apart from `same_key`: the check follows the chain of iterators to this clause, and not to an equation of tests.
+// Not `eq_ignore_ascii_case`, which would raise the key too: a key in small letters is no word's.
 fn is_spelt(word: &[u8], key: &[u8]) -> bool
     ensures { IsTrue result ↔ (uppers word.now ≡ key.now) }
 {
@@ -58,8 +63,7 @@ pub fn same_spelling(a: &[u8], b: &[u8]) -> bool
 }
 
 /// The number that digits spell: one digit at least, no other byte, and below 2^64.
-// Kept: digits read by hand – tried and too slow: `parse` over `from_utf8` proved, but goes over a word twice, and took
-// 112 instructions for a level of two digits in place of 45.
+// Not `parse`: over `from_utf8` it goes over a word twice, 112 instructions for two digits in place of 45.
 #[tactic(auto, using(crate::proofs::Steps::digit_steps))]
 fn number_of(digits: &[u8]) -> Option<u64>
     ensures { result ≡ below 18446744073709551616 (numeral digits.now) }
@@ -109,7 +113,7 @@ fn first_wide(text: &[u8]) -> Option<usize>
     text.iter().position(|b| *b > 127)
 }
 
-/// The checks of a text: refusal 1 for one over 65,535 bytes, and 2 at the first byte over 127.
+/// The checks of a text: refusal 1 for one over `MOST_BYTES` bytes, and 2 at the first byte over 127.
 #[tactic(auto, using(crate::proofs::Steps::answer_steps), unfolding(definition::specs::Calls::text_checks))]
 pub fn text_checks(text: &[u8]) -> Result<(), Refusal>
     ensures { result ≡ text_checks text.now }
@@ -123,7 +127,7 @@ pub fn text_checks(text: &[u8]) -> Result<(), Refusal>
     }
 }
 
-/// The checks of an entry: those of the text, then refusal 3 for work memory under 16,384 numbers.
+/// The checks of an entry: those of the text, then refusal 3 for work memory under `LEAST_WORK` numbers.
 #[tactic(auto, using(crate::proofs::Steps::answer_steps), unfolding(definition::specs::Calls::entry_checks))]
 pub fn entry_checks(text: &[u8], work_len: usize) -> Result<(), Refusal>
     ensures { result ≡ entry_checks text.now work_len }

@@ -1,2 +1,17 @@
+pub mod AnsweredLaws
+pub mod CardLineLaws
+pub mod ChainLaws
+pub mod DistanceLaws
+pub mod FieldLaws
+pub mod FitLaws
+pub mod KeyLaws
+pub mod Numbers
+pub mod QuoteLaws
+pub mod StandingLaws
+pub mod ReadBackLaws
+pub mod SubsetLaws
+pub mod UngroupedLaws
+pub mod WordsLaws
+pub mod MaskLaws
 pub mod Named
 pub mod Occurrences

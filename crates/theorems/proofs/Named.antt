@@ -1,10 +1,10 @@
 -- The laws that the attribute of a theorem names, each by a name that Rust can write.
 -- Assumes nothing.
+use Rattle.definition.proofs.CallsLaws.{reader-refuses}
 use Rattle.definition.proofs.CardLaws.{view-checks}
-use Rattle.definition.proofs.Demand3.{reader-refuses}
 use Rattle.definition.proofs.DetailLaws.{details-length}
 use Rattle.definition.proofs.ParentLaws.{parents-forest}
-use Rattle.definition.proofs.QuoteLaws.{same-words, plain_closed}
+use Rattle.theorems.proofs.QuoteLaws.{same-words, plain_closed}
 use Rattle.definition.proofs.UsageLaws.{along-forest}
 use Rattle.theorems.proofs.Occurrences.{slack-stands}
 

@@ -20,7 +20,7 @@ use Rattle.definition.specs.Record.{record_length}
 use Rattle.definition.specs.Owner.{Holder, occurrence, slack, is_aligned, pieces}
 use Rattle.definition.specs.Placed.{content_of}
 use Rattle.definition.specs.Search.{entries#}
-use Rattle.definition.specs.Demand.{Fewest, Starts, aligned, Tells, Spot, spot, gap, each, single, told, Among}
+use Rattle.definition.specs.Demand.{Fewest, Starts, aligned, Tells, Spot, spot, gap, each, single, spots_of, Among}
 use Rattle.definition.specs.Demand.{naming, Demand}
 use Rattle.theorems.specs.Occurrences.{Within, Occurs, Slackened, pieces#, here#, counts}
 use Rattle.definition.proofs.Answers.{given-same}
@@ -55,7 +55,7 @@ module _ (width : ℕ) (one : ℕ → List Spot) (y : Spot) where
 module _ (k base reached : ℕ) (e : Entry) (members later : Entries) (y : Spot) where
   -- one occurrence of the entry
   abbrev one_of : ℕ → List Spot
-  one_of first = single k e.width members first (told (suc k) first 0 members)
+  one_of first = single k e.width members first (spots_of (suc k) first 0 members)
 
   -- which it is, and that it is that
   abbrev InOne : Type 0
@@ -63,14 +63,14 @@ module _ (k base reached : ℕ) (e : Entry) (members later : Entries) (y : Spot)
 
   -- is its slack, one of its occurrences, or what is told of the later ones
   split-told :
-      Among y (told k base reached (entry e members later)) →
+      Among y (spots_of k base reached (entry e members later)) →
       Among y (gap k (base + reached) (e.offset - reached))
-      ⊎ (InOne ⊎ Among y (told (suc k + entries# members) base (e.offset + total e) later))
-  unfolding told
+      ⊎ (InOne ⊎ Among y (spots_of (suc k + entries# members) base (e.offset + total e) later))
+  unfolding spots_of
   split-told a =
       let before = gap k (base + reached) (e.offset - reached) in
       let own = each (times e.occurs) (base + e.offset) e.width one_of in
-      let rest = told (suc k + entries# members) base (e.offset + total e) later in
+      let rest = spots_of (suc k + entries# members) base (e.offset + total e) later in
       ⊎_elim
       (λ (m : Among y (before ++ own)).
       ⊎_elim
@@ -81,22 +81,22 @@ module _ (k base reached : ℕ) (e : Entry) (members later : Entries) (y : Spot)
       (among-append y (before ++ own) rest a)
 
   -- and the last two are told
-  told-one : InOne → Among y (told k base reached (entry e members later))
-  unfolding told
+  told-one : InOne → Among y (spots_of k base reached (entry e members later))
+  unfolding spots_of
   told-one r =
       let before = gap k (base + reached) (e.offset - reached) in
       let own = each (times e.occurs) (base + e.offset) e.width one_of in
-      among-left y (before ++ own) (told (suc k + entries# members) base (e.offset + total e) later)
+      among-left y (before ++ own) (spots_of (suc k + entries# members) base (e.offset + total e) later)
       (among-right y before own (each_in e.width one_of y (times e.occurs) (base + e.offset) r.0 r.1 r.2))
 
   told-later :
-      Among y (told (suc k + entries# members) base (e.offset + total e) later) →
-      Among y (told k base reached (entry e members later))
-  unfolding told
+      Among y (spots_of (suc k + entries# members) base (e.offset + total e) later) →
+      Among y (spots_of k base reached (entry e members later))
+  unfolding spots_of
   told-later m =
       let before = gap k (base + reached) (e.offset - reached) in
       let own = each (times e.occurs) (base + e.offset) e.width one_of in
-      among-right y (before ++ own) (told (suc k + entries# members) base (e.offset + total e) later) m
+      among-right y (before ++ own) (spots_of (suc k + entries# members) base (e.offset + total e) later) m
 
 single-in :
     (k width : ℕ) (members : Entries) (start : ℕ) (y : Spot) (inner : List Spot) {P : Type 0} →
@@ -119,8 +119,8 @@ module _ (n first width : ℕ) where
   abbrev y : Spot
   y = spot (occurrence n) first width
 
-  pub occurs-told : (es : Entries) (k base reached : ℕ) → Occurs k base es y → Among y (told k base reached es)
-  unfolding Occurs told
+  pub occurs-told : (es : Entries) (k base reached : ℕ) → Occurs k base es y → Among y (spots_of k base reached es)
+  unfolding Occurs spots_of
   occurs-told end k base reached o = absurd o
   occurs-told (entry e members later) k base reached o =
       let from : ℕ → ℕ = λ i. base + e.offset + i * e.width in
@@ -138,20 +138,20 @@ module _ (n first width : ℕ) where
       told-later k base reached e members later y (occurs-told later _ base (e.offset + total e) r))
       o
 
-  pub told-occurs : (es : Entries) (k base reached : ℕ) → Among y (told k base reached es) → Occurs k base es y
-  unfolding Occurs told
+  pub told-occurs : (es : Entries) (k base reached : ℕ) → Among y (spots_of k base reached es) → Occurs k base es y
+  unfolding Occurs spots_of
   told-occurs end k base reached a = absurd a
   told-occurs (entry e members later) k base reached a =
       ⊎_elim
       (λ (g : Among y (gap k (base + reached) (e.offset - reached))). gap-slack k _ _ n first width g)
       (λ (m :
       InOne k base reached e members later y
-      ⊎ Among y (told (suc k + entries# members) base (e.offset + total e) later)).
+      ⊎ Among y (spots_of (suc k + entries# members) base (e.offset + total e) later)).
       ⊎_elim
       (λ (r : InOne k base reached e members later y).
       let c = base + e.offset + r.0 * e.width in
       inl (r.0, r.1, single-out k e.width members c y _ (told-occurs members (suc k) c 0) r.2))
-      (λ (l : Among y (told (suc k + entries# members) base (e.offset + total e) later)).
+      (λ (l : Among y (spots_of (suc k + entries# members) base (e.offset + total e) later)).
       inr (told-occurs later _ base (e.offset + total e) l))
       m)
       (split-told k base reached e members later y a)
@@ -190,7 +190,7 @@ module _ {text : List ℕ} {owner : ℕ → Answer Owner} {f : Forest} {es : Ent
       by-holder :
           (h : Holder) (b w : ℕ) →
           naming h b q ≡ Owner.Piece k first place →
-          Among (spot h b w) (told 0 0 0 es) →
+          Among (spot h b w) (spots_of 0 0 0 es) →
           b ≤ q →
           q < b + w →
           (width : ℕ) × Occurs 0 0 es (spot (occurrence k) first width) × (place < width) × (q ≡ first + place)
@@ -243,9 +243,9 @@ module _ (n first width : ℕ) where
     pub slack-stands :
         (f : Forest) (es : Entries) (k base reached : ℕ) →
         Tells text reached f es →
-        Among z (told k base reached es) →
+        Among z (spots_of k base reached es) →
         Slackened text first width
-    unfolding told
+    unfolding spots_of
     slack-stands leaf end k base reached t a = absurd a
     slack-stands (item s kids later) (entry e members others) k base reached t a =
         ⊎_elim
@@ -256,12 +256,12 @@ module _ (n first width : ℕ) where
         (omega (arith, wide, at.1)))
         (λ (m :
         InOne k base reached e members others z
-        ⊎ Among z (told (suc k + entries# members) base (e.offset + total e) others)).
+        ⊎ Among z (spots_of (suc k + entries# members) base (e.offset + total e) others)).
         ⊎_elim
         (λ (r : InOne k base reached e members others z).
         slack-stands kids members (suc k) (base + e.offset + r.0 * e.width) 0 t.2
         (single-slack k e.width members _ _ r.2))
-        (λ (l : Among z (told (suc k + entries# members) base (e.offset + total e) others)).
+        (λ (l : Among z (spots_of (suc k + entries# members) base (e.offset + total e) others)).
         slack-stands later others _ base (e.offset + total e) t.3 l)
         m)
         (split-told k base reached e members others z a)
@@ -299,20 +299,20 @@ module _ (n : ℕ) where
   pieces#-single k w members b inner m h = grind arith
 
   -- there are as many pieces of an entry as the counts multiply to
-  pub counted : (es : Entries) (k base reached : ℕ) → pieces# n (told k base reached es) ≡ counts n k es
-  unfolding told counts
+  pub counted : (es : Entries) (k base reached : ℕ) → pieces# n (spots_of k base reached es) ≡ counts n k es
+  unfolding spots_of counts
   counted end k base reached = refl
   counted (entry e members later) k base reached =
       let before = gap k (base + reached) (e.offset - reached) in
       let own =
-      each (times e.occurs) (base + e.offset) e.width (λ c. single k e.width members c (told (suc k) c 0 members)) in
-      let rest = told (suc k + entries# members) base (e.offset + total e) later in
+      each (times e.occurs) (base + e.offset) e.width (λ c. single k e.width members c (spots_of (suc k) c 0 members)) in
+      let rest = spots_of (suc k + entries# members) base (e.offset + total e) later in
       let ih = counted members (suc k) in
       omega (
         arith,
         pieces#-append (before ++ own) rest,
         pieces#-append before own,
         pieces#-gap k (base + reached) (e.offset - reached),
-        pieces#-each (times e.occurs) (base + e.offset) e.width (here# n k members (counts n (suc k) members)) (λ c. single k e.width members c (told (suc k) c 0 members)) (λ b. pieces#-single k e.width members b (told (suc k) b 0 members) (counts n (suc k) members) (ih b 0)),
+        pieces#-each (times e.occurs) (base + e.offset) e.width (here# n k members (counts n (suc k) members)) (λ c. single k e.width members c (spots_of (suc k) c 0 members)) (λ b. pieces#-single k e.width members b (spots_of (suc k) b 0 members) (counts n (suc k) members) (ih b 0)),
         counted later (suc k + entries# members) base (e.offset + total e),
       )

@@ -1,1 +1,15 @@
+pub mod Distance
+pub mod Answered
+pub mod CardLines
+pub mod Chains
+pub mod Keys
+pub mod Fields
+pub mod Numbers
+pub mod Premises
+pub mod ReadBack
+pub mod Sentences
+pub mod Standing
+pub mod Subsets
+pub mod Ungrouped
 pub mod Occurrences
+pub mod Catches

@@ -3,31 +3,47 @@
 #![tactic(auto)]
 
 ghost use Rattle.std.specs.Prelude.{ℕ, suc, ◌+◌, ◌-◌, ◌*◌, ◌%◌, ◌≤◌, ◌<◌, ◌≡◌, true, false, List, [], ◌∷◌, ◌++◌};
-ghost use Rattle.std.specs.Prelude.{length, Some};
+ghost use Rattle.std.specs.Prelude.{length, map, Some, T};
 ghost use Rattle.definition.specs.declared.Span.{Span};
+ghost use Rattle.definition.specs.declared.Token.{Token};
 ghost use Rattle.definition.specs.declared.Owner.{Owner};
 ghost use Rattle.definition.specs.declared.Extract.{Extract};
 ghost use Rattle.definition.specs.declared.Refusal.{Refusal};
+ghost use Rattle.definition.specs.declared.Pictured.{Pictured};
 ghost use Rattle.definition.specs.declared.Statement.{Statement};
-ghost use Rattle.definition.specs.Basic.{Answer, Ok, Err, fewest, sum};
+ghost use Rattle.definition.specs.Basic.{part, Answer, Ok, Err, fewest};
 ghost use Rattle.definition.specs.Words.{statement_words};
 ghost use Rattle.definition.specs.Unquoted.{bare_words, plain_text};
 ghost use Rattle.definition.specs.Tree.{Forest, forest, parents, parents_in};
 ghost use Rattle.definition.specs.Usages.{inherit_along, inherited};
 ghost use Rattle.definition.specs.Fold.{Entries, same_name, Place, search_back};
-ghost use Rattle.definition.specs.Distance.{NoneNamed, StopsAtTheName};
+ghost use Rattle.theorems.specs.Distance.{NoneNamed, StopsAtTheName};
 ghost use Rattle.definition.specs.Record.{record_length, unfolded, layout};
 ghost use Rattle.definition.specs.Owner.{occurrence, slack, pieces, owner_of, overlaid};
 ghost use Rattle.definition.specs.Search.{entries#, seek, rows, walk};
 ghost use Rattle.definition.specs.Details.{details_in, entries_details, FirstBytes, Following, height};
-ghost use Rattle.definition.specs.Listing.{members#};
-ghost use Rattle.definition.specs.Cards.{Form, free_text, view};
-ghost use Rattle.definition.specs.Calls.{entries, called, byte_owner, extract_answer, entry_checks, literal_check};
-ghost use Rattle.definition.specs.Key.{Key, is_set, copybooks, key_of_texts, AllHave, Shared};
-ghost use Rattle.definition.specs.Ungrouped.{entries_alone, lasting_all, plain_usages};
-ghost use Rattle.definition.specs.Demand.{Fewest, Tells, spot, told, Among, Demand, Kept};
+ghost use Rattle.definition.specs.Listing.{members#, listing};
+ghost use Rattle.definition.specs.Cards.{view, view_in};
+ghost use Rattle.definition.specs.declared.Form.{Form};
+ghost use Rattle.definition.specs.Layout.{elementary};
+ghost use Rattle.definition.specs.Calls.{entries, record_fields, called, Question, asked, extract_in, left, layout_call};
+ghost use Rattle.definition.specs.Calls.{entry_checks, literal_check, indicator_check};
+ghost use Rattle.theorems.specs.Keys.{KeyAnswers};
+ghost use Rattle.theorems.specs.Ungrouped.{entries_alone, lasting_all, plain_usages};
+ghost use Rattle.definition.specs.Demand.{Fewest, Tells, spot, spots_of, Among, Demand, Kept};
 ghost use Rattle.definition.specs.Explained.{Explained};
 ghost use Rattle.definition.specs.Extracted.{Extracted};
+ghost use Rattle.theorems.specs.Chains.{Chained};
+ghost use Rattle.theorems.specs.Subsets.{Heaviest};
+ghost use Rattle.theorems.specs.Numbers.{RefusalNumbers, KindNumbers, Limits};
+ghost use Rattle.theorems.specs.Fields.{FieldsOf, AlignedBySync};
+ghost use Rattle.theorems.specs.Premises.{all_right, premises};
+ghost use Rattle.theorems.specs.Answered.{Answered};
+ghost use Rattle.theorems.specs.Sentences.{OfStatements, OneByOne};
+ghost use Rattle.theorems.specs.CardLines.{lines, join, visible, first_other_of, refused_at};
+ghost use Rattle.theorems.specs.Standing.{standing, all_rows, FirstOwned};
+ghost use Rattle.theorems.specs.ReadBack.{read_listing, listed};
+ghost use Rattle.theorems.specs.Catches.{all, table, fish_listing};
 ghost use Rattle.theorems.specs.Occurrences.{Occurs, Slackened, pieces#, counts};
 
 // ---------------------------------------------------------------- the bytes of the record
@@ -39,6 +55,15 @@ ghost use Rattle.theorems.specs.Occurrences.{Occurs, Slackened, pieces#, counts}
 pub fn every_byte_has_one_owner()
     ensures { (form : Form) (text : List ℕ) (work : ℕ) (es : Entries) →
         called form (λ t. entries t work) text work ≡ Ok es → Kept form text work es }
+{}
+
+/// Whatever a call for the layout listing answers and leaves in the output, of free text or of cards: what it writes is
+/// the listing of entries that keep the owner rule, so that, where that record has no REDEFINES and no DEPENDING ON, a
+/// call of the byte owner on that text, with work memory enough, answers for each byte below the record length with the
+/// one piece, or slack, that has it; a refusal leaves the output as it was, and is 31 or the reader's.
+pub fn a_listing_and_its_owners_agree()
+    ensures { (form : Form) (text out work : List ℕ) (r : Answer ℕ) (out' work' : List ℕ) →
+        left r out' work' ≡ layout_call form text out work → Answered form text out work r out' }
 {}
 
 /// The owner rule, occurrence by occurrence: from the sum of offset + number × width along the groups around an
@@ -59,14 +84,14 @@ pub fn what_is_owned_occurs()
 /// There are as many pieces of an entry as the counts of it and of the groups around it multiply to.
 #[tactic(auto, using(crate::proofs::Occurrences::counted))]
 pub fn counts_multiply()
-    ensures { (n : ℕ) (es : Entries) → pieces# n (told 0 0 0 es) ≡ counts n 0 es }
+    ensures { (n : ℕ) (es : Entries) → pieces# n (spots_of 0 0 0 es) ≡ counts n 0 es }
 {}
 
 /// Slack stands only directly before an elementary SYNC binary or float item, and is the fewest bytes that align it.
 #[tactic(auto, using(crate::proofs::Named::slack_stands))]
 pub fn slack_aligns_an_item()
     ensures { (text : List ℕ) (f : Forest) (es : Entries) (n first width : ℕ) → Tells text 0 f es →
-        Among (spot (slack n) first width) (told 0 0 0 es) → Slackened text first width }
+        Among (spot (slack n) first width) (spots_of 0 0 0 es) → Slackened text first width }
 {}
 
 /// What aligns a place to a width is below the width and the smallest number that brings the place to a multiple of
@@ -85,11 +110,11 @@ pub fn owners_are_found_among_the_entries()
         (q : ℕ) → q < record_length es → walk 0 0 0 (rows es) q ≡ owner_of (pieces text f) q }
 {}
 
-/// What the reader refuses, the byte owner refuses, with the same refusal.
+/// What the reader refuses is refused whatever is asked of the record, with the same refusal.
 #[tactic(auto, using(crate::proofs::Named::reader_refuses))]
-pub fn the_owner_refuses_what_the_reader_refuses()
-    ensures { (text : List ℕ) (work q : ℕ) (r : Refusal) →
-        entries text work ≡ Err r → byte_owner text work q ≡ Err r }
+pub fn what_the_reader_refuses_is_refused<A>()
+    ensures { (question : Question A) (text : List ℕ) (work : ℕ) (r : Refusal) →
+        entries text work ≡ Err r → asked question text work ≡ Err r }
 {}
 
 // ---------------------------------------------------------------- reasons and details
@@ -102,10 +127,32 @@ pub fn every_place_has_its_reasons()
         called form (λ t. entries t work) text work ≡ Ok es → Explained form text work es }
 {}
 
+/// The bytes that are answered of an entry are its item's own reasons, then for each group outward kind 5 and the
+/// group's own, each in 13 bytes.
+#[tactic(auto, using(crate::proofs::ChainLaws::chained))]
+pub fn reasons_go_outward()
+    ensures { (form : Form) (text : List ℕ) (work : ℕ) (es : Entries) →
+        called form (λ t. entries t work) text work ≡ Ok es → Chained form text work es }
+{}
+
 /// The first byte of a member is its group's plus its offset, and that of an entry at the top is its offset.
 #[tactic(auto, using(definition::proofs::DetailLaws::inside))]
 pub fn first_bytes_add_up()
     ensures { (es : Entries) → FirstBytes [] (details_in 0 0 es) }
+{}
+
+/// The details of an entry are its row, byte by byte: its level, how many groups are around it, and as its first byte
+/// the sum of its offset and theirs, among the rest.
+#[tactic(auto, using(crate::proofs::StandingLaws::details_stand))]
+pub fn details_tell_where_entries_stand()
+    ensures { (es : Entries) → entries_details es ≡ all_rows (standing [] es) }
+{}
+
+/// Where the owner rule holds and an elementary entry and each group around it stand at least once, the first byte that
+/// the details have of it is where the owner finds it.
+pub fn owners_are_found_at_the_first_byte()
+    ensures { (text : List ℕ) (owner : ℕ → Answer Owner) (f : Forest) (es : Entries) → Demand text owner f es →
+        FirstOwned owner es }
 {}
 
 /// Before folding, slack begins where the latest earlier item without REDEFINES ends, or where its list does; a
@@ -126,6 +173,16 @@ pub fn details_have_47_bytes_an_entry()
     ensures { (es : Entries) → length (entries_details es) ≡ 47 * entries# es }
 {}
 
+// ---------------------------------------------------------------- the listing
+
+/// The bytes of the listing of an accepted copybook, free text or cards, read back, are its entries: none is lost or
+/// invented.
+#[tactic(auto, using(crate::proofs::FitLaws::read_back))]
+pub fn listings_can_be_read_back()
+    ensures { (form : Form) (text : List ℕ) (work : ℕ) (es : Entries) →
+        called form (λ t. entries t work) text work ≡ Ok es → read_listing (listing es) ≡ listed es }
+{}
+
 // ---------------------------------------------------------------- extracts and keys
 
 /// Every extract that is not refused is the heaviest fitting choice among the subsets looked at, the earliest if equal,
@@ -133,23 +190,24 @@ pub fn details_have_47_bytes_an_entry()
 #[tactic(auto, using(definition::proofs::ExtractLaws::extracted))]
 pub fn an_extract_is_the_heaviest_that_fits()
     ensures { (text : List ℕ) (work : ℕ) (weights : List ℕ) (limit budget : ℕ) (a : Extract) →
-        extract_answer text work weights limit budget ≡ Ok a → Extracted text work weights limit budget a }
+        asked (extract_in weights limit budget) text work ≡ Ok a → Extracted text work weights limit budget a }
 {}
 
-/// The offset and width that are answered of a set of copybooks are those of one key that all of them have.
-#[tactic(auto, using(definition::proofs::KeyLaws::shared))]
+/// By numbers alone: as many subsets are looked at as the smaller of the budget and all, from number 0 up; item i is in
+/// a subset if and only if bit i of its number is set; the answer is the heaviest of them that fits, the earliest if
+/// equal.
+#[tactic(auto, using(crate::proofs::SubsetLaws::heaviest))]
+pub fn subsets_are_the_bits_of_a_number()
+    ensures { (text : List ℕ) (work : ℕ) (weights : List ℕ) (limit budget : ℕ) (a : Extract) →
+        asked (extract_in weights limit budget) text work ≡ Ok a → Heaviest text work weights limit budget a }
+{}
+
+/// A set is 2 to 16 copybooks whose lengths add up to the bytes handed in, else 56; the first that the reader refuses
+/// gives its refusal; the offset and width that are answered are those of the one entry of that name at the top of each,
+/// all alike, and without one it is 57.
+#[tactic(auto, using(crate::proofs::KeyLaws::answers))]
 pub fn a_key_is_one_column_in_all()
-    ensures { (texts lengths name : List ℕ) (work offset width : ℕ) →
-        key_of_texts texts lengths name work ≡ Ok (record { offset = offset; width = width }) →
-        Shared texts lengths name work offset width }
-{}
-
-/// And where all copybooks of a set have one key, its offset and width are answered.
-#[tactic(auto, using(definition::proofs::KeyLaws::answered))]
-pub fn a_common_key_is_answered()
-    ensures { (texts lengths name : List ℕ) (work : ℕ) (k : Key) → is_set lengths texts ≡ true →
-        AllHave work name k (copybooks lengths texts) →
-        key_of_texts texts lengths name work ≡ Ok (record { offset = k.offset; width = k.width }) }
+    ensures { (texts lengths name : List ℕ) (work : ℕ) → KeyAnswers texts lengths name work }
 {}
 
 // ---------------------------------------------------------------- names, parents and usages
@@ -161,6 +219,19 @@ pub fn a_target_is_the_nearest_of_its_name()
     ensures distance { (text : List ℕ) (w : Span) (nearer : List Place) (p : Place) (further : List Place) →
         NoneNamed text w nearer → same_name text w p.name ≡ true →
         search_back text w (nearer ++ p ∷ further) ≡ record { found = Some p.offset; compared = suc (length nearer) } }
+{}
+
+/// The fields of a record are those of its kept statements; the first is dropped where others follow and all of them
+/// have a higher level. The record is overlaid if and only if one of these has a REDEFINES or a DEPENDING ON.
+#[tactic(auto, using(crate::proofs::FieldLaws::fields_of))]
+pub fn one_root_is_dropped()
+    ensures { (text : List ℕ) (work : ℕ) (f : Forest) → record_fields text work ≡ Ok f → FieldsOf text f }
+{}
+
+/// An elementary item is aligned if and only if it has SYNC and is binary or a float.
+#[tactic(auto, using(crate::proofs::FieldLaws::aligned_by_sync))]
+pub fn sync_aligns_binary_and_floats()
+    ensures { (text : List ℕ) (s : Statement) (c : Pictured) → elementary text s ≡ Ok c → AlignedBySync text s c }
 {}
 
 /// Statements read one by one, each with the nearest earlier one of a smaller level as its parent, are the forest.
@@ -179,7 +250,7 @@ pub fn usages_come_down_while_reading()
 
 /// A copybook in which no group names a usage, no DISPLAY stands after another usage word and no word names a float has
 /// the entries that it had while each statement had its own usage alone.
-#[tactic(auto, using(definition::proofs::UngroupedLaws::same_entries))]
+#[tactic(auto, using(crate::proofs::UngroupedLaws::same_entries))]
 pub fn plain_usages_have_the_entries_that_they_had()
     ensures { (text : List ℕ) (work : ℕ) → plain_usages text ≡ true → entries_alone text work ≡ entries text work }
 {}
@@ -192,10 +263,64 @@ pub fn plain_texts_have_the_words_that_they_had()
     ensures shut { (text : List ℕ) → plain_text text ≡ true → literal_check text ≡ Ok tt }
 {}
 
+// ---------------------------------------------------------------- words
+
+/// Each word that the reader sees, of cards too, has the same bytes in the copybook's own text.
+#[tactic(auto, using(crate::proofs::WordsLaws::words_stand))]
+pub fn words_stand_in_the_text()
+    ensures { (form : Form) (text : List ℕ) →
+        OfStatements (λ w. part (view_in form text) w ≡ part text w) (statement_words (view_in form text)) }
+{}
+
+/// A reader may go statement by statement: the statements of some tokens are the one that the first word begins, or an
+/// empty one before a period, and then those of the tokens after it.
+pub fn statements_come_one_by_one()
+    ensures { (ts : List Token) → OneByOne ts }
+{}
+
 // ---------------------------------------------------------------- cards
+
+/// What is seen of cards is, line by line, columns 8 to 72 of the lines with a blank indicator, at the same places, and
+/// nothing else.
+#[tactic(auto, using(crate::proofs::CardLineLaws::view_seen))]
+pub fn columns_8_to_72_are_seen()
+    ensures { (cards : List ℕ) → view cards ≡ join (map visible (lines cards)) }
+{}
+
+/// The first line that has a column 7, and there none of blank, `*`, `/` and `D`, is refused at that byte.
+#[tactic(auto, using(crate::proofs::CardLineLaws::other_refused))]
+pub fn other_indicators_are_refused()
+    ensures { (cards : List ℕ) → indicator_check cards ≡ refused_at (first_other_of 0 (lines cards)) }
+{}
 
 /// Cards that pass the checks of the text and of the work memory are seen as a text that passes them.
 #[tactic(auto, using(crate::proofs::Named::view_checks))]
 pub fn what_is_seen_of_cards_passes_their_checks()
     ensures { (cards : List ℕ) (work : ℕ) → entry_checks cards work ≡ Ok tt → entry_checks (view cards) work ≡ Ok tt }
+{}
+
+// ---------------------------------------------------------------- numbers
+
+/// The numbers of refusals, the positions and lengths that they carry, the numbers of kinds, signs and storages, and the
+/// limits are those of one table.
+#[tactic(auto, using(crate::proofs::Numbers::refusal_numbers, crate::proofs::Numbers::kind_numbers, crate::proofs::Numbers::limits))]
+pub fn numbers_are_those_of_the_table()
+    ensures refusals { RefusalNumbers }
+    ensures kinds { KindNumbers }
+    ensures limits { Limits }
+{}
+
+// ---------------------------------------------------------------- rows
+
+/// Every row of the table of catches is right: the definition is computed at each. The worked example's listing has 129
+/// bytes.
+pub fn the_catches_are_right()
+    ensures rows { T (all table) }
+    ensures worked { length fish_listing ≡ 129 }
+{}
+
+/// Each test that is a law's premise holds of some texts and fails of others, and at some of these the readings that the
+/// law compares differ.
+pub fn premises_hold_and_fail()
+    ensures { T (all_right premises) }
 {}

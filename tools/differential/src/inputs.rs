@@ -1,5 +1,5 @@
 //! Copybooks and pictures at random, from a seed. The lists of written inputs and what is made of them in every
-//! combination are those of tools/inputs.py, which `run` asks for a part of the inputs; the random families are made
+//! combination are those of tools/inputs, which `run` asks for a part of the inputs; the random families are made
 //! here, since there are many of them:
 //!   nested groups with every clause, SYNC, OCCURS DEPENDING ON, dropped roots     nested, long
 //!   folds with few names, names in any case, own-name groups                      folded

@@ -3,7 +3,7 @@
 //!
 //!     differential COUNT SEED [WRITTEN]
 //!
-//! WRITTEN holds inputs as tools/inputs.py prints them, one to a line; they come first, and are damaged to make others.
+//! WRITTEN holds inputs as tools/inputs prints them, one to a line; they come first, and are damaged to make others.
 //! The rest of COUNT is made from SEED (`inputs`).
 //!
 //! A copybook must get the bytes of listing and of details that the Rust's answer comes to by their formats (`answer`),
@@ -11,13 +11,14 @@
 //! not have, are those of a reading of the rules that shares no code with the product (`reading`); so are the added
 //! refusals 1, 2, 14, 24, 27, 29, 30, 50 and 52: an input with one is left out of the comparison with the Rust, and
 //! counted, but number and position are checked. So is a copybook in which a literal after VALUE holds a period that
-//! would end a statement, or `*>`: there the Rust has no answer, and tools/quoted compares every byte. So is one in which
-//! a group names a usage, DISPLAY stands after another usage word, or COMP-1 or COMP-2 names a float: its refusal and its
-//! owners are checked, and tools/usages and tools/floats compare every byte. So is an input with P in a picture, which
-//! holds a byte in the Rust and none here: its refusals, the widths of pictures and the owners of copybooks are checked,
-//! and tools/pictures compares all else. The Rust has no byte owner: owners are compared, for some copybooks, with the
-//! bytes laid one by one by the reading. The masks of the edited pictures of a listing are compared too, and the record
-//! check. A picture is compared under every usage and sign, and its mask under every usage.
+//! would end a statement, or `*>`: there the Rust has no answer, and `tools/compare quoted` compares every byte. So is
+//! one in which a group names a usage, DISPLAY stands after another usage word, or COMP-1 or COMP-2 names a float: its
+//! refusal and its owners are checked, and `tools/compare usages` and `floats` compare every byte. So is an input with
+//! P in a picture, which holds a byte in the Rust and none here: its refusals, the widths of pictures and the owners of
+//! copybooks are checked, and `tools/compare pictures` compares all else. The Rust has no byte owner: owners are
+//! compared, for some copybooks, with the bytes laid one by one by the reading. The masks of the edited pictures of a
+//! listing are compared too, and the record check. A picture is compared under every usage and sign, and its mask under
+//! every usage.
 //!
 //! The drop-in (`drop_in`) must give the Rust's own layout, field by field, of every accepted copybook, the Rust's kind
 //! of every accepted picture, and errors that say what the Rust's say.
@@ -30,7 +31,7 @@
 
 mod answer;
 mod calls;
-#[allow(dead_code)] // the calls for cards are compared by tools/cards
+#[allow(dead_code)] // the calls for cards are compared by `tools/compare cards`
 #[path = "../../../bindings/rust/src/declared.rs"]
 mod declared;
 mod drop_in;
@@ -403,7 +404,7 @@ fn from_hex(word: &str) -> Vec<u8> {
     (0..word.len()).step_by(2).map(|i| u8::from_str_radix(&word[i..i + 2], 16).expect("hex")).collect()
 }
 
-/// The inputs that tools/inputs.py printed.
+/// The inputs that tools/inputs printed.
 fn written_inputs(file: &str) -> Vec<Input> {
     let text = fs::read_to_string(file).unwrap_or_else(|e| panic!("{file}: {e}"));
     let made = text.lines().map(|line| {
@@ -486,7 +487,7 @@ fn main() {
         }
     }
     let first = written.len().min(count as usize);
-    println!("{} copybooks and {} pictures (seed {seed}; {first} written by tools/inputs.py)", made[0], made[1]);
+    println!("{} copybooks and {} pictures (seed {seed}; {first} written by tools/inputs)", made[0], made[1]);
     let mut last = "";
     for ((what, _, kind), n) in &run.counts {
         if *what != last {

@@ -1,9 +1,8 @@
 -- `byte_owner_cards` meets its contract: the definition's answer.
-use Rattle.definition.specs.Cards.{card_text}
-use Rattle.copybook.proofs.Same.{owner-call}
+use Rattle.definition.specs.declared.Form.{Form}
+use Rattle.definition.specs.Calls.{owner_in}
+use Rattle.copybook.proofs.Same.{silent-asked}
 use Rattle.copybook.proofs.byte_owner_cards.Goals as goal
 
 pub returns : goal.returns
-returns c =
-    let a = c.args in
-    owner-call card_text (record { position = a.position }) a.cards.now a.work.now c.answer_cards.ensures
+returns c = silent-asked Form.Cards (owner_in c.args.position) c.args.cards.now c.args.work.now c.answer.ensures

@@ -9,5 +9,5 @@ invariant-loop-i l =
     (goal.iterator-loop-i).can_next l.i-iterator
     × (goal.iterator-loop-i).is_finite l.i-iterator
     × ((enumerate_source l.i-iterator).rows ≡ l.laid.table.rows)
-    × Gathering l.laid.table.rows.work.now l.laid.from l.laid.table.rows.count l.widths
+    × Gathering l.laid.table.rows.all.now l.laid.from l.laid.table.rows.count l.widths
     (enumerate_source l.i-iterator).from (enumerate_count l.i-iterator)

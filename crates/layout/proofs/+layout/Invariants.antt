@@ -5,15 +5,17 @@ use Prim.Native.Nat.{ℕ, ◌+◌, ◌*◌, ◌-◌, ◌≤◌}
 use mathlib.Core.Path.{◌≡◌}
 use mathlib.Core.List.{List}
 use lib.ListN.{length}
+use Rattle.definition.specs.Basic.{Answer}
+use Rattle.rows.specs.declared.Row.{Row}
 use Rattle.layout.specs.Outcomes.{lay_rest, lay_table, Room}
 use Rattle.layout.proofs.+layout.Given as goal
 
 -- what the loop keeps
-pub record Laying (t w₀ w : List ℕ) (from to depth i last cursor reach : ℕ) : Type 0 where
+pub record Laying (t : List ℕ) (w₀ w : List Row) (from to depth i last cursor reach : ℕ) (checked : Answer (Unit {0})) : Type 0 where
   pub same_length : length w ≡ length w₀
   pub room : Room t w i to
   pub back : last ≤ i
-  pub rest : lay_table t w₀ from to depth ≡ lay_rest t w i to depth last cursor reach
+  pub rest : lay_table t w₀ from to depth ≡ lay_rest t w i to depth last cursor reach checked
 
 abbrev pub decreases-lay_item : goal.decreases-lay_item
 decreases-lay_item l = 2 * l.depth_left
@@ -22,7 +24,7 @@ abbrev pub decreases-lay_list : goal.decreases-lay_list
 decreases-lay_list l = 2 * l.depth_left + 1
 
 abbrev pub invariant-lay_list-loop-i : goal.invariant-lay_list-loop-i
-invariant-lay_list-loop-i l = Laying l.text l.fn.work l.work l.from l.to (64 - l.depth_left) l.i l.next.last l.next.cursor l.reach
+invariant-lay_list-loop-i l = Laying l.text l.fn.rows l.rows l.from l.to (64 - l.depth_left) l.i l.next.last l.next.cursor l.reach l.checked
 
 abbrev pub decreases-lay_list-loop-i : goal.decreases-lay_list-loop-i
 decreases-lay_list-loop-i l = l.to - l.i

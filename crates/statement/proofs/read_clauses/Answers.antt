@@ -3,7 +3,7 @@ use mathlib.Core.Path.{◌≡◌, refl, sym, ap, ◌∙◌}
 use mathlib.Core.List.{List}
 use native.Mathlib.Omega.{arith}
 use Rattle.definition.specs.declared.Clauses.{Clauses}
-use Rattle.definition.specs.declared.Expect.{Expect}
+use Rattle.definition.specs.declared.ParseState.{ParseState}
 use Rattle.definition.specs.declared.Missing.{Missing}
 use Rattle.definition.specs.declared.Span.{Span}
 use Rattle.definition.specs.declared.Token.{Token}
@@ -12,12 +12,12 @@ use Rattle.definition.specs.Statement.{no_clauses, Step, step, missing, finish, 
 use Rattle.definition.proofs.StatementLaws.{clauses-none, clauses-go, clauses-fail}
 use Rattle.definition.specs.Words.{first_words}
 use Rattle.definition.proofs.WordLaws.{end-words}
-use Rattle.tokens.specs.declared.Next.{Next}
-use Rattle.tokens.specs.declared.Stand.{Stand}
-use Rattle.tokens.specs.Tokens.{tokens_at, First, FirstWord, FirstStop, FirstEnd}
+use Rattle.text.specs.declared.tokens.Next.{Next}
+use Rattle.text.specs.declared.tokens.Cursor.{Cursor}
+use Rattle.text.specs.Tokens.{tokens_at, First, FirstWord, FirstStop, FirstEnd}
 use Rattle.definition.proofs.SpanLaws.{step-spans, AnswerSpans, finish-spans}
-use Rattle.clauses.specs.Places.{SpanInside}
-use Rattle.clauses.specs.Steps.{led, kept_on}
+use Rattle.statement.specs.Places.{SpanInside}
+use Rattle.statement.specs.Steps.{led, kept_on}
 use Rattle.statement.specs.Reading.{words_from, Ends, ClausesAre}
 use Rattle.statement.proofs.EndLaws.{reached-word, ends-stop, ends-text}
 use Rattle.statement.proofs.read_clauses.Invariants.{Left}
@@ -25,8 +25,8 @@ use Rattle.statement.proofs.read_clauses.Goals as goal
 
 -- a statement that ends before n, with this answer
 closes :
-    (t : List ℕ) (at : ℕ) (from n : Stand) (a : Answer Clauses) →
-    clauses t at Expect.Clause no_clauses (words_from t from) ≡ a →
+    (t : List ℕ) (at : ℕ) (from n : Cursor) (a : Answer Clauses) →
+    clauses t at ParseState.Clause no_clauses (words_from t from) ≡ a →
     AnswerSpans (SpanInside t) a →
     Ends t from n →
     ClausesAre t at from a n
@@ -34,7 +34,7 @@ closes t at from n (Ok c) p f h = record { is = p; fits = f; ends = h }
 closes t at from n (Err r) p f h = p
 
 -- what a step leads on to, or what is missing
-led-on : (x : Step) (c : Clauses) {e : Expect} {d : Clauses} → Ok e ≡ led x → d ≡ kept_on x c → x ≡ Ok (e, d)
+led-on : (x : Step) (c : Clauses) {e : ParseState} {d : Clauses} → Ok e ≡ led x → d ≡ kept_on x c → x ≡ Ok (e, d)
 led-on (Ok (e, c)) d p q = cc
 led-on (Err m) d p q = cc
 
@@ -42,14 +42,14 @@ lacking : (x : Step) {m : Missing} → Err m ≡ led x → x ≡ Err m
 lacking (Ok (e, c)) p = cc
 lacking (Err m) p = cc
 
-module _ {t : List ℕ} {at : ℕ} {from place : Stand} {e : Expect} {c : Clauses} (inv : Left t at from place e c) where
+module _ {t : List ℕ} {at : ℕ} {from cursor : Cursor} {e : ParseState} {c : Clauses} (inv : Left t at from cursor e c) where
   -- the clauses, where the tokens from the place on are known
-  rest : {ts : List Token} → tokens_at t place ≡ ts → clauses t at Expect.Clause no_clauses (words_from t from) ≡ clauses t at e c (first_words ts)
+  rest : {ts : List Token} → tokens_at t cursor ≡ ts → clauses t at ParseState.Clause no_clauses (words_from t from) ≡ clauses t at e c (first_words ts)
   rest p = inv.same ∙ ap (λ (ts : List Token). clauses t at e c (first_words ts)) p
 
-  module _ {n : Stand} {w : Span} (f : FirstWord (tokens_at t place) t place.at w n) {x : Step} (p : x ≡ step e w (uppers (part t w)) c) where
+  module _ {n : Cursor} {w : Span} (f : FirstWord (tokens_at t cursor) t cursor.at w n) {x : Step} (p : x ≡ step e w (uppers (part t w)) c) where
     -- it leads on, or is refused
-    go : {e' : Expect} {c' : Clauses} → Ok e' ≡ led x → c' ≡ kept_on x c → Left t at from n e' c'
+    go : {e' : ParseState} {c' : Clauses} → Ok e' ≡ led x → c' ≡ kept_on x c → Left t at from n e' c'
     go {e'} {c'} q y =
         let z : step e w (uppers (part t w)) c ≡ Ok (e', c') = sym p ∙ led-on x c q y in
         record {
@@ -62,16 +62,16 @@ module _ {t : List ℕ} {at : ℕ} {from place : Stand} {e : Expect} {c : Clause
     fail q = rest f.all_are ∙ clauses-fail t at e c w (words_from t n) (sym p ∙ lacking x q)
 
   -- the statement ends at its period, or with the text
-  stopped : {n : Stand} {a : Answer Clauses} → FirstStop (tokens_at t place) t place.at n → a ≡ finish at e c → ClausesAre t at from a n
+  stopped : {n : Cursor} {a : Answer Clauses} → FirstStop (tokens_at t cursor) t cursor.at n → a ≡ finish at e c → ClausesAre t at from a n
   stopped {n} f p =
       rw p (closes t at from n (finish at e c) (rest f.all_are ∙ clauses-none t at e c) (finish-spans (SpanInside t) at e inv.fits) (ends-stop inv.reached f))
 
-  ended : {n : Stand} {a : Answer Clauses} → FirstEnd (tokens_at t place) t place.at n → a ≡ finish at e c → ClausesAre t at from a n
+  ended : {n : Cursor} {a : Answer Clauses} → FirstEnd (tokens_at t cursor) t cursor.at n → a ≡ finish at e c → ClausesAre t at from a n
   ended {n} f p =
-      rw p (closes t at from n (finish at e c) (rest f.opens ∙ ap (clauses t at e c) (end-words n.said) ∙ clauses-none t at e c) (finish-spans (SpanInside t) at e inv.fits) (ends-text inv.reached f))
+      rw p (closes t at from n (finish at e c) (rest f.opens ∙ ap (clauses t at e c) (end-words n.literals) ∙ clauses-none t at e c) (finish-spans (SpanInside t) at e inv.fits) (ends-text inv.reached f))
 
   -- so it ends where no word is next
-  done : (n : Stand) {a : Answer Clauses} (x : Next) → First (tokens_at t place) t place.at x n → ((w : Span) → x ≡ Next.Word w → ⊥) → a ≡ finish at e c → ClausesAre t at from a n
+  done : (n : Cursor) {a : Answer Clauses} (x : Next) → First (tokens_at t cursor) t cursor.at x n → ((w : Span) → x ≡ Next.Word w → ⊥) → a ≡ finish at e c → ClausesAre t at from a n
   done n (Next.Word w) f h p = absurd (h w refl)
   done n Next.Stop f h p = stopped f p
   done n Next.End f h p = ended f p

@@ -14,18 +14,18 @@ use Rattle.definition.specs.Statement.{named}
 use Rattle.definition.specs.Words.{first_open, sentences, first_words}
 use Rattle.definition.proofs.StatementLaws.{statement-bad, statement-skipped, statement-kept, statement-refused}
 use Rattle.definition.proofs.WordLaws.{sentences-word, open_after}
-use Rattle.tokens.specs.declared.Stand.{Stand}
-use Rattle.tokens.specs.Tokens.{tokens_at}
+use Rattle.text.specs.declared.tokens.Cursor.{Cursor}
+use Rattle.text.specs.Tokens.{tokens_at}
 use Rattle.statement.specs.Reading.{words_from, Ends, NamedDone, Followed, FirstKept, FirstSkipped, FirstRefused}
 use Rattle.statement.proofs.read_levelled.Goals as goal
 
-module _ (t : List ℕ) (w : Span) (from : Stand) {v : Option ℕ} (p : v ≡ number 256 (part t w)) where
+module _ (t : List ℕ) (w : Span) (from : Cursor) {v : Option ℕ} (p : v ≡ number 256 (part t w)) where
   -- the tokens of the statement
   abbrev all : List Token
   all = Word w ∷ tokens_at t from
 
   -- the statements after it are those after its end
-  followed : {n : Stand} → Ends t from n → Followed all t from.at n
+  followed : {n : Cursor} → Ends t from n → Followed all t from.at n
   unfolding first_open
   followed e =
       record {
@@ -41,12 +41,12 @@ module _ (t : List ℕ) (w : Span) (from : Stand) {v : Option ℕ} (p : v ≡ nu
 
   module _ {k : ℕ} (e : v ≡ Some k) where
     -- 88 is skipped
-    skipped : {n : Stand} → k ≡ 88 → Ends t from n → FirstSkipped all t from.at n
+    skipped : {n : Cursor} → k ≡ 88 → Ends t from n → FirstSkipped all t from.at n
     skipped q h = record { is = statement-skipped t w (words_from t from) (sym p ∙ e) q; followed = followed h }
 
     module _ (q : k ≡ 88 → ⊥) where
       -- any other is kept, or refused for what follows
-      kept : {x : Statement} {n : Stand} → NamedDone t w.start k from x n → FirstKept all t from.at x n
+      kept : {x : Statement} {n : Cursor} → NamedDone t w.start k from x n → FirstKept all t from.at x n
       kept d = record { is = statement-kept t w (words_from t from) (sym p ∙ e) q d.is; fits = d.fits; followed = followed d.ends }
 
       refused : {x : Refusal} → named t w.start k (words_from t from) ≡ Err x → FirstRefused all t x
@@ -56,17 +56,17 @@ pub returns-in-Some-eq88 : goal.returns-in-Some-eq88
 returns-in-Some-eq88 c =
     let a = c.args in
     let o = c.in-Some-eq88 in
-    skipped a.text.now a.first a.place.now (c.level_of.ensures ∙ ap (number 256) c.part_of.ensures) o.is o.field-0-test c.skip_statement.ensures
+    skipped a.text.now a.first a.cursor.now (c.level_of.ensures ∙ ap (number 256) c.part_of.ensures) o.is o.field-0-test c.skip_statement.ensures
 
 pub returns-in_ok-s-in-Some : goal.returns-in_ok-s-in-Some
 returns-in_ok-s-in-Some c =
     let a = c.args in
-    kept a.text.now a.first a.place.now (c.level_of.ensures ∙ ap (number 256) c.part_of.ensures) c.in-Some.is c.in-Some.level-test.1 c.in_ok-s-in-Some.ensures
+    kept a.text.now a.first a.cursor.now (c.level_of.ensures ∙ ap (number 256) c.part_of.ensures) c.in-Some.is c.in-Some.level-test.1 c.in_ok-s-in-Some.ensures
 
 pub returns-in_err-s-in-Some : goal.returns-in_err-s-in-Some
 returns-in_err-s-in-Some c =
     let a = c.args in
-    rw (handed_on _ c.from_residual.ensures.1) (refused a.text.now a.first a.place.now (c.level_of.ensures ∙ ap (number 256) c.part_of.ensures) c.in-Some.is c.in-Some.level-test.1 c.in_err-s-in-Some.ensures)
+    rw (handed_on _ c.from_residual.ensures.1) (refused a.text.now a.first a.cursor.now (c.level_of.ensures ∙ ap (number 256) c.part_of.ensures) c.in-Some.is c.in-Some.level-test.1 c.in_err-s-in-Some.ensures)
 
 pub returns-in-None : goal.returns-in-None
-returns-in-None c = let a = c.args in bad a.text.now a.first a.place.now (c.level_of.ensures ∙ ap (number 256) c.part_of.ensures) c.in-None.is
+returns-in-None c = let a = c.args in rw c.from.ensures (bad a.text.now a.first a.cursor.now (c.level_of.ensures ∙ ap (number 256) c.part_of.ensures) c.in-None.is)

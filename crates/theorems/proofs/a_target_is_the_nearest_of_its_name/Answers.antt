@@ -1,4 +1,4 @@
-use Rattle.definition.proofs.DistanceLaws.{stops-at-the-name}
+use Rattle.theorems.proofs.DistanceLaws.{stops-at-the-name}
 use Rattle.theorems.proofs.a_target_is_the_nearest_of_its_name.Goals as goal
 
 pub returns : goal.returns

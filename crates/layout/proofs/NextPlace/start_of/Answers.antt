@@ -6,15 +6,15 @@ use mathlib.Core.List.{List}
 use Rattle.definition.specs.declared.Statement.{Statement}
 use Rattle.definition.specs.declared.Pictured.{Pictured}
 use Rattle.definition.specs.declared.Refusal.{Refusal}
-use Rattle.definition.specs.Basic.{given, Answer, or_refuse}
+use Rattle.definition.specs.Basic.{is_given, Answer, or_refuse}
 use Rattle.definition.specs.Fold.{Place, find}
 use Rattle.definition.specs.Layout.{start}
-use Rattle.redefines.specs.Targets.{seen_at, target_search}
+use Rattle.layout.specs.Targets.{seen_at, target_search}
 use Rattle.layout.proofs.NextPlace.start_of.Goals as goal
 
 over :
     (t : List ℕ) (s : Statement) (c : Pictured) (seen : List Place) (cursor : ℕ) {g : Bool} →
-    g ≡ given s.clauses.redefines →
+    g ≡ is_given s.clauses.redefines →
     g ≡ true →
     {a : Answer ℕ} →
     a ≡ or_refuse (Refusal.NoTarget s.at) (target_search t s.clauses.redefines seen).found →
@@ -25,5 +25,5 @@ over t s c seen cursor e is p = p ∙ rw (← e, is)
 pub returns-then-is_given : goal.returns-then-is_given
 returns-then-is_given c =
     let a = c.args in
-    let e = c.start_over.ensures in
-    (over a.printed.text.now a.s a.c (seen_at a.printed.rows.work.now a.self.last) a.self.cursor c.is_given.ensures c.if-is_given.true e.0, e.1, e.2)
+    let e = rw c.from.ensures at c.start_over.ensures in
+    (over a.fingerprinted.text.now a.s a.c (seen_at a.fingerprinted.rows.all.now a.self.last) a.self.cursor c.is_given.ensures c.if-is_given.true e.0, e.1, e.2)

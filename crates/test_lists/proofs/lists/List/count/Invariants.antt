@@ -1,12 +1,12 @@
 -- `List::count` meets its contract: the cases that were counted, and those that are still to come, are all cases.
 use Rattle.std.proofs.Common.{◌≡◌, ◌+◌, min, false}
-use Rattle.replay.specs.Tallies.{most}
-use Rattle.replay.specs.Words.{ahead}
-use Rattle.replay.specs.Counting.{begun, cases, Onward}
+use Rattle.test_lists.specs.Tallies.{most}
+use Rattle.test_lists.specs.Words.{ahead}
+use Rattle.test_lists.specs.Counting.{begun, cases, Onward}
 use Rattle.test_lists.proofs.lists.List.count.Given as goal
 
 abbrev pub invariant-loop-case : goal.invariant-loop-case
 invariant-loop-case l =
-    (min most (l.counted.cases + begun false (ahead l.case-iterator.rest.list.now l.case-iterator.rest.stand))
+    (min most (l.counted.cases + begun false (ahead l.case-iterator.rest.list.now l.case-iterator.rest.cursor))
     ≡ min most (l.fn.counted.cases + cases l.fn.list))
     × Onward l.fn.counted l.counted

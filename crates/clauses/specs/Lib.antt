@@ -1,2 +1,0 @@
-pub mod Places
-pub mod Steps

@@ -1,9 +1,0 @@
--- The details' `put` meets its contract: those of the table's entries are the record's.
-use Rattle.details.proofs.FlatLaws.{table_shallow, table_details}
-use Rattle.details.proofs.DetailsWritten.put.Goals as goal
-
-pub put_details-requires : goal.put_details-requires
-put_details-requires c = (table_shallow c.args.self.tabled, c.requires)
-
-pub returns : goal.returns
-returns c = rw (← table_details c.args.self.tabled) c.put_details.ensures

@@ -1,2 +1,0 @@
-pub mod FlatLaws
-pub mod LoopLaws

@@ -1,5 +1,0 @@
--- `details::put_own` meets its contract.
-use Rattle.details.proofs.put_own.Goals as goal
-
-pub returns : goal.returns
-returns c = rw (← c.entry.ensures) c.put_detail.ensures

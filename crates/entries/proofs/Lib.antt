@@ -1,3 +1,0 @@
-pub mod BuildLaws
-pub mod WalkLaws
-pub mod ReadLaws

@@ -1,2 +1,0 @@
-pub mod ReadLaws
-pub mod SetLaws

@@ -1,0 +1,111 @@
+-- What the loops over the table keep: what is asked of all entries is what was found and what is asked of the rest.
+-- Assumes nothing.
+use Rattle.rows.specs.declared.Row.{Row}
+use Prim.Native.Nat.{ℕ, ◌+◌, max, ◌≤◌, ◌<◌}
+use mathlib.Core.Path.{◌≡◌, refl, sym, ap, subst, ◌∙◌}
+use mathlib.Core.Bool.{Bool, ◌||◌}
+use mathlib.Core.List.{List, [], ◌∷◌, ◌++◌, append_assoc, append-nil}
+use native.Mathlib.Omega.{arith}
+use lib.ListN.{length, length-append, drop, get_or}
+use borrow.Author.Tests.{lt-ltb, le-ltb}
+use Rattle.std.specs.List.{list_any, fold}
+use Rattle.std.proofs.lemmas.List.{at_drop_more, at_drop_all}
+use Rattle.definition.specs.declared.Refusal.{Refusal}
+use Rattle.definition.specs.declared.TheConstants.{LARGEST}
+use Rattle.definition.specs.Basic.{is_given, Ok, Err, and_then}
+use Rattle.definition.specs.Listing.{entry_bytes}
+use Rattle.fold.specs.declared.listing.Sink.{Sink}
+use Rattle.fold.specs.Puts.{Puts}
+use Rattle.fold.proofs.PutLaws.{puts-none, ◌and◌}
+use Rattle.fold.specs.declared.table.TableEntry.{TableEntry}
+use Rattle.fold.specs.Entered.{Shown, flat_bytes, flat_varies, top_end, flat_length, flat_fits, own_of, shown_of}
+use Rattle.fold.specs.Entered.{shown_all}
+
+-- the entries from item k on
+abbrev pub rest : List Row → List TableEntry → ℕ → List Shown
+rest w t k = shown_all w (drop k t)
+
+module _ (w : List Row) (t : List TableEntry) (k : ℕ) where
+  pub none_left : length t ≤ k → rest w t k ≡ []
+  unfolding shown_all
+  none_left h = at_drop_all (shown_all w) t k h
+
+  pub rest-next : (x : TableEntry) → k < length t → rest w t k ≡ shown_of w (get_or t k x) ∷ rest w t (k + 1)
+  unfolding shown_all
+  rest-next x h = at_drop_more (shown_all w) t k x h
+
+-- ---------------------------------------------------------------- the bytes
+
+-- the bytes of the entries before item k were put
+pub record Putting (w : List Row) (t : List TableEntry) (s : Sink) (k : ℕ) (s' : Sink) : Type 0 where
+  pub done : List ℕ
+  pub put : Puts s done s'
+  pub same : flat_bytes (shown_all w t) ≡ done ++ flat_bytes (rest w t k)
+
+pub putting_starts : (w : List Row) (t : List TableEntry) (s : Sink) → Putting w t s 0 s
+putting_starts w t s = record { done = []; put = puts-none s; same = refl }
+
+module _ {w : List Row} {t : List TableEntry} {s : Sink} {k : ℕ} {s' : Sink} (inv : Putting w t s k s') where
+  pub putting_ends : length t ≤ k → Puts s (flat_bytes (shown_all w t)) s'
+  unfolding flat_bytes
+  putting_ends h =
+      let all : flat_bytes (shown_all w t) ≡ inv.done =
+      inv.same ∙ ap (λ (l : List Shown). inv.done ++ flat_bytes l) (none_left w t k h) ∙ append-nil inv.done in
+      subst (λ (bs : List ℕ). Puts s bs s') (sym all) inv.put
+
+  pub putting_small : s.at + length (flat_bytes (shown_all w t)) < 4294967296 → s'.at ≤ 4294967295
+  putting_small m = omega (arith, inv.put.put.next, ap length inv.same, length-append inv.done (flat_bytes (rest w t k)))
+
+  pub putting_on :
+      (x : TableEntry) → k < length t →
+      {s'' : Sink} →
+      Puts s' (entry_bytes (own_of w (get_or t k x)) (get_or t k x).members) s'' →
+      Putting w t s (k + 1) s''
+  unfolding flat_bytes
+  putting_on x h p =
+      let bs = entry_bytes (own_of w (get_or t k x)) (get_or t k x).members in
+      record {
+        done = inv.done ++ bs;
+        put = inv.put and p;
+        same =
+            inv.same
+            ∙ ap (λ (l : List Shown). inv.done ++ flat_bytes l) (rest-next w t k x h)
+            ∙ sym (append_assoc inv.done bs (flat_bytes (rest w t (k + 1))));
+      }
+
+-- ---------------------------------------------------------------- what is asked of them, one at a time
+
+module _ (w : List Row) (t : List TableEntry) (k : ℕ) where
+  pub fits_none : length t ≤ k → flat_fits (rest w t k) ≡ Ok tt
+  unfolding flat_fits
+  fits_none h = ap flat_fits (none_left w t k h)
+
+  module _ (x : TableEntry) (h : k < length t) where
+    -- one that ends too far, and one that does not
+    pub fits_over :
+        LARGEST < top_end (shown_of w (get_or t k x)) →
+        flat_fits (rest w t k) ≡ Err (Refusal.TooLarge (own_of w (get_or t k x)).at)
+    unfolding flat_fits and_then
+    fits_over l = ap flat_fits (rest-next w t k x h) ∙ rw (lt-ltb LARGEST (top_end (shown_of w (get_or t k x))) l)
+
+    pub fits_next : top_end (shown_of w (get_or t k x)) ≤ LARGEST → flat_fits (rest w t k) ≡ flat_fits (rest w t (k + 1))
+    unfolding flat_fits and_then
+    fits_next l = ap flat_fits (rest-next w t k x h) ∙ rw (le-ltb LARGEST (top_end (shown_of w (get_or t k x))) l)
+
+-- whether one varies, and the largest end at the top, as the code asks
+pub varies_any : (w : List Row) (t : List TableEntry) → list_any (λ x. is_given (own_of w x).depending) t ≡ flat_varies (shown_all w t)
+unfolding shown_all flat_varies
+varies_any w [] = refl
+varies_any w (x ∷ t) = ap (λ (b : Bool). is_given (own_of w x).depending || b) (varies_any w t)
+
+length_from : (w : List Row) (t : List TableEntry) (m : ℕ) → fold (λ n x. max n (top_end (shown_of w x))) m t ≡ max m (flat_length (shown_all w t))
+unfolding shown_all flat_length
+length_from w [] m = omega arith
+length_from w (x ∷ t) m = omega (arith, length_from w t (max m (top_end (shown_of w x))))
+
+pub length_fold : (w : List Row) (t : List TableEntry) → fold (λ n x. max n (top_end (shown_of w x))) 0 t ≡ flat_length (shown_all w t)
+length_fold w t = omega (arith, length_from w t 0)
+
+pub ruleset fitting = (fits_none, fits_over, fits_next)
+
+pub ruleset putting = (putting_starts, putting_ends, putting_small, putting_on)

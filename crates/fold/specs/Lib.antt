@@ -1,0 +1,3 @@
+pub mod Building
+pub mod Entered
+pub mod Puts

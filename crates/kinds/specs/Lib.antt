@@ -1,3 +1,0 @@
-pub mod Kinds
-pub mod Usages
-pub mod Laws

@@ -1,0 +1,19 @@
+-- The fingerprints of the names in the rows: what putting them there does, and what a search may pass over by them.
+-- Assumes nothing.
+use Rattle.std.specs.Prelude.{ℕ, ◌≤◌, ◌<◌, ◌≡◌, List}
+use Rattle.text.specs.Fingerprints.{name_fingerprint}
+use Rattle.rows.specs.declared.Row.{Row}
+use Rattle.rows.specs.Rows.{row_in}
+
+-- row k has the fingerprint of its name
+abbrev pub FingerprintedRow : List ℕ → List Row → ℕ → Type 0
+FingerprintedRow text w k = (row_in w k).fingerprint ≡ name_fingerprint text (row_in w k).statement.name
+
+-- each of the first n rows has
+pub record Fingerprinted (text : List ℕ) (w : List Row) (n : ℕ) : Type 0 where
+  pub rows : (k : ℕ) → k < n → FingerprintedRow text w k
+
+-- the rows from r up to `last` have other fingerprints, and each names the row before it as its sibling
+pub record PassedBack (w : List Row) (fingerprint last r : ℕ) : Type 0 where
+  pub low : r ≤ last
+  pub others : (j : ℕ) → r ≤ j → j < last → ((row_in w j).fingerprint ≡ fingerprint → ⊥) × ((row_in w j).place.before ≡ j)

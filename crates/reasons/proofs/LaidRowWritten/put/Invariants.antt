@@ -1,9 +1,0 @@
--- One group after the other.
-use Rattle.reasons.proofs.OutwardLaws.{Going, outer_code}
-use Rattle.reasons.proofs.LaidRowWritten.put.Given as goal
-
-abbrev pub invariant-loop-outer : goal.invariant-loop-outer
-invariant-loop-outer l = Going l.fn.self l.fn.sink l.sink l.outer
-
-abbrev pub decreases-loop-outer : goal.decreases-loop-outer
-decreases-loop-outer l = outer_code l.outer

@@ -1,4 +1,0 @@
-pub mod OutwardLaws
-pub mod ChainLaws
-pub mod NumberLaws
-pub mod AnswerLaws

@@ -1,6 +1,0 @@
--- The positions of the runs, and those past the end.
-use Rattle.replay.proofs.TallyLaws.{onward-trans}
-use Rattle.record_cases.proofs.owners.replay_record.Goals as goal
-
-pub returns : goal.returns
-returns c = onward-trans _ _ _ c.loop.invariant c.replay_end.ensures

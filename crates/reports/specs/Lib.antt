@@ -1,0 +1,3 @@
+pub mod Chained
+pub mod Detailed
+pub mod Listed

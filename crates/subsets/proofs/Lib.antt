@@ -1,4 +1,0 @@
-pub mod ItemLaws
-pub mod SumLaws
-pub mod SearchLaws
-pub mod AnswerLaws

@@ -1,4 +1,0 @@
-pub mod SizeLaws
-pub mod FlatLaws
-pub mod LoopLaws
-pub mod ListedLaws

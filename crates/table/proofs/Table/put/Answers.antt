@@ -1,6 +1,0 @@
--- `Table::put` meets its contract.
-use Rattle.table.proofs.LoopLaws.{putting_ends}
-use Rattle.table.proofs.Table.put.Goals as goal
-
-pub returns : goal.returns
-returns c = putting_ends c.loop-item.invariant c.loop-item-test.false

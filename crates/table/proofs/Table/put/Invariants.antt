@@ -1,6 +1,0 @@
--- `Table::put` meets its contract: each entry behind the one before it.
-use Rattle.table.proofs.LoopLaws.{Putting}
-use Rattle.table.proofs.Table.put.Given as goal
-
-abbrev pub invariant-loop-item : goal.invariant-loop-item
-invariant-loop-item l = Putting l.self.rows.work.now l.self.items.now l.initial.sink l.item-index l.sink

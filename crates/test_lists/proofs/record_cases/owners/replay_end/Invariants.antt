@@ -1,0 +1,6 @@
+-- `owners::replay_end` meets its contract: no position that was counted is lost.
+use Rattle.test_lists.specs.Counting.{Onward}
+use Rattle.test_lists.proofs.record_cases.owners.replay_end.Given as goal
+
+abbrev pub invariant-loop-position : goal.invariant-loop-position
+invariant-loop-position l = Onward l.fn.positions l.positions

@@ -1,0 +1,4 @@
+pub mod Fingerprints
+pub mod Table
+pub mod Tokens
+pub mod Viewed

@@ -1,6 +1,0 @@
--- `readings::all_rows` meets its contract: the list of the case stays.
-use Rattle.std.proofs.Common.{◌≡◌}
-use Rattle.text_cases.proofs.readings.all_rows.Given as goal
-
-abbrev pub invariant-loop-k : goal.invariant-loop-k
-invariant-loop-k l = l.case.list ≡ l.fn.case.list

@@ -1,7 +1,0 @@
-//! The cases of lists that ask of a text by itself: of a picture, and how a copybook is read into rows.
-#![tactic(auto)]
-
-/// Answers to pictures.
-pub mod pictures;
-/// Readings of copybook texts.
-pub mod readings;

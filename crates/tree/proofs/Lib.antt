@@ -1,2 +1,0 @@
-pub mod LevelLaws
-pub mod ReadingLaws

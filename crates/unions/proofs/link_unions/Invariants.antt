@@ -1,9 +1,0 @@
--- `unions::link_unions` meets its contract: the rows from k on are linked.
-use Rattle.unions.proofs.LinkLaws.{Linking}
-use Rattle.unions.proofs.link_unions.Given as goal
-
-abbrev pub invariant-loop-k : goal.invariant-loop-k
-invariant-loop-k l = Linking l.initial.work l.from l.to l.k l.work
-
-abbrev pub decreases-loop-k : goal.decreases-loop-k
-decreases-loop-k l = l.k

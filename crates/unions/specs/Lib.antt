@@ -1,4 +1,0 @@
-pub mod Checks
-pub mod Shown
-pub mod Marks
-pub mod Single

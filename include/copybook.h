@@ -163,7 +163,7 @@ enum copybook_number {
     R(COPYBOOK_TEXT_TOO_LONG, "the text has more than 65,535 bytes", \
       "split the copybook by record; a copybook with more than one record is one record per call anyway") \
     R(COPYBOOK_BYTE_NOT_ASCII, "a byte over 127", \
-      "copybooks are ASCII here: look at that byte; a name or comment in another code page must be rewritten") \
+      "copybooks are ASCII here: write that character in ASCII, a plain blank or quote for a typographic one") \
     R(COPYBOOK_WORK_TOO_SHORT, "fewer than 16,384 numbers of work memory were lent", \
       "lend 16,384 numbers of 32 bits") \
     R(COPYBOOK_LEVEL, "a statement does not start with a level from 0 to 255", \
@@ -217,13 +217,13 @@ enum copybook_number {
     R(COPYBOOK_NO_SET, "there are not 2 to 16 copybooks, or their stated lengths do not add up to the bytes lent", \
       "a key is for 2 to 16 copybooks: lend all of their bytes, and state the length of each") \
     R(COPYBOOK_NO_KEY, "the copybooks have no common key of that name", \
-      "each needs one top-level item of that name, no group, without OCCURS or REDEFINES, all in one place") \
-    R(COPYBOOK_EXTRACT_ITEMS, "more than 16 top-level items, or another number of weights than of items", \
-      "give one weight for each top-level item, in their order; of a longer record take a copybook of fewer items") \
+      "each needs one top-level column of that name, no group, without OCCURS or REDEFINES, all in one place") \
+    R(COPYBOOK_EXTRACT_ITEMS, "more than 16 top-level columns, or another number of weights than of columns", \
+      "give one weight for each top-level column, in their order; of a longer record take a copybook of fewer") \
     R(COPYBOOK_EXTRACT_WEIGHT, "a weight outside 1 to 1,000", \
       "weights count against each other alone: scale them into that range") \
-    R(COPYBOOK_EXTRACT_BUDGET, "a budget of 0", \
-      "let one subset be looked at, at least; 65,536 are all that there can be")
+    R(COPYBOOK_EXTRACT_BUDGET, "a budget of 0 choices", \
+      "have one choice of columns tried, at least; 65,536 are all that there can be")
 /* end of texts */
 
 /* Kinds: the first byte of each entry of a listing, and answer[0] of a picture. */

@@ -9,10 +9,12 @@ ROOT = pathlib.Path(__file__).resolve().parent.parent
 TABLE = ROOT / "bindings/rust/texts.toml"
 LIMITS = ROOT / "crates/definition/src/lib.rt"
 NUMBERS = ROOT / "crates/definition/specs/Refusals.antt"
+CAUSES = ROOT / "examples/causes"
 WIDEST = 120
 
 NEEDED = {"number", "name", "found", "advice"}
-KNOWN = NEEDED | {"about", "sentence", "heading"}
+KNOWN = NEEDED | {"about", "sentence", "heading", "cause"}
+OF_CAUSE = {"name", "when", "sentence", "advice"}
 
 # The comments, in whatever form the file has them, between which a part stands.
 MARKS = "made by tools/papers --write: {}", "end of {}"
@@ -44,10 +46,11 @@ class Texts:
         table = tomllib.loads(TABLE.read_text(encoding="utf-8"))
         values = {name: number for name, number, _ in limits()}
         self.sets = [(s["name"], s["order"]) for s in table["set"]]
-        self.refusals = [
-            {key: filled(value, values) if isinstance(value, str) else value for key, value in refusal.items()}
-            for refusal in table["refusal"]
-        ]
+        def all_filled(row):
+            return {key: filled(value, values) if isinstance(value, str) else value for key, value in row.items()}
+
+        self.refusals = [all_filled(refusal) for refusal in table["refusal"]]
+        self.causes = [(r["number"], all_filled(cause)) for r in self.refusals for cause in r.get("cause", [])]
 
     def faults(self):
         """What is wrong with the table."""
@@ -62,6 +65,19 @@ class Texts:
                 yield f"texts.toml: refusal {r.get('number')} has not the keys of a refusal"
             elif "{" in r["found"] + r["advice"]:
                 yield f"texts.toml: refusal {r['number']} names a word outside its sentence"
+        names = [(number, cause["name"]) for number, cause in self.causes]
+        for number, name in sorted({name for name in names if names.count(name) > 1}):
+            yield f"texts.toml: two causes of {number} are called {name}"
+        for number, cause in self.causes:
+            if not OF_CAUSE <= set(cause) <= OF_CAUSE | {"words"}:
+                yield f"texts.toml: {cause.get('name')} of {number} has not the keys of a cause"
+            elif "{" in cause["advice"]:
+                yield f"texts.toml: {cause['name']} of {number} names a word outside its sentence"
+            elif cause["when"] != "asked" and not list(CAUSES.glob(f"{number}-{cause['name']}.*")):
+                yield f"texts.toml: examples/causes has no example of {number}-{cause['name']}"
+        for path in CAUSES.iterdir():
+            if path.name.split(".")[0] not in {f"{number}-{name}" for number, name in names}:
+                yield f"examples/causes: {path.name} is of no cause"
 
 
 def constant(refusal):
@@ -70,7 +86,8 @@ def constant(refusal):
 
 def quoted(text):
     """A text as C and Rust write it."""
-    return '"' + text.replace("\\", "\\\\").replace('"', '\\"') + '"'
+    escaped = text.replace("\\", "\\\\").replace('"', '\\"')
+    return '"' + re.sub(r"[\0-\x1f]", lambda found: f"\\x{ord(found[0]):02x}", escaped) + '"'
 
 
 def header_limits(_):
@@ -121,7 +138,23 @@ def rust_rows(texts):
         yield f"        about: About::{r.get('about', 'nothing').capitalize()},"
         for key in ("found", "sentence", "advice"):
             yield f"        {key}: {quoted(r.get(key, ''))},"
+        if "cause" not in r:
+            yield "        causes: &[],"
+        else:
+            yield "        causes: &["
+            yield from (line for number, cause in texts.causes if number == r["number"] for line in rust_cause(cause))
+            yield "        ],"
         yield "    },"
+
+
+def rust_cause(cause):
+    yield "            Cause {"
+    yield f"                name: {quoted(cause['name'])},"
+    yield f"                when: When::{cause['when'].title().replace('-', '')},"
+    yield f"                words: &[{', '.join(map(quoted, cause.get('words', [])))}],"
+    for key in ("sentence", "advice"):
+        yield f"                {key}: {quoted(cause[key])},"
+    yield "            },"
 
 
 def rust_sets(texts):
@@ -133,6 +166,16 @@ def paper_rows(texts):
     yield from ["", "| Number | Name | What was found | What to do |", "|---|---|---|---|"]
     for r in texts.refusals:
         yield f"| {r['number']} | {r['name']} | {r['found']} | {r['advice']} |"
+    yield ""
+
+
+def paper_causes(texts):
+    """What is said by cause; a place or a word that is named there stands as `...`."""
+    yield from ["", "| Number | Cause | What is said | What to do |", "|---|---|---|---|"]
+    for number, cause in texts.causes:
+        said = re.sub(r"\{(word|item)\}", "...", cause["sentence"])
+        yield f"| {number} | {cause['name']} | {said} | {cause['advice']} |".replace(" | fold", r" \| fold").replace(
+            " | iconv", r" \| iconv")
     yield ""
 
 
@@ -158,7 +201,7 @@ PARTS = {
     "bindings/rust/src/limits.rs": {"limits": rust_limits},
     "bindings/rust/src/texts.rs": {"texts": rust_rows},
     "bindings/rust/src/lib.rs": {"sets of refusals": rust_sets},
-    "docs/REFUSALS.md": {"sets of refusals": paper_sets, "texts": paper_rows},
+    "docs/REFUSALS.md": {"sets of refusals": paper_sets, "texts": paper_rows, "causes": paper_causes},
     "docs/RULES.md": {"limits": paper_limits, "sets of refusals": paper_sets},
 }
 

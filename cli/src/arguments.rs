@@ -1,7 +1,7 @@
 //! The words of a command line after the command: options, and the others in order.
 
-use crate::{Command, Failure};
-use std::ffi::{OsStr, OsString};
+use crate::{nearest, Command, Failure};
+use std::ffi::OsString;
 
 /// The words of one use of a command.
 #[derive(Debug, Default)]
@@ -40,18 +40,6 @@ impl Arguments {
     pub fn value(&self, option: &str) -> Option<&str> {
         self.options.iter().rev().find(|(name, _)| *name == option).map(|(_, value)| value.as_str())
     }
-
-    /// The one FILE, if the words have at most one.
-    pub fn file(&self) -> Result<Option<&OsStr>, Failure> {
-        match self.operands.as_slice() {
-            [] => Ok(None),
-            [file] => Ok(Some(file)),
-            [_, second, ..] => Err(Failure::Misuse(format!(
-                "one FILE, or none to read standard input; {} is a second",
-                second.to_string_lossy()
-            ))),
-        }
-    }
 }
 
 /// One option with its value, which is in the word after an equals sign, or else the next word.
@@ -64,15 +52,17 @@ fn read_option<'w>(
         Some((name, value)) => (name, Some(value.to_owned())),
         None => (word, None),
     };
-    let find = |names: &[&'static str]| names.iter().copied().find(|n| *n == name);
-    match (find(command.flags), find(command.values), value) {
-        (Some(flag), _, None) => Ok((flag, String::new())),
-        (Some(flag), _, Some(_)) => Err(Failure::Misuse(format!("{flag} takes no value"))),
-        (_, Some(option), Some(value)) => Ok((option, value)),
-        (_, Some(option), None) => match next.next() {
-            Some(value) => Ok((option, value.to_string_lossy().into_owned())),
-            None => Err(Failure::Misuse(format!("{option} needs a value"))),
+    let Some(option) = command.options.iter().find(|option| option.name == name) else {
+        let known = command.options.iter().map(|option| option.name).chain(["--help"]);
+        return Err(Failure::Misuse(format!("there is no option {name}{}", nearest::question(name, known))));
+    };
+    match (option.value, value) {
+        (None, None) => Ok((option.name, String::new())),
+        (None, Some(_)) => Err(Failure::Misuse(format!("{name} takes no value"))),
+        (Some(_), Some(value)) => Ok((option.name, value)),
+        (Some(_), None) => match next.next() {
+            Some(value) => Ok((option.name, value.to_string_lossy().into_owned())),
+            None => Err(Failure::Misuse(format!("{name} needs a value"))),
         },
-        (None, None, _) => Err(Failure::Misuse(format!("there is no option {name}"))),
     }
 }

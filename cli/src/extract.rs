@@ -1,6 +1,8 @@
 //! `copybook extract`: which top-level columns to send where a record may have so many bytes.
 
-use crate::{files, refusals, Arguments, Command, Failure, Status};
+use crate::files::Source;
+use crate::help::{Opt, ANY_BYTES};
+use crate::{files, nearest, refusals, Arguments, Command, Failure, Status};
 use copybook::{Entry, Extract, Layout, Refusal, ALL_SUBSETS, MOST_ITEMS};
 use std::ffi::OsStr;
 use std::io::{self, Write};
@@ -8,40 +10,42 @@ use std::io::{self, Write};
 pub const COMMAND: Command = Command {
     name: "extract",
     summary: "which top-level columns fit into so many bytes, the heaviest choice",
-    help: "\
-copybook extract FILE --limit BYTES [--budget SUBSETS] WEIGHT... | NAME=WEIGHT...
+    usage: "FILE --limit BYTES [--budget CHOICES] [--any-bytes] WEIGHT... | NAME=WEIGHT...",
+    about: "\
+Which of up to 16 top-level columns to send where a record may have so many BYTES: those that fit and weigh the most.
+Each has a weight from 1 to 1,000, and its width with all its occurrences:
 
-Of up to 16 top-level items, each with a weight from 1 to 1,000, the heaviest choice whose widths, all occurrences
-counted, sum to at most BYTES:
-
-    chosen COUNT bytes BYTES weight WEIGHT off OFF looked LOOKED subset NUMBER
+    chosen COUNT of ALL columns, BYTES of LIMIT bytes, weight WEIGHT of ALL
+    tried CHOICES of ALL choices: none that fits weighs more
     entry NUMBER NAME first FIRST width WIDTH weight WEIGHT
 
-One line for the choice, then one for each chosen item: its number in the layout, from 0, its first byte in the record,
-and its width with all its occurrences.
+The last line comes once for each chosen column: its number in the layout, from 0, its first byte in the record, and its
+width. Where not all choices were tried, the line before says by how much one that fits may outweigh this one at most.
 
-The weights stand in the order of the items, or each with the item's name, case aside, in any order, where no two items
-have that name.
+The weights stand in the order of the columns, or each with the column's name, case aside, in any order, where no two
+columns have that name.
+",
+    options: &[
+        Opt::valued(LIMIT, "BYTES", "how many bytes the chosen columns may have together"),
+        Opt::valued(BUDGET, "CHOICES", "how many choices are tried, where time matters; all of them if it is left out"),
+        ANY_BYTES,
+    ],
+    notes: "\
+A choice is a number in binary, in which the lowest bit stands for the first column; they are tried from 0 up, and of
+equally heavy ones the first is taken.
 
-  --limit BYTES     how many bytes the chosen items may have together
-  --budget SUBSETS  how many subsets of the items are looked at, from number 0 up; all of them if it is left out
-
-Subsets are numbered in binary, the first item being the lowest bit; of equally heavy ones the earliest is chosen. OFF
-says by how much the best choice there is may outweigh this one at most: 0 if all were looked at.
-
-FILE is - for standard input. A copybook with REDEFINES or DEPENDING ON is refused (40), and so are more than 16 items
+FILE is - for standard input. A copybook with REDEFINES or DEPENDING ON is refused (40), and so are more than 16 columns
 or another number of weights (58), a weight outside its range (59) and a budget of 0 (60).
 ",
-    flags: &[],
-    values: &[LIMIT, BUDGET],
     run,
 };
 
 const LIMIT: &str = "--limit";
 const BUDGET: &str = "--budget";
 
-/// The refusal of a REDEFINES or a DEPENDING ON.
+/// The refusal of a REDEFINES or a DEPENDING ON, and that of too many columns or another number of weights.
 const OVERLAID: u32 = 40;
+const WRONG_NUMBER: u32 = 58;
 
 /// A number of digits alone; one of more digits than a number has is the largest.
 fn number(word: &str) -> Option<u64> {
@@ -98,10 +102,14 @@ fn in_order(named: &[(String, u32)], items: &[Entry]) -> Result<Vec<u32>, Failur
     let same = |a: &str, b: &str| a.eq_ignore_ascii_case(b);
     for (i, (name, _)) in named.iter().enumerate() {
         match items.iter().filter(|item| same(called(item), name)).count() {
-            0 => return Err(Failure::Misuse(format!("no top-level item is called {name}"))),
+            0 => {
+                let meant = nearest::question(name, items.iter().map(called));
+                return Err(Failure::Misuse(format!("no top-level column is called {name}{meant}")));
+            }
             1 => {}
             n => {
-                let why = format!("{n} top-level items are called {name}: give the weights in the order of the items");
+                let why =
+                    format!("{n} top-level columns are called {name}: give the weights in the order of the columns");
                 return Err(Failure::Misuse(why));
             }
         }
@@ -129,7 +137,7 @@ struct Asked<'a> {
 impl Asked<'_> {
     fn read(arguments: &Arguments) -> Result<Asked<'_>, Failure> {
         let Some((file, words)) = arguments.operands.split_first() else {
-            return Err(Failure::Misuse("a FILE, then a weight for each top-level item".into()));
+            return Err(Failure::Misuse("a FILE, then a weight for each top-level column".into()));
         };
         let words: Vec<String> = words.iter().map(|word| word.to_string_lossy().into_owned()).collect();
         let weights = Weights::read(&words)?;
@@ -152,20 +160,48 @@ impl Asked<'_> {
     }
 }
 
+/// Prints that there are too many columns, or not as many weights as columns, with both numbers.
+fn wrong_number(refusal: &Refusal, asked: &Asked, items: &[Entry], source: &Source) -> Result<Status, Failure> {
+    let given = match &asked.weights {
+        Weights::InOrder(weights) => weights.len(),
+        Weights::ByName(weights) => weights.len(),
+    };
+    let (columns, s) = (items.len(), if given == 1 { "" } else { "s" });
+    let what = match columns > MOST_ITEMS {
+        true => format!("{columns} top-level columns, and a choice is of {MOST_ITEMS} at most"),
+        false => format!("{given} weight{s} for {columns} top-level columns"),
+    };
+    files::write(|out| refusals::line(refusal, out))?;
+    say!("{}: {what}\n    {}", source.name, refusal.advice());
+    Ok(Status::Refused)
+}
+
 /// The items at the top.
 fn items<'t>(layout: &Layout<'t, '_>) -> Vec<Entry<'t>> {
     layout.entries().filter(|entry| entry.depth == 0).collect()
 }
 
-fn write(items: &[Entry], weights: &[u32], answer: &Extract, out: &mut dyn Write) -> io::Result<()> {
+/// How many choices were tried of how many, and what may be missed.
+fn tried(answer: &Extract, columns: usize) -> String {
+    let (tried, all) = (answer.examined, 1u64 << columns);
+    let missed = match answer.off {
+        0 => "none that fits weighs more".into(),
+        off => format!("one that fits may weigh up to {off} more"),
+    };
+    format!("tried {tried} of {all} choices: {missed}")
+}
+
+fn write(items: &[Entry], weights: &[u32], limit: u64, answer: &Extract, out: &mut dyn Write) -> io::Result<()> {
     let chosen: Vec<(&Entry, &u32)> =
         items.iter().zip(weights).enumerate().filter(|(i, _)| answer.has(*i)).map(|(_, pair)| pair).collect();
     let bytes: u64 = chosen.iter().map(|(entry, _)| entry.reserved_width() as u64).sum();
-    let Extract { subset, weight, examined, off } = answer;
-    let count = chosen.len();
-    writeln!(out, "chosen {count} bytes {bytes} weight {weight} off {off} looked {examined} subset {subset}")?;
+    let (count, columns, total) = (chosen.len(), items.len(), weights.iter().map(|&w| u64::from(w)).sum::<u64>());
+    let weight = answer.weight;
+    writeln!(out, "chosen {count} of {columns} columns, {bytes} of {limit} bytes, weight {weight} of {total}")?;
+    writeln!(out, "{}", tried(answer, columns))?;
     for (entry, weight) in chosen {
-        let (number, name, first, width) = (entry.number, called(entry), entry.offset, entry.reserved_width());
+        let (number, first, width) = (entry.number, entry.offset, entry.reserved_width());
+        let name = copybook::escaped(called(entry));
         writeln!(out, "entry {number} {name} first {first} width {width} weight {weight}")?;
     }
     Ok(())
@@ -173,16 +209,17 @@ fn write(items: &[Entry], weights: &[u32], answer: &Extract, out: &mut dyn Write
 
 fn run(arguments: &Arguments) -> Result<Status, Failure> {
     let asked = Asked::read(arguments)?;
-    let source = files::read(Some(asked.file))?;
+    let source = files::read(Some(asked.file), arguments)?;
     let layout = match copybook::layout(&source.text) {
         Ok(layout) => layout,
         Err(refusal) => return refusals::not_laid_out(&refusal, &source),
     };
-    refusals::doubts(&layout, &source, copybook::Form::Free);
+    let status = refusals::doubts(&layout, &source, copybook::Form::Free, true);
     let items = items(&layout);
     match asked.answer(&source.text, &items)? {
-        Ok((weights, answer)) => files::write(|out| write(&items, &weights, &answer, out))?,
+        Ok((weights, answer)) => files::write(|out| write(&items, &weights, asked.limit, &answer, out))?,
+        Err(refusal) if refusal.number == WRONG_NUMBER => return wrong_number(&refusal, &asked, &items, &source),
         Err(refusal) => return refusals::print(&refusal, &source),
     }
-    Ok(Status::Answered)
+    Ok(status)
 }

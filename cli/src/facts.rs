@@ -1,12 +1,16 @@
 //! What is said of each entry of a layout, from its listing and its details alone. Digits and sign of a binary item,
 //! and the sign of a packed one, which a listing leaves out, are what the library answers for the item's picture.
 
-use copybook::{Detail, Details, Entry, FieldKind, Layout, NumRepr, SignKind, Usage};
+use copybook::{Detail, Details, Entry, FieldKind, Form, Layout, NumRepr, SignKind, Usage};
+use std::ops::Range;
 
 /// A layout as it is shown.
 pub struct Facts<'t> {
     pub record_len: usize,
     pub variable: bool,
+    /// The lengths of the record with every varying table at its least count, and at its most.
+    pub shortest: u64,
+    pub longest: u64,
     pub rows: Vec<Row<'t>>,
 }
 
@@ -18,6 +22,11 @@ pub struct Row<'t> {
     pub group: Option<usize>,
     /// The names of the groups around it and its own, joined by periods.
     pub path: String,
+    /// The number of the table DEPENDING ON an item that it stands behind, if it does: its place varies. A redefiner
+    /// stands where its target does, whatever else it redefines.
+    pub after: Option<usize>,
+    /// The least count of a table DEPENDING ON an item.
+    pub least: Option<usize>,
     /// What its digits are, if it holds a number.
     pub number: Option<Number>,
     /// Line and column of its statement, from 1.
@@ -35,7 +44,7 @@ pub struct Number {
 }
 
 impl<'t> Facts<'t> {
-    pub fn new(text: &'t [u8], layout: &Layout<'t, '_>, details: &Details<'t, '_>) -> Facts<'t> {
+    pub fn new(form: Form, text: &'t [u8], layout: &Layout<'t, '_>, details: &Details<'t, '_>) -> Facts<'t> {
         let mut rows: Vec<Row> = Vec::new();
         let mut around: Vec<usize> = Vec::new();
         for (entry, detail) in layout.entries().zip(details.iter()) {
@@ -46,15 +55,101 @@ impl<'t> Facts<'t> {
             let (line, column) = copybook::line_and_column(text, detail.position);
             let number = number(&entry.kind, entry.width, detail.picture.as_deref());
             around.push(entry.number);
-            rows.push(Row { entry, detail, group, path, number, line, column });
+            // a table without TO has 1 at least, as compilers take it
+            let least = entry.depending_on.and(entry.occurs);
+            let least = least.map(|most| form.least_count(text, detail.position).unwrap_or(1).min(most));
+            rows.push(Row { entry, detail, group, path, after: None, least, number, line, column });
         }
-        Facts { record_len: layout.record_len(), variable: layout.variable(), rows }
+        find_after(&mut rows);
+        let (shortest, longest) = match layout.variable() {
+            true => (length(&rows, |row| row.least), length(&rows, |row| row.entry.occurs)),
+            false => (layout.record_len() as u64, layout.record_len() as u64),
+        };
+        Facts { record_len: layout.record_len(), variable: layout.variable(), shortest, longest, rows }
     }
+}
+
+/// The length of the record whose varying tables have these counts: what stands behind one is moved by its bytes.
+fn length(rows: &[Row], count: fn(&Row) -> Option<usize>) -> u64 {
+    let none = || vec![0; rows.len()];
+    Lengths { rows, count, moved: none(), grown: none() }.end(0..rows.len())
+}
+
+/// Of each entry how far it is moved, and by how much it is longer than in the layout.
+struct Lengths<'r, 't> {
+    rows: &'r [Row<'t>],
+    count: fn(&Row) -> Option<usize>,
+    moved: Vec<u64>,
+    grown: Vec<u64>,
+}
+
+impl Lengths<'_, '_> {
+    /// Where a list ends, which these entries and those below them are.
+    fn end(&mut self, list: Range<usize>) -> u64 {
+        let (mut end, mut next, mut number) = (0u64, 0u64, list.start);
+        while number < list.end {
+            let row = &self.rows[number];
+            let after = number + 1 + row.detail.below;
+            let width = self.end(number + 1..after).max(row.entry.width as u64);
+            let times = if row.entry.depending_on.is_some() { (self.count)(row) } else { row.entry.occurs };
+            let bytes = width.saturating_mul(times.unwrap_or(1) as u64);
+            self.moved[number] = target(self.rows, number).map_or(next, |target| self.moved[target]);
+            self.grown[number] = bytes - row.entry.reserved_width() as u64;
+            end = end.max(self.moved[number].saturating_add(row.entry.offset as u64).saturating_add(bytes));
+            if !is_laid_over(self.rows, number) {
+                // of what is folded together the base alone moves what comes next
+                let base = if row.detail.folded { number + 1 } else { number };
+                next = next.saturating_add(self.grown[base]);
+            }
+            number = after;
+        }
+        end
+    }
+}
+
+/// Whether an entry moves nothing behind it in its list: it redefines another, or stands in one place with others that
+/// are folded with it.
+fn is_laid_over(rows: &[Row], number: usize) -> bool {
+    rows[number].detail.redefines.is_some() || rows[number].group.is_some_and(|group| rows[group].detail.folded)
+}
+
+/// Finds the varying tables that entries stand behind. `behind` has the latest one for each list that is being read,
+/// the outermost first.
+fn find_after(rows: &mut [Row]) {
+    let mut behind: Vec<Option<usize>> = Vec::new();
+    for number in 0..rows.len() {
+        let depth = rows[number].entry.depth;
+        behind.truncate(depth + 1);
+        if behind.len() == depth {
+            behind.push(rows[number].group.and_then(|group| rows[group].after));
+        }
+        rows[number].after = target(rows, number).map_or(behind[depth], |target| rows[target].after);
+        if rows[number].entry.depending_on.is_none() {
+            continue;
+        }
+        // what redefines moves nothing, in whatever list around it
+        let around = std::iter::successors(Some(number), |&at| rows[at].group);
+        for at in around.take_while(|&at| rows[at].detail.redefines.is_none()) {
+            if !is_laid_over(rows, at) {
+                behind[rows[at].entry.depth] = Some(number);
+            }
+        }
+    }
+}
+
+/// What an entry redefines, if that is not folded with it: the latest of that name before it in its list.
+fn target(rows: &[Row], number: usize) -> Option<usize> {
+    let (row, name) = (&rows[number], rows[number].entry.redefines?);
+    (0..number).rev().find(|&at| rows[at].group == row.group && rows[at].name().eq_ignore_ascii_case(name))
 }
 
 impl Row<'_> {
     pub fn name(&self) -> &str {
         self.entry.name.unwrap_or("FILLER")
+    }
+
+    pub fn is_group(&self) -> bool {
+        matches!(self.entry.kind, FieldKind::Group { .. })
     }
 
     /// Its last byte in the record, with all its occurrences; none if it takes no bytes, or as many as an item says.

@@ -16,16 +16,22 @@ pub fn asked(arguments: &Arguments) -> Form {
     }
 }
 
-/// The columns before a card's indicator, and the four that there are.
+/// The columns before a card's indicator; the indicators that there are, and three that are met in their place: of a
+/// line that continues another, of a debugging line, and a tab.
 const BEFORE_INDICATOR: usize = 6;
-const INDICATORS: &[u8] = b" */D";
+const INDICATORS: &[u8] = b" */D-d\t";
 
-/// Whether every line may be a card: digits or blanks up to column 6, and one of the four indicators in column 7, which
-/// some line has.
+/// Whether this may stand in columns 1 to 6: digits and blanks, or one word of letters and digits.
+fn is_sequence(columns: &[u8]) -> bool {
+    let is_number = columns.iter().all(|b| b.is_ascii_digit() || *b == b' ');
+    is_number || columns.trim_ascii().iter().all(u8::is_ascii_alphanumeric)
+}
+
+/// Whether every line may be a card, by columns 1 to 6 and by column 7, which some line has.
 fn like_cards(text: &[u8]) -> bool {
     let lines = || text.split(|&b| b == b'\n').map(|line| line.strip_suffix(b"\r").unwrap_or(line));
-    let numbered = |line: &[u8]| line.iter().take(BEFORE_INDICATOR).all(|b| b.is_ascii_digit() || *b == b' ');
-    let marked = |line: &[u8]| line.get(BEFORE_INDICATOR).map_or(true, |b| INDICATORS.contains(b));
+    let numbered = |line: &[u8]| is_sequence(&line[..line.len().min(BEFORE_INDICATOR)]);
+    let marked = |line: &[u8]| line.get(BEFORE_INDICATOR).is_none_or(|b| INDICATORS.contains(b));
     lines().all(|line| numbered(line) && marked(line)) && lines().any(|line| line.len() > BEFORE_INDICATOR)
 }
 
@@ -44,14 +50,16 @@ fn other_as_cards(text: &[u8], read: Result<&Layout, &Refusal>) -> bool {
 }
 
 /// Says so where free text that was refused, or has a number for a name, looks like cards and would be read otherwise
-/// as such; and where lines end in carriage returns alone.
-pub fn hint(source: &Source, form: Form, read: Result<&Layout, &Refusal>) {
+/// as such, and whether it is so; and where lines end in carriage returns alone.
+pub fn hint(source: &Source, form: Form, read: Result<&Layout, &Refusal>) -> bool {
     let (name, text) = (&source.name, &source.text);
-    let doubtful = read.map_or(true, has_number_for_a_name);
-    if form == Form::Free && doubtful && like_cards(text) && other_as_cards(text, read) {
-        eprintln!("{name}: its lines look like cards with columns: try {CARDS}");
-    }
     if !text.contains(&b'\n') && text.iter().rev().skip(1).any(|&b| b == b'\r') {
-        eprintln!("{name}: its lines end in carriage returns alone, and are read as one: end each with byte 10");
+        say!("{name}: its lines end in carriage returns alone, and are read as one: end each with byte 10");
     }
+    let doubtful = read.map_or(true, has_number_for_a_name);
+    let is_cards = form == Form::Free && doubtful && like_cards(text) && other_as_cards(text, read);
+    if is_cards {
+        say!("{name}: its lines look like cards with columns: try {CARDS}");
+    }
+    is_cards
 }

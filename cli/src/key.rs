@@ -3,27 +3,29 @@
 
 use crate::facts::{self, Facts};
 use crate::files::Source;
+use crate::help::ANY_BYTES;
 use crate::{files, refusals, Arguments, Command, Failure, Status};
-use copybook::{Entry, FieldKind, NoKey, Usage};
+use copybook::{Entry, FieldKind, Form, NoKey, Usage};
+use std::ffi::OsString;
 
 pub const COMMAND: Command = Command {
     name: "key",
     summary: "the column of one name that several copybooks have in the same place",
-    help: "\
-copybook key NAME FILE FILE...
+    usage: "[--any-bytes] NAME FILE FILE...",
+    about: "\
+Where the column of that name stands in the records of two to sixteen copybooks, if that is one place in all, so that a
+file which mixes them is sorted by it: the bytes before it, and its own:
 
-Where the key of that name stands in the records of 2 to 16 copybooks, so that a file which mixes them is sorted by it:
-
-    offset OFFSET
+    offset BYTES
     width BYTES
 
-Each copybook must have exactly one item of that name at the top of its layout, letter case aside; it is no group, has
+Each copybook must have exactly one column of that name at the top of its layout, letter case aside; it is no group, has
 neither OCCURS nor REDEFINES, and stands behind no DEPENDING ON; and all agree in offset, width, kind and what the
 layout says of the kind, edited ones in their mask. Else the set is refused (57), and standard error says which file
 is to blame, and why. A copybook that cannot be laid out is refused as by copybook layout; - is standard input.
 ",
-    flags: &[],
-    values: &[],
+    options: &[ANY_BYTES],
+    notes: "",
     run,
 };
 
@@ -62,9 +64,9 @@ fn column(text: &[u8], name: &[u8]) -> Result<Column, String> {
         [] if layout.entries().any(|e| e.name.is_some_and(|n| n.as_bytes().eq_ignore_ascii_case(name))) => {
             return Err(format!("{shown} stands in a group, and not at the top"));
         }
-        [] => return Err(format!("no item is called {shown}")),
+        [] => return Err(format!("no column is called {shown}")),
         [one] => one,
-        several => return Err(format!("{} items at the top are called {shown}", several.len())),
+        several => return Err(format!("{} columns at the top are called {shown}", several.len())),
     };
     let before = layout.entries().take(entry.number).find(|e| e.depending_on.is_some());
     if matches!(entry.kind, FieldKind::Group { .. }) {
@@ -76,7 +78,7 @@ fn column(text: &[u8], name: &[u8]) -> Result<Column, String> {
     } else if let Some(table) = before {
         Err(format!("{shown} stands behind {}, which has a DEPENDING ON", table.name.unwrap_or("FILLER")))
     } else {
-        let number = Facts::new(text, &layout, &details).rows[entry.number].number;
+        let number = Facts::new(Form::Free, text, &layout, &details).rows[entry.number].number;
         Ok(Column {
             offset: entry.offset,
             width: entry.width,
@@ -127,10 +129,12 @@ fn no_key(refused: &NoKey, sources: &[Source], name: &[u8]) -> Result<Status, Fa
     files::write(|out| writeln!(out, "refused {} {}", refusal.number, refusal.position))?;
     let mut lines = if refusal.number == NO_KEY { faults(sources, name) } else { Vec::new() };
     if lines.is_empty() {
-        let names: Vec<&str> = sources.iter().map(|source| source.name.as_str()).collect();
-        lines.push(format!("{}: {}", names.join(", "), refusal.found()));
+        let count = sources.len();
+        let copybooks = if count == 1 { "copybook is" } else { "copybooks are" };
+        let names: String = sources.iter().map(|source| format!("{}: ", source.name)).take(1).collect();
+        lines.push(format!("{names}{count} {copybooks} given, and {}", refusal.told(&[]).sentence));
     }
-    eprintln!("{}\n    {}", lines.join("\n"), refusal.advice());
+    say!("{}\n    {}", lines.join("\n"), refusal.advice());
     Ok(Status::Refused)
 }
 
@@ -138,10 +142,11 @@ const NO_KEY: u32 = 57;
 
 fn run(arguments: &Arguments) -> Result<Status, Failure> {
     let [name, files @ ..] = arguments.operands.as_slice() else {
-        return Err(Failure::Misuse("a NAME and the FILEs of 2 to 16 copybooks".into()));
+        return Err(Failure::Misuse("a NAME and the FILEs of two to sixteen copybooks".into()));
     };
     let name = name.as_encoded_bytes();
-    let sources = files.iter().map(|file| files::read(Some(file))).collect::<Result<Vec<Source>, Failure>>()?;
+    let read = |file: &OsString| files::read(Some(file), arguments);
+    let sources = files.iter().map(read).collect::<Result<Vec<Source>, Failure>>()?;
     let texts: Vec<&[u8]> = sources.iter().map(|source| source.text.as_slice()).collect();
     match copybook::key(name, &texts) {
         Ok(key) => {

@@ -1,5 +1,7 @@
 //! `copybook owner`: whose a byte of the record is, or every byte.
 
+use crate::help::{Opt, ANY_BYTES, CARDS};
+use crate::places::{self, Places};
 use crate::{files, forms, refusals, Arguments, Command, Failure, Status};
 use copybook::{Entry, Form, Layout, Owner, Reader, Refusal};
 use std::ffi::OsStr;
@@ -8,10 +10,9 @@ use std::io::{self, Write};
 pub const COMMAND: Command = Command {
     name: "owner",
     summary: "whose the byte at a position of the record is, or every byte",
-    help: "\
-copybook owner [--cards] [FILE] [POSITION]
-
-Whose the byte at a position of the record is. Positions count from 0:
+    usage: "[--cards] [--any-bytes] [--from-1] [--hex] [FILE] [POSITION]",
+    about: "\
+Whose the byte at a position of the record is. Positions count from 0, and 0x1a is one in hexadecimal:
 
     POSITION entry NUMBER PATH KIND WIDTH first FIRST place PLACE
     POSITION slack before NUMBER PATH
@@ -24,14 +25,17 @@ Without a position, one line for each piece of the record and each run of slack,
 NUMBER is the entry's in the layout, from 0; FIRST the first byte of the piece, one occurrence of the item, and PLACE
 the byte's place in it. PATH has the names of the groups around the item and its own, joined by periods, and after
 each name with an OCCURS which of them it is, from 1: PEN(3).FISH(2).TAG.
-
-  --cards  the copybook is on cards with columns: 1 to 6 and those after 72 are ignored, 7 is an indicator
-
+",
+    options: &[
+        CARDS,
+        ANY_BYTES,
+        Opt::flag(places::FROM_1, "POSITION, FIRST, LAST and PLACE count from 1, and not from 0"),
+        Opt::flag(places::HEX, "they are printed in hexadecimal, as 0x1a"),
+    ],
+    notes: "\
 One word of digits alone is a POSITION; a FILE of such a name is ./12. A copybook with REDEFINES or DEPENDING ON is
 refused (40): its bytes have no single owner. See copybook layout --table for it.
 ",
-    flags: &[forms::CARDS],
-    values: &[],
     run,
 };
 
@@ -46,10 +50,10 @@ fn occurrence(entry: &Entry, place: usize) -> (usize, usize) {
 
 /// The name of an entry, and which of its occurrences has a place of its list.
 fn named(entry: &Entry, place: usize) -> String {
-    let name = entry.name.unwrap_or("FILLER");
+    let name = copybook::escaped(entry.name.unwrap_or("FILLER"));
     match entry.occurs {
         Some(_) => format!("{name}({})", occurrence(entry, place).0 + 1),
-        None => name.to_owned(),
+        None => name,
     }
 }
 
@@ -58,11 +62,12 @@ struct Record<'t> {
     text: &'t [u8],
     entries: Vec<Entry<'t>>,
     reader: Reader,
+    places: Places,
 }
 
 impl<'t> Record<'t> {
-    fn new(form: Form, text: &'t [u8], layout: &Layout<'t, '_>) -> Record<'t> {
-        Record { text, entries: layout.entries().collect(), reader: Reader::of(form) }
+    fn new(form: Form, text: &'t [u8], layout: &Layout<'t, '_>, places: Places) -> Record<'t> {
+        Record { text, entries: layout.entries().collect(), reader: Reader::of(form), places }
     }
 
     fn owner(&mut self, position: usize) -> Result<Owner, Refusal> {
@@ -105,32 +110,37 @@ impl<'t> Record<'t> {
     /// The words for the slack at a position, which stands before all occurrences of an entry.
     fn slack(&self, number: usize, position: usize) -> String {
         let (path, _) = self.path(number, position);
-        format!("slack before {number} {path}{}", self.entries[number].name.unwrap_or("FILLER"))
+        format!("slack before {number} {path}{}", copybook::escaped(self.entries[number].name.unwrap_or("FILLER")))
     }
 
     /// The line of one position.
     fn at(&mut self, position: usize) -> Result<String, Refusal> {
-        Ok(match self.owner(position)? {
+        let owner = self.owner(position)?;
+        let shown = |place: usize| self.places.shown(place as u64);
+        Ok(match owner {
             Owner::Piece { entry, first, place } => {
-                format!("{position} {} first {first} place {place}", self.piece(entry, position))
+                let piece = self.piece(entry, position);
+                format!("{} {piece} first {} place {}", shown(position), shown(first), shown(place))
             }
-            Owner::Slack { entry } => format!("{position} {}", self.slack(entry, position)),
+            Owner::Slack { entry } => format!("{} {}", shown(position), self.slack(entry, position)),
         })
     }
 
     /// The line of the piece or slack that begins at a position, and the position after it.
     fn from(&mut self, first: usize) -> Result<(String, usize), Refusal> {
+        let places = self.places;
+        let range = |after: usize| format!("{}-{}", places.shown(first as u64), places.shown(after as u64 - 1));
         match self.owner(first)? {
             Owner::Piece { entry, .. } => {
                 let after = first + self.entries[entry].width;
-                Ok((format!("{first}-{} {}", after - 1, self.piece(entry, first)), after))
+                Ok((format!("{} {}", range(after), self.piece(entry, first)), after))
             }
             slack @ Owner::Slack { entry } => {
                 let mut after = first + 1;
                 while self.owner(after) == Ok(slack) {
                     after += 1;
                 }
-                Ok((format!("{first}-{} {}", after - 1, self.slack(entry, first)), after))
+                Ok((format!("{} {}", range(after), self.slack(entry, first)), after))
             }
         }
     }
@@ -147,24 +157,18 @@ impl<'t> Record<'t> {
     }
 }
 
-/// A POSITION: digits alone. One of more digits than a number has is behind every record.
-fn position(word: &OsStr) -> Option<usize> {
-    let word = word.to_str().filter(|w| !w.is_empty() && w.bytes().all(|b| b.is_ascii_digit()))?;
-    Some(word.parse().unwrap_or(usize::MAX))
-}
-
 /// The FILE and the POSITION of the command line.
-fn asked(arguments: &Arguments) -> Result<(Option<&OsStr>, Option<usize>), Failure> {
+fn asked(arguments: &Arguments, places: Places) -> Result<(Option<&OsStr>, Option<usize>), Failure> {
+    let position = |word: &OsStr| {
+        let (shown, from) = (word.to_string_lossy(), places.from);
+        let none = || Failure::Misuse(format!("{shown} is no position: digits alone, from {from}"));
+        word.to_str().and_then(|word| places.read(word)).map(Some).ok_or_else(none)
+    };
     match arguments.operands.as_slice() {
         [] => Ok((None, None)),
-        [one] => match position(one) {
-            None => Ok((Some(one), None)),
-            position => Ok((None, position)),
-        },
-        [file, second] => match position(second) {
-            None => Err(Failure::Misuse(format!("{} is no position: digits alone, from 0", second.to_string_lossy()))),
-            position => Ok((Some(file), position)),
-        },
+        [one] if Places::is_written(one) => Ok((None, position(one)?)),
+        [one] => Ok((Some(one), None)),
+        [file, second] => Ok((Some(file), position(second)?)),
         _ => Err(Failure::Misuse("one FILE and one POSITION at most".into())),
     }
 }
@@ -173,26 +177,27 @@ fn asked(arguments: &Arguments) -> Result<(Option<&OsStr>, Option<usize>), Failu
 const PAST_RECORD: u32 = 41;
 
 fn run(arguments: &Arguments) -> Result<Status, Failure> {
-    let (file, position) = asked(arguments)?;
+    let places = Places::asked(arguments);
+    let (file, position) = asked(arguments, places)?;
     let form = forms::asked(arguments);
-    let source = files::read(file)?;
+    let source = files::read(file, arguments)?;
     let layout = match form.layout(&source.text) {
         Ok(layout) => layout,
         Err(refusal) => return refusals::not_laid_out(&refusal, &source),
     };
-    refusals::doubts(&layout, &source, form);
-    let mut record = Record::new(form, &source.text, &layout);
+    let status = refusals::doubts(&layout, &source, form, true);
+    let mut record = Record::new(form, &source.text, &layout, places);
     if let Some(position) = position {
         match record.at(position) {
             Ok(line) => files::write(|out| writeln!(out, "{line}"))?,
             Err(refusal) => return refusals::print(&refusal, &source),
         }
-        return Ok(Status::Answered);
+        return Ok(status);
     }
     // of an empty record no byte is asked for
     if let Some(refusal) = record.owner(0).err().filter(|refusal| refusal.number != PAST_RECORD) {
         return refusals::print(&refusal, &source);
     }
     files::write(|out| record.all(layout.record_len(), out))?;
-    Ok(Status::Answered)
+    Ok(status)
 }

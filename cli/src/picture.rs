@@ -1,30 +1,40 @@
 //! `copybook picture`: kind and width of one picture.
 
 use crate::files::Source;
+use crate::help::Opt;
 use crate::{facts, files, refusals, Arguments, Command, Failure, Status};
 use copybook::{SignKind, Usage};
 
 pub const COMMAND: Command = Command {
     name: "picture",
     summary: "kind and width of one picture, under a usage and a sign",
-    help: "\
-copybook picture PICTURE [--usage USAGE] [--sign SIGN]
-
+    usage: "PICTURE [--usage USAGE] [--sign SIGN]",
+    about: "\
 What an item with this picture holds and how wide it is, in lines of a word and its value:
 
     kind WORD       as in the layout: text int bin dec edit
     width BYTES
     holds WORDS
     mask MASK       of an edited picture alone: its symbols, repeated, without S and V
-
-  --usage  display (without the option), comp-3 or comp; packed-decimal, binary and the other words of COBOL too
-  --sign   the SIGN clause: unsigned, embedded (leading and trailing are that too), leading-separate or
-           trailing-separate; without the option, no clause
-
+",
+    options: &[
+        Opt::valued(
+            "--usage",
+            "USAGE",
+            "display (without the option), comp-3 or comp; packed-decimal, binary and the other words of COBOL too",
+        )
+        .one_of(&["display", "comp-3", "comp"]),
+        Opt::valued(
+            "--sign",
+            "SIGN",
+            "the SIGN clause: unsigned, embedded (leading and trailing are that too), leading-separate or \
+             trailing-separate; without the option, no clause",
+        )
+        .one_of(&["unsigned", "embedded", "leading-separate", "trailing-separate"]),
+    ],
+    notes: "\
 A picture that begins with a minus comes after --. Put it in quotes: a shell takes brackets, $ and * for its own.
 ",
-    flags: &[],
-    values: &["--usage", "--sign"],
     run,
 };
 

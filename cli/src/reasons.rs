@@ -1,6 +1,8 @@
 //! `copybook reasons`: why an entry of the layout stands where it does, in sentences; and the words for the table.
 
-use crate::{files, forms, refusals, Arguments, Command, Failure, Status};
+use crate::help::{Opt, ANY_BYTES, CARDS};
+use crate::places::{self, Places};
+use crate::{files, forms, nearest, refusals, Arguments, Command, Failure, Status};
 use copybook::{Entry, Form, Layout, Reader, Reason, Refusal, Word};
 use std::ffi::OsStr;
 use std::io::{self, Write};
@@ -8,30 +10,32 @@ use std::io::{self, Write};
 pub const COMMAND: Command = Command {
     name: "reasons",
     summary: "why a column starts where it does",
-    help: "\
-copybook reasons [--cards] [FILE] ENTRY|NAME
-
+    usage: "[--cards] [--any-bytes] [--from-1] [--hex] [FILE] [ENTRY|NAME]",
+    about: "\
 Why an entry of the layout starts where it does, by its number, from 0, or by its name, letter case aside; every entry
-of that name, with its number if there are several:
+of that name, with its number if there are several; and without either every entry of the layout:
 
-    NAME starts at byte FIRST: directly after SIBLING, which ends at END; 1 byte of slack, to a multiple of 2
+    NAME starts at byte FIRST: directly after SIBLING, at PLACE; 1 byte of slack, aligned to 2
 
 An item is the first of its list, or stands directly after the latest item before it without REDEFINES, or is laid
-over the item that it redefines. Offsets count from the start of the list; each group around the item has a line, the
-outermost last, with the bytes so far: the last of these is the item's first byte. An item and those that redefine it
-stand together in a group of the item's name, which starts where the item does.
-
-  --cards  the copybook is on cards with columns: 1 to 6 and those after 72 are ignored, 7 is an indicator
-
-A word of digits alone is an ENTRY. See copybook layout --table --why for every column.
+over the item that it redefines. Places count from the start of the list; each group around the item has a line, the
+outermost last, with the bytes before the item so far. An item and those that redefine it stand together in a group of
+the item's name, which starts where the item does.
 ",
-    flags: &[forms::CARDS],
-    values: &[],
+    options: &[
+        CARDS,
+        ANY_BYTES,
+        Opt::flag(places::FROM_1, "bytes and places count from 1, and not from 0"),
+        Opt::flag(places::HEX, "bytes and places are hexadecimal, as 0x1a"),
+    ],
+    notes: "\
+One word alone is a FILE, or an ENTRY if it is digits alone; of a copybook on standard input a NAME comes after -.
+",
     run,
 };
 
 fn name(word: Option<Word>) -> String {
-    word.map_or("FILLER".into(), |word| word.word.to_owned())
+    copybook::escaped(word.map_or("FILLER", |word| word.word))
 }
 
 fn bytes(n: u64) -> String {
@@ -47,18 +51,22 @@ struct Step {
 }
 
 /// The items of an entry's chain, the entry's own first, in words. A width of 2, 4 or 8 is what slack aligns to.
-fn steps<'t>(reasons: impl Iterator<Item = Reason<'t>>, width: usize) -> Vec<Step> {
+fn steps<'t>(reasons: impl Iterator<Item = Reason<'t>>, width: usize, places: Places) -> Vec<Step> {
     let mut steps: Vec<Step> = Vec::new();
     let (mut group, mut so_far) = (None, 0);
     for reason in reasons {
         so_far += reason.adds() as u64;
         let words = match reason {
             Reason::First => "first in its list".into(),
-            Reason::After { name: sibling, end } => format!("directly after {}, which ends at {end}", name(sibling)),
-            Reason::Over { name: target, offset } => format!("laid over {}, at {offset}", name(target)),
+            Reason::After { name: sibling, end } => {
+                format!("directly after {}, at {}", name(sibling), places.shown(end as u64))
+            }
+            Reason::Over { name: target, offset } => {
+                format!("laid over {}, at {}", name(target), places.shown(offset as u64))
+            }
             Reason::Slack { bytes: n } => {
                 let step = steps.last_mut().expect("slack comes after what placed the item");
-                step.placed += &format!("; {} of slack, to a multiple of {width}", bytes(n as u64));
+                step.placed += &format!("; {} of slack, aligned to {width}", bytes(n as u64));
                 step.so_far = so_far;
                 continue;
             }
@@ -72,9 +80,9 @@ fn steps<'t>(reasons: impl Iterator<Item = Reason<'t>>, width: usize) -> Vec<Ste
     steps
 }
 
-/// Why an entry stands where it does, in one line: `directly after TAG, which ends at 5; inside G: first in its list`.
-pub fn line(reader: &mut Reader, text: &[u8], entry: &Entry) -> Result<String, Refusal> {
-    let steps = steps(reader.reasons(text, entry.number)?.iter(), entry.width);
+/// Why an entry stands where it does, in one line: `directly after TAG, at 5; inside G: first in its list`.
+pub fn line(reader: &mut Reader, text: &[u8], entry: &Entry, places: Places) -> Result<String, Refusal> {
+    let steps = steps(reader.reasons(text, entry.number)?.iter(), entry.width, places);
     let words = steps.iter().map(|step| match &step.group {
         Some(group) => format!("; inside {group}: {}", step.placed),
         None => step.placed.clone(),
@@ -82,12 +90,13 @@ pub fn line(reader: &mut Reader, text: &[u8], entry: &Entry) -> Result<String, R
     Ok(words.collect())
 }
 
-/// The sentences of an entry: a line for itself and one for each group around it, with the bytes so far.
-fn sentences(reader: &mut Reader, text: &[u8], entry: &Entry, numbered: bool) -> Result<String, Refusal> {
+/// The sentences of an entry, after a few words: a line for itself and one for each group around it, with the bytes so
+/// far.
+fn sentences(reader: &mut Reader, text: &[u8], entry: &Entry, places: Places, before: &str) -> Result<String, Refusal> {
     let found = reader.reasons(text, entry.number)?;
-    let steps = steps(found.iter(), entry.width);
-    let number = if numbered { format!("entry {}: ", entry.number) } else { String::new() };
-    let mut out = format!("{number}{} starts at byte {}: ", entry.name.unwrap_or("FILLER"), found.sum());
+    let steps = steps(found.iter(), entry.width, places);
+    let item = copybook::escaped(entry.name.unwrap_or("FILLER"));
+    let mut out = format!("{before}{item} starts at byte {}: ", places.shown(found.sum()));
     for step in &steps {
         if let Some(group) = &step.group {
             out += &format!("  inside {group}: ");
@@ -101,25 +110,31 @@ fn sentences(reader: &mut Reader, text: &[u8], entry: &Entry, numbered: bool) ->
     Ok(out)
 }
 
-/// The entries that a word asks for: the one of that number, or all of that name.
+/// The entries that are asked for: the one of a number, those of a name, or all.
 enum Asked<'w> {
     Number(usize),
     Name(&'w str),
+    All,
+}
+
+/// The number of an ENTRY: digits alone. One of more digits than a number has is behind every listing.
+fn number(word: &OsStr) -> Option<usize> {
+    let digits = word.to_str().filter(|w| !w.is_empty() && w.bytes().all(|b| b.is_ascii_digit()))?;
+    Some(digits.parse().unwrap_or(usize::MAX))
 }
 
 /// The FILE and the ENTRY or NAME of the command line.
 fn asked(arguments: &Arguments) -> Result<(Option<&OsStr>, Asked<'_>), Failure> {
-    let (file, word) = match arguments.operands.as_slice() {
-        [word] => (None, word),
-        [file, word] => (Some(file.as_os_str()), word),
-        _ => return Err(Failure::Misuse("one FILE, or none to read standard input, and one ENTRY or NAME".into())),
-    };
-    let Some(word) = word.to_str() else {
-        return Err(Failure::Misuse("a NAME is text".into()));
-    };
-    let digits = !word.is_empty() && word.bytes().all(|b| b.is_ascii_digit());
-    let asked = if digits { Asked::Number(word.parse().unwrap_or(usize::MAX)) } else { Asked::Name(word) };
-    Ok((file, asked))
+    match arguments.operands.as_slice() {
+        [] => Ok((None, Asked::All)),
+        [one] => Ok(number(one).map_or((Some(one.as_os_str()), Asked::All), |n| (None, Asked::Number(n)))),
+        [file, word] => match (number(word), word.to_str()) {
+            (Some(number), _) => Ok((Some(file), Asked::Number(number))),
+            (None, Some(name)) => Ok((Some(file), Asked::Name(name))),
+            (None, None) => Err(Failure::Misuse("a NAME is text".into())),
+        },
+        _ => Err(Failure::Misuse("one FILE, or none to read standard input, and one ENTRY or NAME at most".into())),
+    }
 }
 
 fn of_name<'t>(layout: &Layout<'t, '_>, name: &str) -> Vec<Entry<'t>> {
@@ -127,10 +142,11 @@ fn of_name<'t>(layout: &Layout<'t, '_>, name: &str) -> Vec<Entry<'t>> {
 }
 
 /// All that is printed of these entries.
-fn all(form: Form, text: &[u8], entries: &[Entry], out: &mut dyn Write) -> io::Result<()> {
+fn all(form: Form, text: &[u8], entries: &[Entry], places: Places, out: &mut dyn Write) -> io::Result<()> {
     let mut reader = Reader::of(form);
     for entry in entries {
-        let told = sentences(&mut reader, text, entry, entries.len() > 1).expect("an entry of the layout has reasons");
+        let before = if entries.len() > 1 { format!("entry {}: ", entry.number) } else { String::new() };
+        let told = sentences(&mut reader, text, entry, places, &before).expect("an entry of the layout has reasons");
         out.write_all(told.as_bytes())?;
     }
     Ok(())
@@ -139,16 +155,18 @@ fn all(form: Form, text: &[u8], entries: &[Entry], out: &mut dyn Write) -> io::R
 fn run(arguments: &Arguments) -> Result<Status, Failure> {
     let (file, asked) = asked(arguments)?;
     let form = forms::asked(arguments);
-    let source = files::read(file)?;
+    let source = files::read(file, arguments)?;
     let layout = match form.layout(&source.text) {
         Ok(layout) => layout,
         Err(refusal) => return refusals::not_laid_out(&refusal, &source),
     };
-    refusals::doubts(&layout, &source, form);
+    let status = refusals::doubts(&layout, &source, form, true);
     let entries: Vec<Entry> = match asked {
+        Asked::All => layout.entries().collect(),
         Asked::Name(name) => match of_name(&layout, name) {
             none if none.is_empty() => {
-                eprintln!("{}: no entry is called {name}", source.name);
+                let names = layout.entries().map(|e| e.name.unwrap_or("FILLER"));
+                say!("{}: no entry is called {name}{}", source.name, nearest::question(name, names));
                 return Ok(Status::Refused);
             }
             entries => entries,
@@ -158,6 +176,6 @@ fn run(arguments: &Arguments) -> Result<Status, Failure> {
             Err(refusal) => return refusals::print(&refusal, &source),
         },
     };
-    files::write(|out| all(form, &source.text, &entries, out))?;
-    Ok(Status::Answered)
+    files::write(|out| all(form, &source.text, &entries, Places::asked(arguments), out))?;
+    Ok(status)
 }

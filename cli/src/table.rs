@@ -1,6 +1,8 @@
 //! A layout as a table for people: a line for each entry and for each run of slack, in the record's order.
 
 use crate::facts::{self, Facts, Row};
+use crate::places::Places;
+use copybook::escaped;
 use std::fmt::Write as _;
 use std::io::{self, Write};
 
@@ -18,31 +20,13 @@ const INDENT: usize = 2;
 /// No more of a word is shown.
 const WIDEST: usize = 60;
 
-/// A word of the copybook as it is shown: a byte that has no shape by its number, and cut where it is very long.
-fn shown(word: &str) -> String {
-    let mut shown = String::new();
-    for c in word.chars().take(WIDEST) {
-        match c.is_control() {
-            true => shown.extend(c.escape_default()),
-            false => shown.push(c),
-        }
-    }
-    if word.len() > WIDEST {
-        shown += "...";
-    }
-    shown
-}
+/// No last column is narrower, whatever width is asked for.
+const NARROWEST: usize = 20;
 
-/// Words with a byte that has no shape by its number.
-fn shown_whole(words: &str) -> String {
-    let mut shown = String::new();
-    for c in words.chars() {
-        match c.is_control() {
-            true => shown.extend(c.escape_default()),
-            false => shown.push(c),
-        }
-    }
-    shown
+/// A word of the copybook as it is shown: control characters by their numbers, and cut where it is very long.
+fn shown(word: &str) -> String {
+    let cut: String = word.chars().take(WIDEST).collect();
+    escaped(&cut) + if cut.len() < word.len() { "..." } else { "" }
 }
 
 /// OCCURS, DEPENDING ON and REDEFINES, each with what comes before it.
@@ -62,7 +46,7 @@ fn notes(row: &Row) -> String {
     notes
 }
 
-fn item(row: &Row, from: u64, why: Option<&String>) -> Line {
+fn item(row: &Row, places: Places, why: Option<&String>) -> Line {
     let indent = " ".repeat(INDENT * row.entry.depth);
     let name = shown(row.name());
     let (line, item, holds) = if row.detail.folded {
@@ -71,20 +55,20 @@ fn item(row: &Row, from: u64, why: Option<&String>) -> Line {
         let holds = facts::holds(&row.entry.kind, row.number) + &notes(row);
         (row.line.to_string(), format!("{indent}{:02} {name}", row.detail.level), holds)
     };
-    let last = row.last().map_or("-".into(), |last| (last + from).to_string());
+    let last = row.last().map_or("-".into(), |last| places.shown(last));
     let picture = row.detail.picture.map_or(String::new(), |p| shown(&p));
-    let why = why.map_or(String::new(), |why| shown_whole(why));
-    [line, (row.detail.first + from).to_string(), last, row.entry.width.to_string(), item, picture, holds, why]
+    let why = why.map_or(String::new(), |why| escaped(why));
+    [line, places.shown(row.detail.first), last, row.entry.width.to_string(), item, picture, holds, why]
 }
 
 /// The slack before an entry, at the depth where it is shown.
-fn slack(row: &Row, depth: usize, from: u64) -> Line {
+fn slack(row: &Row, depth: usize, places: Places) -> Line {
     let bytes = row.detail.slack as u64;
-    let first = row.detail.first - bytes + from;
+    let first = row.detail.first - bytes;
     let holds = format!("aligns {}", shown(row.name()));
     let item = format!("{}(slack)", " ".repeat(INDENT * depth));
     let (none, last) = (String::new(), first + bytes - 1);
-    [none.clone(), first.to_string(), last.to_string(), bytes.to_string(), item, none.clone(), holds, none]
+    [none.clone(), places.shown(first), places.shown(last), bytes.to_string(), item, none.clone(), holds, none]
 }
 
 /// Whether the slack of an entry stands before the folded group that begins with it.
@@ -101,26 +85,50 @@ fn before_group(rows: &[Row], number: usize) -> bool {
     }
 }
 
-fn lines(facts: &Facts, from: u64, whys: &[String]) -> Vec<Line> {
+fn lines(facts: &Facts, places: Places, whys: &[String]) -> Vec<Line> {
     let rows = &facts.rows;
     let mut lines = Vec::new();
     for (number, row) in rows.iter().enumerate() {
         if before_group(rows, number) {
-            lines.push(slack(&rows[number + 1], row.entry.depth, from));
+            lines.push(slack(&rows[number + 1], row.entry.depth, places));
         } else if row.detail.slack > 0 && !(number > 0 && before_group(rows, number - 1)) {
-            lines.push(slack(row, row.entry.depth, from));
+            lines.push(slack(row, row.entry.depth, places));
         }
-        lines.push(item(row, from, whys.get(number)));
+        lines.push(item(row, places, whys.get(number)));
     }
     lines
 }
 
-fn write_line(line: [&str; 8], widths: &[usize; 8], out: &mut dyn Write) -> io::Result<()> {
+/// Words in lines of at most so many characters, broken at blanks; a longer word has a line of its own.
+fn wrapped(words: &str, width: usize) -> Vec<String> {
+    let mut lines = vec![String::new()];
+    for word in words.split(' ') {
+        let line = lines.last_mut().expect("there is a line");
+        if line.is_empty() {
+            line.push_str(word);
+        } else if line.chars().count() + 1 + word.chars().count() <= width {
+            *line += &format!(" {word}");
+        } else {
+            lines.push(word.to_owned());
+        }
+    }
+    lines
+}
+
+/// Writes a line; the last column that is not empty everywhere is wrapped at the width of the whole.
+fn write_line(line: [&str; 8], widths: &[usize; 8], most: Option<usize>, out: &mut dyn Write) -> io::Result<()> {
+    let last = widths.iter().rposition(|&width| width > 0).unwrap_or(0);
     let mut written = String::new();
-    for (i, (cell, &width)) in line.iter().zip(widths).enumerate() {
+    for (i, (cell, &width)) in line.iter().zip(widths).take(last).enumerate() {
         let _ = if i < NUMBERS { write!(written, "{cell:>width$}  ") } else { write!(written, "{cell:width$}  ") };
     }
-    writeln!(out, "{}", written.trim_end())
+    let before = written.chars().count();
+    let room = most.map_or(usize::MAX, |most| most.saturating_sub(before).max(NARROWEST));
+    for part in wrapped(line[last], room) {
+        writeln!(out, "{}", (written + &part).trim_end())?;
+        written = " ".repeat(before);
+    }
+    Ok(())
 }
 
 /// What has to be known to read the table, where something in it asks for it.
@@ -137,12 +145,19 @@ fn remarks(facts: &Facts) -> Vec<&'static str> {
     remarks
 }
 
-/// Bytes count from 0, or from 1. Without `whys`, which says why each entry stands where it does, that is left out.
-pub fn write(facts: &Facts, from: u64, whys: &[String], out: &mut dyn Write) -> io::Result<()> {
+/// How a table is written.
+pub struct Style {
+    pub places: Places,
+    /// No line is longer, if the last column has some room yet.
+    pub width: Option<usize>,
+}
+
+/// Writes the table. Without `whys`, which says why each entry stands where it does, that is left out.
+pub fn write(facts: &Facts, style: &Style, whys: &[String], out: &mut dyn Write) -> io::Result<()> {
     let bytes = if facts.record_len == 1 { "byte" } else { "bytes" };
     let more = if facts.variable { " or more" } else { "" };
-    writeln!(out, "record of {} {bytes}{more}; bytes count from {from}", facts.record_len)?;
-    let lines = lines(facts, from, whys);
+    writeln!(out, "record of {} {bytes}{more}; {}", facts.record_len, style.places.told())?;
+    let lines = lines(facts, style.places, whys);
     if lines.is_empty() {
         return Ok(());
     }
@@ -150,13 +165,13 @@ pub fn write(facts: &Facts, from: u64, whys: &[String], out: &mut dyn Write) -> 
     let mut widths = heads.map(str::len);
     for line in &lines {
         for (width, cell) in widths.iter_mut().zip(line) {
-            *width = (*width).max(cell.len());
+            *width = (*width).max(cell.chars().count());
         }
     }
     writeln!(out)?;
-    write_line(heads, &widths, out)?;
+    write_line(heads, &widths, style.width, out)?;
     for line in &lines {
-        write_line(line.each_ref().map(String::as_str), &widths, out)?;
+        write_line(line.each_ref().map(String::as_str), &widths, style.width, out)?;
     }
     let remarks = remarks(facts);
     if !remarks.is_empty() {

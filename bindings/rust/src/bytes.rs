@@ -18,12 +18,6 @@ impl Word<'_> {
     pub fn range(&self) -> Range<usize> {
         self.start..self.start + self.word.len()
     }
-
-    /// The word of another text at the same place; what is no UTF-8 is left out.
-    pub(crate) fn of<'t>(&self, text: &'t [u8]) -> Word<'t> {
-        let bytes = text.get(self.range()).unwrap_or_default();
-        Word { start: self.start, word: std::str::from_utf8(bytes).unwrap_or_default() }
-    }
 }
 
 impl Deref for Word<'_> {

@@ -13,17 +13,16 @@
 //! no byte, a group's usage holds for its members, and COMP-1 and COMP-2 are floats. The values are those that the
 //! original's `parse` gives: text is left-justified, trimmed and padded with blanks, binary is big-endian, and so are
 //! floats. What reads other specifications than copybooks is not here; the kinds that only those have are, so that a
-//! `match` over all kinds still compiles.
+//! `match` over all kinds still compiles. The module `copybook` is a file that stands in the original's own crate too,
+//! in the place of its own: see drop-in/copybook.rs.
 
-use crate::{Entries, Entry, Reader, Refusal};
-pub use crate::{NumRepr, SignKind, Usage};
-use std::cell::RefCell;
+use crate::Refusal;
+pub use crate::{NumRepr, SignKind};
+pub use copybook::{parse, parse_pic, Usage};
 use std::fmt;
 
-/// The original's module of that name.
-pub mod copybook {
-    pub use super::{parse, parse_pic, Usage};
-}
+#[path = "../drop-in/copybook.rs"]
+pub mod copybook;
 
 /// The original's module of that name.
 pub mod layout {
@@ -113,30 +112,18 @@ impl std::error::Error for Error {}
 
 pub type Result<T> = std::result::Result<T, Error>;
 
-thread_local! {
-    /// The buffers of a thread's calls.
-    static READER: RefCell<Reader> = RefCell::new(Reader::new());
-}
-
-/// The layout of a copybook.
-pub fn parse(src: &str) -> Result<Layout> {
-    Layout::read(src).map_err(|refusal| Error::of(refusal, src))
-}
-
-/// Kind and width of a picture.
-pub fn parse_pic(pic: &str, usage: Usage, sign: Option<SignKind>) -> Result<(FieldKind, usize)> {
-    let found = crate::picture(pic.as_bytes(), usage, sign).map_err(|refusal| Error::of(refusal, pic))?;
-    Ok((elementary(found.kind, found.width), found.width))
-}
-
 impl Layout {
+    /// The layout of these fields: as long as the one that ends last, and variable if a table among them, at any depth,
+    /// is DEPENDING ON an item. Of what [`parse`] gives it makes the same layout again.
+    pub fn from_fields(fields: Vec<Field>) -> Result<Layout> {
+        let record_len = fields.iter().map(|field| field.offset + field.reserved_width()).max().unwrap_or(0);
+        let variable = fields.iter().any(Field::is_variable);
+        Ok(Layout { record_len, fields, variable })
+    }
+
     /// As [`parse`], with the refusal itself.
     pub fn read(src: &str) -> std::result::Result<Layout, Refusal> {
-        READER.with_borrow_mut(|reader| {
-            let layout = reader.layout(src.as_bytes())?;
-            let fields = fields(&mut layout.entries(), layout.top_len());
-            Ok(Layout { record_len: layout.record_len(), fields, variable: layout.variable() })
-        })
+        copybook::read(src)
     }
 
     /// Whether a record of so many bytes is long enough for this layout; always so if it is variable.
@@ -161,82 +148,36 @@ impl Field {
     pub fn total_width(&self) -> usize {
         self.width * self.occurs.unwrap_or(1)
     }
-}
 
-// ---------------------------------------------------------------- the tree
-
-/// The next so many fields, with what is below them.
-fn fields(entries: &mut Entries, count: usize) -> Vec<Field> {
-    let mut fields = Vec::with_capacity(count);
-    while let Some(entry) = (fields.len() < count).then(|| entries.next()).flatten() {
-        fields.push(field(entry, entries));
+    /// Whether it is a table DEPENDING ON an item, or has one below it.
+    fn is_variable(&self) -> bool {
+        let below = match &self.kind {
+            FieldKind::Group(members) => members.as_slice(),
+            _ => &[],
+        };
+        self.depending_on.is_some() || below.iter().any(Field::is_variable)
     }
-    fields
-}
-
-/// The field of an entry; what is below it are the next entries.
-fn field(entry: Entry, later: &mut Entries) -> Field {
-    Field {
-        name: entry.name.unwrap_or("FILLER").into(),
-        offset: entry.offset,
-        width: entry.width,
-        kind: match entry.kind {
-            crate::FieldKind::Group { members } => FieldKind::Group(fields(later, members)),
-            kind => elementary(kind, entry.width),
-        },
-        occurs: entry.occurs,
-        depending_on: entry.depending_on.map(str::to_owned),
-        redefines: entry.redefines.map(str::to_owned),
-    }
-}
-
-/// The kind of an elementary item of that width; a group has its members elsewhere.
-fn elementary(kind: crate::FieldKind, width: usize) -> FieldKind {
-    use crate::FieldKind as Kind;
-    match kind {
-        Kind::Text => FieldKind::Text { justify: Justify::Left, trim: true, pad: b' ' },
-        Kind::Int { signed, sign } => FieldKind::Int { signed, sign },
-        Kind::Binary { signed } => FieldKind::Binary { endian: Endian::Big, signed },
-        Kind::Decimal { precision, scale, repr, sign } => FieldKind::Decimal { precision, scale, repr, sign },
-        Kind::Edited { precision, scale, signed, picture } => {
-            FieldKind::Edited { precision, scale, signed, mask: mask(picture, width) }
-        }
-        Kind::Group { .. } => FieldKind::Group(Vec::new()),
-        Kind::Float { bits } => FieldKind::Float { bits, endian: Endian::Big },
-    }
-}
-
-/// The mask of an edited picture of that width: as the original's it has no P, so that the width is its length. A
-/// picture without repeat counts that is as long has no symbol that takes no place, and is its own mask: asking for it
-/// would take longer than the rest.
-fn mask(picture: &str, width: usize) -> String {
-    if picture.len() == width && !picture.contains('(') {
-        return picture.to_ascii_uppercase();
-    }
-    crate::mask(picture.as_bytes(), Usage::Display).expect("the picture of an edited item").replace('P', "")
 }
 
 // ---------------------------------------------------------------- errors
 
-impl Error {
-    /// The error for a refusal of this text.
-    fn of(refusal: Refusal, text: &str) -> Error {
-        let mut place = format!("refused {}", refusal.number);
-        if refusal.line > 0 {
-            place += &format!(", line {} column {}", refusal.line, refusal.column);
-        }
-        let sentence = refusal.told(text.as_bytes()).sentence;
-        Error(match original(refusal, text) {
-            Some(said) => format!("{said} ({place}: {sentence})"),
-            None => format!("{sentence} ({place})"),
-        })
+/// What an [`Error`] says of a refusal of this text.
+pub fn said(refusal: Refusal, text: &str) -> String {
+    let mut place = format!("refused {}", refusal.number);
+    if refusal.line > 0 {
+        place += &format!(", line {} column {}", refusal.line, refusal.column);
+    }
+    let sentence = refusal.told(text.as_bytes()).sentence;
+    match original(refusal, text) {
+        Some(original) => format!("{original} ({place}: {sentence})"),
+        None => format!("{sentence} ({place})"),
     }
 }
 
 /// What the original says where it refuses too.
 fn original(refusal: Refusal, text: &str) -> Option<String> {
-    let statement = refusal.statement(text.as_bytes());
-    let word = refusal.word(text.as_bytes(), &statement).map_or("", |word| word.word);
+    let around = refusal.around(text.as_bytes(), text.as_bytes());
+    let (statement, word) = (&around.statement, around.about.map_or("", |word| word.word));
     let item = statement.item();
     let picture = statement.picture.map_or(String::new(), |picture| picture.to_ascii_uppercase());
     let repeat = word.strip_prefix('(').and_then(|rest| rest.strip_suffix(')')).unwrap_or("").to_ascii_uppercase();

@@ -1,5 +1,6 @@
 //! How a copybook is written: as free text, or on cards with columns. The calls are the same for both.
 
+use crate::statement::{self, Statement};
 use crate::{calls, Details, Layout, Owner, Reasons, Refusal};
 use crate::{LONGEST_DETAILS, LONGEST_LISTING, LONGEST_REASONS, WORK};
 use std::borrow::Cow;
@@ -15,11 +16,11 @@ pub enum Form {
     Cards,
 }
 
-/// Columns before the indicator, and before the first that is ignored again.
-const BEFORE_INDICATOR: usize = 6;
-const BEFORE_IGNORED: usize = 72;
-
 impl Form {
+    /// Columns of a card before the indicator, and before the first that is ignored again.
+    pub(crate) const BEFORE_INDICATOR: usize = 6;
+    pub(crate) const BEFORE_IGNORED: usize = 72;
+
     /// The layout of the copybook in `text`. Refusals: the reader's.
     pub fn layout(self, text: &[u8]) -> Result<Layout<'_, 'static>, Refusal> {
         let (mut work, mut out) = (vec![0; WORK], vec![0; LONGEST_LISTING]);
@@ -55,6 +56,12 @@ impl Form {
         calls::owner(self, text, position, &mut vec![0; WORK])
     }
 
+    /// The count before TO of the statement that starts at this place of the text, and says OCCURS: the least one of a
+    /// table DEPENDING ON an item. None where it has no TO, and COBOL takes it to be 1.
+    pub fn least_count(self, text: &[u8], position: usize) -> Option<usize> {
+        Statement::of(&statement::words(&self.view(text), position)).least
+    }
+
     /// What a reader sees of the text: of cards the code in its columns, with a blank for every byte that is ignored,
     /// so that a place in the one is a place in the other.
     pub fn view(self, text: &[u8]) -> Cow<'_, [u8]> {
@@ -65,9 +72,18 @@ impl Form {
     }
 }
 
+/// The text with a `?` for every byte over 127, one for one, so that a place in the one is a place in the other. It is
+/// for copybooks in another code page than ASCII, which are refused (2), where names need not be told apart.
+pub fn any_bytes(text: &[u8]) -> Cow<'_, [u8]> {
+    match text.is_ascii() {
+        true => Cow::Borrowed(text),
+        false => Cow::Owned(text.iter().map(|&b| if b.is_ascii() { b } else { b'?' }).collect()),
+    }
+}
+
 /// What a reader sees of one card.
 fn card(line: &[u8]) -> impl Iterator<Item = u8> + '_ {
-    let code = line.get(BEFORE_INDICATOR) == Some(&b' ');
-    let read = move |i: usize| code && (BEFORE_INDICATOR + 1..BEFORE_IGNORED).contains(&i);
+    let code = line.get(Form::BEFORE_INDICATOR) == Some(&b' ');
+    let read = move |i: usize| code && (Form::BEFORE_INDICATOR + 1..Form::BEFORE_IGNORED).contains(&i);
     line.iter().enumerate().map(move |(i, &b)| if b == b'\n' || read(i) { b } else { b' ' })
 }

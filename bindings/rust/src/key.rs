@@ -60,5 +60,10 @@ pub(crate) fn key_of(texts: &[u8], lengths: &[u64], name: &[u8], work: &mut [u32
 /// See [`crate::key()`].
 pub(crate) fn key_in(name: &[u8], copybooks: &[&[u8]]) -> Result<Key, NoKey> {
     let lengths: Vec<u64> = copybooks.iter().map(|text| text.len() as u64).collect();
-    key_of(&copybooks.concat(), &lengths, name, &mut vec![0; WORK])
+    let answer = key_of(&copybooks.concat(), &lengths, name, &mut vec![0; WORK]);
+    // the lengths are right, so it is the count that 56 is about
+    answer.map_err(|no_key| match no_key.refusal.number {
+        NO_SET => NoKey { refusal: no_key.refusal.with_first_cause(), ..no_key },
+        _ => no_key,
+    })
 }

@@ -19,7 +19,7 @@
 //! [`details_cards`], [`owner_cards`] and
 //! [`reasons_cards`] take one on cards with columns, and a [`Form`] has them for either. A [`Reader`] keeps the buffers
 //! from call to call; with the functions of [`lent`] they are the caller's own. A [`Refusal`] has a number and a place;
-//! [`Refusal::told`] says it in words:
+//! [`Refusal::told`] says it in words, with the [`Cause`] that the text shows:
 //!
 //! ```
 //! let text = b"01 R.\n    05 TAG  PIC X(5).\n    05 YEAR REDEFINES TAGS PIC 9(4).\n";
@@ -32,6 +32,8 @@
 //! ");
 //! ```
 //!
+//! A copybook in another code page than ASCII is refused; [`any_bytes`] makes one of it that is not.
+//!
 //! Each call names its refusals in the order in which they are looked for. What several have:
 //!
 //! <!-- made by tools/papers --write: sets of refusals -->
@@ -41,8 +43,12 @@
 //!
 //! Of these the functions of [`lent`] alone have 3, since all others lend what is needed; so it is with 31.
 
+// drop-in/copybook.rs, which is a module here too, calls this crate by that name
+extern crate self as wifthorn;
+
 mod bytes;
 mod calls;
+mod cause;
 mod declared;
 mod details;
 pub mod fixedformat;
@@ -59,8 +65,9 @@ mod texts;
 mod told;
 
 pub use bytes::Word;
+pub use cause::Cause;
 pub use details::{Detail, Details};
-pub use form::Form;
+pub use form::{any_bytes, Form};
 pub use key::{Key, NoKey};
 use kinds::Facts;
 pub use kinds::{FieldKind, NumRepr, SignKind, Usage};
@@ -70,7 +77,7 @@ pub use limits::{LONGEST_MASK, MOST_ITEMS, WORK};
 pub use reasons::{Reason, Reasons};
 pub use refusal::{line_and_column, Refusal, Row};
 pub use texts::REFUSALS;
-pub use told::Told;
+pub use told::{escaped, Told};
 
 /// The longest listing: a head, and at most 2 entries of at most 49 bytes for each statement.
 pub const LONGEST_LISTING: usize = 10 + MOST_STATEMENTS * 2 * 49;

@@ -1,7 +1,9 @@
 //! Refusals: their numbers and names, where in the text they are, and the words in which they are told to people, which
 //! are those of the table [`REFUSALS`].
 
-use crate::{Form, REFUSALS};
+use crate::cause::{self, Around, Cause};
+use crate::statement::{self, Statement};
+use crate::{any_bytes, Form, Word, REFUSALS};
 use std::fmt;
 
 /// Why a call turned its input down. Nothing was written.
@@ -21,6 +23,10 @@ pub struct Refusal {
     pub needed: usize,
     /// How the text was read.
     pub form: Form,
+    /// What is behind it, where the text shows it.
+    pub cause: Option<&'static Cause>,
+    /// Start and length of the word that its sentence names, where there is one.
+    pub(crate) span: Option<(usize, usize)>,
 }
 
 /// What of the text a refusal is about: the place that it carries, and the word that its sentence names.
@@ -64,6 +70,8 @@ pub struct Row {
     /// What was found in a text: `{word}` stands for the word that it is about, `{item}` for the item's name. Empty
     /// where nothing can be named.
     pub(crate) sentence: &'static str,
+    /// What may be behind it; the first that the text shows is told.
+    pub causes: &'static [Cause],
 }
 
 /// What is said of a number that the table does not have.
@@ -74,6 +82,7 @@ const UNKNOWN: Row = Row {
     found: "a refusal of no known number",
     sentence: "",
     advice: "",
+    causes: &[],
 };
 
 /// Line and column of a place, from 1, in bytes. Lines end at byte 10.
@@ -92,7 +101,8 @@ impl Refusal {
 
     /// A refusal that has no place in a text.
     pub(crate) fn without_place(number: u32, needed: usize) -> Refusal {
-        let mut refusal = Refusal { number, name: "", position: 0, line: 0, column: 0, needed, form: Form::Free };
+        let (position, line, column, form) = (0, 0, 0, Form::Free);
+        let mut refusal = Refusal { number, name: "", position, line, column, needed, form, cause: None, span: None };
         refusal.name = refusal.row().name;
         refusal
     }
@@ -104,16 +114,66 @@ impl Refusal {
             return plain;
         }
         let (line, column) = line_and_column(text, position);
-        Refusal { position, line, column, ..plain }
+        Refusal { position, line, column, ..plain }.with_cause(text)
     }
 
     /// A refusal of a picture: only a byte over 127 has a place.
     pub(crate) fn of_picture(number: u32, position: usize, needed: usize, picture: &[u8]) -> Refusal {
-        let placed = Refusal::of_copybook(Form::Free, number, position, needed, picture);
-        if placed.row().about == About::Byte {
-            return placed;
+        let plain = Refusal::without_place(number, needed);
+        if plain.row().about != About::Byte {
+            return plain.with_cause(picture);
         }
-        Refusal::without_place(number, needed)
+        let (line, column) = line_and_column(picture, position);
+        Refusal { position, line, column, ..plain }
+    }
+
+    /// The same with what is behind it, and the word that is named then.
+    fn with_cause(self, text: &[u8]) -> Refusal {
+        let plain = any_bytes(text);
+        // on cards a statement goes on behind columns that are ignored, so its words are looked for in the view
+        let seen = self.form.view(&plain);
+        let around = self.around(text, &seen);
+        let found = around.cause(&self);
+        let word = found.as_ref().map_or(around.about, |found| found.word);
+        let span = word.map(|word| (word.start, word.len()));
+        Refusal { cause: found.map(|found| found.cause), span, ..self }
+    }
+
+    /// The same with the first of its row's causes, which the caller knows to hold.
+    pub(crate) fn with_first_cause(self) -> Refusal {
+        Refusal { cause: self.row().causes.first(), ..self }
+    }
+
+    /// What stands around it in a text, of which a reader sees this.
+    pub(crate) fn around<'t>(&self, text: &'t [u8], seen: &'t [u8]) -> Around<'t> {
+        let holds = |words: &Vec<Word>| words.iter().any(|word| word.range().contains(&self.position));
+        let words = match self.row().about {
+            _ if self.line == 0 => Vec::new(),
+            About::Byte => statement::statements(seen).find(holds).unwrap_or_default(),
+            _ => statement::words(seen, self.position),
+        };
+        let statement = match self.line {
+            0 => Statement { picture: Some(statement::trimmed(seen)), ..Statement::default() },
+            _ => Statement::of(&words),
+        };
+        let about = match self.row().about {
+            About::Nothing | About::Indicator | About::Item => None,
+            About::Byte => cause::utf_8(&text[self.position.min(text.len())..])
+                .map(|c| statement::word(text, self.position..self.position + c.len_utf8())),
+            About::Literal => Some(statement::line_from(seen, self.position)),
+            About::Level => statement.level,
+            About::Count => statement.no_count,
+            About::Redefines => statement.redefines,
+            About::Picture => statement.picture,
+            About::Repeat => statement.picture.and_then(statement::bad_repeat),
+            About::Symbol => statement.picture.and_then(statement::bad_symbol),
+        };
+        Around { text, words, statement, about }
+    }
+
+    /// The word that its sentence names, in the text that was refused.
+    pub fn word<'t>(&self, text: &'t [u8]) -> Option<Word<'t>> {
+        self.span.map(|(start, len)| statement::word(text, start..start + len))
     }
 
     /// What was found, whatever the text is.
@@ -123,7 +183,7 @@ impl Refusal {
 
     /// What to do.
     pub fn advice(&self) -> &'static str {
-        self.row().advice
+        self.cause.map_or(self.row().advice, |cause| cause.advice)
     }
 }
 
@@ -136,7 +196,10 @@ impl fmt::Display for Refusal {
         if self.needed > 0 {
             write!(f, ", {} bytes are needed", self.needed)?;
         }
-        Ok(())
+        match self.cause {
+            Some(cause) => write!(f, " ({}: {})", cause.name, cause.advice),
+            None => Ok(()),
+        }
     }
 }
 

@@ -10,8 +10,9 @@ fn white(b: u8) -> bool {
 }
 
 /// A word of the text; what is no UTF-8 is left out.
-fn word(text: &[u8], range: Range<usize>) -> Word<'_> {
-    Word { start: range.start, word: std::str::from_utf8(&text[range]).unwrap_or("") }
+pub(crate) fn word(text: &[u8], range: Range<usize>) -> Word<'_> {
+    let start = range.start;
+    Word { start, word: text.get(range).and_then(|bytes| std::str::from_utf8(bytes).ok()).unwrap_or("") }
 }
 
 /// The text as a word, without the white space around it.
@@ -29,9 +30,8 @@ pub(crate) fn line_from(text: &[u8], start: usize) -> Word<'_> {
     word(text, start..start + end)
 }
 
-/// Where the next line that is no comment starts, from the end of a line on.
-fn next_line(text: &[u8], end: usize) -> usize {
-    let mut start = end + 1;
+/// Where the first line that is no comment starts, from the start of a line on.
+fn code_line(text: &[u8], mut start: usize) -> usize {
     while let Some(line) = text.get(start..).and_then(|rest| rest.split(|&b| b == b'\n').next()) {
         if line.iter().find(|&&b| !white(b)) != Some(&b'*') {
             break;
@@ -50,14 +50,47 @@ fn literal_after(open: Option<u8>, b: u8) -> Option<u8> {
     }
 }
 
-/// Whether the last of a statement's words is VALUE, and third or later.
-fn says_value(words: &[Word]) -> bool {
-    words.len() > 2 && words.last().is_some_and(|w| ["VALUE", "VALUES"].iter().any(|key| w.eq_ignore_ascii_case(key)))
+/// Whether a word begins what an item's value is.
+pub(crate) fn is_value(word: &Word) -> bool {
+    ["VALUE", "VALUES"].iter().any(|key| word.eq_ignore_ascii_case(key))
 }
 
-/// The words of the statement that starts at this place, up to its period. Neither a period nor `*>` counts inside a
-/// literal after VALUE.
-fn words(text: &[u8], start: usize) -> Vec<Word<'_>> {
+/// Whether the last of a statement's words is VALUE, and third or later.
+fn says_value(words: &[Word]) -> bool {
+    words.len() > 2 && words.last().is_some_and(is_value)
+}
+
+/// The words of a statement after VALUE that stand in none of its literals.
+pub(crate) fn behind_value<'t>(words: &[Word<'t>]) -> Vec<Word<'t>> {
+    let behind = words.iter().skip(2).skip_while(|word| !is_value(word));
+    let mut literal = None;
+    let mut outside = |word: &&Word| {
+        let before = literal;
+        literal = word.bytes().fold(literal, literal_after);
+        before.is_none()
+    };
+    behind.filter(|word| outside(word)).copied().collect()
+}
+
+/// The statements of a text as their words, those without words left out.
+pub(crate) fn statements(text: &[u8]) -> impl Iterator<Item = Vec<Word<'_>>> {
+    let mut start = Some(code_line(text, 0));
+    let all = std::iter::from_fn(move || {
+        let (words, end) = words_to_end(text, start?);
+        start = (end < text.len()).then_some(end + 1);
+        Some(words)
+    });
+    all.filter(|words| !words.is_empty())
+}
+
+/// The words of the statement that starts at this place, up to its period.
+pub(crate) fn words(text: &[u8], start: usize) -> Vec<Word<'_>> {
+    words_to_end(text, start.min(text.len())).0
+}
+
+/// The words of the statement that starts at this place, and where its period stands, or else the text's end. Neither a
+/// period nor `*>` counts inside a literal after VALUE.
+fn words_to_end(text: &[u8], start: usize) -> (Vec<Word<'_>>, usize) {
     let ends_line = |i: usize| i >= text.len() || text[i] == b'\n' || text[i..].starts_with(b"*>");
     let mut words = Vec::new();
     let (mut value, mut literal) = (false, None);
@@ -75,11 +108,11 @@ fn words(text: &[u8], start: usize) -> Vec<Word<'_>> {
             value = value || says_value(&words);
         }
         if stop || i >= text.len() {
-            return words;
+            return (words, i);
         }
         if ends_line(i) {
             let end = text[i..].iter().position(|&b| b == b'\n').map_or(text.len(), |n| i + n);
-            i = next_line(text, end);
+            i = code_line(text, end + 1);
         } else {
             i += 1;
         }
@@ -101,12 +134,13 @@ pub(crate) struct Statement<'t> {
     pub redefines: Option<Word<'t>>,
     /// What stands where a count is due, after OCCURS or TO.
     pub no_count: Option<Word<'t>>,
+    /// The count before TO, after OCCURS.
+    pub least: Option<usize>,
 }
 
 impl<'t> Statement<'t> {
-    /// The statement whose first word starts at this place.
-    pub fn at(text: &'t [u8], start: usize) -> Statement<'t> {
-        let words = words(text, start.min(text.len()));
+    /// The statement of these words.
+    pub fn of(words: &[Word<'t>]) -> Statement<'t> {
         let word = |i: usize| words.get(i).copied();
         let is = |i: usize, key: &str| usize::from(words.get(i).is_some_and(|w| w.eq_ignore_ascii_case(key)));
         let mut s = Statement { level: word(0), name: word(1), ..Statement::default() };
@@ -129,6 +163,7 @@ impl<'t> Statement<'t> {
                         s.no_count = word(bound);
                         break;
                     }
+                    s.least = if bound > i { words[i].parse().ok() } else { None };
                     i = bound + 1;
                     i += is(i, "TIMES");
                     if is(i, "DEPENDING") > 0 {
@@ -136,7 +171,7 @@ impl<'t> Statement<'t> {
                     }
                 }
                 "SIGN" => i += 1 + is(i, "IS"),
-                "VALUE" | "VALUES" => break,
+                _ if is_value(&key) => break,
                 _ => {}
             }
         }

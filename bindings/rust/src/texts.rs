@@ -1,5 +1,6 @@
 //! The words of refusals, as texts.toml has them.
 
+use crate::cause::{Cause, When};
 use crate::refusal::{About, Row};
 
 /// Every refusal, by number.
@@ -13,14 +14,73 @@ pub const REFUSALS: &[Row] = &[
         found: "the text has more than 65,535 bytes",
         sentence: "",
         advice: "split the copybook by record; a copybook with more than one record is one record per call anyway",
+        causes: &[],
     },
     Row {
         number: 2,
         name: "byte-not-ascii",
         about: About::Byte,
         found: "a byte over 127",
-        sentence: "the byte {word} is over 127",
-        advice: "copybooks are ASCII here: look at that byte; a name or comment in another code page must be rewritten",
+        sentence: "{word} is not ASCII",
+        advice: "copybooks are ASCII here: write that character in ASCII, a plain blank or quote for a typographic one",
+        causes: &[
+            Cause {
+                name: "byte-order-mark",
+                when: When::Text,
+                words: &["utf-8 mark"],
+                sentence: "the text begins with a byte-order mark, 0xef 0xbb 0xbf",
+                advice: "take its three bytes out: `tail -c +4 FILE`",
+            },
+            Cause {
+                name: "utf-16",
+                when: When::Text,
+                words: &["utf-16 mark"],
+                sentence: "the text is UTF-16: it begins with a byte-order mark of that",
+                advice: "make it ASCII: `iconv -f UTF-16 -t ASCII//TRANSLIT FILE`",
+            },
+            Cause {
+                name: "ebcdic-cards",
+                when: When::Text,
+                words: &["ebcdic cards"],
+                sentence: "the text is EBCDIC, in cards of 80 bytes without line ends",
+                advice: "make it ASCII, a line for each card, and read it with --cards: `iconv -f IBM1047 -t ASCII//TRANSLIT FILE | fold -w 80`",
+            },
+            Cause {
+                name: "ebcdic",
+                when: When::Text,
+                words: &["ebcdic"],
+                sentence: "the text is EBCDIC",
+                advice: "make it ASCII: `tr '\\025' '\\045' <FILE | iconv -f IBM1047 -t ASCII//TRANSLIT`",
+            },
+            Cause {
+                name: "ignored-column",
+                when: When::Place,
+                words: &["ignored"],
+                sentence: "{word} stands in a column that is ignored",
+                advice: "blank it, or have every byte over 127 read as ? (--any-bytes): what stands there is not read",
+            },
+            Cause {
+                name: "comment",
+                when: When::Place,
+                words: &["comment"],
+                sentence: "{word} stands in a comment",
+                advice: "write it in ASCII, or have every byte over 127 read as ? (--any-bytes): a comment is not read",
+            },
+            Cause {
+                name: "literal",
+                when: When::Place,
+                words: &["literal"],
+                sentence: "{word} stands in a literal",
+                advice: "write it in ASCII, or have every byte over 127 read as ? (--any-bytes): a literal moves no column",
+            },
+            Cause {
+                name: "name",
+                when: When::Place,
+                words: &["name"],
+                sentence: "{word} stands in the name {item}",
+                advice: "a name has A to Z, digits and hyphens: write another, or have every byte over 127 read as ? (--any-bytes)",
+            },
+        ],
     },
     Row {
         number: 3,
@@ -29,6 +89,7 @@ pub const REFUSALS: &[Row] = &[
         found: "fewer than 16,384 numbers of work memory were lent",
         sentence: "",
         advice: "lend 16,384 numbers of 32 bits",
+        causes: &[],
     },
     Row {
         number: 10,
@@ -37,6 +98,92 @@ pub const REFUSALS: &[Row] = &[
         found: "a statement does not start with a level from 0 to 255",
         sentence: "{word} is no level from 0 to 255",
         advice: "look for a period that ends a statement too early, or a line that should be a comment",
+        causes: &[
+            Cause {
+                name: "utf-16le",
+                when: When::Text,
+                words: &["utf-16le"],
+                sentence: "the text is UTF-16, little-endian, without a byte-order mark",
+                advice: "make it ASCII: `iconv -f UTF-16LE -t ASCII//TRANSLIT FILE`",
+            },
+            Cause {
+                name: "utf-16be",
+                when: When::Text,
+                words: &["utf-16be"],
+                sentence: "the text is UTF-16, big-endian, without a byte-order mark",
+                advice: "make it ASCII: `iconv -f UTF-16BE -t ASCII//TRANSLIT FILE`",
+            },
+            Cause {
+                name: "nul",
+                when: When::Holds,
+                words: &["\x00"],
+                sentence: "a byte 0, NUL, stands where a level is due",
+                advice: "take such bytes out, which fill files up: `tr -d '\\000' <FILE`",
+            },
+            Cause {
+                name: "ctrl-z",
+                when: When::Holds,
+                words: &["\x1a"],
+                sentence: "a byte 0x1a, Ctrl-Z, which ended files of old, stands where a level is due",
+                advice: "take it out: `tr -d '\\032' <FILE`",
+            },
+            Cause {
+                name: "copy",
+                when: When::First,
+                words: &["COPY", "++INCLUDE", "-INC"],
+                sentence: "{word} brings in another text, which is not done here",
+                advice: "put that text in its place first, as cobc -E does and a compiler's listing has it",
+            },
+            Cause {
+                name: "replace",
+                when: When::First,
+                words: &["REPLACE"],
+                sentence: "REPLACE has words of the text replaced, which is not done here",
+                advice: "write the words as they are to be, as cobc -E does, and take REPLACE out, up to its period",
+            },
+            Cause {
+                name: "exec",
+                when: When::First,
+                words: &["EXEC", "EXECUTE"],
+                sentence: "{word} begins a statement for SQL or CICS, and describes no item",
+                advice: "take it out, up to END-EXEC and its period; where it brings in a text, put that in its place",
+            },
+            Cause {
+                name: "file-description",
+                when: When::First,
+                words: &["FD", "SD", "RD", "CD"],
+                sentence: "{word} describes a file, and no item",
+                advice: "take it out, up to its period: the record begins at the level behind it",
+            },
+            Cause {
+                name: "listing",
+                when: When::First,
+                words: &["SKIP1", "SKIP2", "SKIP3", "EJECT", "TITLE"],
+                sentence: "{word} is for the compiler's listing, and describes no item",
+                advice: "take it out, with what belongs to it on its line",
+            },
+            Cause {
+                name: "directive",
+                when: When::First,
+                words: &["CBL", "PROCESS", "$SET", ">>SOURCE", ">>SET", ">>DEFINE"],
+                sentence: "{word} tells a compiler how to work, and describes no item",
+                advice: "take its line out",
+            },
+            Cause {
+                name: "division",
+                when: When::Second,
+                words: &["DIVISION", "SECTION"],
+                sentence: "a {word} of a program begins here, and no item",
+                advice: "take out what is no description of a record: that begins at a level, mostly 01",
+            },
+            Cause {
+                name: "mail",
+                when: When::EndsIn,
+                words: &[":"],
+                sentence: "{word} looks like a line of a mail's header",
+                advice: "take out what stands before the copybook, and behind it",
+            },
+        ],
     },
     Row {
         number: 11,
@@ -45,6 +192,7 @@ pub const REFUSALS: &[Row] = &[
         found: "OCCURS is not followed by a count",
         sentence: "OCCURS of {item} is followed by {word}, not by a count",
         advice: "write the count as digits",
+        causes: &[],
     },
     Row {
         number: 12,
@@ -53,6 +201,7 @@ pub const REFUSALS: &[Row] = &[
         found: "TO is not followed by a count",
         sentence: "TO of {item} is followed by {word}, not by a count",
         advice: "write the upper bound as digits",
+        causes: &[],
     },
     Row {
         number: 13,
@@ -61,6 +210,7 @@ pub const REFUSALS: &[Row] = &[
         found: "DEPENDING has no name after it",
         sentence: "DEPENDING of {item} has no name after it",
         advice: "name the item that holds the count",
+        causes: &[],
     },
     Row {
         number: 14,
@@ -69,6 +219,7 @@ pub const REFUSALS: &[Row] = &[
         found: "more than 800 statements, level 88 not counted",
         sentence: "{item} is the 801st statement, level 88 not counted",
         advice: "split the record's description, or drop what is not needed",
+        causes: &[],
     },
     Row {
         number: 20,
@@ -77,6 +228,7 @@ pub const REFUSALS: &[Row] = &[
         found: "groups nested deeper than 64",
         sentence: "{item} stands in more than 64 groups",
         advice: "flatten the groups; levels in fixed columns are sometimes read as ever deeper ones",
+        causes: &[],
     },
     Row {
         number: 21,
@@ -85,6 +237,85 @@ pub const REFUSALS: &[Row] = &[
         found: "an item without members has no picture",
         sentence: "{item} has neither a picture nor members",
         advice: "give it a PICTURE; an item that should have members needs them at a higher level number",
+        causes: &[
+            Cause {
+                name: "no-name",
+                when: When::Second,
+                words: &["PIC", "PICTURE"],
+                sentence: "{word} stands where the item's name is due",
+                advice: "write FILLER before it: an item without a name is called so",
+            },
+            Cause {
+                name: "renames",
+                when: When::Level,
+                words: &["66"],
+                sentence: "{item} is another name for items before it (level 66, RENAMES)",
+                advice: "take it out, up to its period: it has no bytes of its own",
+            },
+            Cause {
+                name: "constant",
+                when: When::Level,
+                words: &["78"],
+                sentence: "{item} is a constant (level 78), and no item",
+                advice: "take it out, up to its period, and write its value where its name stands",
+            },
+            Cause {
+                name: "item-copy",
+                when: When::Has,
+                words: &["COPY"],
+                sentence: "{word} brings in the members of {item} from another text, which is not done here",
+                advice: "end the item with a period, and put that text in the place of COPY, as cobc -E does",
+            },
+            Cause {
+                name: "value-first",
+                when: When::BehindValue,
+                words: &["PIC", "PICTURE"],
+                sentence: "VALUE of {item} stands before {word}, which is not read",
+                advice: "put VALUE and its literal last, before the period",
+            },
+            Cause {
+                name: "bare-picture",
+                when: When::Last,
+                words: &["PIC", "PICTURE"],
+                sentence: "{word} of {item} has no picture behind it",
+                advice: "write the picture behind it, before the period",
+            },
+            Cause {
+                name: "address",
+                when: When::Has,
+                words: &["POINTER", "PROCEDURE-POINTER", "FUNCTION-POINTER", "POINTER-32", "POINTER-64"],
+                sentence: "{item} has the usage {word}, which is not had here",
+                advice: "write its bytes as text in its place: PIC X(4), or PIC X(8) where addresses have 64 bits",
+            },
+            Cause {
+                name: "index",
+                when: When::Has,
+                words: &["INDEX"],
+                sentence: "{item} has the usage INDEX, which is not had here",
+                advice: "write its bytes in its place: PIC S9(9) COMP, which has 4, as an index has with most compilers",
+            },
+            Cause {
+                name: "native-binary",
+                when: When::Has,
+                words: &["BINARY-CHAR", "BINARY-SHORT", "BINARY-LONG", "BINARY-INT", "BINARY-DOUBLE", "BINARY-LONG-LONG", "SIGNED-SHORT", "SIGNED-INT", "SIGNED-LONG", "UNSIGNED-SHORT", "UNSIGNED-INT", "UNSIGNED-LONG"],
+                sentence: "{item} has the usage {word}, which is not had here",
+                advice: "write its bytes in its place: PIC S9(4) COMP-5 has 2 (SHORT), PIC S9(9) COMP-5 has 4 (LONG, INT), PIC S9(18) COMP-5 has 8 (DOUBLE), PIC X has 1 (CHAR)",
+            },
+            Cause {
+                name: "float",
+                when: When::Has,
+                words: &["FLOAT-SHORT", "FLOAT-LONG"],
+                sentence: "{item} has the usage {word}, which is not had here",
+                advice: "write COMP-1 for FLOAT-SHORT, and COMP-2 for FLOAT-LONG",
+            },
+            Cause {
+                name: "usage",
+                when: When::Usage,
+                words: &["COMP-6", "COMP-9", "COMP-X", "COMP-N", "COMPUTATIONAL-6", "COMPUTATIONAL-X", "COMPUTATIONAL-N", "NATIONAL", "DISPLAY-1", "OBJECT", "FLOAT-EXTENDED", "FLOAT-BINARY-32", "FLOAT-BINARY-64", "FLOAT-DECIMAL-16", "FLOAT-DECIMAL-34"],
+                sentence: "{item} has the usage {word}, which is not had here, and no picture",
+                advice: "write its bytes as text in its place, PIC X(N) for N bytes; what is had is DISPLAY, COMP, COMP-1 to COMP-5, BINARY and PACKED-DECIMAL",
+            },
+        ],
     },
     Row {
         number: 22,
@@ -93,6 +324,7 @@ pub const REFUSALS: &[Row] = &[
         found: "a `(` in a picture without its `)`",
         sentence: "the picture {word} of {item} has a `(` without its `)`",
         advice: "close the bracket",
+        causes: &[],
     },
     Row {
         number: 23,
@@ -101,6 +333,7 @@ pub const REFUSALS: &[Row] = &[
         found: "no count between `(` and `)`",
         sentence: "{word} in the picture of {item} is no repeat count",
         advice: "write the count as digits",
+        causes: &[],
     },
     Row {
         number: 24,
@@ -109,6 +342,7 @@ pub const REFUSALS: &[Row] = &[
         found: "a picture of more than 65,535 symbols",
         sentence: "the picture {word} of {item} has more than 65,535 symbols",
         advice: "use OCCURS",
+        causes: &[],
     },
     Row {
         number: 25,
@@ -117,6 +351,29 @@ pub const REFUSALS: &[Row] = &[
         found: "a symbol that no picture has",
         sentence: "{word} in the picture of {item} is no symbol of a picture",
         advice: "the symbols are X A 9 S V P Z * , . / B 0 $ + - CR DB; N, G and E are not taken",
+        causes: &[
+            Cause {
+                name: "picture-nul",
+                when: When::Holds,
+                words: &["\x00"],
+                sentence: "a byte 0, NUL, stands in the picture of {item}",
+                advice: "take such bytes out, which fill files up: `tr -d '\\000' <FILE`",
+            },
+            Cause {
+                name: "picture-ctrl-z",
+                when: When::Holds,
+                words: &["\x1a"],
+                sentence: "a byte 0x1a, Ctrl-Z, which ended files of old, stands in the picture of {item}",
+                advice: "take it out: `tr -d '\\032' <FILE`",
+            },
+            Cause {
+                name: "semicolon",
+                when: When::PictureEndsIn,
+                words: &[";"],
+                sentence: "a semicolon behind the picture {word} of {item} is read as part of it",
+                advice: "take it out, or put a blank before it",
+            },
+        ],
     },
     Row {
         number: 26,
@@ -125,6 +382,15 @@ pub const REFUSALS: &[Row] = &[
         found: "text mixed with digits or editing",
         sentence: "the picture {word} of {item} mixes text with digits or editing",
         advice: "X and A stand alone: describe the parts as items of their own",
+        causes: &[
+            Cause {
+                name: "comma",
+                when: When::PictureEndsIn,
+                words: &[","],
+                sentence: "a comma behind the picture {word} of {item} is read as part of it",
+                advice: "take it out, or put a blank before it",
+            },
+        ],
     },
     Row {
         number: 27,
@@ -133,6 +399,7 @@ pub const REFUSALS: &[Row] = &[
         found: "more than 31 digits, or an edited mask of more than 255 bytes",
         sentence: "the picture {word} of {item} has more than 31 digits, or an edited mask of more than 255 bytes",
         advice: "IBM's longest numbers have 31 digits: look for a typing error",
+        causes: &[],
     },
     Row {
         number: 28,
@@ -141,6 +408,7 @@ pub const REFUSALS: &[Row] = &[
         found: "REDEFINES names no earlier item of the same list",
         sentence: "no earlier item of this list is called {word}",
         advice: "the target must stand before it, under the same group",
+        causes: &[],
     },
     Row {
         number: 29,
@@ -149,6 +417,7 @@ pub const REFUSALS: &[Row] = &[
         found: "a count, an offset, a size or an end above 2,147,483,647",
         sentence: "{item} has a count, an offset, a size or an end above 2,147,483,647",
         advice: "look at the counts of the groups around it",
+        causes: &[],
     },
     Row {
         number: 30,
@@ -157,6 +426,7 @@ pub const REFUSALS: &[Row] = &[
         found: "a redefiner starts before the item that it is folded under",
         sentence: "{item} starts before the item {word} that it is folded under",
         advice: "two siblings share a name: give them names of their own",
+        causes: &[],
     },
     Row {
         number: 31,
@@ -165,6 +435,7 @@ pub const REFUSALS: &[Row] = &[
         found: "the lent output is shorter than the answer; the needed length is answered",
         sentence: "",
         advice: "lend that many bytes and call again",
+        causes: &[],
     },
     Row {
         number: 40,
@@ -173,6 +444,7 @@ pub const REFUSALS: &[Row] = &[
         found: "the byte owner or an extract was asked of a copybook with a REDEFINES or a DEPENDING ON",
         sentence: "",
         advice: "items of such a record share bytes, or vary in length; read the layout",
+        causes: &[],
     },
     Row {
         number: 41,
@@ -181,6 +453,7 @@ pub const REFUSALS: &[Row] = &[
         found: "the position is not below the record length",
         sentence: "",
         advice: "the layout's first line has the record length",
+        causes: &[],
     },
     Row {
         number: 42,
@@ -189,6 +462,7 @@ pub const REFUSALS: &[Row] = &[
         found: "a record is shorter than its layout, and not variable",
         sentence: "",
         advice: "the record is cut off, or it is of another layout",
+        causes: &[],
     },
     Row {
         number: 50,
@@ -197,6 +471,7 @@ pub const REFUSALS: &[Row] = &[
         found: "a literal after VALUE is not closed on its line",
         sentence: "the literal {word} is not closed on its line",
         advice: "close it on its line by the mark that opens it; within it that mark is written twice",
+        causes: &[],
     },
     Row {
         number: 51,
@@ -205,6 +480,22 @@ pub const REFUSALS: &[Row] = &[
         found: "a card's column 7 holds none of the four indicators",
         sentence: "{word} in column 7 is none of the four indicators",
         advice: "a blank marks code, * or / a comment, D a debugging line; a continued line (-) must be written as one",
+        causes: &[
+            Cause {
+                name: "hyphen",
+                when: When::Holds,
+                words: &["-"],
+                sentence: "a hyphen in column 7 continues the line before, which is not done here",
+                advice: "write the two lines as one, with the literal closed on it; a blank in column 7 is enough where no word is cut",
+            },
+            Cause {
+                name: "tab",
+                when: When::Holds,
+                words: &["\x09"],
+                sentence: "a tab stands in column 7, where it is one column and no indicator",
+                advice: "put blanks in its place: `expand FILE`",
+            },
+        ],
     },
     Row {
         number: 52,
@@ -213,6 +504,7 @@ pub const REFUSALS: &[Row] = &[
         found: "an item of COMP-1 or COMP-2, its own or its group's, has a picture",
         sentence: "{item} is a float by its usage, or its group's, and has the picture {word}",
         advice: "a float has none: drop the picture, or name another usage",
+        causes: &[],
     },
     Row {
         number: 53,
@@ -221,6 +513,7 @@ pub const REFUSALS: &[Row] = &[
         found: "the entry's number is past the listing",
         sentence: "",
         advice: "entries are numbered from 0 in the order of the layout, the record's own line not counted",
+        causes: &[],
     },
     Row {
         number: 56,
@@ -229,6 +522,15 @@ pub const REFUSALS: &[Row] = &[
         found: "there are not 2 to 16 copybooks, or their stated lengths do not add up to the bytes lent",
         sentence: "",
         advice: "a key is for 2 to 16 copybooks: lend all of their bytes, and state the length of each",
+        causes: &[
+            Cause {
+                name: "count",
+                when: When::Asked,
+                words: &[],
+                sentence: "a key is for 2 to 16 copybooks",
+                advice: "give two to sixteen",
+            },
+        ],
     },
     Row {
         number: 57,
@@ -236,15 +538,17 @@ pub const REFUSALS: &[Row] = &[
         about: About::Nothing,
         found: "the copybooks have no common key of that name",
         sentence: "",
-        advice: "each needs one top-level item of that name, no group, without OCCURS or REDEFINES, all in one place",
+        advice: "each needs one top-level column of that name, no group, without OCCURS or REDEFINES, all in one place",
+        causes: &[],
     },
     Row {
         number: 58,
         name: "extract-items",
         about: About::Nothing,
-        found: "more than 16 top-level items, or another number of weights than of items",
+        found: "more than 16 top-level columns, or another number of weights than of columns",
         sentence: "",
-        advice: "give one weight for each top-level item, in their order; of a longer record take a copybook of fewer items",
+        advice: "give one weight for each top-level column, in their order; of a longer record take a copybook of fewer",
+        causes: &[],
     },
     Row {
         number: 59,
@@ -253,14 +557,16 @@ pub const REFUSALS: &[Row] = &[
         found: "a weight outside 1 to 1,000",
         sentence: "",
         advice: "weights count against each other alone: scale them into that range",
+        causes: &[],
     },
     Row {
         number: 60,
         name: "extract-budget",
         about: About::Nothing,
-        found: "a budget of 0",
+        found: "a budget of 0 choices",
         sentence: "",
-        advice: "let one subset be looked at, at least; 65,536 are all that there can be",
+        advice: "have one choice of columns tried, at least; 65,536 are all that there can be",
+        causes: &[],
     },
     // end of texts
 ];

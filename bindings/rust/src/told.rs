@@ -1,9 +1,9 @@
 //! A refusal told to people: a sentence that names what was found, the source line with a mark under the place, and
 //! what to do.
 
+use crate::cause::{self, When};
 use crate::refusal::About;
-use crate::statement::{self, Statement};
-use crate::{Refusal, Word};
+use crate::{any_bytes, Refusal, Word};
 use std::fmt;
 use std::ops::Range;
 
@@ -34,51 +34,30 @@ const INDENT: &str = "    ";
 impl Refusal {
     /// The refusal in the words of the text that was refused: the copybook, or the picture that was asked for alone.
     pub fn told<'t>(&self, text: &'t [u8]) -> Told<'t> {
-        // on cards a statement goes on behind columns that are ignored, so its words are looked for in the view
-        let seen = self.form.view(text);
-        let statement = self.statement(&seen);
-        let word = self.word(&seen, &statement).map(|word| word.of(text));
+        let plain = any_bytes(text);
+        let seen = self.form.view(&plain);
+        let statement = self.around(text, &seen).statement;
+        let word = self.word(text);
         let byte = *text.get(self.position).unwrap_or(&0);
         let named = match self.row().about {
             About::Indicator if byte.is_ascii_graphic() => char::from(byte).into(),
             About::Indicator => format!("the byte {byte:#04x}"),
-            About::Byte => format!("{byte:#04x}"),
+            About::Byte => cause::character(text, self.position),
             _ => word.map_or("nothing".into(), |word| shown(word.as_bytes())),
         };
-        let sentence = match self.row().sentence {
+        let item = statement.level.map(|_| statement.name.map_or(&b"FILLER"[..], |name| &text[name.range()]));
+        let sentence = match self.cause.map_or(self.row().sentence, |cause| cause.sentence) {
             "" => self.found().into(),
-            sentence => filled(sentence, &named, statement.level.map(|_| statement.item())),
+            sentence => filled(sentence, &named, item),
         };
         Told { refusal: *self, sentence, word, advice: self.advice(), text }
-    }
-
-    /// The statement that was refused; of a picture that was asked for alone, that picture.
-    pub(crate) fn statement<'t>(&self, text: &'t [u8]) -> Statement<'t> {
-        match self.line {
-            0 => Statement { picture: Some(statement::trimmed(text)), ..Statement::default() },
-            _ => Statement::at(text, self.position),
-        }
-    }
-
-    /// The word that the refusal is about.
-    pub(crate) fn word<'t>(&self, text: &'t [u8], statement: &Statement<'t>) -> Option<Word<'t>> {
-        match self.row().about {
-            About::Nothing | About::Byte | About::Indicator | About::Item => None,
-            About::Literal => Some(statement::line_from(text, self.position)),
-            About::Level => statement.level,
-            About::Count => statement.no_count,
-            About::Redefines => statement.redefines,
-            About::Picture => statement.picture,
-            About::Repeat => statement.picture.and_then(statement::bad_repeat),
-            About::Symbol => statement.picture.and_then(statement::bad_symbol),
-        }
     }
 }
 
 /// A sentence with its word and its item; without an item, what says whose the word is falls away.
-fn filled(sentence: &str, word: &str, item: Option<&str>) -> String {
+fn filled(sentence: &str, word: &str, item: Option<&[u8]>) -> String {
     let sentence = if item.is_none() { sentence.replace(" of {item}", "") } else { sentence.into() };
-    let item = shown(item.unwrap_or("the item").as_bytes());
+    let item = shown(item.unwrap_or(b"the item"));
     let parts = sentence.split(['{', '}']).map(|part| match part {
         "word" => word,
         "item" => &item,
@@ -87,18 +66,35 @@ fn filled(sentence: &str, word: &str, item: Option<&str>) -> String {
     parts.collect()
 }
 
-/// Bytes for people: no control characters, and not too many.
+/// Bytes for people: control characters by their numbers, and not too many.
 fn shown(bytes: &[u8]) -> String {
     let cut = if bytes.len() > WIDEST { CUT } else { "" };
-    let shown = &bytes[..bytes.len().min(WIDEST)];
-    String::from_utf8_lossy(shown).chars().map(visible).chain(cut.chars()).collect()
+    let shown = String::from_utf8_lossy(&bytes[..bytes.len().min(WIDEST)]);
+    escaped(&shown) + cut
+}
+
+/// Words with control characters by their numbers, as `\x1b`, so that none has a terminal do something.
+pub fn escaped(words: &str) -> String {
+    let mut escaped = String::new();
+    for c in words.chars() {
+        match c.is_control() {
+            true => escaped += &format!("\\x{:02x}", u32::from(c)),
+            false => escaped.push(c),
+        }
+    }
+    escaped
 }
 
 impl Told<'_> {
     /// The source line of the place with `^` under it and `~` under the word, where that stands on another line that
     /// one too; nothing for a refusal that is about no part of the text.
     pub fn excerpt(&self) -> String {
-        let place = if self.refusal.line > 0 { Some(self.refusal.position) } else { self.word.map(|word| word.start) };
+        let place = match self.refusal.cause {
+            // of a text that is no ASCII there is nothing to be shown
+            Some(cause) if cause.when == When::Text => None,
+            _ if self.refusal.line > 0 => Some(self.refusal.position),
+            _ => self.word.map(|word| word.start),
+        };
         let Some(place) = place else {
             return String::new();
         };
@@ -149,7 +145,9 @@ fn marked(text: &[u8], line: &Range<usize>, place: Range<usize>, word: &Range<us
         b'\t' => '\t',
         _ => ' ',
     };
-    let marks: String = part.clone().map(mark).collect();
+    // a character of several bytes has one mark
+    let is_text = std::str::from_utf8(&text[part.clone()]).is_ok();
+    let marks: String = part.clone().filter(|&i| !is_text || text[i] & 0xc0 != 0x80).map(mark).collect();
     let before = if from > line.start { CUT } else { "" };
     let after = if part.end < line.end { CUT } else { "" };
     let blank = " ".repeat(before.len());

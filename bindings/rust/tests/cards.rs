@@ -137,15 +137,17 @@ fn order() {
 fn what_51_tells() {
     let told = |text: &'static [u8]| layout_cards(text).unwrap_err().told(text).of_file("x");
     assert_eq!(
-        told(b"000100 05 A\n000200- PIC X."),
+        told(b"000100 05 A\n000200d PIC X."),
         "\
-x:2:7: - in column 7 is none of the four indicators
-    000200- PIC X.
+x:2:7: d in column 7 is none of the four indicators
+    000200d PIC X.
           ^
     a blank marks code, * or / a comment, D a debugging line; a continued line (-) must be written as one
 "
     );
-    assert!(told(b"000100\t05 A PIC X.").starts_with("x:1:7: the byte 0x09 in column 7 is none"));
+    assert!(told(b"000100\x0105 A PIC X.").starts_with("x:1:7: the byte 0x01 in column 7 is none"));
+    assert!(told(b"000100\t05 A PIC X.").starts_with("x:1:7: a tab stands in column 7, where it is one column"));
+    assert!(told(b"000100-05 A PIC X.").starts_with("x:1:7: a hyphen in column 7 continues the line before"));
 }
 
 /// Every call, at the deepest nesting and with the most statements, with as much stack as the header says.

@@ -49,6 +49,21 @@ fn nested() {
     assert!(found.check_record_len(0).is_ok());
 }
 
+/// As long as the field that ends last, a table DEPENDING ON an item ending where it starts; variable at any depth.
+#[test]
+fn layouts_from_fields() {
+    let of = |fields: Vec<Field>| Layout::from_fields(fields).map(|found| (found.record_len, found.variable));
+    let table = Field { occurs: Some(3), ..field("T", 2, 4, text()) };
+    let varying = Field { depending_on: Some("N".into()), ..table.clone() };
+    let group = field("G", 0, 1, FieldKind::Group(vec![field("H", 0, 1, FieldKind::Group(vec![varying.clone()]))]));
+    assert_eq!(of(vec![]), Ok((0, false)));
+    assert_eq!(of(vec![table.clone(), field("A", 0, 5, text())]), Ok((14, false)));
+    assert_eq!(of(vec![field("A", 0, 5, text()), varying]), Ok((5, true)));
+    assert_eq!(of(vec![group, table]), Ok((14, true)));
+    let found = book::parse("05 N PIC 9. 05 G. 10 T OCCURS 1 TO 9 DEPENDING ON N PIC X. 05 E PIC Z9.").unwrap();
+    assert_eq!(Layout::from_fields(found.fields.clone()), Ok(found));
+}
+
 #[test]
 fn pictures() {
     let int = FieldKind::Int { signed: true, sign: SignKind::TrailingSeparate };
@@ -83,7 +98,7 @@ fn errors() {
         "05 A PIC X OCCURS 3000000000.",
         "A has a count, an offset, a size or an end above 2,147,483,647 (refused 29, line 1 column 1)",
     );
-    says("05 \u{c5} PIC X.", "the byte 0xc3 is over 127 (refused 2, line 1 column 4)");
+    says("05 \u{c5} PIC X.", "\u{c5} (0xc3 0x85 in UTF-8) stands in the name \u{c5} (refused 2, line 1 column 4)");
     let pic = book::parse_pic("9(n)", Usage::Comp, None).unwrap_err();
     assert_eq!(pic.0, "invalid PIC repeat count \"N\" (refused 23: (n) in the picture is no repeat count)");
     let short = book::parse("05 A PIC X(20).").unwrap().check_record_len(19).unwrap_err();

@@ -63,6 +63,9 @@ fn without_a_place() {
 fn shown_without_the_text() {
     let error: Box<dyn std::error::Error> = refused(b"05 A PIC X.\n   05 B PIC Q.\n").into();
     assert_eq!(error.to_string(), "refused 25 (picture-symbol): a symbol that no picture has, line 2 column 4");
+    let text = refused(b"05 A INDEX.").to_string();
+    let found = "refused 21 (no-picture): an item without members has no picture, line 1 column 1";
+    assert!(text.starts_with(&format!("{found} (index: write its bytes in its place: ")), "{text}");
     let text = refused(&[b' '; 65_536]).to_string();
     assert_eq!(text, "refused 1 (text-too-long): the text has more than 65,535 bytes");
     let text = lent::layout(b"", &mut [0; WORK], &mut [0; 9]).unwrap_err().to_string();
@@ -120,7 +123,13 @@ fn literals() {
 /// A byte over 127 by its number; what has no place by what was found; a picture asked for alone without an item.
 #[test]
 fn sentences_without_words() {
-    assert_eq!(refused(b"05 \xc5.").told(b"05 \xc5.").sentence, "the byte 0xc5 is over 127");
+    let byte = |text: &[u8]| refused(text).told(text).sentence;
+    assert_eq!(byte(b"05 A PIC \xc5."), "\u{c5} (0xc5 in Latin-1) is not ASCII");
+    assert_eq!(byte("05 A PIC \u{c5}.".as_bytes()), "\u{c5} (0xc3 0x85 in UTF-8) is not ASCII");
+    assert_eq!(byte(b"05 A PIC \x93."), "\u{201c} (0x93 in Windows-1252) is not ASCII");
+    assert_eq!(byte(b"05 A PIC \x81."), "0x81 is not ASCII");
+    assert_eq!(byte(b"05\xa0A PIC X."), "a no-break space (0xa0 in Latin-1) is not ASCII");
+    assert_eq!(byte("05\u{a0}A PIC X.".as_bytes()), "U+00A0 (0xc2 0xa0 in UTF-8) is not ASCII");
     let past = owner(b"05 A PIC X.", 1).unwrap_err();
     assert_eq!(past.told(b"05 A PIC X.").to_string(), format!("{}\n    {}\n", past.found(), past.advice()));
     let told = |text: &'static [u8]| picture(text, Usage::Display, None).unwrap_err().told(text).to_string();
@@ -133,9 +142,82 @@ fn sentences_without_words() {
 #[test]
 fn words_that_are_odd() {
     let odd = format!("05 {{word}} PIC \x1b{}.", "Q".repeat(300));
-    assert_eq!(sentence(&odd).0, "? in the picture of {word} is no symbol of a picture");
+    assert_eq!(sentence(&odd).0, "\\x1b in the picture of {word} is no symbol of a picture");
     let long = format!("{} A.", "X".repeat(300));
     assert_eq!(sentence(&long).0, format!("{}... is no level from 0 to 255", "X".repeat(100)));
+}
+
+/// What is behind a refusal is told in the place of the table's words, by the first cause that holds. examples/causes
+/// has one of each.
+#[test]
+fn causes() {
+    let says = |text: &[u8], name, said: &str, word| {
+        let refusal = refused(text);
+        let told = refusal.told(text);
+        assert_eq!((refusal.cause.map_or("", |cause| cause.name), told.sentence.as_str()), (name, said));
+        assert_eq!(told.word.map_or("", |word| word.word), word);
+        assert_eq!((told.word, told.advice), (refusal.word(text), refusal.advice()));
+    };
+    says(b"01 R. copy A.", "copy", "copy brings in another text, which is not done here", "copy");
+    says(b"1 A COMP-6.", "usage", "A has the usage COMP-6, which is not had here, and no picture", "COMP-6");
+    says(b"1 A USAGE IS LONG.", "usage", "A has the usage LONG, which is not had here, and no picture", "LONG");
+    says(b"1 A USAGE IS.", "", "A has neither a picture nor members", "");
+    says(b"1 POINTER INDEX.", "index", "POINTER has the usage INDEX, which is not had here", "INDEX");
+    says(b"1 A VALUE 'x' INDEX.", "", "A has neither a picture nor members", "");
+    says(b"1 A VALUE ' PIC '.", "", "A has neither a picture nor members", "");
+    let behind = "VALUE of A stands before pic, which is not read";
+    says(b"1 A VALUES ' PIC ' pic X.", "value-first", behind, "pic");
+    says(b"1 A PIC X. 066 B RENAMES A.", "renames", "B is another name for items before it (level 66, RENAMES)", "");
+    says(b"1 A PIC X.\n\0", "nul", "a byte 0, NUL, stands where a level is due", "\0");
+    says(b"1 A PIC X;.", "semicolon", "a semicolon behind the picture X; of A is read as part of it", "X;");
+    says(b"1 A PIC ;X.", "", "; in the picture of A is no symbol of a picture", ";");
+    // a cause that isn't all that is wrong is none
+    says(b"1 A PIC X9,.", "", "the picture X9, of A mixes text with digits or editing", "X9,");
+    says(
+        b"1 A PIC X(3),,;.",
+        "semicolon",
+        "a semicolon behind the picture X(3),,; of A is read as part of it",
+        "X(3),,;",
+    );
+    says(b"1 A PIC X. *> \xe6", "comment", "\u{e6} (0xe6 in Latin-1) stands in a comment", "");
+    says(b"1 A PIC X VALUE ' \xe6'.", "literal", "\u{e6} (0xe6 in Latin-1) stands in a literal", "");
+    // the sentence has the name as it stands, and a mark is one for a character
+    let text = "1 M\u{c5}L PIC X.".as_bytes();
+    says(text, "name", "\u{c5} (0xc3 0x85 in UTF-8) stands in the name M\u{c5}L", "\u{c5}");
+    assert_eq!(refused(text).told(text).excerpt(), "    1 M\u{c5}L PIC X.\n       ^\n");
+    let few = copybook::key(b"K", &[b"05 K PIC X."]).unwrap_err().refusal;
+    assert_eq!((few.number, few.advice()), (56, "give two to sixteen"));
+    let asked = picture(b"X(3),", Usage::Display, None).unwrap_err();
+    assert_eq!(asked.told(b"X(3),").sentence, "a comma behind the picture X(3), is read as part of it");
+}
+
+/// A text that is no ASCII is known by its bytes, and none of it is shown.
+#[test]
+fn codings() {
+    let copybook = "01 FISH.\n    05 TAG PIC X(9).\n    05 LEN PIC 9(3).\n";
+    let little: Vec<u8> = copybook.encode_utf16().flat_map(u16::to_le_bytes).collect();
+    let big: Vec<u8> = copybook.encode_utf16().flat_map(u16::to_be_bytes).collect();
+    let name = |text: &[u8]| refused(text).cause.map_or("", |cause| cause.name);
+    assert_eq!((name(&little), name(&big)), ("utf-16le", "utf-16be"));
+    assert_eq!(name(&[b"\xff\xfe", little.as_slice()].concat()), "utf-16");
+    assert_eq!(name(&[b"\xfe\xff", big.as_slice()].concat()), "utf-16");
+    assert_eq!(name(&[b"\xef\xbb\xbf", copybook.as_bytes()].concat()), "byte-order-mark");
+    assert_eq!(refused(&little).told(&little).excerpt(), "");
+    // blanks in EBCDIC, then 01 FISH.
+    let card = [&[0x40; 72][..], b"\xf0\xf1\x40\xc6\xc9\xe2\xc8\x4b"].concat();
+    assert_eq!((name(&card), name(&card[1..])), ("ebcdic-cards", "ebcdic"));
+    assert_eq!(name(&[&card[..], b"\x15"].concat()), "ebcdic");
+    // names in Latin-1 do not make it that
+    assert_eq!(name(b"01 \xc6\xc9\xe2\xc8 PIC X."), "name");
+}
+
+/// Every byte over 127 has a `?` in its place.
+#[test]
+fn any_bytes() {
+    let text = "05 M\u{c5}L PIC X. *> \u{e6}".as_bytes();
+    assert_eq!(&*copybook::any_bytes(text), b"05 M??L PIC X. *> ??");
+    assert_eq!(layout(&copybook::any_bytes(text)).unwrap().entries().next().unwrap().name, Some("M??L"));
+    assert!(matches!(copybook::any_bytes(b"05 A PIC X."), std::borrow::Cow::Borrowed(_)));
 }
 
 /// File, line and column; the line with the place and the word marked; what to do.

@@ -1,51 +1,85 @@
-//! The drop-in of bindings/rust (`fixedformat`) beside the original: the same layouts and kinds, field by field, and
-//! errors that say at least what the original's say; and the words of a copybook that its refusal names.
+//! The drop-ins of bindings/rust beside the original, the module `fixedformat` and the file that stands in the place of
+//! the original's copybook.rs (`exchanged`): the same layouts and kinds, and errors that say at least what the
+//! original's say; and the words of a copybook that its refusal names.
 
 use crate::reading::{Reading, Refused, Span};
+use exchanged::numbers::{SIGNS, USAGES};
 use fixedformat_core::{Error, FieldKind, Layout};
 use product::fixedformat;
 use std::fmt::Debug;
 
 type Found = Result<(), String>;
 
-/// Both values show the same. A derived Debug names every field, each on a line of its own, so nothing is left out.
-fn same(got: &impl Debug, want: &impl Debug) -> Found {
-    let (got, want) = (format!("{got:#?}\n"), format!("{want:#?}\n"));
+/// An answer of a drop-in, shown, or its error. A derived Debug names every field, each on a line of its own, so
+/// nothing is left out.
+type Answer = Result<String, String>;
+
+fn shown(answer: Result<impl Debug, String>) -> Answer {
+    answer.map(|found| format!("{found:#?}\n"))
+}
+
+/// What each drop-in answers for a copybook.
+fn parsed(text: &str) -> [(&'static str, Answer); 2] {
+    let module = fixedformat::parse(text).map_err(|e| e.0);
+    let file = exchanged::copybook::parse(text).map_err(|e| e.0);
+    [("fixedformat", shown(module)), ("exchanged", shown(file))]
+}
+
+/// What each drop-in answers for a picture, under usage and sign by their numbers.
+fn asked(text: &str, usage: usize, sign: usize) -> [(&'static str, Answer); 2] {
+    let of_module = (sign > 0).then(|| product::SignKind::ALL[sign - 1]);
+    let module = fixedformat::parse_pic(text, product::Usage::ALL[usage], of_module).map_err(|e| e.0);
+    let file = exchanged::copybook::parse_pic(text, USAGES[usage], SIGNS[sign]).map_err(|e| e.0);
+    [("fixedformat", shown(module)), ("exchanged", shown(file))]
+}
+
+/// Both texts are the same.
+fn same(name: &str, got: Answer, want: &str) -> Found {
+    let got = got.map_err(|e| format!("{name}: {e}"))?;
     if got == want {
         return Ok(());
     }
     let lines = got.lines().zip(want.lines()).enumerate().find(|(_, (got, want))| got != want);
     Err(match lines {
-        Some((n, (got, want))) => format!("drop-in: line {n}: {:?} where {:?} is due", got.trim(), want.trim()),
-        None => format!("drop-in: {} lines where {} are due", got.lines().count(), want.lines().count()),
+        Some((n, (got, want))) => format!("{name}: line {n}: {:?} where {:?} is due", got.trim(), want.trim()),
+        None => format!("{name}: {} lines where {} are due", got.lines().count(), want.lines().count()),
     })
 }
 
 /// The error says at least what the original's says, and names the refusal.
-fn said(got: &fixedformat::Error, want: &Error) -> Found {
-    if got.0.starts_with(&want.0) && got.0.contains(&format!(" (refused {}", want.number())) {
-        return Ok(());
+fn said(name: &str, got: Answer, want: &Error) -> Found {
+    match got {
+        Err(e) if e.starts_with(&want.0) && e.contains(&format!(" (refused {}", want.number())) => Ok(()),
+        got => Err(format!("{name}: {got:?} where {:?} is due", want.0)),
     }
-    Err(format!("drop-in: {:?} where {:?} is due", got.0, want.0))
-}
-
-fn accepted(got: impl Debug) -> String {
-    format!("drop-in: {got:?} where a refusal is due")
 }
 
 pub fn layout(text: &str, want: &Layout) -> Found {
-    same(&fixedformat::parse(text).map_err(|e| format!("drop-in: {e}"))?, want)
+    let want = format!("{want:#?}\n");
+    parsed(text).into_iter().try_for_each(|(name, got)| same(name, got, &want))?;
+    let found = fixedformat::parse(text).map_err(|e| e.0)?;
+    let again = fixedformat::Layout::from_fields(found.fields.clone()).map_err(|e| e.0);
+    same("from_fields", shown(again), &want)
 }
 
 pub fn refused(text: &str, want: &Error) -> Found {
-    said(&fixedformat::parse(text).map_or_else(Ok, |layout| Err(accepted(layout)))?, want)
+    parsed(text).into_iter().try_for_each(|(name, got)| said(name, got, want))
+}
+
+/// Both drop-ins answer the same, where the original has no answer.
+pub fn alike(text: &str) -> Found {
+    let [(_, module), (name, file)] = parsed(text);
+    if module == file {
+        return Ok(());
+    }
+    Err(format!("{name}: {file:?} where {module:?} is due"))
 }
 
 /// A refusal that the original does not have.
 pub fn added(text: &str, want: Refused) -> Found {
     match fixedformat::Layout::read(text) {
         Err(r) if (r.number, r.position) == (want.0, want.1) => Ok(()),
-        got => Err(format!("drop-in: {got:?} where {want:?} is due")),
+        got => Err(format!("fixedformat: {got:?} where {want:?} is due")),
     }
 }
 
@@ -54,26 +88,21 @@ pub fn number(text: &[u8]) -> u32 {
     product::layout(text).map_or_else(|r| r.number, |_| 0)
 }
 
-/// Usage and sign by their numbers.
-fn asked(text: &str, usage: usize, sign: usize) -> fixedformat::Result<(fixedformat::FieldKind, usize)> {
-    let sign = (sign > 0).then(|| product::SignKind::ALL[sign - 1]);
-    fixedformat::parse_pic(text, product::Usage::ALL[usage], sign)
-}
-
 pub fn picture(text: &str, usage: usize, sign: usize, want: &(FieldKind, usize)) -> Found {
-    same(&asked(text, usage, sign).map_err(|e| format!("drop-in: {e}"))?, want)
+    let want = format!("{want:#?}\n");
+    asked(text, usage, sign).into_iter().try_for_each(|(name, got)| same(name, got, &want))
 }
 
 pub fn picture_refused(text: &str, usage: usize, sign: usize, want: &Error) -> Found {
-    said(&asked(text, usage, sign).map_or_else(Ok, |kind| Err(accepted(kind)))?, want)
+    asked(text, usage, sign).into_iter().try_for_each(|(name, got)| said(name, got, want))
 }
 
 pub fn record_check(record_len: usize, variable: bool, len: usize, want: &Result<(), Error>) -> Found {
     let layout = fixedformat::Layout { record_len, fields: Vec::new(), variable };
     match (layout.check_record_len(len), want) {
         (Ok(()), Ok(())) => Ok(()),
-        (Err(got), Err(want)) => said(&got, want),
-        (got, want) => Err(format!("drop-in: {got:?} where {want:?} is due")),
+        (got, Err(want)) => said("fixedformat", shown(got.map_err(|e| e.0)), want),
+        (got, want) => Err(format!("fixedformat: {got:?} where {want:?} is due")),
     }
 }
 

@@ -1,4 +1,4 @@
-//! The original Rust and the product, through its C interface and through its drop-in for the Rust, compared on
+//! The original Rust and the product, through its C interface and through its drop-ins for the Rust, compared on
 //! generated inputs. `tools/differential/run` builds and starts it:
 //!
 //!     differential COUNT SEED [WRITTEN]
@@ -20,8 +20,9 @@
 //! listing are compared too, and the record check. A picture is compared under every usage and sign, and its mask under
 //! every usage.
 //!
-//! The drop-in (`drop_in`) must give the Rust's own layout, field by field, of every accepted copybook, the Rust's kind
-//! of every accepted picture, and errors that say what the Rust's say.
+//! Both drop-ins (`drop_in`), the module and the file in the original's own crate, must give the Rust's own layout,
+//! field by field, of every accepted copybook, the Rust's kind of every accepted picture, and errors that say what the
+//! Rust's say; where the Rust has no answer, both must give the same.
 //!
 //! With each call (`calls`): the output keeps its bytes after a refusal and past what is written, for outputs that are
 //! longer, exact and too short (31); lent work memory is full of numbers before and zero after; an answer that is too
@@ -53,7 +54,7 @@ type Counts = BTreeMap<(&'static str, u32, String), u64>;
 
 const BOOKS: &str = "copybooks";
 const DETAILS: &str = "copybooks asked for details";
-const DROP_IN: &str = "copybooks, by the drop-in beside the Rust's own layout";
+const DROP_IN: &str = "copybooks, by both drop-ins beside the Rust's own layout";
 const SHORT: &str = "copybook calls with too short an output";
 const LITTLE: &str = "copybook calls with too little work memory";
 const LEFT: &str = "copybooks left out";
@@ -149,6 +150,7 @@ impl Run {
                 self.count(LEFT, want.0, &format!(" (the Rust {how})"));
                 if let Ok(text) = utf8(text) {
                     drop_in::added(text, want)?;
+                    drop_in::alike(text)?;
                 }
                 drop_in::told(text, &reading, want)
             }
@@ -159,6 +161,7 @@ impl Run {
                     return Err(format!("number {number} where a listing is due"));
                 }
                 self.count(LEFT, number, &format!(" (the Rust {how})"));
+                drop_in::alike(utf8(text)?)?;
                 match reading.laid(text) {
                     Some(laid) if number == 0 && !reading.overlaid() => {
                         self.owners(r, text, laid.iter().map(|l| l.len as u64).sum())
@@ -487,7 +490,7 @@ fn main() {
         }
     }
     let first = written.len().min(count as usize);
-    println!("{} copybooks and {} pictures (seed {seed}; {first} written by tools/inputs)", made[0], made[1]);
+    println!("{} copybooks and {} pictures (seed {seed}; {first} written ones)", made[0], made[1]);
     let mut last = "";
     for ((what, _, kind), n) in &run.counts {
         if *what != last {

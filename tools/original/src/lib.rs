@@ -1,5 +1,6 @@
 //! The original Rust module, for the tools that compare with it. Its files are built unchanged (build.rs); here stands
 //! what they take from the root of their crate, what their errors mean, and the numbers of what they say (`numbers`).
+//! The crate ../exchanged is this one with another copybook.rs.
 
 include!(concat!(env!("OUT_DIR"), "/modules.rs"));
 pub mod numbers;

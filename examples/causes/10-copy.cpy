@@ -1,0 +1,3 @@
+       01  FISH.
+           COPY TAGS.
+           05  LEN-MM        PIC 9(3).

@@ -1,0 +1,3 @@
+       01  FISH.
+           05  TAG           PIC X(9).
+           05  LEN-MM        PIC 9(3).

@@ -1,0 +1,5 @@
+Subject: the copybook of the tags
+
+       01  FISH.
+           05  TAG           PIC X(9).
+           05  LEN-MM        PIC 9(3).

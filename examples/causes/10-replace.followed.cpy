@@ -1,0 +1,2 @@
+       01  FISH.
+           05  FISH-TAG      PIC X(9).

@@ -1,0 +1,2 @@
+       01  FISH.
+           05  PEN           PIC X(9) VALUE 'Alesund'.

@@ -1,0 +1,2 @@
+       01  FISH.
+           05  LAENGE        PIC 9(3).

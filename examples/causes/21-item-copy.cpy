@@ -1,0 +1,1 @@
+       01  FISH COPY FISH.

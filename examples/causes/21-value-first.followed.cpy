@@ -1,0 +1,2 @@
+       01  FISH.
+           05  TAG           PIC X(9) VALUE SPACES.

@@ -145,10 +145,9 @@ impl AsNumbers<2> for KeyColumn {
     }
 }
 
-/// A refusal as `N` numbers: position, needed length and zeros.
+/// A refusal as the numbers of an answer: position, needed length and zeros.
 #[tactic(auto, using(crate::proofs::Answering::answer_steps))]
-fn refused<const N: usize>(r: Refusal) -> [u64; N]
-    requires { 2 ≤ N }
+fn refused<const N: usize, T: AsNumbers<N>>(r: Refusal) -> [u64; N]
     ensures { result ≡ refusal_position r ∷ refusal_needed r ∷ replicate (N - 2) 0 }
 {
     let mut numbers = [0; N];
@@ -178,7 +177,7 @@ pub fn hand_on<const N: usize, T: AsNumbers<N>>(a: Result<T, Refusal>, answer: &
             0
         }
         Err(r) => {
-            put(answer, &refused::<N>(r));
+            put(answer, &refused::<N, T>(r));
             r.number()
         }
     }

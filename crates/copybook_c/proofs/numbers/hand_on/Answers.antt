@@ -9,7 +9,7 @@ pub shared_whole_as_slice-put : goal.shared_whole_as_slice-put
 shared_whole_as_slice-put g c = omega (arith, g.met.T.AsNumbers.few)
 
 pub refused-requires : goal.refused-requires
-refused-requires g c = (omega (arith, g.met.T.AsNumbers.few), g.met.T.AsNumbers.some)
+refused-requires g c = omega (arith, g.met.T.AsNumbers.few)
 
 pub shared_whole_as_slice-put-in-Err : goal.shared_whole_as_slice-put-in-Err
 shared_whole_as_slice-put-in-Err g c = omega (arith, g.met.T.AsNumbers.few)

@@ -17,17 +17,18 @@ use Rattle.definition.specs.declared.Token.TheVariants.{Word, Stop, Open}
 use Rattle.definition.specs.declared.LiteralState.{LiteralState}
 use Rattle.definition.specs.declared.LiteralState.TheVariants.{Before}
 use Rattle.definition.specs.declared.Statement.{Statement}
-use Rattle.definition.specs.declared.ItemUsage.{ItemUsage}
+use Rattle.definition.specs.declared.NamedUsage.{NamedUsage}
 use Rattle.definition.specs.declared.Refusal.{Refusal}
 use Rattle.definition.specs.declared.TheConstants.{MOST_STATEMENTS}
 use Rattle.definition.specs.Basic.{Answer, Ok, ◌>>=◌, and_then, refuse_if}
 use Rattle.definition.specs.Words.{byte_kind, next, completed, completed_end, seen, said_next, unless_open, tokens}
 use Rattle.definition.specs.Words.{on_first, sentences, statement_words}
-use Rattle.definition.specs.Statement.{named, statement, statements, outermost}
+use Rattle.definition.specs.Statement.{named, statement, statements}
 use Rattle.definition.specs.Tree.{Forest, leaf, item, above, not_above, forest, fields}
 use Rattle.definition.specs.Usages.{inheriting, inherit, inherited}
 use Rattle.definition.specs.Calls.{kept_statements, record_fields}
 use Rattle.definition.proofs.Answers.{through, given-same}
+use Rattle.definition.proofs.CallsLaws.{through-fields}
 
 -- ---------------------------------------------------------------- words
 
@@ -199,7 +200,7 @@ unfolding forest
 forest-begin [] = refl
 forest-begin (s ∷ ss) = cc (above-begin s.level (forest ss), forest-begin ss)
 
-inherit-begin : (outer : ItemUsage) (f : Forest) → beginnings (inherit outer f) ≡ beginnings f
+inherit-begin : (outer : Option NamedUsage) (f : Forest) → beginnings (inherit outer f) ≡ beginnings f
 unfolding inherit
 inherit-begin outer leaf = refl
 inherit-begin outer (item s kids later) = cc (inherit-begin (inheriting outer s).usage kids, inherit-begin outer later)
@@ -216,12 +217,11 @@ fields-rise (item s (item u us vs) (item t kids later)) r = r
 
 -- the fields of a copybook's record begin at rising positions
 pub fields-begin : (text : List ℕ) (work : ℕ) (f : Forest) → record_fields text work ≡ Ok f → Rises 0 (beginnings f)
-unfolding record_fields kept_statements
+unfolding kept_statements
 fields-begin text work f h =
-    through _ _ h λ _ _ h₁.
-    through _ _ h₁ λ ss kept h₂.
+    through-fields text work f h λ ss kept is.
     through _ _ kept λ _ _ e.
-    subst (λ (g : Forest). Rises 0 (beginnings g)) (given-same h₂)
+    subst (λ (g : Forest). Rises 0 (beginnings g)) is
     (fields-rise (inherited (forest ss))
-    (subst (Rises 0) (sym (inherit-begin outermost (forest ss) ∙ forest-begin ss))
+    (subst (Rises 0) (sym (inherit-begin None (forest ss) ∙ forest-begin ss))
     (statements-rise text (statement_words text) 0 0 ss e (words-rise text))))

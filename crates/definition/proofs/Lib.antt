@@ -10,6 +10,7 @@ pub mod TreeLaws
 pub mod ParentLaws
 pub mod UsageLaws
 pub mod LayoutLaws
+pub mod MovedLaws
 pub mod ListingLaws
 pub mod CallsLaws
 pub mod Pieces

@@ -5,6 +5,7 @@ pub mod Statement
 pub mod Tree
 pub mod Usages
 pub mod Picture
+pub mod Storage
 pub mod Fold
 pub mod Layout
 pub mod Record

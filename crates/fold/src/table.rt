@@ -8,11 +8,11 @@ ghost use Rattle.definition.specs.Basic.{is_given};
 ghost use Rattle.definition.specs.Listing.{entry_bytes};
 ghost use Rattle.fold.specs.Puts.{Puts, line_of};
 ghost use Rattle.fold.specs.Entered.{flat_bytes, flat_varies, top_end, flat_length, flat_fits, own_of, shown_of};
-ghost use Rattle.fold.specs.Entered.{shown_all, written_of, Sound};
+ghost use Rattle.fold.specs.Entered.{shown_all, Sound};
 
 use crate::listing::{Line, Sink};
 use definition::{Entry, FieldKind, LARGEST, Refusal, Span};
-use layout::unions;
+use layout::{places, unions};
 use rows::Rows;
 
 /// What an item stands for: its row's own entry, the same as a member of a union, or the union.
@@ -102,42 +102,34 @@ impl<'a> RowItem<'a> {
         }
     }
 
-    // Its REDEFINES as written, its slack, and whether folding made it.
-    fn written(self) -> (Span, usize, bool)
-        ensures { result ≡ written_of (own_of self.entry.rows.all.now self.entry.item.now) }
-    {
-        let row = self.rows.row(self.row());
-        match self.item.mark {
-            Mark::Union { .. } => (Span::ABSENT, 0, true),
-            _ => (
-                row.statement.clauses.redefines,
-                row.place.slack as usize,
-                false,
-            ),
-        }
-    }
-
     /// The entry that it stands for: what the listing says of it, and what it doesn't say.
     pub fn entry(self) -> Entry
         ensures { result ≡ own_of self.entry.rows.all.now self.entry.item.now }
     {
-        let statement = self.rows.row(self.row()).statement;
-        let line = self.line();
-        let (over, slack, folded) = self.written();
-        Entry {
-            at: usize::from(statement.at),
-            level: statement.level,
-            name: line.name,
-            offset: line.offset,
-            width: line.width,
-            kind: line.kind,
-            picture: line.picture,
-            occurs: line.occurs,
-            depending: line.depending,
-            redefines: line.redefines,
-            over,
-            slack,
-            folded,
+        let own = places::entry_at(self.rows.row(self.row()));
+        match self.item.mark {
+            Mark::Own => own,
+            Mark::Member { offset } => Entry {
+                offset: offset as usize,
+                redefines: Span::ABSENT,
+                ..own
+            },
+            Mark::Union { width } => Entry {
+                width: width as usize,
+                kind: FieldKind::Group,
+                digits: None,
+                picture: Span::ABSENT,
+                usage: Span::ABSENT,
+                sign: None,
+                occurs: None,
+                depending: Span::ABSENT,
+                redefines: Span::ABSENT,
+                over: Span::ABSENT,
+                slack: 0,
+                slack_at_end: 0,
+                folded: true,
+                ..own
+            },
         }
     }
 

@@ -56,7 +56,9 @@ pub record EntryOf (s : Statement) (e : Entry) : Type 0 where
   pub place : ℕ
   pub contents : Pictured
   pub slack : ℕ
-  pub is : e ≡ entry_of s contents place slack
+  pub inner : ℕ
+  pub at_end : ℕ
+  pub is : e ≡ entry_of s contents place slack inner at_end
 
 -- a list of entries has an entry for each statement of a forest, in its shape
 abbrev pub Of : Forest → Entries → Type 0
@@ -116,16 +118,21 @@ entries-same w w' k (item s kids later) h =
     let more = entries-same w w' (suc k + size kids) later (λ j p m. h j (omega arith) (omega arith)) in
     λ i. entry (own i) (members i) (more i)
 
+-- an entry by its statement and what a place holds of it
+abbrev as_placed : Statement → Entry → Entry
+as_placed s e =
+    record (entry_of s (pictured e.kind e.digits 0) e.offset e.slack 0 0) {
+      width = e.width;
+      slack_at_end = e.slack_at_end
+    }
+
 -- an entry is its statement's, at its place
 pub entry-placed :
     (r : Row) (s : Statement) (e : Entry) →
     EntryOf s e →
     r.statement ≡ s →
-    entry_of r.statement (pictured e.kind e.width) e.offset e.slack ≡ e
-entry-placed r s e o h =
-    ap (λ (x : Statement). entry_of x (pictured e.kind e.width) e.offset e.slack) h
-    ∙ ap (λ (y : Entry). entry_of s (pictured y.kind y.width) y.offset y.slack) o.is
-    ∙ sym o.is
+    as_placed r.statement e ≡ e
+entry-placed r s e o h = ap (λ (x : Statement). as_placed x e) h ∙ ap (as_placed s) o.is ∙ sym o.is
 
 -- ---------------------------------------------------------------- a row, its children and the rest
 

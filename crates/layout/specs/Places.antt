@@ -1,5 +1,5 @@
--- What the layout adds to the rows: the offset, the width, the kind and the slack of the entry, the sibling before it,
--- its base and the siblings that may place it.
+-- What the layout adds to the rows: the offset, the width, the kind, the digits and the slack of the entry, the sibling
+-- before it, its base and the siblings that may place it.
 -- Assumes nothing.
 use Rattle.std.specs.Prelude.{ℕ, suc, ◌+◌, ◌-◌, ◌≡◌, List, set, Option, None}
 use Rattle.definition.specs.declared.Statement.{Statement}
@@ -16,7 +16,12 @@ use Rattle.layout.specs.Targets.{base_after, plain_after, target_after}
 
 -- the entry in a row
 abbrev pub entry_at : Row → Entry
-entry_at r = entry_of r.statement (pictured r.place.kind r.place.width) r.place.offset r.place.slack
+entry_at r =
+    let p = r.place in
+    record (entry_of r.statement (pictured p.kind p.digits 0) p.offset p.slack 0 0) {
+      width = p.width;
+      slack_at_end = p.slack_at_end
+    }
 
 abbrev pub entry_in : List Row → ℕ → Entry
 entry_in w k = entry_at (row_in w k)
@@ -45,7 +50,9 @@ placed r last base plain target e =
             offset = e.offset;
             width = e.width;
             slack = e.slack;
+            slack_at_end = e.slack_at_end;
             kind = e.kind;
+            digits = e.digits;
             before = last;
             base = base;
             plain = plain;

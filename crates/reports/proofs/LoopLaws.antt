@@ -51,7 +51,7 @@ pub record Detailing (w : List Row) (t : List TableEntry) (s : Sink) (starts : L
   pub long : length starts ≡ 131
   pub low : (i : ℕ) → get_or starts i 0 ≤ k * 4294967296
   pub done : List ℕ
-  pub many : length done ≡ 47 * k
+  pub many : length done ≡ 63 * k
   pub put : Puts s done s'
   pub same : flat_details (replicate 131 0) (shown_all w t) ≡ done ++ flat_details starts (rest w t k)
 
@@ -75,7 +75,7 @@ module _ {w : List Row} {t : List TableEntry} {s : Sink} {lists : List ℕ} {k :
       inv.same ∙ ap (λ (l : List Shown). inv.done ++ flat_details lists l) (none_left w t k h) ∙ append-nil inv.done in
       subst (λ (bs : List ℕ). Puts s bs s') (sym whole) inv.put
 
-  pub place_small : Shallow w t → k < length t → s.at ≡ 0 → s'.at ≤ 4294967295
+  pub place_small : Shallow w t → k < length t → s.at ≤ 17 → s'.at ≤ 4294967295
   place_small all h z = omega (arith, inv.put.put.next, inv.many, all.few)
 
   module _ (all : Shallow w t) (d : TableEntry) (h : k < length t) where

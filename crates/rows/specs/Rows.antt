@@ -4,7 +4,7 @@ use Rattle.std.specs.Prelude.{ℕ, zero, suc, ◌-◌, List, [], ◌∷◌, eqb,
 use Rattle.definition.specs.declared.FieldKind.{FieldKind}
 use Rattle.definition.specs.declared.Statement.{Statement}
 use Rattle.definition.specs.Basic.{absent}
-use Rattle.definition.specs.Statement.{outermost, clauses_of}
+use Rattle.definition.specs.Statement.{clauses_of}
 use Rattle.text.specs.Fingerprints.{name_fingerprint}
 use Rattle.rows.specs.declared.Place.{Place}
 use Rattle.rows.specs.declared.Row.{Row}
@@ -24,7 +24,7 @@ row_code (Some k) = suc k
 
 abbrev pub no_statement : Statement
 no_statement =
-    record { level = 0; at = 0; name = absent; clauses = clauses_of absent None None false None absent absent; usage = outermost }
+    record { level = 0; at = 0; name = absent; clauses = clauses_of absent None None false None absent absent; usage = None }
 
 abbrev pub no_place : Place
 no_place =
@@ -32,7 +32,9 @@ no_place =
       offset = 0;
       width = 0;
       slack = 0;
+      slack_at_end = 0;
       kind = FieldKind.Text;
+      digits = None;
       before = 0;
       base = None;
       plain = None;

@@ -6,7 +6,7 @@ ghost use Rattle.std.specs.Prelude.{◌≡◌, ◌≤◌, ◌<◌, length};
 ghost use Rattle.definition.specs.Calls.{cleared};
 ghost use Rattle.rows.specs.Rows.{new_row, row_code, row_in};
 
-use definition::{Clauses, FieldKind, ItemUsage, Span, Statement, Usage};
+use definition::{Clauses, Digits, FieldKind, Span, Statement};
 use text::names;
 
 pub mod kinds;
@@ -27,8 +27,12 @@ pub struct Place {
     pub width: u32,
     /// How many slack bytes stand directly before it.
     pub slack: u32,
+    /// How many stand at the end of each of its occurrences, which the width counts.
+    pub slack_at_end: u8,
     /// What it holds.
     pub kind: FieldKind,
+    /// The digits of a number.
+    pub digits: Option<Digits>,
     /// The end of the siblings before it: the row after the latest of them, or 0 where there is none.
     pub before: u16,
     /// The base that it redefines, if any.
@@ -47,7 +51,9 @@ impl Place {
         offset: 0,
         width: 0,
         slack: 0,
+        slack_at_end: 0,
         kind: FieldKind::Text,
+        digits: None,
         before: 0,
         base: None,
         plain: None,
@@ -72,7 +78,7 @@ pub struct Row {
     pub place: Place,
 }
 
-const _: () = prove!(size_of::<Row>() == 104);
+const _: () = prove!(size_of::<Row>() == 112);
 
 impl Row {
     /// A row that was not filled.
@@ -90,7 +96,7 @@ impl Row {
                 depending: Span::ABSENT,
                 redefines: Span::ABSENT,
             },
-            usage: ItemUsage::Picture(Usage::Display),
+            usage: None,
         },
         parent: None,
         fingerprint: 0,

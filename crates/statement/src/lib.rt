@@ -9,7 +9,7 @@ ghost use Rattle.definition.specs.declared.Token.TheVariants.{Word};
 ghost use Rattle.text.specs.Tokens.{tokens_at};
 ghost use Rattle.statement.specs.Reading.{ClausesAre, Ends, NamedAre, FirstStatement};
 
-use definition::{Clauses, ItemUsage, Missing, ParseState, Refusal, Span, Statement, Usage};
+use definition::{Clauses, Missing, ParseState, Refusal, Span, Statement};
 use text::tokens::{Cursor, Next};
 use text::words;
 
@@ -68,7 +68,7 @@ fn statement_of(level: u8, at: u16, name: Span, c: Clauses) -> Statement
         at,
         name,
         clauses: c,
-        usage: c.usage.unwrap_or(ItemUsage::Picture(Usage::Display)),
+        usage: c.usage,
     }
 }
 

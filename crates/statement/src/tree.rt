@@ -11,7 +11,7 @@ ghost use Rattle.statement.specs.Levels.{outer_row, usage_around, NoneOpen, Nest
 ghost use Rattle.statement.specs.TreeReading.{Added, periods, rows_needed, StatementsAre, RowsOf};
 
 use crate::StatementRead;
-use definition::{ItemUsage, MOST_BYTES, MOST_STATEMENTS, Refusal, Statement, Usage};
+use definition::{MOST_BYTES, MOST_STATEMENTS, NamedUsage, Refusal, Statement};
 use rows::{Row, Rows};
 use text::tokens;
 use text::tokens::Cursor;
@@ -26,16 +26,12 @@ fn outer_row(rows: Rows, row: Option<u16>) -> Option<u16>
     rows.row(usize::from(row?)).parent
 }
 
-/// The usage that holds around a statement under that row, or under none.
-// For `map_or` the closure would need a contract of its own.
-fn usage_around(rows: Rows, row: Option<u16>) -> ItemUsage
+/// The usage that holds around a statement under that row; none is named around one under no row.
+fn usage_around(rows: Rows, row: Option<u16>) -> Option<NamedUsage>
     requires { row_code row ≤ rows.count }
     ensures { result ≡ usage_around rows.entry.all.now row }
 {
-    match row {
-        Some(k) => rows.row(usize::from(k)).statement.usage,
-        None => ItemUsage::Picture(Usage::Display),
-    }
+    rows.row(usize::from(row?)).statement.usage
 }
 
 /// The levels that are open, the innermost last, and how many; and the row of the innermost, if any. The rows of the
@@ -91,11 +87,11 @@ impl OpenLevels {
 // ---------------------------------------------------------------- rows
 
 /// A statement with the usage that holds for it, where `outer` holds around it.
-fn inheriting(outer: ItemUsage, s: Statement) -> Statement
+fn inheriting(outer: Option<NamedUsage>, s: Statement) -> Statement
     ensures { result ≡ inheriting_of outer s }
 {
     Statement {
-        usage: s.clauses.usage.unwrap_or(outer),
+        usage: s.clauses.usage.or(outer),
         ..s
     }
 }

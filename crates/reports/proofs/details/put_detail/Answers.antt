@@ -8,4 +8,4 @@ pub returns : goal.returns
 returns c =
     let a = c.args in
     rw (detail-parts (detail a.e a.depth a.below a.first))
-    (c.put_standing.ensures and c.long.ensures and c.number.ensures and c.put_clauses.ensures)
+    (c.put_standing.ensures and c.long.ensures and c.number.ensures and c.put_clauses.ensures and c.put_held.ensures)

@@ -225,7 +225,7 @@ abbrev pub silent_call : {A : Type 0} → Form → Question A → List ℕ → L
 silent_call form question text work =
     left (called form (λ t. asked question t (length work)) text (length work)) [] (cleared work)
 
--- the byte owner, and the extract, of free text
+-- the byte owner of a copybook of this form, and an extract, of free text alone
 abbrev pub owner_call : Form → List ℕ → ℕ → List ℕ → After Owner
 owner_call form text position = silent_call form (owner_in position) text
 

@@ -1,4 +1,4 @@
--- The fingerprints of the names in the rows: what putting them there does, and what a search may pass over by them.
+-- The fingerprints of the names in the rows: that each is its name's, and what a search may pass over by them.
 -- Assumes nothing.
 use Rattle.std.specs.Prelude.{ℕ, ◌≤◌, ◌<◌, ◌≡◌, List}
 use Rattle.text.specs.Fingerprints.{name_fingerprint}

@@ -12,7 +12,6 @@ use Rattle.std.specs.Prelude.{Option, None, Some}
 use Rattle.definition.specs.declared.SignWords.{SignWords}
 use Rattle.definition.specs.declared.Statement.{Statement}
 use Rattle.definition.specs.declared.Entry.{Entry}
-use Rattle.rows.specs.Usages.{sign_code}
 use Rattle.definition.specs.Basic.{le4, le8}
 use Rattle.definition.specs.Fold.{Entries, end, entry, folded_all}
 use Rattle.definition.specs.Search.{entries#}
@@ -32,12 +31,6 @@ pub detail-parts :
     ≡ standing_bytes x ++ le8 x.first ++ le4 x.own.slack ++ clause_places x.own ++ held_bytes x.own
 unfolding detail_bytes
 detail-parts x = refl
-
--- what SIGN says is its number
-pub sign-byte : (w : Option SignWords) → sign_code w ≡ sign_words_byte w
-sign-byte w = grind arith
-
-pub ruleset sign_bytes = (sign-byte)
 
 -- 17 bytes of a head
 pub root-length : (root : Option Statement) → length (root_bytes root) ≡ 13

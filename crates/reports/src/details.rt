@@ -55,7 +55,6 @@ fn put_digits(sink: &mut Sink, digits: Option<Digits>)
 }
 
 // The slack at its end, its digits, the word that names its usage, and what SIGN says.
-#[tactic(auto, using(crate::proofs::FlatLaws::sign_bytes))]
 fn put_held(sink: &mut Sink, e: Entry)
     requires { Countable sink.old.at (held_bytes e) }
     ensures { Puts sink.old (held_bytes e) sink.new }

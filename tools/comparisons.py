@@ -12,7 +12,7 @@ from collections.abc import Callable, Iterable, Iterator
 from typing import Any, NamedTuple
 
 from library import Library
-from makers import copybooks, extracts, inputs, keys, redefined, written
+from makers import aligned, copybooks, extracts, inputs, keys, redefined, written
 from readings import details, extract, key, layout, lines, original, owner, picture, reasons
 from readings.reader import Cards
 
@@ -72,6 +72,10 @@ def with_redefines(count, seed):
     return distinct(redefined.Maker(seed).copybook, count)
 
 
+def with_alignment(count, seed):
+    return distinct(aligned.Maker(seed).copybook, count, written.ALIGNED)
+
+
 def on_cards(count, seed):
     return map(Cards, distinct(lambda maker=copybooks.Maker(seed): maker.cards()[1], count, written.CARDS))
 
@@ -108,6 +112,25 @@ def listed(kind_of):
         for position in {0, length // 2, random.Random(len(text)).randrange(length + 2)}:
             yield Asked(f"owner of {position}", library.owner(text, position), owner_of(position))
     return asked
+
+
+MOST_OWNED = 400
+
+
+def aligned_asked(library, text):
+    """The listing and the details, and the owner of every byte of a record of up to so many, and of the byte behind
+    it; of a longer one of some."""
+    due, plain = layout.answer(text), original.plain_slack(text)
+    rust = "" if plain else ", without an answer of the Rust"
+    yield Asked("layout", library.layout(text), due, [outcome(due) + rust])
+    yield Asked("details", library.details(text), details.answer(text))
+    length, owner_of = record_length(due), owner.answers(text)
+    owned = {position: owner_of(position) for position in (0, length // 3, length - 1, length) if position >= 0}
+    if owned[0][0] and length <= MOST_OWNED:
+        owned |= {position: list(laid) for position, laid in enumerate(owner.laid(text)[0])}
+    for position, answer in owned.items():
+        kind = {owner.PIECE: "bytes of an item", owner.SLACK: "bytes of slack"}.get(answer[0], f"refused {answer[1]}")
+        yield Asked(f"owner of {position}", library.owner(text, position), answer, [kind] if due[0] else [])
 
 
 def listed_and_short(library, text):
@@ -281,6 +304,8 @@ COMPARISONS = {
     "floats": Comparison(f"COMP-1 and COMP-2: {LISTED}", with_floats, listed(kind_with_floats)),
     "redefined": Comparison(f"lists of up to 40 siblings, most with REDEFINES: {LISTED}", with_redefines,
                             listed(lambda text, due: outcome(due))),
+    "aligned": Comparison("SYNC in groups and tables, 29 behind slack: listing, details, the owner of every byte",
+                          with_alignment, aligned_asked),
     "cards": Comparison(f"copybooks on cards: {LISTED}", on_cards, listed(kind_of_cards)),
     "reasons": Comparison("folds, roots, groups, a fifth on cards: the reasons of every entry, and past the last",
                           placed_items, reasons_asked),

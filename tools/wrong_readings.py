@@ -28,7 +28,7 @@ def usages_without(left_out):
 
 
 def own_usage(s, _kept):
-    return reader.HELD[s.usage or reader.NAMED_DISPLAY]
+    return {"held": reader.HELD[s.usage or reader.NAMED_DISPLAY], "held_word": s.word}
 
 
 def name_without_case(base):

@@ -39,8 +39,10 @@ Literal = collections.namedtuple("Literal", "text")
 
 
 class Statement(collections.namedtuple(
-        "Statement", "level at depth parent name picture usage back float sign sync occurs depending redefines held")):
-    """A kept statement. `back`: DISPLAY took another usage back; `float`: a word named one."""
+        "Statement", "level at depth parent name picture usage word back float sign sync occurs depending redefines "
+        "held held_word")):
+    """A kept statement. `word` names its usage, `held_word` the one that holds for it. `back`: DISPLAY took another usage
+    back; `float`: a word named one."""
 
     def called(self):
         return called(self.name)
@@ -162,8 +164,8 @@ class Clauses:
     def __init__(self, words):
         self.words, self.next = words, 2
         self.upper = [w.text.upper().decode("latin-1") for w in words]
-        self.said = dict(picture=None, usage=0, back=False, float=False, sign=0, sync=0, occurs=None, depending=None,
-                         redefines=None)
+        self.said = dict(picture=None, usage=0, word=None, back=False, float=False, sign=0, sync=0, occurs=None,
+                         depending=None, redefines=None)
 
     def step_over(self, *keys):
         """Whether the next word is one of these, which is then passed."""
@@ -209,7 +211,7 @@ class Clauses:
             self.said["back"] = True
         if named in (NAMED_COMP1, NAMED_COMP2):
             self.said["float"] = True
-        self.said["usage"] = named
+        self.said["usage"], self.said["word"] = named, self.words[self.next - 1]
 
     def sign(self):
         """SEPARATE counts anywhere at or after the word following SIGN [IS]."""
@@ -245,10 +247,10 @@ CLAUSES = {"PIC": Clauses.picture, "PICTURE": Clauses.picture, "REDEFINES": Clau
 
 def held(s, kept):
     """The usage that holds for a statement: its own, else that of the nearest group above it that names one; DISPLAY
-    where none does."""
+    where none does. And the word that names it."""
     while not s.usage and s.parent:
         s = kept[s.parent - 1]
-    return HELD[s.usage or NAMED_DISPLAY]
+    return {"held": HELD[s.usage or NAMED_DISPLAY], "held_word": s.word}
 
 
 def kept_statements(text: bytes) -> list[Statement]:
@@ -273,9 +275,9 @@ def kept_statements(text: bytes) -> list[Statement]:
             open_levels.pop()
         name = words[1] if len(words) > 1 else None  # Second word: name, whatever it says.
         parent = open_levels[-1][1] if open_levels else 0
-        kept.append(Statement(level, words[0].at, len(open_levels), parent, name, **said, held=None))
+        kept.append(Statement(level, words[0].at, len(open_levels), parent, name, **said, held=None, held_word=None))
         open_levels.append((level, len(kept)))
-    return [s._replace(held=held(s, kept)) for s in kept]
+    return [s._replace(**held(s, kept)) for s in kept]
 
 
 def numbers(s):

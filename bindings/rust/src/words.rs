@@ -1,6 +1,8 @@
 //! The words of a copybook, read from the bytes of `copybook_words` (include/copybook.h has their format).
 
 use crate::bytes::{Bytes, Word};
+use crate::statement::Statement;
+use crate::{any_bytes, Form};
 use std::borrow::Cow;
 
 /// The words of a copybook as the reader has them, statement by statement: of every statement that has words, level 88
@@ -36,10 +38,31 @@ impl<'t, 'l> Words<'t, 'l> {
         let mut left = Bytes { text: self.text, rest: &self.bytes };
         std::iter::from_fn(move || (!left.rest.is_empty()).then(|| sentence(&mut left)))
     }
+
+    /// The count before TO of the statement that starts at this place of the text, and says OCCURS: the least one of a
+    /// table DEPENDING ON an item. None where it has no TO, and COBOL takes it to be 1.
+    pub fn least_count(&self, position: usize) -> Option<usize> {
+        let is_there = |sentence: &Sentence| sentence.words.first().is_some_and(|word| word.start == position);
+        Statement::of(&self.iter().find(is_there)?.words).least
+    }
 }
 
 fn sentence<'t>(left: &mut Bytes<'t, '_>) -> Sentence<'t> {
     let (count, end) = (left.four(), left.four());
     let words = (0..count).map(|_| left.word().expect("no word of the library is empty")).collect();
     Sentence { words, end }
+}
+
+/// A text up to the end of the line on which a byte over 127 stands, as one that has words: with a `?` for each such byte
+/// and a `D` for what else it is refused for, which leaves no literal open, and makes no code of a card.
+pub(crate) fn with_words(form: Form, text: &[u8], place: usize) -> Vec<u8> {
+    let line = text.iter().skip(place).position(|&b| b == b'\n');
+    let mut text = any_bytes(&text[..line.map_or(text.len(), |n| place + n)]).into_owned();
+    while let Err(refusal) = form.words(&text) {
+        match text.get_mut(refusal.position) {
+            Some(byte) if *byte != b'D' => *byte = b'D',
+            _ => break,
+        }
+    }
+    text
 }

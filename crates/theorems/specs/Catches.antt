@@ -1151,14 +1151,14 @@ table =
     -- empty statements have none, level 88 has its own,
     ∷ worded ". . 05 A. ." ((8 ∷ 4 ∷ 2 ∷ 7 ∷ 1 ∷ []) ∷ [])
     ∷ worded "88 B VALUE 'a. b'. 05 A."
-        ((17 ∷ 0 ∷ 2 ∷ 3 ∷ 1 ∷ 5 ∷ 5 ∷ 11 ∷ 3 ∷ 15 ∷ 2 ∷ []) ∷ (23 ∷ 19 ∷ 2 ∷ 22 ∷ 1 ∷ []) ∷ [])
+    ((17 ∷ 0 ∷ 2 ∷ 3 ∷ 1 ∷ 5 ∷ 5 ∷ 11 ∷ 3 ∷ 15 ∷ 2 ∷ []) ∷ (23 ∷ 19 ∷ 2 ∷ 22 ∷ 1 ∷ []) ∷ [])
     -- and so has what is refused for what it says
     ∷ turned_down "X PIC. 05 A PIC XX9." 10 0
     ∷ worded "X PIC. 05 A PIC XX9."
-        ((5 ∷ 0 ∷ 1 ∷ 2 ∷ 3 ∷ []) ∷ (19 ∷ 7 ∷ 2 ∷ 10 ∷ 1 ∷ 12 ∷ 3 ∷ 16 ∷ 3 ∷ []) ∷ [])
+    ((5 ∷ 0 ∷ 1 ∷ 2 ∷ 3 ∷ []) ∷ (19 ∷ 7 ∷ 2 ∷ 10 ∷ 1 ∷ 12 ∷ 3 ∷ 16 ∷ 3 ∷ []) ∷ [])
     -- on cards those that the reader sees: not a comment's, and no period behind column 72
     ∷ cards (worded "000100 05 A.\n000200*05 B.\n000300 05 C"
-        ((11 ∷ 7 ∷ 2 ∷ 10 ∷ 1 ∷ []) ∷ (37 ∷ 33 ∷ 2 ∷ 36 ∷ 1 ∷ []) ∷ []))
+    ((11 ∷ 7 ∷ 2 ∷ 10 ∷ 1 ∷ []) ∷ (37 ∷ 33 ∷ 2 ∷ 36 ∷ 1 ∷ []) ∷ []))
     ∷ cards (worded "000100 05 A                                                             ." ((73 ∷ 7 ∷ 2 ∷ 10 ∷ 1 ∷ []) ∷ []))
     -- 2, then 51, then 50, then 31
     ∷ not_worded "05 A VALUE 'a \u{80}" 0 2 14 0

@@ -12,9 +12,8 @@ ghost use Rattle.wording.specs.Extents.{end_from};
 
 use definition::{Form, MOST_BYTES, Refusal, Span};
 use output::{Sink, Written};
-use text::cards;
-use text::tokens;
 use text::tokens::{Cursor, Next};
+use text::{cards, tokens};
 
 // ---------------------------------------------------------------- a statement
 
@@ -69,7 +68,7 @@ fn put_words(text: &[u8], cursor: &mut Cursor, sink: &mut Sink)
 fn put_statement(text: &[u8], first: Span, cursor: &mut Cursor, sink: &mut Sink)
     requires { (cursor.old.at ≤ length text.now) × (length text.now ≤ MOST_BYTES)
         × Countable sink.old.at
-            (statement_bytes (first ∷ words_from text.now cursor.old) (end_from text.now cursor.old)) }
+        (statement_bytes (first ∷ words_from text.now cursor.old) (end_from text.now cursor.old)) }
     ensures put { Puts sink.old
         (statement_bytes (first ∷ words_from text.now cursor.old) (end_from text.now cursor.old)) sink.new }
     ensures ends { Ends text.now cursor.old cursor.new }

@@ -20,8 +20,7 @@ span-requires c =
 pub put_words-requires : goal.put_words-requires
 put_words-requires c =
     let a = c.args in
-    let ws = words_from a.text.now a.cursor.now in
-    (
+    let ws = words_from a.text.now a.cursor.now in (
       c.requires.0,
       c.requires.1,
       omega (arith, c.requires.2, spans# (a.first ∷ ws), spans# ws, c.number.ensures.put.next, c.number-2.ensures.put.next, c.span.ensures.put.next),

@@ -169,6 +169,7 @@ fn stack() {
             lent::layout_of(form, text.as_bytes(), &mut work, &mut out).unwrap();
             lent::details_of(form, text.as_bytes(), &mut work, &mut out).unwrap();
             lent::owner_of(form, text.as_bytes(), 0, &mut work).unwrap();
+            lent::words_of(form, text.as_bytes(), &mut work, &mut out).unwrap();
         }
     };
     std::thread::Builder::new().stack_size(stack.parse().unwrap()).spawn(calls).unwrap().join().unwrap();

@@ -1,6 +1,6 @@
 //! The words of a copybook: statement by statement, also of what other calls refuse, on cards, in lent buffers.
 
-use copybook::{layout, lent, longest_words, words, words_cards, Form, Sentence, Words, WORK};
+use copybook::{layout, lent, longest_words, words, words_cards, Form, Reader, Sentence, Words, WORK};
 
 const FISH: &[u8] = b"01 FISH. 05 TAG PIC X(5). 05 SIRE PIC 9(4) COMP SYNC. 05 WT OCCURS 3 PIC 9(3)V9.";
 
@@ -60,6 +60,25 @@ fn cards() {
     text.resize(72, b' ');
     text.push(b'.');
     assert_eq!(said(&words_cards(&text).unwrap()), due(&[("05 A PIC X", 73)]));
+}
+
+/// The least count of a table is the one before TO, on cards too.
+#[test]
+fn least_counts() {
+    let text = b"01 R. 05 N PIC 9. 05 T OCCURS 2 TO 5 DEPENDING ON N PIC X. 05 U OCCURS 3 DEPENDING N PIC X.";
+    let read = words(text).unwrap();
+    assert_eq!([0, 18, 59, 21].map(|at| read.least_count(at)), [None, Some(2), None, None]);
+    let cards = b"000100 05 T OCCURS\n000200 2 TO 5 DEPENDING ON N PIC X.";
+    assert_eq!(words_cards(cards).unwrap().least_count(7), Some(2));
+}
+
+/// Words stand in the reader until the next call, whatever the lengths of the texts.
+#[test]
+fn in_a_reader() {
+    let mut reader = Reader::new();
+    for text in [&b"05 A."[..], FISH, b"", FISH] {
+        assert_eq!(said(&reader.words(text).unwrap()), of(text));
+    }
 }
 
 #[test]

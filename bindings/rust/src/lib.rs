@@ -92,8 +92,8 @@ pub const LONGEST_DETAILS: usize = (MOST_STATEMENTS + MOST_STATEMENTS / 2) * det
 /// of which there are at most as many as the deepest list is deep, two reasons.
 pub const LONGEST_REASONS: usize = (2 + DEEPEST * 2) * reasons::REASON;
 
-/// The longest words of a text of that length: a word and a period have 8 bytes each and at least one in the text, and a
-/// last statement may lack its period.
+/// The longest words of a text of that length: a word and a period have 8 bytes each and at least one in the text, and
+/// a last statement may lack its period.
 pub const fn longest_words(len: usize) -> usize {
     (len + 1) * 8
 }

@@ -34,8 +34,8 @@ pub(crate) fn line_from(form: Form, text: &[u8], start: usize) -> Word<'_> {
     word(text, start..start + end)
 }
 
-/// The mark of the open literal after a byte of a word that comes after VALUE: a quote or an apostrophe opens one, and the
-/// same mark closes it.
+/// The mark of the open literal after a byte of a word that comes after VALUE: a quote or an apostrophe opens one, and
+/// the same mark closes it.
 fn literal_after(open: Option<u8>, b: u8) -> Option<u8> {
     match open {
         Some(mark) => (b != mark).then_some(mark),

@@ -1,6 +1,7 @@
 //! The words of a copybook, read from the bytes of `copybook_words` (include/copybook.h has their format).
 
 use crate::bytes::{Bytes, Word};
+use crate::limits::MOST_STATEMENTS;
 use crate::statement::Statement;
 use crate::{any_bytes, Form};
 use std::borrow::Cow;
@@ -53,15 +54,16 @@ fn sentence<'t>(left: &mut Bytes<'t, '_>) -> Sentence<'t> {
     Sentence { words, end }
 }
 
-/// A text up to the end of the line on which a byte over 127 stands, as one that has words: with a `?` for each such byte
-/// and a `D` for what else it is refused for, which leaves no literal open, and makes no code of a card.
+/// A text up to the end of the line on which a byte over 127 stands, as one that has words: with a `?` for each such
+/// byte and a `D` for what else it is refused for, which leaves no literal open, and makes no code of a card. It is
+/// asked again after each of these, of which there are no more than a copybook has statements.
 pub(crate) fn with_words(form: Form, text: &[u8], place: usize) -> Vec<u8> {
     let line = text.iter().skip(place).position(|&b| b == b'\n');
     let mut text = any_bytes(&text[..line.map_or(text.len(), |n| place + n)]).into_owned();
-    while let Err(refusal) = form.words(&text) {
-        match text.get_mut(refusal.position) {
-            Some(byte) if *byte != b'D' => *byte = b'D',
-            _ => break,
+    for _ in 0..MOST_STATEMENTS {
+        match form.words(&text) {
+            Ok(_) => break,
+            Err(refusal) => text[refusal.position] = b'D',
         }
     }
     text

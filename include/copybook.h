@@ -84,6 +84,7 @@ extern "C" {
 #define COPYBOOK_MASK_ANSWER 2
 #define COPYBOOK_OWNER_ANSWER 4
 #define COPYBOOK_REASONS_ANSWER 2
+#define COPYBOOK_WORDS_ANSWER 2
 #define COPYBOOK_EXTRACT_ANSWER 4
 #define COPYBOOK_KEY_ANSWER 2
 
@@ -365,6 +366,27 @@ uint32_t copybook_reasons(const uint8_t *text, size_t n, uint64_t entry, uint32_
 /* The same for a copybook on cards. */
 uint32_t copybook_reasons_cards(const uint8_t *cards, size_t n, uint64_t entry, uint32_t *work, size_t w, uint8_t *out,
                                 size_t m, uint64_t *answer, size_t k);
+
+/*
+ * The words of a copybook as the reader has them, statement by statement, written to `out`: also where what they say is
+ * refused by other calls. `work` and the answer are those of copybook_layout. Refusals: 1 to 3; on cards 51; 50; 31.
+ *
+ * Of each statement that has words, in the text's order, level 88 and those that cannot be read among them; numbers are
+ * little-endian, 4 bytes: how many words it has; the position of the period that ends it, or `n` where none does; then
+ * start and length of each word in `text`. Words stand in order, none over another, and none holds white space: in a
+ * literal that does, each part is a word.
+ *
+ * A word and a period have 8 bytes each here and at least one in the text, and a last statement may lack its period: an
+ * `out` of COPYBOOK_LONGEST_WORDS(n) bytes is never too short.
+ */
+#define COPYBOOK_LONGEST_WORDS(n) (((n) + 1) * 8)
+
+uint32_t copybook_words(const uint8_t *text, size_t n, uint32_t *work, size_t w, uint8_t *out, size_t m,
+                        uint64_t *answer, size_t k);
+
+/* The same for a copybook on cards, of what is read of them. */
+uint32_t copybook_words_cards(const uint8_t *cards, size_t n, uint32_t *work, size_t w, uint8_t *out, size_t m,
+                              uint64_t *answer, size_t k);
 
 /*
  * One key for a family of records: the column of the `l` bytes of `name` in a set of `c` copybooks in free text, which

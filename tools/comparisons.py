@@ -13,7 +13,7 @@ from typing import Any, NamedTuple
 
 from library import Library
 from makers import aligned, copybooks, extracts, inputs, keys, redefined, written
-from readings import details, extract, key, layout, lines, original, owner, picture, reasons
+from readings import details, extract, key, layout, lines, original, owner, picture, reasons, wording
 from readings.reader import Cards
 
 ROOT = pathlib.Path(__file__).resolve().parent.parent
@@ -180,6 +180,28 @@ def reasons_asked(library, text):
         yield Asked("past the listing in 0 bytes", library.reasons(text, len(made), 0), refused)
 
 
+# ---------------------------------------------------------------- words
+
+WORDED = [every_family, with_quotes, on_cards]
+
+
+def worded(count, seed):
+    """Copybooks of every family, with literals, and on cards, in turn."""
+    for texts in zip(*(made((count + 2) // 3, seed) for made in WORDED)):
+        yield from texts
+
+
+def words_asked(library, text):
+    """The words, also in an output that is a byte short."""
+    due = wording.answer(text)
+    layout_due = layout.answer(text)
+    kind = outcome(due) + (", the layout too" if due[0] and layout_due[0] else
+                           f", the layout {outcome(layout_due)}" if due[0] else "")
+    yield Asked("words", library.words(text), due, [kind])
+    if due[0] and due[1]:
+        yield Asked("words in an output a byte short", library.words(text, due[1] - 1), [0, 31, 0, due[1]], ["31"])
+
+
 # ---------------------------------------------------------------- extracts, keys
 
 
@@ -309,6 +331,8 @@ COMPARISONS = {
     "cards": Comparison(f"copybooks on cards: {LISTED}", on_cards, listed(kind_of_cards)),
     "reasons": Comparison("folds, roots, groups, a fifth on cards: the reasons of every entry, and past the last",
                           placed_items, reasons_asked),
+    "words": Comparison("copybooks of every family, a third with literals, a third on cards: the words of each "
+                        "statement, also in an output a byte short", worded, words_asked),
     "extracts": Comparison("copybooks with weights, a limit and a budget: the extract", extracts.questions,
                            extract_asked),
     "keys": Comparison("sets of copybooks and a name: the key", sets, key_asked),

@@ -5,7 +5,7 @@ context lasts.
 import functools
 from unittest import mock
 
-from readings import details, extract, key, layout, lines, owner, picture, reader, reasons
+from readings import details, extract, key, layout, lines, owner, picture, reader, reasons, wording
 
 
 def instead(module, name, value):
@@ -38,6 +38,11 @@ def name_without_case(base):
 def by_the_picture(found):
     """What keys must agree in, with the picture as it is written in place of the mask."""
     return found.offset, found.width, found.kind, list(map(int, found.details)), found.picture and found.picture.text
+
+
+def at_the_last_word(read):
+    """Statements that end with their last word, and not at their period."""
+    return [(words[-1].at + len(words[-1].text), words) for _, words in read]
 
 
 def first_as_highest(values):
@@ -85,6 +90,12 @@ WRONG = {
         "another kind for slack": instead(reasons, "SLACK", 6),
         "a group's own reason left out": changed(reasons, "chains", lambda chains: {
             at: [part for part in chain if part[0] != reasons.INSIDE] for at, chain in chains.items()}),
+    },
+    "words": {
+        "a statement ends with its last word": changed(wording, "statements", at_the_last_word),
+        "level 88 has no words": changed(wording, "statements", lambda read: [
+            (end, words) for end, words in read if words[0].text != b"88"]),
+        "no literals": instead(reader, "after_value", lambda _: False),
     },
     "extracts": {
         "17 items": instead(extract, "MOST_ITEMS", 17),

@@ -47,6 +47,7 @@ impl<'t> Facts<'t> {
     pub fn new(form: Form, text: &'t [u8], layout: &Layout<'t, '_>, details: &Details<'t, '_>) -> Facts<'t> {
         let mut rows: Vec<Row> = Vec::new();
         let mut around: Vec<usize> = Vec::new();
+        let words = form.words(text).expect("a text that is laid out has words");
         for (entry, detail) in layout.entries().zip(details.iter()) {
             around.truncate(entry.depth);
             let group = around.last().copied();
@@ -57,7 +58,7 @@ impl<'t> Facts<'t> {
             around.push(entry.number);
             // a table without TO has 1 at least, as compilers take it
             let least = entry.depending_on.and(entry.occurs);
-            let least = least.map(|most| form.least_count(text, detail.position).unwrap_or(1).min(most));
+            let least = least.map(|most| words.least_count(detail.position).unwrap_or(1).min(most));
             rows.push(Row { entry, detail, group, path, after: None, least, number, line, column });
         }
         find_after(&mut rows);

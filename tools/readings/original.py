@@ -14,7 +14,7 @@ from readings.layout import top_list
 from readings.lines import entries_of, head_of
 from readings.owner import flat
 from readings.picture import EDITED, GROUP, mask, symbols
-from readings.reader import Clauses, Literal, kept_statements, number, parts, statements
+from readings.reader import Clauses, Literal, ended, kept_statements, number, parts
 
 
 def plain_literals(text):
@@ -39,7 +39,7 @@ def plain_usages(text):
     """Whether no statement takes another usage back or names a float, those after a refusal included, and no group of
     the kept statements names a usage."""
     try:
-        said = [said_in(words) for words in list(statements(text)) if number(words[0], 256) != 88]
+        said = [said_in(words) for _, words in ended(text) if number(words[0], 256) != 88]
         if any(s["back"] or s["float"] for s in said):
             return False
         kept = kept_statements(text)

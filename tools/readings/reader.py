@@ -36,6 +36,7 @@ INDICATORS, LAST_COLUMN = b" */D", 72
 
 Word = collections.namedtuple("Word", "at text")
 Literal = collections.namedtuple("Literal", "text")
+Stop = collections.namedtuple("Stop", "at")
 
 
 class Statement(collections.namedtuple(
@@ -98,8 +99,7 @@ def after_value(words):
 
 
 def parts(text):
-    """The words; `None` for each period that ends a statement; and as `Literal` the bytes between the marks of each
-    literal."""
+    """The words; the periods that end statements; and as `Literal` the bytes between the marks of each literal."""
     words = []
     for start, line in lines(text):
         i, word = 0, b""
@@ -128,24 +128,34 @@ def parts(text):
                 word = b""
             if stop:
                 words = []
-                yield None
+                yield Stop(start + i)
             if cut:
                 break
             i += 1
 
 
-def statements(text):
-    """The words of each statement."""
+def ended(text):
+    """Where each statement ends, at its period or with the text, and its words."""
     words = []
     for part in parts(text):
         if isinstance(part, Word):
             words.append(part)
-        elif part is None:
+        elif isinstance(part, Stop):
             if words:  # Empty statements are skipped;
-                yield words
+                yield part.at, words
             words = []
     if words:  # a last one may lack its period.
-        yield words
+        yield len(text), words
+
+
+def statements(text):
+    """Where each statement ends, and its words; 1, 2, 51 and 50 in their order."""
+    if len(text) > MOST_BYTES:
+        raise Refused(1, 0)
+    for at, byte in enumerate(text):
+        if byte > 127:
+            raise Refused(2, at)
+    return list(ended(text))  # 50 is looked for in the whole text, before the first 10.
 
 
 # ---------------------------------------------------------------- Statement
@@ -255,13 +265,8 @@ def held(s, kept):
 
 def kept_statements(text: bytes) -> list[Statement]:
     """The statements that are kept; 1, 2, 51, 50 and 10 to 14 in their order."""
-    if len(text) > MOST_BYTES:
-        raise Refused(1, 0)
-    for at, byte in enumerate(text):
-        if byte > 127:
-            raise Refused(2, at)
     kept, open_levels = [], []
-    for words in list(statements(text)):  # 50 is looked for in the whole text, before the first 10.
+    for _, words in statements(text):
         level = number(words[0], 256)  # First word: level, 0 to 255.
         if level is None:
             raise Refused(10, words[0].at)

@@ -2,7 +2,8 @@
 //! version.
 
 use copybook::limits::{DEEPEST, MOST_STATEMENTS};
-use copybook::{FieldKind, NumRepr, SignKind, Usage, LONGEST_DETAILS, LONGEST_LISTING, LONGEST_REASONS};
+use copybook::{longest_words, FieldKind, NumRepr, SignKind, Usage};
+use copybook::{LONGEST_DETAILS, LONGEST_LISTING, LONGEST_REASONS};
 
 const HEADER: &str = include_str!("../../../include/copybook.h");
 
@@ -74,6 +75,8 @@ fn lengths() {
     says("REASON", "13");
     says("LONGEST_REASONS", "((2 + COPYBOOK_DEEPEST * 2) * COPYBOOK_REASON)");
     assert_eq!(LONGEST_REASONS, (2 + DEEPEST * 2) * 13);
+    says("LONGEST_WORDS(n)", "(((n) + 1) * 8)");
+    assert!((0..10).all(|n| longest_words(n) == (n + 1) * 8));
 }
 
 #[test]

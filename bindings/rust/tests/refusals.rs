@@ -181,6 +181,12 @@ fn causes() {
     );
     says(b"1 A PIC X. *> \xe6", "comment", "\u{e6} (0xe6 in Latin-1) stands in a comment", "");
     says(b"1 A PIC X VALUE ' \xe6'.", "literal", "\u{e6} (0xe6 in Latin-1) stands in a literal", "");
+    // what else a text is refused for hides nothing: an open literal, a continued card
+    says(b"1 A VALUE 'x.\n* \xe6", "comment", "\u{e6} (0xe6 in Latin-1) stands in a comment", "");
+    says(b"1 A VALUE '\xe6", "literal", "\u{e6} (0xe6 in Latin-1) stands in a literal", "");
+    let cards = b"000100 1 A VALUE 'x\n000200-    'y'.\n000300* \xe6";
+    let refusal = copybook::layout_cards(cards).unwrap_err();
+    assert_eq!((refusal.number, refusal.cause.map(|cause| cause.name)), (2, Some("comment")));
     // the sentence has the name as it stands, and a mark is one for a character
     let text = "1 M\u{c5}L PIC X.".as_bytes();
     says(text, "name", "\u{c5} (0xc3 0x85 in UTF-8) stands in the name M\u{c5}L", "\u{c5}");

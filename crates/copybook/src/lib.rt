@@ -1,7 +1,7 @@
 //! The public entries: what a copybook's columns are, and which of them has a byte, in free text and on cards; and
-//! which of them fit into a short record. Each answers in full or with one refusal of docs/REFUSALS.md; a refusal
-//! changes no byte of the output, and work memory is zero after every call. What is asked of a record is a question of
-//! `answers`.
+//! which of them fit into a short record; and what the words of a copybook are. Each answers in full or with one
+//! refusal of docs/REFUSALS.md; a refusal changes no byte of the output, and work memory is zero after every call. What
+//! is asked of a record is a question of `answers`.
 //!
 //! The reader's refusals, in this order: 1 a text that is too long; 2 a byte over 127, at the first one; 3 too little
 //! work memory; on cards 51, at the first byte in column 7 that is no blank and marks no line that is ignored; 50 a
@@ -13,7 +13,7 @@
 
 ghost use Rattle.std.specs.Prelude.{◌≡◌, []};
 ghost use Rattle.definition.specs.Calls.{left, layout_call, details_call, reasons_call, owner_call};
-ghost use Rattle.definition.specs.Calls.{extract_call, mask_call, picture_answer, record_check};
+ghost use Rattle.definition.specs.Calls.{words_call, extract_call, mask_call, picture_answer, record_check};
 ghost use Rattle.definition.specs.Key.{key_call};
 
 use crate::answers::{ExtractBy, OwnerAt, ReportOf};
@@ -183,6 +183,29 @@ pub fn byte_owner_cards(cards: &[u8], position: usize, work: &mut [u32]) -> Resu
         ≡ owner_call Form.Cards cards.now position work.old }
 {
     asking::answer(Form::Cards, OwnerAt { position }, cards, work, &mut [])
+}
+
+/// The words of a copybook as the reader has them, statement by statement, also where what they say is refused: of each
+/// statement that has words, level 88 and those that cannot be read among them, how many they are (4), the position of
+/// the period that ends it, or the length of the text where none does (4), and start and length of each word (4 each),
+/// numbers little-endian. Refusals: 1, 2 and 3, then 50; then 31, with the length of the words. Answer, output and work
+/// memory are as in `layout_listing`. The contract rules out a program that ends a statement behind its period, and one
+/// that does not count a statement's first word.
+pub fn words(text: &[u8], work: &mut [u32], out: &mut [u8]) -> Result<usize, Refusal>
+    ensures { left result out.new work.new
+        ≡ words_call Form.FreeText text.now out.old work.old }
+{
+    wording::write_words(Form::FreeText, text, work, out)
+}
+
+/// The words of cards: `words` of what the reader sees of them, at their places in the card text. Refusals: 1, 2 and 3,
+/// then 51, then 50; then 31. The contract rules out a program that reads column 73, and one that takes column 7 for
+/// code.
+pub fn words_cards(cards: &[u8], work: &mut [u32], out: &mut [u8]) -> Result<usize, Refusal>
+    ensures { left result out.new work.new
+        ≡ words_call Form.Cards cards.now out.old work.old }
+{
+    wording::write_words(Form::Cards, cards, work, out)
 }
 
 /// An extract that fits: of the record's top-level items, each with a weight in the listing's order, the heaviest

@@ -5,6 +5,8 @@ pub mod WordLaws
 pub mod PictureLaws
 pub mod StatementLaws
 pub mod SpanLaws
+pub mod OrderLaws
+pub mod WordingLaws
 pub mod CardLaws
 pub mod TreeLaws
 pub mod ParentLaws

@@ -1,7 +1,7 @@
 -- The calls, each from what the caller hands in to what the call answers and leaves. Most ask something of a copybook's
 -- record, in free text or on cards: the layout listing, its details, the reasons of an entry, the byte owner and the
--- extract; then the picture answer, the mask and the record check. A line of a `do` is a check or a stage, and they come
--- in that order.
+-- extract; then the words, the picture answer, the mask and the record check. A line of a `do` is a check or a stage,
+-- and they come in that order.
 -- Assumes nothing.
 use Rattle.std.specs.Prelude.{ℕ, ◌+◌, Bool, ◌&&◌, ◌||◌, not, List, [], ◌∷◌, ◌++◌, eqb, ltb, length, drop, replicate, if◌then◌else◌}
 use Rattle.std.specs.Prelude.{Option, None, Some}
@@ -25,6 +25,7 @@ use Rattle.definition.specs.Picture.{picture, symbols, is_masked, mask}
 use Rattle.definition.specs.Fold.{Entries, folded_all}
 use Rattle.definition.specs.Record.{unfolded, layout}
 use Rattle.definition.specs.Listing.{listing}
+use Rattle.definition.specs.Wording.{wording}
 use Rattle.definition.specs.Owner.{pieces, owner_of, overlaid}
 use Rattle.definition.specs.Details.{listing_details}
 use Rattle.definition.specs.Reasons.{reasons_in, reasons_bytes}
@@ -128,6 +129,16 @@ extract_in weights limit budget text root f es = do
   _ ← refuse_if (overlaid f) Refusal.Overlaid
   extract_of (widths (folded_all text es)) weights limit budget
 
+-- ---------------------------------------------------------------- words
+
+-- the words of a text, statement by statement: they ask nothing of what the statements say, so that a copybook that is
+-- refused for that (10 to 30, 52) has words too
+unfoldable pub words_in : List ℕ → ℕ → ℕ → Answer (List ℕ)
+words_in text work room = do
+  _ ← entry_checks text work
+  _ ← literal_check text
+  fitting room (wording text)
+
 -- ---------------------------------------------------------------- pictures and records
 
 -- the picture answer
@@ -215,6 +226,11 @@ details_call form = report_call form Report.Details
 
 abbrev pub reasons_call : Form → List ℕ → ℕ → List ℕ → List ℕ → After ℕ
 reasons_call form text number = report_call form (Report.Reasons number) text
+
+-- the words of a copybook of this form, with an output and work memory lent
+abbrev pub words_call : Form → List ℕ → List ℕ → List ℕ → After ℕ
+words_call form text out work =
+    after_writing (called form (λ t. words_in t (length work) (length out)) text (length work)) out work
 
 -- the mask of a picture, with an output lent
 abbrev pub mask_call : Usage → List ℕ → List ℕ → After ℕ

@@ -11,6 +11,7 @@ pub mod Layout
 pub mod Record
 pub mod Refusals
 pub mod Listing
+pub mod Wording
 pub mod Owner
 pub mod Search
 pub mod Details

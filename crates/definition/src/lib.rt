@@ -148,8 +148,8 @@ pub enum LiteralState {
 pub enum Token {
     /// A word.
     Word(Span),
-    /// The period that ends a statement.
-    Stop,
+    /// The period, at this position, that ends a statement.
+    Stop(usize),
     /// The opening mark, at this position, of a literal that its line does not close.
     Open(usize),
 }

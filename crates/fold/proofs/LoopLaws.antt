@@ -14,9 +14,9 @@ use Rattle.definition.specs.declared.Refusal.{Refusal}
 use Rattle.definition.specs.declared.TheConstants.{LARGEST}
 use Rattle.definition.specs.Basic.{is_given, Ok, Err, and_then}
 use Rattle.definition.specs.Listing.{entry_bytes}
-use Rattle.fold.specs.declared.listing.Sink.{Sink}
-use Rattle.fold.specs.Puts.{Puts}
-use Rattle.fold.proofs.PutLaws.{puts-none, ◌and◌}
+use Rattle.output.specs.declared.Sink.{Sink}
+use Rattle.output.specs.Puts.{Puts}
+use Rattle.output.proofs.PutLaws.{puts-none, ◌and◌}
 use Rattle.fold.specs.declared.table.TableEntry.{TableEntry}
 use Rattle.fold.specs.Entered.{Shown, flat_bytes, flat_varies, top_end, flat_length, flat_fits, own_of, shown_of}
 use Rattle.fold.specs.Entered.{shown_all}

@@ -6,13 +6,16 @@ ghost use Rattle.std.specs.List.{list_any};
 ghost use Rattle.definition.specs.Fold.{entry_end, total};
 ghost use Rattle.definition.specs.Basic.{is_given};
 ghost use Rattle.definition.specs.Listing.{entry_bytes};
-ghost use Rattle.fold.specs.Puts.{Puts, line_of};
+ghost use Rattle.fold.specs.Puts.{line_of};
+ghost use Rattle.output.specs.Puts.{Puts};
 ghost use Rattle.fold.specs.Entered.{flat_bytes, flat_varies, top_end, flat_length, flat_fits, own_of, shown_of};
 ghost use Rattle.fold.specs.Entered.{shown_all, Sound};
 
-use crate::listing::{Line, Sink};
+use crate::listing;
+use crate::listing::Line;
 use definition::{Entry, FieldKind, LARGEST, Refusal, Span};
 use layout::{places, unions};
+use output::Sink;
 use rows::Rows;
 
 /// What an item stands for: its row's own entry, the same as a member of a union, or the union.
@@ -140,7 +143,7 @@ impl<'a> RowItem<'a> {
             (entry_bytes (own_of self.entry.rows.all.now self.entry.item.now) self.entry.item.now.members)
             sink.new }
     {
-        sink.line(self.line(), self.item.members as usize);
+        listing::put_line(sink, self.line(), self.item.members as usize);
     }
 
     /// Whether it has a DEPENDING ON: that of its row, and none for a union.

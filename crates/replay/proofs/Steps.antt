@@ -8,19 +8,19 @@ use Rattle.replay.specs.Words.{begins, first_case, behind_case}
 first-le : (ts : List Token) → length (first_case ts) ≤ length ts
 first-le [] = omega arith
 first-le (Word w ∷ ts) = omega arith
-first-le (Stop ∷ ts) = let h = first-le ts in omega arith
+first-le (Stop p ∷ ts) = let h = first-le ts in omega arith
 first-le (Open p ∷ ts) = omega arith
 
 behind-le : (ts : List Token) → length (behind_case ts) ≤ length ts
 behind-le [] = omega arith
 behind-le (Word w ∷ ts) = let h = behind-le ts in omega arith
-behind-le (Stop ∷ ts) = omega arith
+behind-le (Stop p ∷ ts) = omega arith
 behind-le (Open p ∷ ts) = omega arith
 
 behind-less : (ts : List Token) → begins ts ≡ true → length (behind_case ts) < length ts
 behind-less [] e = cc
 behind-less (Word w ∷ ts) e = let h = behind-le ts in omega arith
-behind-less (Stop ∷ ts) e = cc
+behind-less (Stop p ∷ ts) e = cc
 behind-less (Open p ∷ ts) e = cc
 
 pub shorter :

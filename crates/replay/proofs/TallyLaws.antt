@@ -15,25 +15,25 @@ use Rattle.replay.specs.Counting.{begun, Onward}
 at-first : (ts : List Token) → begun false (first_case ts) ≡ begun false ts
 at-first [] = refl
 at-first (Word w ∷ ts) = refl
-at-first (Stop ∷ ts) = at-first ts
+at-first (Stop p ∷ ts) = at-first ts
 at-first (Open p ∷ ts) = refl
 
 at-behind : (ts : List Token) → begun true ts ≡ begun false (behind_case ts)
 at-behind [] = refl
 at-behind (Word w ∷ ts) = let b = at-behind ts in omega arith
-at-behind (Stop ∷ ts) = refl
+at-behind (Stop p ∷ ts) = refl
 at-behind (Open p ∷ ts) = refl
 
 from-word : (ts : List Token) → begins ts ≡ true → begun false ts ≡ 1 + begun false (behind_case ts)
 from-word [] e = cc
 from-word (Word w ∷ ts) e = let b = at-behind ts in omega arith
-from-word (Stop ∷ ts) e = cc
+from-word (Stop p ∷ ts) e = cc
 from-word (Open p ∷ ts) e = cc
 
 pub none_more : (ts : List Token) → begins (first_case ts) ≡ false → begun false ts ≡ 0
 none_more [] e = refl
 none_more (Word w ∷ ts) e = cc
-none_more (Stop ∷ ts) e = none_more ts e
+none_more (Stop p ∷ ts) e = none_more ts e
 none_more (Open p ∷ ts) e = refl
 
 -- a case more

@@ -12,7 +12,7 @@ use Rattle.replay.specs.Words.{ahead}
 abbrev pub begun : Bool → List Token → ℕ
 begun inside [] = 0
 begun inside (Word w ∷ ts) = (if inside then 0 else 1) + begun true ts
-begun inside (Stop ∷ ts) = begun false ts
+begun inside (Stop p ∷ ts) = begun false ts
 begun inside (Open p ∷ ts) = 0
 
 -- how many cases a list has

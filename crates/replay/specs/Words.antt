@@ -17,21 +17,21 @@ ahead list s = tokens_at list s
 abbrev pub first_word : List ℕ → List Token → Option (List ℕ)
 first_word list [] = None
 first_word list (Word w ∷ ts) = Some (part list w)
-first_word list (Stop ∷ ts) = None
+first_word list (Stop p ∷ ts) = None
 first_word list (Open p ∷ ts) = None
 
 -- what is left behind it
 abbrev pub behind_word : List Token → List Token
 behind_word [] = []
 behind_word (Word w ∷ ts) = ts
-behind_word (Stop ∷ ts) = Stop ∷ ts
+behind_word (Stop p ∷ ts) = Stop p ∷ ts
 behind_word (Open p ∷ ts) = Open p ∷ ts
 
 -- the case ends here
 abbrev pub is_end : List Token → Bool
 is_end [] = false
 is_end (Word w ∷ ts) = false
-is_end (Stop ∷ ts) = true
+is_end (Stop p ∷ ts) = true
 is_end (Open p ∷ ts) = false
 
 -- ---------------------------------------------------------------- numbers
@@ -65,19 +65,19 @@ behind_numbers list (n ∷ ns) ts =
 abbrev pub first_case : List Token → List Token
 first_case [] = []
 first_case (Word w ∷ ts) = Word w ∷ ts
-first_case (Stop ∷ ts) = first_case ts
+first_case (Stop p ∷ ts) = first_case ts
 first_case (Open p ∷ ts) = Open p ∷ ts
 
 -- what is left behind a case: it ends with the first period that ends a statement, or with the list
 abbrev pub behind_case : List Token → List Token
 behind_case [] = []
 behind_case (Word w ∷ ts) = behind_case ts
-behind_case (Stop ∷ ts) = ts
+behind_case (Stop p ∷ ts) = ts
 behind_case (Open p ∷ ts) = Open p ∷ ts
 
 -- a word is the first of these tokens
 abbrev pub begins : List Token → Bool
 begins [] = false
 begins (Word w ∷ ts) = true
-begins (Stop ∷ ts) = false
+begins (Stop p ∷ ts) = false
 begins (Open p ∷ ts) = false

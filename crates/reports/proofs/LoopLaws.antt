@@ -12,9 +12,9 @@ use lib.Seq.{get_or-set_same, get_or-set_other}
 use Rattle.definition.specs.Details.{detail_bytes}
 use Rattle.definition.proofs.DetailLaws.{detail-length}
 use Rattle.definition.proofs.Lists.{order}
-use Rattle.fold.specs.declared.listing.Sink.{Sink}
-use Rattle.fold.specs.Puts.{Puts}
-use Rattle.fold.proofs.PutLaws.{puts-none, ◌and◌}
+use Rattle.output.specs.declared.Sink.{Sink}
+use Rattle.output.specs.Puts.{Puts}
+use Rattle.output.proofs.PutLaws.{puts-none, ◌and◌}
 use Rattle.fold.specs.declared.table.TableEntry.{TableEntry}
 use Rattle.fold.specs.declared.table.Mark.{Mark}
 use Rattle.fold.specs.Entered.{Shown, shown_of, shown_all}

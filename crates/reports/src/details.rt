@@ -6,15 +6,14 @@ ghost use Rattle.definition.specs.Calls.{after_writing, fitting, left};
 ghost use Rattle.definition.specs.Details.{detail, detail_bytes, digits_bytes, root_bytes};
 ghost use Rattle.definition.specs.Tree.{root};
 ghost use Rattle.layout.specs.Places.{rows_forest};
-ghost use Rattle.fold.specs.Puts.{Countable, Puts};
+ghost use Rattle.output.specs.Puts.{Countable, Puts};
 ghost use Rattle.fold.specs.Entered.{shown_of, shown_all};
 ghost use Rattle.reports.specs.Detailed.{standing_bytes, clause_places, held_bytes, head_bytes, farthest, FirstByte, detail_in, flat_details};
 ghost use Rattle.reports.specs.Detailed.{Shallow, details_of, Dropped, Detailable};
 
 use definition::{Digits, Entry, Refusal, Statement};
-use fold::listing;
-use fold::listing::{Sink, Written};
 use fold::table::{RowItem, Table};
+use output::{Sink, Written};
 use record::LaidRecord;
 use rows::kinds::Coded;
 
@@ -181,5 +180,5 @@ pub fn write_details(laid: LaidRecord, out: &mut [u8]) -> Result<usize, Refusal>
         out.old [] }
 {
     let root = record::root_of(laid.table.rows, laid.from);
-    listing::write(Details { laid, root }, out)
+    output::write(Details { laid, root }, out)
 }

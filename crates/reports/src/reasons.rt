@@ -8,13 +8,12 @@ ghost use Rattle.definition.specs.Tree.{root};
 ghost use Rattle.layout.specs.Places.{rows_forest};
 ghost use Rattle.layout.specs.Shown.{list_in};
 ghost use Rattle.definition.specs.Reasons.{reason_kind, reason_name, adds as adds_of, reason_bytes, reasons_bytes};
-ghost use Rattle.fold.specs.Puts.{Puts};
+ghost use Rattle.output.specs.Puts.{Puts};
 ghost use Rattle.rows.specs.Rows.{row_in, row_code};
 ghost use Rattle.reports.specs.Chained.{placing_at, own_at, group_at, chain_of, Settled, Explainable};
 
 use definition::{Reason, Refusal, Span};
-use fold::listing;
-use fold::listing::{Sink, Written};
+use output::{Sink, Written};
 use record::LaidRecord;
 use rows::Rows;
 
@@ -164,5 +163,5 @@ pub fn write_reasons(laid: LaidRecord, number: usize, out: &mut [u8]) -> Result<
         from: laid.from,
         row: item.row as usize,
     };
-    listing::write(row, out)
+    output::write(row, out)
 }

@@ -4,19 +4,13 @@
 use Prim.Native.Nat.{ℕ, zero, suc, ◌+◌, ◌*◌, ◌≤◌, ◌<◌, max}
 use mathlib.Core.Path.{◌≡◌, refl, sym, ◌∙◌, ap, subst}
 use mathlib.Core.Bool.{Bool, true, false}
-use mathlib.Core.List.{List, [], ◌∷◌, ◌++◌}
+use mathlib.Core.List.{List, [], ◌∷◌}
 use native.Mathlib.Omega.{arith}
 use lib.Dec.{ltb, leb}
 use lib.ListN.{length, length-append}
 use Rattle.std.proofs.lemmas.List.{length-replicate}
 use Rattle.std.specs.Prelude.{Option, None, Some, replicate, if◌then◌else◌}
 use Rattle.definition.specs.declared.Span.{Span}
-use Rattle.definition.specs.declared.ByteKind.{ByteKind}
-use Rattle.definition.specs.declared.ByteKind.TheVariants.{Newline}
-use Rattle.definition.specs.declared.Mode.{Mode}
-use Rattle.definition.specs.declared.Mode.TheVariants.{Fresh, Between, Dropped, Within}
-use Rattle.definition.specs.declared.LiteralState.{LiteralState}
-use Rattle.definition.specs.declared.LiteralState.TheVariants.{Before}
 use Rattle.definition.specs.declared.Token.{Token}
 use Rattle.definition.specs.declared.Token.TheVariants.{Word, Stop, Open}
 use Rattle.definition.specs.declared.NamedUsage.{NamedUsage}
@@ -27,7 +21,6 @@ use Rattle.definition.specs.declared.Entry.{Entry}
 use Rattle.definition.specs.declared.Refusal.{Refusal}
 use Rattle.definition.specs.declared.TheConstants.{MOST_STATEMENTS, MOST_SYMBOLS, LARGEST}
 use Rattle.definition.specs.Basic.{part, is_given, upper, Answer, Ok, ◌>>=◌, refuse_if}
-use Rattle.definition.specs.Words.{byte_kind, next, completed, completed_end, seen, said_next, unless_open, tokens}
 use Rattle.definition.specs.Words.{tokens_of, on_first, sentences, statement_words}
 use Rattle.definition.specs.Statement.{statements}
 use Rattle.definition.specs.Tree.{Forest, leaf, item, above, not_above, forest, fields}
@@ -46,6 +39,7 @@ use Rattle.definition.specs.Calls.{kept_statements, record_tree, record_fields, 
 use Rattle.definition.proofs.Answers.{through, given-same, not-refused}
 use Rattle.definition.proofs.CallsLaws.{passes, called-as}
 use Rattle.definition.proofs.Lists.{by_cases}
+use Rattle.definition.proofs.OrderLaws.{Along, along-low, tokens-along}
 use Rattle.definition.proofs.Cover.{entry_laid, item-laid}
 use Rattle.definition.proofs.SpanLaws.{Sentences, statements-spans, record-spans, layout-spans, ForestSpans}
 use Rattle.theorems.specs.ReadBack.{read_listing, listed}
@@ -61,39 +55,16 @@ module _ (n : ℕ) where
   abbrev AllIn : List Token → Type 0
   AllIn [] = Unit {0}
   AllIn (Word w ∷ ts) = In w × AllIn ts
-  AllIn (Stop ∷ ts) = AllIn ts
-  AllIn (Open p ∷ ts) = AllIn ts
+  AllIn (Stop p ∷ ts) = AllIn ts
+  AllIn (Open p ∷ ts) = Unit {0}
 
-  -- a word that goes on at p began before
-  abbrev SoFar : ℕ → Mode → Type 0
-  SoFar p Fresh = Unit {0}
-  SoFar p Between = Unit {0}
-  SoFar p Dropped = Unit {0}
-  SoFar p (Within s) = s ≤ p
-
-  so_far : (m : Mode) (k : ByteKind) (p : ℕ) → SoFar p m → SoFar (p + 1) (next m p k)
-  so_far m k p x = grind arith
-
-  completed-in : (m : Mode) (k : ByteKind) (p : ℕ) (ts : List Token) → p ≤ n → SoFar p m → AllIn ts → AllIn (completed m p k ++ ts)
-  completed-in m k p ts l x a = grind arith
-
-  open-in : (q : LiteralState) (k : ByteKind) (ts : List Token) → AllIn ts → AllIn (unless_open q k ts)
-  open-in q k ts a = grind arith
-
-  end-in : (m : Mode) (q : LiteralState) (p : ℕ) → p ≤ n → SoFar p m → AllIn (completed_end m p ++ unless_open q Newline [])
-  end-in m q p l x = grind (arith, open-in q Newline [] tt)
-
-  tokens-in :
-      (bs text : List ℕ) (q : LiteralState) (m : Mode) (p : ℕ) →
-      p + length bs ≤ n →
-      SoFar p m →
-      AllIn (tokens text q m p bs)
-  unfolding tokens
-  tokens-in [] text q m p l x = end-in m q p (omega arith) x
-  tokens-in (b ∷ bs) text q m p l x =
-      let k = seen q (byte_kind b bs) in
-      let ih = tokens-in bs text (said_next text q m p b k) (next m p k) (p + 1) (omega arith) (so_far m k p x) in
-      completed-in m k p _ (omega arith) x (open-in q k _ ih)
+  all-in : (text : List ℕ) (m : ℕ) (ts : List Token) → length text ≤ n → Along text m ts → AllIn ts
+  all-in text m [] l a = tt
+  all-in text m (Word w ∷ ts) l a =
+      let e = along-low text (w.start + w.len) ts a.3 in
+      ((omega arith, omega arith), all-in text (w.start + w.len) ts l a.3)
+  all-in text m (Stop p ∷ ts) l a = all-in text (p + 1) ts l a.2
+  all-in text m (Open p ∷ ts) l a = tt
 
   first-in : (w : Span) (wss : List (List Span)) → In w → Sentences In wss → Sentences In (on_first w wss)
   first-in w wss e a = grind arith
@@ -101,13 +72,13 @@ module _ (n : ℕ) where
   sentences-in : (ts : List Token) → AllIn ts → Sentences In (sentences ts)
   unfolding sentences
   sentences-in [] a = tt
-  sentences-in (Stop ∷ ts) a = (tt, sentences-in ts a)
+  sentences-in (Stop p ∷ ts) a = (tt, sentences-in ts a)
   sentences-in (Word w ∷ ts) a = first-in w (sentences ts) a.0 (sentences-in ts a.1)
   sentences-in (Open p ∷ ts) a = tt
 
   words-in : (text : List ℕ) → length text ≤ n → Sentences In (statement_words text)
   unfolding statement_words
-  words-in text l = sentences-in (tokens_of text) (tokens-in text text (Before 0) Fresh 0 (omega (arith, l)) tt)
+  words-in text l = sentences-in (tokens_of text) (all-in text 0 (tokens_of text) l (tokens-along text))
 
 -- ---------------------------------------------------------------- statements
 

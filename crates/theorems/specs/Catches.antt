@@ -1,7 +1,7 @@
 -- The catches: traps of the rules by name, the worked example, and the examples and limits of each request, as one table:
 -- antt computes the definition at each row.
 -- Assumes nothing.
-use Rattle.std.specs.Prelude.{ℕ, zero, suc, ◌+◌, ◌*◌, ◌-◌, Bool, true, false, ◌&&◌, List, [], ◌∷◌, ◌++◌, eqb, ltb, length, if◌then◌else◌}
+use Rattle.std.specs.Prelude.{ℕ, zero, suc, ◌+◌, ◌*◌, ◌-◌, ◌/◌, Bool, true, false, ◌&&◌, List, [], ◌∷◌, ◌++◌, eqb, ltb, length, if◌then◌else◌}
 use Prim.Native.Char.{code}
 use Prim.Native.String.{String, [] as ε, ◌∷◌ as ◌∷ᶜ◌}
 use Rattle.std.specs.Prelude.{Option, None, Some}
@@ -26,7 +26,7 @@ use Rattle.definition.specs.declared.Form.{Form}
 use Rattle.definition.specs.Refusals.{refusal_number, refusal_position, refusal_needed}
 use Rattle.definition.specs.declared.Report.{Report}
 use Rattle.definition.specs.Calls.{entries, Question, asked, report, picture_answer, picture_mask, owner_in}
-use Rattle.definition.specs.Calls.{record_fields, extract_in, indicator_check, called}
+use Rattle.definition.specs.Calls.{record_fields, words_in, extract_in, indicator_check, called}
 use Rattle.definition.specs.Key.{key_of_texts}
 use Rattle.theorems.specs.Ungrouped.{plain_usages}
 use Rattle.theorems.specs.Restarted.{plain_slack}
@@ -134,6 +134,10 @@ pub data Catch : Type 0 where
   said : String → List (List ℕ) → Catch
   -- a copybook, the length of the lent output, and the needed length of the details' refusal 31
   no_details : String → ℕ → ℕ → Catch
+  -- a copybook, and of each statement its end and then each word's start and length
+  worded : String → List (List ℕ) → Catch
+  -- a copybook, the length of the lent output, and the words' refusal: number, position, needed length
+  not_worded : String → ℕ → ℕ → ℕ → ℕ → Catch
   -- a picture with a usage and a sign, its width, and what it holds
   pictured : String → Usage → Option SignKind → ℕ → FieldKind → Catch
   -- a picture, and its widths: under DISPLAY with no sign and with each of the four, under COMP-3, under COMP
@@ -172,6 +176,16 @@ pub data Catch : Type 0 where
   as_before : String → Bool → Catch
   -- and whether it is one that aligning from the record's start leaves so
   slack_as_before : String → Bool → Catch
+
+-- numbers of four bytes
+abbrev numbers : List ℕ → List ℕ
+numbers [] = []
+numbers (n ∷ ns) = le4 n ++ numbers ns
+
+-- the words' bytes: of each statement how many words, and then its numbers
+abbrev words_written : List (List ℕ) → List ℕ
+words_written [] = []
+words_written (ns ∷ nss) = le4 (length ns / 2) ++ numbers ns ++ words_written nss
 
 -- a call for a copybook, and what is asked of one, with as much work memory lent as it asks for
 abbrev calls : {A : Type 0} → Form → (List ℕ → Answer A) → List ℕ → Answer A
@@ -214,6 +228,10 @@ right_in form (said text l) =
     gives (λ es. same_columns (clause_facts es) l) (calls form (λ t. entries t LEAST_WORK) (bytes text))
 right_in form (no_details text room needed) =
     refuses 31 0 needed (asks form (report Report.Details room) (bytes text))
+right_in form (worded text nss) =
+    let l = words_written nss in gives (same l) (calls form (λ t. words_in t LEAST_WORK (length l)) (bytes text))
+right_in form (not_worded text room n p needed) =
+    refuses n p needed (calls form (λ t. words_in t LEAST_WORK room) (bytes text))
 right_in form (pictured text u s width kind) =
     gives (λ p. same (column 0 p.width p.kind) (column 0 width kind)) (picture_answer u s (bytes text))
 right_in form (widths text ws) = same (widths_of (bytes text) every_sign) ws
@@ -1125,4 +1143,27 @@ table =
     -- and 60 for a budget of 0
     ∷ not_extracted fish (5 ∷ 3 ∷ 9 ∷ []) 19 0 60
     ∷ not_extracted "" [] 0 0 60
+    -- words: those of each statement, with the place of its period or, without one, the length of the text
+    ∷ worded "" []
+    ∷ worded "01 A. 05 B PIC X." ((4 ∷ 0 ∷ 2 ∷ 3 ∷ 1 ∷ []) ∷ (16 ∷ 6 ∷ 2 ∷ 9 ∷ 1 ∷ 11 ∷ 3 ∷ 15 ∷ 1 ∷ []) ∷ [])
+    ∷ worded "05 A PIC 9.9 " ((13 ∷ 0 ∷ 2 ∷ 3 ∷ 1 ∷ 5 ∷ 3 ∷ 9 ∷ 3 ∷ []) ∷ [])
+    ∷ worded "05 A\n* x.\n. *> 05 B." ((10 ∷ 0 ∷ 2 ∷ 3 ∷ 1 ∷ []) ∷ [])
+    -- empty statements have none, level 88 has its own,
+    ∷ worded ". . 05 A. ." ((8 ∷ 4 ∷ 2 ∷ 7 ∷ 1 ∷ []) ∷ [])
+    ∷ worded "88 B VALUE 'a. b'. 05 A."
+    ((17 ∷ 0 ∷ 2 ∷ 3 ∷ 1 ∷ 5 ∷ 5 ∷ 11 ∷ 3 ∷ 15 ∷ 2 ∷ []) ∷ (23 ∷ 19 ∷ 2 ∷ 22 ∷ 1 ∷ []) ∷ [])
+    -- and so has what is refused for what it says
+    ∷ turned_down "X PIC. 05 A PIC XX9." 10 0
+    ∷ worded "X PIC. 05 A PIC XX9."
+    ((5 ∷ 0 ∷ 1 ∷ 2 ∷ 3 ∷ []) ∷ (19 ∷ 7 ∷ 2 ∷ 10 ∷ 1 ∷ 12 ∷ 3 ∷ 16 ∷ 3 ∷ []) ∷ [])
+    -- on cards those that the reader sees: not a comment's, and no period behind column 72
+    ∷ cards (worded "000100 05 A.\n000200*05 B.\n000300 05 C"
+    ((11 ∷ 7 ∷ 2 ∷ 10 ∷ 1 ∷ []) ∷ (37 ∷ 33 ∷ 2 ∷ 36 ∷ 1 ∷ []) ∷ []))
+    ∷ cards (worded "000100 05 A                                                             ." ((73 ∷ 7 ∷ 2 ∷ 10 ∷ 1 ∷ []) ∷ []))
+    -- 2, then 51, then 50, then 31
+    ∷ not_worded "05 A VALUE 'a \u{80}" 0 2 14 0
+    ∷ cards (not_worded "000100 05 A VALUE 'a\n000200- b'." 0 51 27 0)
+    ∷ cards (not_worded "000100 05 A VALUE 'a\n000200  b'." 0 50 18 0)
+    ∷ not_worded "05 A VALUE 'a" 0 50 11 0
+    ∷ not_worded "05 A. 06 B" 47 31 0 48
     ∷ []

@@ -12,7 +12,7 @@ ghost use Rattle.definition.specs.declared.Refusal.{Refusal};
 ghost use Rattle.definition.specs.declared.Pictured.{Pictured};
 ghost use Rattle.definition.specs.declared.Statement.{Statement};
 ghost use Rattle.definition.specs.Basic.{part, Answer, Ok, Err, is_given, fewest, sum};
-ghost use Rattle.definition.specs.Words.{statement_words};
+ghost use Rattle.definition.specs.Words.{statement_words, periods, tokens_of};
 ghost use Rattle.definition.specs.Unquoted.{bare_words, plain_text};
 ghost use Rattle.definition.specs.Tree.{Forest, forest, parents, parents_in};
 ghost use Rattle.definition.specs.Usages.{inherit_along, inherited};
@@ -24,6 +24,7 @@ ghost use Rattle.definition.specs.Owner.{occurrence, slack, extent, once, laid, 
 ghost use Rattle.definition.specs.Search.{entries#, seek, rows, walk};
 ghost use Rattle.definition.specs.Details.{details_in, listing_details, FirstBytes, Following, height};
 ghost use Rattle.definition.specs.Listing.{members#, listing};
+ghost use Rattle.definition.specs.Wording.{wording};
 ghost use Rattle.definition.specs.Cards.{view, view_in};
 ghost use Rattle.definition.specs.declared.Form.{Form};
 ghost use Rattle.definition.specs.Storage.{elementary};
@@ -41,7 +42,7 @@ ghost use Rattle.theorems.specs.Numbers.{RefusalNumbers, KindNumbers, Limits};
 ghost use Rattle.theorems.specs.Fields.{FieldsOf, AlignedBySync};
 ghost use Rattle.theorems.specs.Premises.{all_right, premises};
 ghost use Rattle.theorems.specs.Answered.{Answered};
-ghost use Rattle.theorems.specs.Sentences.{OfStatements, OneByOne};
+ghost use Rattle.theorems.specs.Sentences.{OfStatements, StatementsInOrder, OneByOne};
 ghost use Rattle.theorems.specs.CardLines.{lines, join, visible, first_other_of, refused_at};
 ghost use Rattle.theorems.specs.Standing.{standing, head, all_rows, FirstOwned};
 ghost use Rattle.theorems.specs.ReadBack.{read_listing, listed};
@@ -302,6 +303,19 @@ pub fn plain_texts_have_the_words_that_they_had()
 pub fn words_stand_in_the_text()
     ensures { (form : Form) (text : List ℕ) →
         OfStatements (λ w. part (view_in form text) w ≡ part text w) (statement_words (view_in form text)) }
+{}
+
+/// The words of statements stand in order in the text that the reader sees, none over another and each unbroken by
+/// white space; a statement's words stand before the period that ends it, and behind that of the one before.
+#[tactic(auto, using(crate::proofs::WordsLaws::words_in_order))]
+pub fn words_stand_in_order()
+    ensures { (text : List ℕ) → StatementsInOrder text 0 (statement_words text) (periods (tokens_of text)) }
+{}
+
+/// What is answered of the words has at most 8 bytes for each byte of the text, and 8 more.
+#[tactic(auto, using(definition::proofs::WordingLaws::words_most))]
+pub fn words_take_at_most_8_bytes_a_byte()
+    ensures { (text : List ℕ) → length (wording text) ≤ 8 * length text + 8 }
 {}
 
 /// A reader may go statement by statement: the statements of some tokens are the one that the first word begins, or an

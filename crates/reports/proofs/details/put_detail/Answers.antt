@@ -1,6 +1,6 @@
 -- `details::put_detail` meets its contract: its parts, one after the other.
 use Rattle.definition.specs.Details.{detail}
-use Rattle.fold.proofs.PutLaws.{◌and◌}
+use Rattle.output.proofs.PutLaws.{◌and◌}
 use Rattle.reports.proofs.FlatLaws.{detail-parts}
 use Rattle.reports.proofs.details.put_detail.Goals as goal
 

@@ -1,5 +1,5 @@
 -- `details::put_root` meets its contract: its parts, one after the other.
-use Rattle.fold.proofs.PutLaws.{◌and◌}
+use Rattle.output.proofs.PutLaws.{◌and◌}
 use Rattle.reports.proofs.details.put_root.Goals as goal
 
 pub returns-in-Some : goal.returns-in-Some

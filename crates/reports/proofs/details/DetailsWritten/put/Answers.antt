@@ -1,7 +1,7 @@
 -- The details' `put` meets its contract: those of the table's entries are the record's.
 use Rattle.reports.proofs.FlatLaws.{table_shallow, table_details}
 use native.Mathlib.Omega.{arith}
-use Rattle.fold.proofs.PutLaws.{◌and◌}
+use Rattle.output.proofs.PutLaws.{◌and◌}
 use Rattle.reports.proofs.details.DetailsWritten.put.Goals as goal
 
 pub put_details-requires : goal.put_details-requires

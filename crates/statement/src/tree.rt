@@ -13,8 +13,8 @@ ghost use Rattle.statement.specs.TreeReading.{Added, periods, rows_needed, State
 use crate::StatementRead;
 use definition::{MOST_BYTES, MOST_STATEMENTS, NamedUsage, Refusal, Statement};
 use rows::{Row, Rows};
-use text::tokens;
 use text::tokens::Cursor;
+use text::words;
 
 // ---------------------------------------------------------------- open levels
 
@@ -184,7 +184,7 @@ pub fn read_rows(text: &[u8], rows: &mut [Row]) -> Result<usize, Refusal>
             Ok(n)
         }
         Err(refusal) => {
-            tokens::open_check(text)?;
+            words::open_check(text)?;
             Err(refusal)
         }
     }

@@ -118,7 +118,7 @@ pub fn ask<Q: Question>(
     ensures { left result out.new []
         ≡ after_given (asked (Q.answers question (length out.old)) text.now work) out.old [] }
 {
-    let rows = tree::rows_needed(text);
+    let rows = tree::rows_enough(text);
     if rows <= SHORT_ROWS {
         return ask_in::<SHORT_ROWS, SHORT_ENTRIES, _>(question, text, work, out);
     }

@@ -13,8 +13,8 @@ ghost use Rattle.statement.specs.TreeReading.{Added, periods, rows_needed, State
 use crate::StatementRead;
 use definition::{MOST_BYTES, MOST_STATEMENTS, NamedUsage, Refusal, Statement};
 use rows::{Row, Rows};
-use text::tokens;
 use text::tokens::Cursor;
+use text::words;
 
 // ---------------------------------------------------------------- open levels
 
@@ -124,11 +124,25 @@ fn periods(text: &[u8]) -> u16
 
 /// How many rows a text needs at most: each of its statements but the last ends in a period, and 800 are kept.
 #[tactic(auto, unfolding(crate::specs::TreeReading::rows_needed))]
-pub fn rows_needed(text: &[u8]) -> usize
+fn rows_needed(text: &[u8]) -> usize
     ensures { (result ≡ rows_needed text.now) × (result ≤ MOST_STATEMENTS) }
 {
     let read = &text[..text.len().min(MOST_BYTES)];
     usize::from(periods(read)).min(MOST_STATEMENTS - 1) + 1
+}
+
+// In a text of more bytes the periods aren't counted: it has rows for all statements that are kept.
+const COUNTED: usize = 16384;
+
+/// How many rows are enough for a text.
+#[tactic(auto, unfolding(crate::specs::TreeReading::rows_needed))]
+pub fn rows_enough(text: &[u8]) -> usize
+    ensures { (rows_needed text.now ≤ result) × (result ≤ MOST_STATEMENTS) }
+{
+    if COUNTED < text.len() {
+        return MOST_STATEMENTS;
+    }
+    rows_needed(text)
 }
 
 /// The statements of a text as rows, from row 0 on, whether a literal is left open or not: how many, and
@@ -170,7 +184,7 @@ pub fn read_rows(text: &[u8], rows: &mut [Row]) -> Result<usize, Refusal>
             Ok(n)
         }
         Err(refusal) => {
-            tokens::open_check(text)?;
+            words::open_check(text)?;
             Err(refusal)
         }
     }

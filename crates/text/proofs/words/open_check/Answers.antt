@@ -9,8 +9,8 @@ use Rattle.text.specs.declared.tokens.Next.{Next}
 use Rattle.text.specs.declared.tokens.Cursor.{Cursor}
 use Rattle.text.specs.Tokens.{tokens_at, First, open_check}
 use Rattle.text.proofs.TokenLaws.{ends_open}
-use Rattle.text.proofs.tokens.open_check.Invariants.{Left}
-use Rattle.text.proofs.tokens.open_check.Goals as goal
+use Rattle.text.proofs.words.open_check.Invariants.{Left}
+use Rattle.text.proofs.words.open_check.Goals as goal
 
 module _ {t : List ℕ} {s : Cursor} (n : Cursor) (inv : Left t s) where
   passed : (x : Next) → First (tokens_at t s) t s.at x n → Left t n
@@ -31,7 +31,7 @@ module _ {t : List ℕ} {s : Cursor} (n : Cursor) (inv : Left t s) where
   done Next.End f h k p = p ∙ sym (ends_open t n (inv.rest ∙ ap first_open f.opens))
 
 pub loop-preserved : goal.loop-preserved
-loop-preserved c = passed _ c.loop.invariant c.next_token.result c.next_token.ensures
+loop-preserved c = passed _ c.loop.invariant c.word_at.result c.word_at.ensures
 
 pub returns : goal.returns
-returns c = done _ c.loop.invariant c.next_token.result c.next_token.ensures c.in_default.not-Word c.in_default.not-Stop c.left_open.ensures
+returns c = done _ c.loop.invariant c.word_at.result c.word_at.ensures c.in_default.not-Word c.in_default.not-Stop c.left_open.ensures

@@ -152,23 +152,22 @@ impl Refusal {
         }
     }
 
-    /// The words of the statement that it is about, in the text that is asked for its words.
+    /// The words of the statement that it is about, in the text that is asked for its words. A picture that is asked
+    /// for alone stands in no statement, and a text that is refused for a literal or an indicator has no words.
     fn words<'t>(&self, seen: &'t [u8]) -> Vec<Word<'t>> {
-        let place = self.position;
-        let is_about = |words: &Vec<Word>| match self.row().about {
+        let (place, about) = (self.position, self.row().about);
+        if self.line == 0 || matches!(about, About::Literal | About::Indicator) {
+            return Vec::new();
+        }
+        let Ok(read) = self.form.words(seen) else {
+            return Vec::new();
+        };
+        let is_about = |words: &Vec<Word>| match about {
             About::Byte => words.iter().any(|word| word.range().contains(&place)),
             _ => words.first().is_some_and(|word| word.start == place),
         };
-        match self.row().about {
-            // a picture that is asked for alone has no statement, and a text with such a refusal no words
-            _ if self.line == 0 => Vec::new(),
-            About::Literal | About::Indicator => Vec::new(),
-            _ => {
-                let read = self.form.words(seen);
-                let about = read.ok().and_then(|read| read.iter().map(|statement| statement.words).find(is_about));
-                about.unwrap_or_default()
-            }
-        }
+        let found = read.iter().map(|statement| statement.words).find(is_about);
+        found.unwrap_or_default()
     }
 
     /// What stands around it in a text, of which [`Refusal::seen`] is this.

@@ -13,7 +13,7 @@ ghost use Rattle.wording.specs.Extents.{end_from};
 use definition::{Form, MOST_BYTES, Refusal, Span};
 use output::{Sink, Written};
 use text::tokens::{Cursor, Next};
-use text::{cards, tokens};
+use text::{cards, tokens, words};
 
 // ---------------------------------------------------------------- a statement
 
@@ -116,7 +116,7 @@ fn write_text(text: &[u8], work: usize, out: &mut [u8]) -> Result<usize, Refusal
         ≡ after_writing (words_in text.now work (length out.old)) out.old [] }
 {
     text::entry_checks(text, work)?;
-    tokens::open_check(text)?;
+    words::open_check(text)?;
     output::write(Wording { text }, out)
 }
 

@@ -14,7 +14,7 @@ use Rattle.definition.specs.Fold.{Entries, end, entry, append, rebased, redefine
 use Rattle.definition.specs.Fold.{with_redefiners, folded_below, folded_all}
 use Rattle.definition.specs.Search.{entries#}
 use Rattle.rows.specs.declared.Row.{Row}
-use Rattle.rows.specs.Rows.{row_of_code, row_code, row_in}
+use Rattle.rows.specs.Rows.{row_of_code, row_code, row_in, before_in}
 use Rattle.rows.proofs.RowLaws.{row-none, row-some, code-back}
 use Rattle.layout.specs.Targets.{bases_at, place_at}
 use Rattle.layout.specs.Places.{entry_in}
@@ -172,12 +172,12 @@ module _ {t : List ℕ} {w : List Row} {out₀ out : List TableEntry} {from to :
     pub listing-falls : to - row < suc (to - from)
     listing-falls = omega (arith, at, inv.along.low)
 
-    shown-here : shown_at t w i j to inv.last ≡ shown_at t w row j to (row_in w row).place.before
+    shown-here : shown_at t w i j to inv.last ≡ shown_at t w row j to (before_in w row)
     shown-here =
         ap (shown_at t w i j to) (sym (along-before inv.along h))
-        ∙ ap (λ (k : ℕ). shown_at t w k j to (row_in w k).place.before) (sym at)
+        ∙ ap (λ (k : ℕ). shown_at t w k j to (before_in w k)) (sym at)
 
-    pub listing-room : TableRoom out b (entries# (shown_at t w row j to (row_in w row).place.before)) to
+    pub listing-room : TableRoom out b (entries# (shown_at t w row j to (before_in w row))) to
     listing-room =
         let shown = shown_at t w i j to inv.last in
         let rest = folded_rest t w j to (suc i) in
@@ -186,7 +186,7 @@ module _ {t : List ℕ} {w : List Row} {out₀ out : List TableEntry} {from to :
 
     pub listing-on :
         {r : Block} {after : List TableEntry} →
-        Built row to w out b (shown_at t w row j to (row_in w row).place.before) r after →
+        Built row to w out b (shown_at t w row j to (before_in w row)) r after →
         {k : ℕ} →
         k ≡ j →
         Listing t w out₀ after from to b₀ k r
@@ -259,7 +259,7 @@ module _ {t : List ℕ} {w : List Row} {out₀ out : List TableEntry} {i j to : 
     redefining-numbered = next-numbered inv.following redefining-next
 
     module _ {m : ℕ} (h : ChildrenEnd w row to m) where
-      pub redefining-sibling : Branch t w row m to × Known t w row (row_in w row).place.before
+      pub redefining-sibling : Branch t w row m to × Known t w row (before_in w row)
       redefining-sibling = next-sibling inv.following redefining-next h
 
       module _ {start : ℕ} (z : start ≡ (row_in w i).place.offset) where

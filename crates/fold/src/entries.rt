@@ -7,7 +7,7 @@ ghost use Rattle.definition.specs.Fold.{total, widest};
 ghost use Rattle.definition.specs.Listing.{members#};
 ghost use Rattle.definition.specs.Search.{entries#};
 ghost use Rattle.layout.specs.Places.{entry_in};
-ghost use Rattle.rows.specs.Rows.{row_in};
+ghost use Rattle.rows.specs.Rows.{row_in, before_in};
 ghost use Rattle.layout.specs.Shown.{shown_at, IsBase};
 ghost use Rattle.fold.specs.Entered.{listed, Entered};
 ghost use Rattle.fold.specs.Building.{item_in, redefined, union_in, own_member, based_in, within, TableRoom};
@@ -196,10 +196,10 @@ fn build_members(base: MarkedRow, entries: &mut [TableEntry], b: Block) -> Block
 fn build_shown(row: MarkedRow, entries: &mut [TableEntry], b: Block) -> Block
     requires { TableRoom entries.old b
         (entries# (shown_at row.text.now row.rows.all.now row.row row.end row.rows.count
-        (row_in row.rows.all.now row.row).place.before)) row.rows.count }
+        (before_in row.rows.all.now row.row))) row.rows.count }
     ensures { Built row.entry.row row.entry.rows.count row.entry.rows.all.now entries.old b
         (shown_at row.entry.text.now row.entry.rows.all.now row.entry.row row.entry.end row.entry.rows.count
-        (row_in row.entry.rows.all.now row.entry.row).place.before) result entries.new }
+        (before_in row.entry.rows.all.now row.entry.row)) result entries.new }
 {
     match row.standing() {
         Standing::Under => b,

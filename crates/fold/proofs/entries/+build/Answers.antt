@@ -5,7 +5,7 @@ use Rattle.std.proofs.Common.{◌≡◌, sym, ap, ◌∙◌, ℕ, List, arith, r
 use Rattle.definition.specs.Fold.{Entries, end, entry, append, widest, union}
 use Rattle.definition.specs.Search.{entries#}
 use Rattle.rows.specs.declared.Row.{Row}
-use Rattle.rows.specs.Rows.{row_of_code, row_code, row_in}
+use Rattle.rows.specs.Rows.{row_of_code, row_code, row_in, before_in}
 use Rattle.rows.proofs.RowLaws.{of-code}
 use Rattle.layout.specs.declared.unions.Standing.{Standing}
 use Rattle.layout.specs.Shown.{shown_at, standing_at, Base, Branch}
@@ -208,23 +208,23 @@ build_redefiners-returns t c = redefining-ends c.loop-next.invariant c.in_defaul
 -- a base, where row i is known to be one
 module _ {t : List ℕ} {w : List Row} {i j to : ℕ} (h : Branch t w i j to) {s : Standing} (p : s ≡ standing_at t w i) (e : s ≡ Standing.Base) {next : Option ℕ} (n : next ≡ row_of_code (row_code (row_in w i).place.next)) where
   based : Base t w i j to
-  based = branch-base h (stands-base t w i (bases_at w (row_in w i).place.before) p e)
+  based = branch-base h (stands-base t w i (bases_at w (before_in w i)) p e)
 
   -- with redefiners, and without
   unites :
       {row : ℕ} →
       next ≡ Some row →
-      shown_at t w i j to (row_in w i).place.before ≡ entry (union (entry_in w i) (widest (union_in t w i j to))) (union_in t w i j to) end
-  unites x = shown-union t w i j to (row_in w i).place.before p e based (sym n ∙ x)
+      shown_at t w i j to (before_in w i) ≡ entry (union (entry_in w i) (widest (union_in t w i j to))) (union_in t w i j to) end
+  unites x = shown-union t w i j to (before_in w i) p e based (sym n ∙ x)
 
-  stands : next ≡ None → shown_at t w i j to (row_in w i).place.before ≡ item_in t w i j None
-  stands x = shown-base t w i j to (row_in w i).place.before p e based (sym n ∙ x)
+  stands : next ≡ None → shown_at t w i j to (before_in w i) ≡ item_in t w i j None
+  stands x = shown-base t w i j to (before_in w i) p e based (sym n ∙ x)
 
 pub build_shown-returns-in-Under : goal.build_shown-returns-in-Under
 build_shown-returns-in-Under t c =
     let a = c.args in
     let x = a.row in
-    let last = (row_in x.rows.all.now x.row).place.before in
+    let last = before_in x.rows.all.now x.row in
     built-as
     (shown-under x.text.now x.rows.all.now x.row x.end x.rows.count last c.standing.ensures c.in-Under.is)
     (built-none x.rows.all.now a.entries.now a.b c.requires.narrow)
@@ -232,7 +232,7 @@ build_shown-returns-in-Under t c =
 pub build_shown-returns-in-Alone : goal.build_shown-returns-in-Alone
 build_shown-returns-in-Alone t c =
     let x = c.args.row in
-    let last = (row_in x.rows.all.now x.row).place.before in
+    let last = before_in x.rows.all.now x.row in
     built-as
     (shown-alone x.text.now x.rows.all.now x.row x.end x.rows.count last c.standing.ensures c.in-Alone.is)
     (built-wider x.row x.rows.count (omega arith) x.branch.high c.build_item.ensures)
@@ -240,7 +240,7 @@ build_shown-returns-in-Alone t c =
 pub build_shown-build_members-inner-requires : goal.build_shown-build_members-inner-requires
 build_shown-build_members-inner-requires t c =
     let x = c.args.row in
-    let last = (row_in x.rows.all.now x.row).place.before in
+    let last = before_in x.rows.all.now x.row in
     let base = stands-base x.text.now x.rows.all.now x.row (bases_at x.rows.all.now last) c.standing.ensures c.in-Base.is in
     let shown = unites x.branch c.standing.ensures c.in-Base.is (next-of c.row.ensures) c.in-Some.is in
     rw c.within.ensures (omega arith, (base, room_within (room_as shown c.requires)))

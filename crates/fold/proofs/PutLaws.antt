@@ -1,7 +1,7 @@
 -- Laws of bytes that were put: some after others, and what stands in the output then; the parts of an entry and of the
 -- listing.
 -- Assumes nothing.
-use Prim.Native.Nat.{ℕ, ◌+◌, ◌-◌, ◌≤◌}
+use Prim.Native.Nat.{ℕ, ◌+◌, ◌-◌, ◌*◌, ◌%◌, ◌≤◌}
 use mathlib.Core.Path.{◌≡◌, refl, sym, ap, ◌∙◌}
 use mathlib.Core.List.{List, [], ◌++◌}
 use native.Mathlib.Nat.{zero-add}
@@ -11,7 +11,7 @@ use lib.Seq.{sets, sets-eq, take_all}
 use borrow.Rule.Slice.PartMut.{put_mid}
 use borrow.Author.Tests.{le-ltb}
 use Rattle.definition.specs.declared.Entry.{Entry}
-use Rattle.definition.specs.Basic.{Ok}
+use Rattle.definition.specs.Basic.{Ok, le4, le8}
 use Rattle.definition.specs.Calls.{fitting, left, after_writing}
 use Rattle.definition.specs.declared.FieldKind.{FieldKind}
 use Rattle.definition.specs.Fold.{Entries}
@@ -40,6 +40,12 @@ module _ {s s' : Sink} {xs : List ℕ} (p : Puts s xs s') where
           same = rw (sets-append xs ys s.out.now s.at, ← p.put.same, ← p.put.next) q.put.same;
         };
       }
+
+-- two numbers in four bytes each are one in eight
+pub pair_bytes : (x y : ℕ) → le8 (x % 4294967296 + y % 4294967296 * 4294967296) ≡ le4 x ++ le4 y
+pair_bytes x y = grind arith
+
+pub ruleset pair_steps = (pair_bytes)
 
 -- a part of an output that was written over
 pub put-part :

@@ -98,13 +98,21 @@ impl<'a> Sink<'a> {
         self.bytes(x.to_le_bytes());
     }
 
+    // Two numbers in four bytes each, the lowest first; stored as one.
+    #[tactic(auto, using(crate::proofs::PutLaws::pair_steps))]
+    fn pair(&mut self, x: usize, y: usize)
+        requires { Countable self.old.at (le4 x ++ le4 y) }
+        ensures { Puts self.old (le4 x ++ le4 y) self.new }
+    {
+        self.long(x % 4294967296 + y % 4294967296 * 4294967296);
+    }
+
     /// A place in the text: its start, its length.
     pub fn span(&mut self, w: Span)
         requires { Countable self.old.at (span_bytes w) }
         ensures { Puts self.old (span_bytes w) self.new }
     {
-        self.number(usize::from(w.start));
-        self.number(usize::from(w.len));
+        self.pair(usize::from(w.start), usize::from(w.len));
     }
 
     // How often an item stands: the mark of OCCURS and the count, also where that is 0.
@@ -174,8 +182,7 @@ impl<'a> Sink<'a> {
     {
         self.byte(kinds::kind_byte(line.kind));
         self.span(line.name);
-        self.number(line.offset);
-        self.number(line.width);
+        self.pair(line.offset, line.width);
     }
 
     /// The line of an entry with n members.

@@ -11,7 +11,7 @@ use native.Mathlib.Omega.{arith}
 use Rattle.definition.specs.declared.Entry.{Entry}
 use Rattle.std.specs.Prelude.{if◌then◌else◌}
 use Rattle.definition.specs.Fold.{Entries, end, entry, append, rebased, redefiners, widest, union, union_members}
-use Rattle.definition.specs.Fold.{with_redefiners, folded_below, folded_all}
+use Rattle.definition.specs.Fold.{with_redefiners, folded_list, folded_below, folded_all}
 use Rattle.definition.specs.Search.{entries#}
 use Rattle.rows.specs.declared.Row.{Row}
 use Rattle.rows.specs.Rows.{row_of_code, row_code, row_in, before_in}
@@ -23,7 +23,7 @@ use Rattle.layout.proofs.RowLaws.{children-end}
 use Rattle.layout.specs.declared.unions.Standing.{Standing}
 use Rattle.layout.specs.Shown.{standing, shown_as, list_in, redefiners_in, folded_rest, shown_at, Known, Tree, Branch, Base}
 use Rattle.layout.proofs.FoldedLaws.{append-end, append-append, redefiners-below}
-use Rattle.layout.proofs.ShownLaws.{walking_here, walking-ends}
+use Rattle.layout.proofs.ShownLaws.{list-none, walking_here, walking-ends}
 use Rattle.layout.proofs.WidthLaws.{Along, along-starts, along-before, along-on, Next}
 use Rattle.layout.proofs.WidthLaws.{Onward, Following, following-starts, following-none, following-next}
 use Rattle.layout.proofs.WidthLaws.{next-numbered, next-sibling, next-is, next-on}
@@ -35,6 +35,11 @@ use Rattle.fold.proofs.FlatLaws.{size-append}
 use Rattle.fold.proofs.BuildLaws.{built-none, built-as, built-wider, ◌then◌, room-rest, room-first, room-part}
 
 -- ---------------------------------------------------------------- what a row comes to
+
+-- no rows
+pub listed-none : (t : List ℕ) (w : List Row) (a b : ℕ) → b ≤ a → listed t w a b ≡ end
+unfolding folded_below folded_list
+listed-none t w a b h = ap (folded_all t) (list-none w a b h)
 
 -- a base with some redefiners
 with-union :

@@ -1,7 +1,7 @@
 -- The cycle of calls of the walk that builds the table.
 -- Assumes nothing.
 use Rattle.std.specs.Prelude.{Option, None, Some}
-use Rattle.std.proofs.Common.{◌≡◌, sym, ap, ◌∙◌, ℕ, List, arith, rules}
+use Rattle.std.proofs.Common.{◌≡◌, ◌+◌, sym, ap, ◌∙◌, ℕ, List, arith, rules}
 use Rattle.definition.specs.Fold.{Entries, end, entry, append, widest, union}
 use Rattle.definition.specs.Search.{entries#}
 use Rattle.rows.specs.declared.Row.{Row}
@@ -17,7 +17,7 @@ use Rattle.fold.specs.declared.entries.Block.{Block}
 use Rattle.fold.specs.declared.table.TableEntry.{TableEntry}
 use Rattle.fold.proofs.BuildLaws.{built-none, built-as, built-wider, room-part, room_within}
 use Rattle.fold.proofs.BuildLaws.{room_open, built-own, built-union}
-use Rattle.fold.proofs.WalkLaws.{shown-under, shown-alone, shown-base, shown-union, union-based}
+use Rattle.fold.proofs.WalkLaws.{listed-none, shown-under, shown-alone, shown-base, shown-union, union-based}
 use Rattle.fold.proofs.WalkLaws.{based-folded, based-alone, first-room, second-room, both-built, room_as}
 use Rattle.fold.proofs.WalkLaws.{listing-starts, listing-ends, listing-falls, listing-room, listing-on}
 use Rattle.fold.proofs.WalkLaws.{redefining-starts, redefining-ends, redefining-next}
@@ -27,23 +27,20 @@ use Rattle.fold.proofs.entries.+build.Goals as goal
 
 -- ---------------------------------------------------------------- build_item
 
-pub build_item-build_list-inner-requires : goal.build_item-build_list-inner-requires
-build_item-build_list-inner-requires t c =
-    let n = c.children.ensures in
-    rw (n.0, n.1, n.2, n.3, c.within.ensures) (omega (arith, c.args.row.branch.low), room_within c.requires)
+pub build_item-build_inner-inner-requires : goal.build_item-build_inner-inner-requires
+build_item-build_inner-inner-requires t c =
+    rw c.within.ensures (omega (arith, c.args.row.branch.low), room_within c.requires)
 
 pub build_item-close_item-requires : goal.build_item-close_item-requires
 build_item-close_item-requires t c =
     let a = c.args in
-    let n = c.children.ensures in
-    let built = rw (n.0, n.1, n.2, n.3, c.within.ensures) at c.build_list-inner.ensures in
+    let built = rw c.within.ensures at c.build_inner-inner.ensures in
     room_open a.b built a.row.row a.row.branch.low c.requires
 
 pub build_item-returns : goal.build_item-returns
 build_item-returns t c =
     let a = c.args in
-    let n = c.children.ensures in
-    let built = rw (n.0, n.1, n.2, n.3, c.within.ensures) at c.build_list-inner.ensures in
+    let built = rw c.within.ensures at c.build_inner-inner.ensures in
     built-own
     a.b
     (built-wider a.row.row a.row.end (omega arith) (omega arith) built)
@@ -53,6 +50,25 @@ build_item-returns t c =
     (branch_row a.row.branch)
     a.union
     c.close_item.ensures
+
+-- ---------------------------------------------------------------- build_inner
+
+pub build_inner-returns-then-row-first : goal.build_inner-returns-then-row-first
+build_inner-returns-then-row-first t c =
+    let a = c.args in
+    let x = a.row in
+    built-as (listed-none x.text.now x.rows.all.now (x.row + 1) x.end (omega (arith, c.if-row-first.true)))
+    (built-none x.rows.all.now a.entries.now a.b c.requires.narrow)
+
+pub build_inner-build_list-requires : goal.build_inner-build_list-requires
+build_inner-build_list-requires t c =
+    let n = c.children.ensures in
+    rw (n.0, n.1, n.2, n.3) (omega (arith, c.args.row.branch.low), c.requires)
+
+pub build_inner-returns : goal.build_inner-returns
+build_inner-returns t c =
+    let n = c.children.ensures in
+    rw (n.0, n.1, n.2, n.3) at c.build_list.ensures
 
 -- ---------------------------------------------------------------- build_list
 

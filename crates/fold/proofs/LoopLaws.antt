@@ -106,6 +106,15 @@ length_from w (x ∷ t) m = omega (arith, length_from w t (max m (top_end (shown
 pub length_fold : (w : List Row) (t : List TableEntry) → fold (λ n x. max n (top_end (shown_of w x))) 0 t ≡ flat_length (shown_all w t)
 length_fold w t = omega (arith, length_from w t 0)
 
-pub ruleset fitting = (fits_none, fits_over, fits_next)
+-- where the largest end is not too large, none is
+fits_all : (xs : List Shown) → flat_length xs ≤ LARGEST → flat_fits xs ≡ Ok tt
+unfolding flat_length flat_fits and_then
+fits_all [] h = refl
+fits_all (x ∷ xs) h = rw (le-ltb LARGEST (top_end x) (omega arith)) (fits_all xs (omega arith))
+
+pub length_fits : (w : List Row) (t : List TableEntry) → flat_length (shown_all w t) ≤ LARGEST → flat_fits (shown_all w t) ≡ Ok tt
+length_fits w t = fits_all (shown_all w t)
+
+pub ruleset fitting = (fits_none, fits_over, fits_next, length_fits)
 
 pub ruleset putting = (putting_starts, putting_ends, putting_small, putting_on)

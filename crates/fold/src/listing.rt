@@ -100,8 +100,7 @@ fn put_place(sink: &mut Sink, line: Line)
 {
     sink.byte(kinds::kind_byte(line.kind));
     sink.span(line.name);
-    sink.number(line.offset);
-    sink.number(line.width);
+    sink.pair(line.offset, line.width);
 }
 
 /// The line of an entry with n members.

@@ -1,10 +1,10 @@
 //! The table of entries: the folded listing, each entry as an item that names its row, in the order of the listing.
 //! What is asked of the folded listing is asked of the table. `entries` makes its items.
 
-ghost use Rattle.std.specs.Prelude.{◌≡◌, ◌+◌, ◌≤◌, ◌<◌, length, All};
+ghost use Rattle.std.specs.Prelude.{◌≡◌, ◌+◌, ◌≤◌, ◌<◌, length, All, MatchResult};
 ghost use Rattle.std.specs.List.{list_any};
 ghost use Rattle.definition.specs.Fold.{entry_end, total};
-ghost use Rattle.definition.specs.Basic.{is_given};
+ghost use Rattle.definition.specs.Basic.{is_given, Ok, Err};
 ghost use Rattle.definition.specs.Listing.{entry_bytes};
 ghost use Rattle.fold.specs.Puts.{line_of};
 ghost use Rattle.output.specs.Puts.{Puts};
@@ -249,8 +249,8 @@ impl<'a> Table<'a> {
         self.row_item(item).end()
     }
 
-    /// How long the record is, in bytes: the largest end at the top.
-    pub fn length(self) -> usize
+    // How long the record is, in bytes: the largest end at the top.
+    fn length(self) -> usize
         ensures { result ≡ flat_length (shown_all self.entry.rows.all.now self.entry.items.now) }
     {
         self.items
@@ -258,9 +258,9 @@ impl<'a> Table<'a> {
             .fold(0, |long: usize, item| long.max(self.top_end(item)))
     }
 
-    /// 29 for the first entry at the top that ends above `LARGEST`.
+    // 29 for the first entry at the top that ends above `LARGEST`.
     #[tactic(auto, using(crate::proofs::LoopLaws::fitting))]
-    pub fn ends_fit(self) -> Result<(), Refusal>
+    fn ends_fit(self) -> Result<(), Refusal>
         ensures { result ≡ flat_fits (shown_all self.entry.rows.all.now self.entry.items.now) }
     {
         for item in self.items {
@@ -271,5 +271,22 @@ impl<'a> Table<'a> {
             }
         }
         Ok(())
+    }
+
+    /// How long the record is, or 29 for the first entry at the top that ends above `LARGEST`: which one that is, is
+    /// asked only where one does.
+    #[tactic(auto, using(crate::proofs::LoopLaws::fitting))]
+    pub fn fitting_length(self) -> Result<usize, Refusal>
+        ensures { MatchResult result
+            (λ n. (n ≡ flat_length (shown_all self.entry.rows.all.now self.entry.items.now))
+            × (flat_fits (shown_all self.entry.rows.all.now self.entry.items.now) ≡ Ok tt))
+            (λ r. flat_fits (shown_all self.entry.rows.all.now self.entry.items.now) ≡ Err r) }
+    {
+        let length = self.length();
+        if length <= LARGEST {
+            return Ok(length);
+        }
+        self.ends_fit()?;
+        Ok(length)
     }
 }

@@ -21,14 +21,14 @@ use Rattle.definition.specs.Owner.{size}
 use Rattle.definition.specs.Search.{entries#}
 use Rattle.definition.proofs.Lists.{tested}
 use Rattle.rows.specs.declared.Row.{Row}
-use Rattle.rows.specs.Rows.{row_in, row_code, statement_at, statements_from}
+use Rattle.rows.specs.Rows.{row_in, before_in, row_code, statement_at, statements_from}
 use Rattle.rows.proofs.RowLaws.{code-back, statements-same, length-statements}
 use Rattle.layout.specs.Places.{put_places, placed_in, known, unnamed, entry_at, entry_in, rows_forest, entries_in}
 use Rattle.layout.specs.Places.{RowLinked, Linked}
 use Rattle.layout.specs.Targets.{base_after, plain_after, target_after}
 use Rattle.layout.specs.Children.{ChildrenEnd, Numbered, BelowCounted}
 use Rattle.layout.proofs.PlaceLaws.{members_put, first_put, known-place, place-other, length-places, known-places}
-use Rattle.layout.proofs.PlaceLaws.{before-places, first_place}
+use Rattle.layout.proofs.PlaceLaws.{back_by, before-places, first_place}
 use Rattle.layout.proofs.SearchLaws.{found, found_none, found-step, after_same, searched_same, plain-next, plain-same}
 use Rattle.layout.proofs.RowLaws.{children-end, forest-split}
 
@@ -226,7 +226,7 @@ linked-same t w w' leaf k last l h plain same x = tt
 linked-same t w w' (item s kids later) k last l h plain same x =
     let row : unnamed (row_in w k) ≡ unnamed (row_in w' k) = h k (omega arith) (omega arith) in
     let of : (row_in w k).statement ≡ (row_in w' k).statement = ap (λ (r : Row). r.statement) row in
-    let before : (row_in w' k).place.before ≡ last = sym (ap (λ (r : Row). r.place.before) row) ∙ x.0.before in (
+    let before : before_in w' k ≡ last = sym (ap (λ (r : Row). k - r.place.gap) row) ∙ x.0.before in (
       record {
         before = before;
         below = sym (ap (λ (r : Row). r.below) row) ∙ x.0.below;
@@ -297,7 +297,7 @@ places-held t (item s kids later) (entry e members more) w k last b o r x fits =
       entries = λ i. entry (own i) (members-held i) (rest'.entries i);
       linked = (
         record {
-          before = ap (λ (r : Row). r.place.before) here;
+          before = ap (λ (r : Row). k - r.place.gap) here ∙ back_by k last b;
           below = ap (λ (r : Row). r.below) here ∙ ap (λ (y : Statement × ℕ × ℕ × Option ℕ). y.1) (known₁ k) ∙ x.0;
           base =
               ap (λ (r : Row). row_code r.place.base) here

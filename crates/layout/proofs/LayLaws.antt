@@ -24,7 +24,7 @@ use Rattle.definition.specs.Layout.{shallow, content, start, entry_of, advance, 
 use Rattle.definition.specs.Owner.{size}
 use Rattle.definition.specs.Search.{entries#}
 use Rattle.rows.specs.declared.Row.{Row}
-use Rattle.rows.specs.Rows.{statement_at, row_in, row_code, row_of_code}
+use Rattle.rows.specs.Rows.{statement_at, row_in, before_in, row_code, row_of_code}
 use Rattle.rows.proofs.RowLaws.{code-back}
 use Rattle.layout.specs.Places.{placed, put_places, entry_at, entry_in, placed_in, rows_forest}
 use Rattle.layout.specs.Targets.{place_at, seen_from, seen_at, bases_at, base_after}
@@ -32,7 +32,7 @@ use Rattle.layout.proofs.SearchLaws.{searched_same, plain-same, if-most, row-mos
 use Rattle.layout.specs.Fingerprints.{Fingerprinted}
 use Rattle.layout.specs.Children.{ChildrenEnd, BelowCounted}
 use Rattle.layout.proofs.PlaceLaws.{length-places, known-places, before-places, statement-places, statements-places, first_place}
-use Rattle.layout.proofs.PlaceLaws.{seen_low, seen-in, seen_same, fingerprinted-places}
+use Rattle.layout.proofs.PlaceLaws.{back_by, seen_low, seen-in, seen_same, fingerprinted-places}
 use Rattle.layout.proofs.RowLaws.{forest-empty, forest-split, children-end}
 use Rattle.layout.proofs.EntriesLaws.{size-stretch, rows-forest, Held, places-held, next_row, of_size, counted_step}
 use Rattle.layout.proofs.EntriesLaws.{counted-kept, EntryOf, entry-placed}
@@ -158,7 +158,7 @@ module _ (text : List ℕ) (w : List Row) (i last : ℕ) (x : ItemLaid) (fits : 
 
   bases_step : bases_at with-item (suc i) ≡ bases_after x.own (bases_at w last)
   bases_step =
-      bases-after with-item i last (ap (λ (r : Row). r.place.before) here) l
+      bases-after with-item i last (ap (λ (r : Row). i - r.place.gap) here ∙ back_by i last l) l
       ∙ ap (λ (e : Entry). bases_after e (bases_at with-item last)) own-entry
       ∙ ap (bases_after x.own) low-bases
 
@@ -194,8 +194,9 @@ seen_step text w i last x fits l h =
     let here = first_place text x.own x.members end w i last fits in
     let name : (row_in w' i).statement.name ≡ x.own.name = ap (λ (y : Statement). y.name) (statement-places text es w i last i) ∙ h in
     let offset : (row_in w' i).place.offset ≡ x.own.offset = ap (λ (r : Row). r.place.offset) here in
-    let before : seen_from false w' i (row_in w' i).place.before ≡ seen_at w last =
-    ap (λ (r : Row). seen_from false w' i r.place.before) here
+    let before : seen_from false w' i (before_in w' i) ≡ seen_at w last =
+    ap (λ (r : Row). seen_from false w' i (i - r.place.gap)) here
+    ∙ ap (seen_from false w' i) (back_by i last l)
     ∙ seen_same false w' w i last (before-places text es w i last)
     ∙ seen_low false w i last l in
     let own : place_at w' i ≡ place_of x.own = λ k. record { name = name k; offset = offset k } in
@@ -611,7 +612,7 @@ unfolding put_places and_then
 own-then text w i last cursor all b members (Err r) f = refl
 own-then text w i last cursor all b members (Ok e) f =
     let w₁ = put_places text w (suc i) 0 members in
-    λ k. placing (advance cursor e) (entry_end e) all (set w₁ i (placed (row_in w₁ i) last (f.base k) (f.plain k) (f.target k) e))
+    λ k. placing (advance cursor e) (entry_end e) all (set w₁ i (placed (row_in w₁ i) (i - last) (f.base k) (f.plain k) (f.target k) e))
 
 module _ (text : List ℕ) (w : List Row) (i j depth base last cursor : ℕ) where
   abbrev of_row : Statement

@@ -1,6 +1,6 @@
 -- What laying a list, or one item of it, in the rows of the table leads to, and the room that it takes.
 -- Assumes nothing.
-use Rattle.std.specs.Prelude.{ℕ, suc, max, ◌≤◌, ◌≡◌, List, length, set}
+use Rattle.std.specs.Prelude.{ℕ, suc, max, ◌-◌, ◌≤◌, ◌≡◌, List, length, set}
 use Rattle.definition.specs.declared.Refusal.{Refusal}
 use Rattle.definition.specs.declared.Entry.{Entry}
 use Rattle.definition.specs.declared.Pictured.{Pictured}
@@ -104,7 +104,7 @@ pub record Begun (text : List ℕ) (w : List Row) (i multiple base last cursor :
 abbrev pub after_own : List Row → ℕ → ℕ → ℕ → Beginning → ℕ → Answer Entry → Outcome LaidItem
 after_own w i last cursor b largest (Err r) = halted r
 after_own w i last cursor b largest (Ok e) =
-    placing (advance cursor e) (entry_end e) largest (set w i (placed (row_in w i) last b.base b.plain b.target e))
+    placing (advance cursor e) (entry_end e) largest (set w i (placed (row_in w i) (i - last) b.base b.plain b.target e))
 
 -- row i, what it holds and where it starts known and the rows below it laid, placed after the sibling `last`
 abbrev pub place_row : List Row → ℕ → ℕ → ℕ → Beginning → Pictured → LaidList → Outcome LaidItem

@@ -188,7 +188,7 @@ fn place_item(
         slack_at_end: e.slack_at_end as u8,
         kind: e.kind,
         digits: e.digits,
-        before: next.last as u16,
+        gap: (i - next.last) as u16,
         base: begun.base,
         plain: begun.plain,
         target: begun.target,

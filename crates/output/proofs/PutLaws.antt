@@ -1,6 +1,6 @@
 -- Laws of bytes that were put: some after others, and what stands in the output then.
 -- Assumes nothing.
-use Prim.Native.Nat.{ℕ, ◌+◌, ◌-◌, ◌≤◌}
+use Prim.Native.Nat.{ℕ, ◌+◌, ◌-◌, ◌*◌, ◌%◌, ◌≤◌}
 use mathlib.Core.Path.{◌≡◌, refl, sym, ap, subst, ◌∙◌}
 use mathlib.Core.List.{List, [], ◌++◌, append_assoc, append-nil}
 use native.Mathlib.Nat.{zero-add}
@@ -9,7 +9,7 @@ use lib.ListN.{length, drop, length-append}
 use lib.Seq.{sets, sets-eq, take_all}
 use borrow.Rule.Slice.PartMut.{put_mid}
 use borrow.Author.Tests.{le-ltb}
-use Rattle.definition.specs.Basic.{Ok}
+use Rattle.definition.specs.Basic.{Ok, le4, le8}
 use Rattle.definition.specs.Calls.{fitting, left, after_writing}
 use Rattle.std.proofs.lemmas.Slice.{put_mid-paste}
 use Rattle.definition.proofs.Lists.{sets-append}
@@ -32,6 +32,12 @@ module _ {s s' : Sink} {xs : List ℕ} (p : Puts s xs s') where
           same = rw (sets-append xs ys s.out.now s.at, ← p.put.same, ← p.put.next) q.put.same;
         };
       }
+
+-- two numbers in four bytes each are one in eight
+pub pair_bytes : (x y : ℕ) → le8 (x % 4294967296 + y % 4294967296 * 4294967296) ≡ le4 x ++ le4 y
+pair_bytes x y = grind arith
+
+pub ruleset pair_steps = (pair_bytes)
 
 -- of these bytes the first were put, and the rest is left
 pub record Left (s : Sink) (all rest : List ℕ) (s' : Sink) : Type 0 where

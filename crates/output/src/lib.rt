@@ -3,7 +3,7 @@
 //! only where all of it has room.
 #![tactic(auto)]
 
-ghost use Rattle.std.specs.Prelude.{ℕ, List, ◌≡◌, ◌≤◌, [], ◌∷◌, length, IsTrue};
+ghost use Rattle.std.specs.Prelude.{ℕ, List, ◌≡◌, ◌≤◌, [], ◌∷◌, ◌++◌, length, IsTrue};
 ghost use Rattle.definition.specs.Basic.{le4, le8};
 ghost use Rattle.definition.specs.Calls.{after_writing, fitting, left};
 ghost use Rattle.definition.specs.Listing.{span_bytes};
@@ -74,13 +74,21 @@ impl<'a> Sink<'a> {
         self.bytes(x.to_le_bytes());
     }
 
+    /// Two numbers in four bytes each, the lowest first; stored as one.
+    #[tactic(auto, using(crate::proofs::PutLaws::pair_steps))]
+    pub fn pair(&mut self, x: usize, y: usize)
+        requires { Countable self.old.at (le4 x ++ le4 y) }
+        ensures { Puts self.old (le4 x ++ le4 y) self.new }
+    {
+        self.long(x % 4294967296 + y % 4294967296 * 4294967296);
+    }
+
     /// A place in the text: its start, its length.
     pub fn span(&mut self, w: Span)
         requires { Countable self.old.at (span_bytes w) }
         ensures { Puts self.old (span_bytes w) self.new }
     {
-        self.number(usize::from(w.start));
-        self.number(usize::from(w.len));
+        self.pair(usize::from(w.start), usize::from(w.len));
     }
 }
 

@@ -147,11 +147,11 @@ pub fn lay_fields(
         rows: laid,
         items: &entries[..made.next as usize],
     };
-    table.ends_fit()?;
+    let length = table.fitting_length()?;
     Ok(Record {
         from,
         to,
-        length: table.length(),
+        length,
         count: made.next as usize,
         top: made.count as usize,
     })

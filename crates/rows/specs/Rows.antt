@@ -35,7 +35,7 @@ no_place =
       slack_at_end = 0;
       kind = FieldKind.Text;
       digits = None;
-      before = 0;
+      gap = 0;
       base = None;
       plain = None;
       target = None;
@@ -57,6 +57,10 @@ blank = fresh no_statement None 0
 -- row k
 abbrev pub row_in : List Row → ℕ → Row
 row_in w k = get_or w k blank
+
+-- the end of the siblings before row k: the row after the latest of them, or 0 where there is none
+abbrev pub before_in : List Row → ℕ → ℕ
+before_in w k = k - (row_in w k).place.gap
 
 -- the statement in row k
 abbrev pub statement_at : List Row → ℕ → Statement

@@ -4,7 +4,7 @@
 
 ghost use Rattle.std.specs.Prelude.{◌≡◌, ◌≤◌, ◌<◌, length};
 ghost use Rattle.definition.specs.Calls.{cleared};
-ghost use Rattle.rows.specs.Rows.{new_row, row_code, row_in};
+ghost use Rattle.rows.specs.Rows.{new_row, row_code, row_in, before_in};
 
 use definition::{Clauses, Digits, FieldKind, Span, Statement};
 use text::names;
@@ -33,8 +33,8 @@ pub struct Place {
     pub kind: FieldKind,
     /// The digits of a number.
     pub digits: Option<Digits>,
-    /// The end of the siblings before it: the row after the latest of them, or 0 where there is none.
-    pub before: u16,
+    /// How many rows stand below the sibling before it; where there is none, how many rows stand before it.
+    pub gap: u16,
     /// The base that it redefines, if any.
     pub base: Option<u16>,
     /// The latest sibling before it without REDEFINES, if any: it may place the row.
@@ -54,7 +54,7 @@ impl Place {
         slack_at_end: 0,
         kind: FieldKind::Text,
         digits: None,
-        before: 0,
+        gap: 0,
         base: None,
         plain: None,
         target: None,
@@ -154,5 +154,13 @@ impl<'a> Rows<'a> {
         ensures { result.now ≡ row_in self.entry.all.now k }
     {
         &self.all[k]
+    }
+
+    /// The end of the siblings before row k.
+    pub fn siblings_end(self, k: usize) -> usize
+        requires { k < self.count }
+        ensures { (result ≡ before_in self.entry.all.now k) × (result ≤ k) }
+    {
+        k.saturating_sub(usize::from(self.row(k).place.gap))
     }
 }

@@ -1,5 +1,5 @@
 -- `layout::place_item` meets its contract.
-use Prim.Native.Nat.{ℕ, ◌+◌, max}
+use Prim.Native.Nat.{ℕ, ◌+◌, ◌-◌, max}
 use mathlib.Core.Bool.{false}
 use mathlib.Core.Path.{◌≡◌, sym, ap, ◌∙◌}
 use mathlib.Core.List.{List}
@@ -57,7 +57,7 @@ module _ (w : List Row) (i last cursor : ℕ) (b : Beginning) (c : Pictured) (in
         Ok n ≡ end_of d →
         m ≡ (if is_given own.clauses.redefines then cursor else n) →
         k ≡ all →
-        placing m n k (set w i (placed (row_in w i) last b.base b.plain b.target d)) ≡ place_row w i last cursor b c inner
+        placing m n k (set w i (placed (row_in w i) (i - last) b.base b.plain b.target d)) ≡ place_row w i last cursor b c inner
     fits e pm' pk =
         let z = ends_at d e in
         rw (pm', pk, ← z.is, is-made)

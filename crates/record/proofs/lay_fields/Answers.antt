@@ -54,14 +54,14 @@ new-fields-requires c =
     rw (c.new-laid.ensures.0, c.new-laid.ensures.1)
     (linked c.in_ok-list.list c.requires.0 c.requires.1 c.in_ok-list.ensures c.link_unions.ensures)
 
-pub returns-in_err-ends_fit : goal.returns-in_err-ends_fit
-returns-in_err-ends_fit c =
+pub returns-in_err-length : goal.returns-in_err-length
+returns-in_err-length c =
     let a = c.args in
     let n = laid c.in_ok-list.list c.requires.0 c.requires.1 c.in_ok-list.ensures in
-    let p = err_from_is_err_and c.from_residual-in_err-ends_fit.result c.from_residual-in_err-ends_fit.ensures.1 in
+    let p = err_from_is_err_and c.from_residual-in_err-length.result c.from_residual-in_err-length.ensures.1 in
     let f = c.new-fields.ensures in
     let entered = rw (f.0, f.1, f.2, c.new-laid.ensures.1) at c.make_entries-made.ensures.entered in
-    let ends = table-ends entered c.in_err-ends_fit.ensures in
+    let ends = table-ends entered (sym c.in_err-length.ensures) in
     rw (p.1, p.2)
     (end_refused a.text.now a.rows.now a.from a.to c.requires.5 c.requires.0 c.requires.1 n c.in_ok-list-2.was c.link_unions.ensures
     (rw c.new-laid.ensures.0 at ends) refl)
@@ -73,8 +73,8 @@ returns c =
     let made = c.make_entries-made.ensures in
     let f = c.new-fields.ensures in
     let entered = rw (f.0, f.1, f.2, c.new-laid.ensures.1) at made.entered in
-    let ends = table-ends entered c.in_ok-ends_fit.ensures in
-    let long = table-long entered c.length.ensures in
+    let ends = table-ends entered (sym c.in_ok-length.ensures.1) in
+    let long = table-long entered c.in_ok-length.ensures.0 in
     record {
       inside = made.inside;
       laid =

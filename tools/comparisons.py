@@ -290,13 +290,16 @@ def run(text, *words):
 
 
 def laid_facts(text):
-    """The first byte of each elementary entry that has one, and the slack before each entry, from the bytes as laid."""
-    first, slack, seen = {}, {}, 0
+    """The first byte of each elementary entry that has one, the slack before entries and that at the end of groups, from
+    the bytes as laid."""
+    first, before, at_end, seen = {}, {}, {}, 0
+    groups = [bool(inner) for _, inner in owner.flat(layout.top_list(text))]
     for mark, number, width in owner.runs(owner.laid(text)[0]):
+        slack = at_end if groups[number] else before
         facts, fact = (slack, width) if mark == owner.SLACK else (first, seen)
         facts.setdefault(number, fact)
         seen += width
-    return first, slack
+    return {"first": first, "slack_before": before, "slack_at_end": at_end}
 
 
 def printed_asked(_library, question):
@@ -307,7 +310,7 @@ def printed_asked(_library, question):
         yield Asked(what, run(text, what), lines.owner_lines(text).encode(), ["owners"])
     elif what == "places":
         entries = json.loads(run(text, "layout", "--json"))["entries"]
-        for field, facts in zip(("first", "slack_before"), laid_facts(text)):
+        for field, facts in laid_facts(text).items():
             yield Asked(field, {number: entries[number][field] for number in facts}, facts, ["places"])
     else:
         due = lines.owner_lines(text, what).encode()

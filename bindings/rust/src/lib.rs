@@ -67,11 +67,11 @@ mod words;
 
 pub use bytes::Word;
 pub use cause::Cause;
-pub use details::{Detail, Details};
+pub use details::{Detail, Details, Record};
 pub use form::{any_bytes, Form};
 pub use key::{Key, NoKey};
 use kinds::Facts;
-pub use kinds::{FieldKind, NumRepr, SignKind, Usage};
+pub use kinds::{FieldKind, NumRepr, SignClause, SignKind, Usage};
 pub use layout::{Entries, Entry, Layout};
 use limits::{DEEPEST, MOST_BYTES, MOST_STATEMENTS};
 pub use limits::{LONGEST_MASK, MOST_ITEMS, WORK};
@@ -84,9 +84,9 @@ pub use words::{Sentence, Words};
 /// The longest listing: a head, and at most 2 entries of at most 49 bytes for each statement.
 pub const LONGEST_LISTING: usize = 10 + MOST_STATEMENTS * 2 * 49;
 
-/// The longest details: 47 bytes for each entry. A group made by folding has two statements for itself: its base, and
-/// that one's first redefiner.
-pub const LONGEST_DETAILS: usize = (MOST_STATEMENTS + MOST_STATEMENTS / 2) * details::DETAIL;
+/// The longest details: a head, and 63 bytes for each entry. A group made by folding has two statements for itself: its
+/// base, and that one's first redefiner.
+pub const LONGEST_DETAILS: usize = details::HEAD + (MOST_STATEMENTS + MOST_STATEMENTS / 2) * details::DETAIL;
 
 /// The longest reasons: 13 bytes for each. An item has at most a placing reason and slack, and each group around it,
 /// of which there are at most as many as the deepest list is deep, two reasons.

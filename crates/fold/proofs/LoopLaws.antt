@@ -2,9 +2,9 @@
 -- Assumes nothing.
 use Rattle.rows.specs.declared.Row.{Row}
 use Prim.Native.Nat.{ℕ, ◌+◌, max, ◌≤◌, ◌<◌}
-use mathlib.Core.Path.{◌≡◌, refl, sym, ap, subst, ◌∙◌}
+use mathlib.Core.Path.{◌≡◌, refl, ap, ◌∙◌}
 use mathlib.Core.Bool.{Bool, ◌||◌}
-use mathlib.Core.List.{List, [], ◌∷◌, ◌++◌, append_assoc, append-nil}
+use mathlib.Core.List.{List, [], ◌∷◌}
 use native.Mathlib.Omega.{arith}
 use lib.ListN.{length, length-append, drop, get_or}
 use borrow.Author.Tests.{lt-ltb, le-ltb}
@@ -16,7 +16,7 @@ use Rattle.definition.specs.Basic.{is_given, Ok, Err, and_then}
 use Rattle.definition.specs.Listing.{entry_bytes}
 use Rattle.output.specs.declared.Sink.{Sink}
 use Rattle.output.specs.Puts.{Puts}
-use Rattle.output.proofs.PutLaws.{puts-none, ◌and◌}
+use Rattle.output.proofs.PutLaws.{Left, left-all, left-none, left-on}
 use Rattle.fold.specs.declared.table.TableEntry.{TableEntry}
 use Rattle.fold.specs.Entered.{Shown, flat_bytes, flat_varies, top_end, flat_length, flat_fits, own_of, shown_of}
 use Rattle.fold.specs.Entered.{shown_all}
@@ -38,23 +38,20 @@ module _ (w : List Row) (t : List TableEntry) (k : ℕ) where
 
 -- the bytes of the entries before item k were put
 pub record Putting (w : List Row) (t : List TableEntry) (s : Sink) (k : ℕ) (s' : Sink) : Type 0 where
-  pub done : List ℕ
-  pub put : Puts s done s'
-  pub same : flat_bytes (shown_all w t) ≡ done ++ flat_bytes (rest w t k)
+  pub left : Left s (flat_bytes (shown_all w t)) (flat_bytes (rest w t k)) s'
 
 pub putting_starts : (w : List Row) (t : List TableEntry) (s : Sink) → Putting w t s 0 s
-putting_starts w t s = record { done = []; put = puts-none s; same = refl }
+putting_starts w t s = record { left = left-all s (flat_bytes (shown_all w t)) }
 
 module _ {w : List Row} {t : List TableEntry} {s : Sink} {k : ℕ} {s' : Sink} (inv : Putting w t s k s') where
   pub putting_ends : length t ≤ k → Puts s (flat_bytes (shown_all w t)) s'
   unfolding flat_bytes
-  putting_ends h =
-      let all : flat_bytes (shown_all w t) ≡ inv.done =
-      inv.same ∙ ap (λ (l : List Shown). inv.done ++ flat_bytes l) (none_left w t k h) ∙ append-nil inv.done in
-      subst (λ (bs : List ℕ). Puts s bs s') (sym all) inv.put
+  putting_ends h = left-none inv.left (ap flat_bytes (none_left w t k h))
 
   pub putting_small : s.at + length (flat_bytes (shown_all w t)) < 4294967296 → s'.at ≤ 4294967295
-  putting_small m = omega (arith, inv.put.put.next, ap length inv.same, length-append inv.done (flat_bytes (rest w t k)))
+  putting_small m =
+      let l = inv.left in
+      omega (arith, l.put.put.next, ap length l.same, length-append l.done (flat_bytes (rest w t k)))
 
   pub putting_on :
       (x : TableEntry) → k < length t →
@@ -62,16 +59,7 @@ module _ {w : List Row} {t : List TableEntry} {s : Sink} {k : ℕ} {s' : Sink} (
       Puts s' (entry_bytes (own_of w (get_or t k x)) (get_or t k x).members) s'' →
       Putting w t s (k + 1) s''
   unfolding flat_bytes
-  putting_on x h p =
-      let bs = entry_bytes (own_of w (get_or t k x)) (get_or t k x).members in
-      record {
-        done = inv.done ++ bs;
-        put = inv.put and p;
-        same =
-            inv.same
-            ∙ ap (λ (l : List Shown). inv.done ++ flat_bytes l) (rest-next w t k x h)
-            ∙ sym (append_assoc inv.done bs (flat_bytes (rest w t (k + 1))));
-      }
+  putting_on x h p = record { left = left-on inv.left (ap flat_bytes (rest-next w t k x h)) p }
 
 -- ---------------------------------------------------------------- what is asked of them, one at a time
 

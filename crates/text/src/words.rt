@@ -1,4 +1,4 @@
-//! A word reader, which holds the copybook text and where it stands in it; and refusal 50, for which all words are read.
+//! A word reader, which holds a text and where it stands in it; and refusal 50, for which all words are read.
 
 ghost use Rattle.std.specs.Prelude.{◌≡◌, ◌≤◌, length};
 ghost use Rattle.definition.specs.Calls.{literal_check};

@@ -393,8 +393,8 @@ fn several_files() {
     let (status, out, _) = ran(&["layout", "--csv", &wrong, &good, &empty, &good], "");
     let lines: Vec<&str> = out.lines().collect();
     assert_eq!((status, lines.len()), (1, 3));
-    assert!(lines[0].starts_with("file,record_length,") && lines[1] == lines[2], "{out}");
-    assert!(lines[1].starts_with(&format!("{good},1,false,1,1,0,")), "{out}");
+    assert!(lines[0].starts_with("file,record,record_level,record_length,") && lines[1] == lines[2], "{out}");
+    assert!(lines[1].starts_with(&format!("{good},,,1,false,1,1,0,")), "{out}");
     assert_eq!(ran(&["layout", &empty, &good], "").0, 3);
     assert_eq!(ran(&["layout", "--csv", &good, &good], "").1.lines().count(), 3);
 }
@@ -504,9 +504,9 @@ fn tables_of_a_width() {
     assert!(narrow.ends_with(last), "{narrow}");
     let joined = |table: &str| table.split_whitespace().collect::<Vec<_>>().join(" ");
     assert_eq!(joined(&narrow), joined(&whole));
-    assert!(lines(&["--width=9"]).lines().all(|line| line.len() <= 44 + 20));
-    let why = lines(&["--why", "--width=145"]);
-    assert!(why.lines().all(|line| line.len() <= 145) && why.contains("at 5; 1 byte"), "{why}");
+    assert!(lines(&["--width=9"]).lines().all(|line| line.len() <= 51 + 20));
+    let why = lines(&["--why", "--width=152"]);
+    assert!(why.lines().all(|line| line.len() <= 152) && why.contains("at 5; 1 byte"), "{why}");
 }
 
 /// Whatever a copybook has, the table shows no control character.

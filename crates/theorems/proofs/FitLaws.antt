@@ -1,15 +1,14 @@
 -- Four bytes hold each number of an accepted copybook's listing: places lie in a text of at most 65,535 bytes, there are
 -- at most 800 statements, and 29 refuses what is larger than `LARGEST`.
 -- Assumes nothing.
-use Prim.Native.Nat.{ℕ, zero, suc, ◌+◌, ◌*◌, ◌≤◌, ◌<◌, max}
+use Prim.Native.Nat.{ℕ, suc, ◌+◌, ◌*◌, ◌≤◌, ◌<◌, max}
 use mathlib.Core.Path.{◌≡◌, refl, sym, ◌∙◌, ap, subst}
 use mathlib.Core.Bool.{Bool, true, false}
 use mathlib.Core.List.{List, [], ◌∷◌}
 use native.Mathlib.Omega.{arith}
 use lib.Dec.{ltb, leb}
-use lib.ListN.{length, length-append}
-use Rattle.std.proofs.lemmas.List.{length-replicate}
-use Rattle.std.specs.Prelude.{Option, None, Some, replicate, if◌then◌else◌}
+use lib.ListN.{length}
+use Rattle.std.specs.Prelude.{Option, None, Some, if◌then◌else◌}
 use Rattle.definition.specs.declared.Span.{Span}
 use Rattle.definition.specs.declared.Token.{Token}
 use Rattle.definition.specs.declared.Token.TheVariants.{Word, Stop, Open}
@@ -19,8 +18,8 @@ use Rattle.definition.specs.declared.Pictured.{Pictured}
 use Rattle.definition.specs.declared.Statement.{Statement}
 use Rattle.definition.specs.declared.Entry.{Entry}
 use Rattle.definition.specs.declared.Refusal.{Refusal}
-use Rattle.definition.specs.declared.TheConstants.{MOST_STATEMENTS, MOST_SYMBOLS, LARGEST}
-use Rattle.definition.specs.Basic.{part, is_given, upper, Answer, Ok, ◌>>=◌, refuse_if}
+use Rattle.definition.specs.declared.TheConstants.{MOST_STATEMENTS, LARGEST}
+use Rattle.definition.specs.Basic.{is_given, Answer, Ok, ◌>>=◌, refuse_if}
 use Rattle.definition.specs.Words.{tokens_of, on_first, sentences, statement_words}
 use Rattle.definition.specs.Statement.{statements}
 use Rattle.definition.specs.Tree.{Forest, leaf, item, above, not_above, forest, fields}

@@ -89,10 +89,14 @@ impl<'a> FingerprintedRows<'a> {
         requires { last ≤ self.rows.count }
         ensures { PassedBack self.entry.rows.all.now fingerprint last result }
     {
-        for row in (0..last).rev() {
-            if self.rows.row(row).fingerprint == fingerprint || self.rows.row(row).place.gap != 0 {
-                return row + 1;
+        let mut k = last;
+        // Not a `for` over the rows before: it is compiled with one instruction more for each of them.
+        while 0 < k {
+            let row = self.rows.row(k - 1);
+            if row.fingerprint == fingerprint || row.place.gap != 0 {
+                return k;
             }
+            k -= 1;
         }
         0
     }

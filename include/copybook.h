@@ -194,7 +194,7 @@ enum copybook_number {
       "IBM's longest numbers have 31 digits: look for a typing error") \
     R(COPYBOOK_REDEFINES_TARGET, "REDEFINES names no earlier item of the same list", \
       "the target must stand before it, under the same group") \
-    R(COPYBOOK_TOO_LARGE, "a count, an offset, a size or an end above 2,147,483,647", \
+    R(COPYBOOK_TOO_LARGE, "a count, an offset, a width, a size or an end above 2,147,483,647", \
       "look at the counts of the groups around it") \
     R(COPYBOOK_REDEFINES_BEFORE, "a redefiner starts before the item that it is folded under", \
       "two siblings share a name: give them names of their own") \

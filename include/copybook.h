@@ -15,7 +15,7 @@
  *
  * A call changes no byte of `out` if it refuses, and none past the bytes that it writes. It keeps nothing between
  * calls, and needs no initialisation; calls on different buffers may run at the same time. It takes no memory but
- * stack: with 800 statements, at the deepest nesting that is accepted, 66 levels, 122 KB were measured, and 186 KB for
+ * stack: with 800 statements, at the deepest nesting that is accepted, 66 levels, 133 KB were measured, and 198 KB for
  * cards, whose text is copied there. How much is not proved; COPYBOOK_STACK bytes leave room for a thread's start.
  *
  * Buffers. A slice is handed over as a pointer and the number of its elements. What is proved holds if
@@ -75,7 +75,7 @@ extern "C" {
 /* end of limits */
 
 /* How many bytes of stack are enough for every call. */
-#define COPYBOOK_STACK 212992
+#define COPYBOOK_STACK 229376
 
 /* How many numbers `answer` needs. */
 #define COPYBOOK_LAYOUT_ANSWER 2
@@ -195,7 +195,7 @@ enum copybook_number {
       "IBM's longest numbers have 31 digits: look for a typing error") \
     R(COPYBOOK_REDEFINES_TARGET, "REDEFINES names no earlier item of the same list", \
       "the target must stand before it, under the same group") \
-    R(COPYBOOK_TOO_LARGE, "a count, an offset, a size or an end above 2,147,483,647", \
+    R(COPYBOOK_TOO_LARGE, "a count, an offset, a width, a size or an end above 2,147,483,647", \
       "look at the counts of the groups around it") \
     R(COPYBOOK_REDEFINES_BEFORE, "a redefiner starts before the item that it is folded under", \
       "two siblings share a name: give them names of their own") \

@@ -209,6 +209,9 @@ impl PicShape {
 }
 
 /// The shape of a picture, or its first refusal of 22 to 27, at `at`.
+// Inlined, as `repeat_at`: what they answer needn't be stored then. Not so `count_symbols`: where its loop stands
+// twice, what it needs is called.
+#[inline(always)]
 #[tactic(auto, using(crate::proofs::Shapes::shape_steps))]
 pub fn read_shape(picture: &[u8], at: usize, usage: Usage) -> Result<PicShape, Refusal>
     ensures same { result ≡ shaped at usage picture.now }

@@ -89,9 +89,7 @@ fn number(found: &Picture, text: &[u8]) -> Option<Number> {
         FieldKind::Text | FieldKind::Group { .. } | FieldKind::Float { .. } => return None,
         FieldKind::Int { signed, sign } => (found.width - usize::from(separate(sign).is_some()), 0, signed, sign),
         FieldKind::Binary { signed } => match under(Usage::Comp3)? {
-            FieldKind::Decimal { precision, scale, .. } => {
-                (precision.into(), scale.into(), signed, SignKind::Unsigned)
-            }
+            FieldKind::Decimal { precision, scale, .. } => (precision.into(), scale.into(), signed, SignKind::Unsigned),
             _ => return None,
         },
         FieldKind::Decimal { precision, scale, repr: NumRepr::Comp3, sign } => {

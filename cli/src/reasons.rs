@@ -67,7 +67,11 @@ impl<'t> Telling<'t> {
     /// What is said behind the name of a sibling.
     fn slack_at_end(&self, sibling: Option<Word>) -> &'static str {
         let is = |padded: &&str| sibling.is_some_and(|word| std::ptr::eq(word.word, *padded));
-        if self.padded.iter().any(is) { " and the slack at its end" } else { "" }
+        if self.padded.iter().any(is) {
+            " and the slack at its end"
+        } else {
+            ""
+        }
     }
 }
 

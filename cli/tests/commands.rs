@@ -643,7 +643,10 @@ fn reasons() {
     // the slack at the end of what stands before; none where it reserves nothing
     let padded = "01 R. 05 G OCCURS 2. 10 A PIC 9 COMP SYNC. 10 B PIC X. 05 C PIC X. 05 H OCCURS 0. 10 A COMP-1 SYNC. \
         10 B PIC X. 05 D PIC X.";
-    assert_eq!(ran(&["reasons", "-", "C"], padded).1, "C starts at byte 8: directly after G and the slack at its end, at 8\n");
+    assert_eq!(
+        ran(&["reasons", "-", "C"], padded).1,
+        "C starts at byte 8: directly after G and the slack at its end, at 8\n"
+    );
     assert_eq!(ran(&["reasons", "-", "D"], padded).1, "D starts at byte 9: directly after H, at 9\n");
     let folded = "05 A PIC X. 05 B PIC X. 05 C REDEFINES B PIC X.";
     let told = "entry 1: B starts at byte 1: directly after A, at 1\n\

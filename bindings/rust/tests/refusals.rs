@@ -100,7 +100,11 @@ fn sentences() {
     says("05 A PIC CRDBQ(0)n.", "n in the picture of A is no symbol of a picture", "n");
     says("05 A PIC XX9.", "the picture XX9 of A mixes text with digits or editing", "XX9");
     says("05 A PIC X. 05 B REDEFINES C REDEFINES D PIC X.", "no earlier item of this list is called D", "D");
-    says("05 A OCCURS 9999999999 PIC X.", "A has a count, an offset, a width, a size or an end above 2,147,483,647", "");
+    says(
+        "05 A OCCURS 9999999999 PIC X.",
+        "A has a count, an offset, a width, a size or an end above 2,147,483,647",
+        "",
+    );
     let fold = "05 A PIC X. 05 B PIC X. 05 B REDEFINES A PIC X. 05 C REDEFINES B PIC X.";
     says(fold, "C starts before the item B that it is folded under", "B");
     let far = "05 A PIC 9(32). 05 B PIC Q.";

@@ -123,7 +123,7 @@ abbrev as_placed : Statement → Entry → Entry
 as_placed s e =
     record (entry_of s (pictured e.kind e.digits 0) e.offset e.slack 0 0) {
       width = e.width;
-      slack_at_end = e.slack_at_end
+      slack_at_end = e.slack_at_end;
     }
 
 -- an entry is its statement's, at its place

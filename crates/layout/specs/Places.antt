@@ -20,7 +20,7 @@ entry_at r =
     let p = r.place in
     record (entry_of r.statement (pictured p.kind p.digits 0) p.offset p.slack 0 0) {
       width = p.width;
-      slack_at_end = p.slack_at_end
+      slack_at_end = p.slack_at_end;
     }
 
 abbrev pub entry_in : List Row → ℕ → Entry

@@ -151,4 +151,3 @@ module _ {text : List ℕ} {w : List Row} {t : List TableEntry} {from to : ℕ} 
 
     pub table_needs : 17 + 63 * length t ≡ length (details_of root text w from to)
     table_needs = omega (arith, table_count, details-length root es)
-

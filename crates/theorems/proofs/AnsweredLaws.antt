@@ -72,7 +72,7 @@ enough text n m f h room =
     through _ _ h₁ λ _ e h₂.
     ap
     (λ (a : Answer (Unit {0})).
-        (a >>= λ _. (kept_statements text >>= λ ss. Ok (inherited (forest ss)))) >>= λ t. Ok (fields t))
+    (a >>= λ _. (kept_statements text >>= λ ss. Ok (inherited (forest ss)))) >>= λ t. Ok (fields t))
     (checked text n m e room)
     ∙ ap (λ (a : Answer Forest). a >>= λ t. Ok (fields t)) (give-next tt _ ∙ h₂)
     ∙ give-next t _

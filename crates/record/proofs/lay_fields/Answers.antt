@@ -21,15 +21,15 @@ module _
     {text : List ℕ} {w : List Row} {from to : ℕ} (r : LaidList) {w₁ : List Row} (h : from ≤ to) (room : Room text w from to)
     (p : ready r.width r.alignment r.checked w₁ ≡ lay_table text w from to 0 0)
   where
-  laid : LaidRows text w from to 0 0 r w₁
-  laid = laid-rows text w from to 0 0 (sym p)
+    laid : LaidRows text w from to 0 0 r w₁
+    laid = laid-rows text w from to 0 0 (sym p)
 
-  -- its rows can be linked
-  to-link : Ready text w₁ from to
-  to-link = laid-ready text w from to 0 0 h room laid
+    -- its rows can be linked
+    to-link : Ready text w₁ from to
+    to-link = laid-ready text w from to 0 0 h room laid
 
-  linked : {w₂ : List Row} → UnionsLinked w₁ from to w₂ → Tree text w₂ from to
-  linked = marked-tree text from to h to-link
+    linked : {w₂ : List Row} → UnionsLinked w₁ from to w₂ → Tree text w₂ from to
+    linked = marked-tree text from to h to-link
 
 pub returns-in_err-list : goal.returns-in_err-list
 returns-in_err-list c =

@@ -30,7 +30,6 @@ use Rattle.definition.specs.Calls.{record_fields, words_in, extract_in, indicato
 use Rattle.definition.specs.Key.{key_of_texts}
 use Rattle.theorems.specs.Ungrouped.{plain_usages}
 use Rattle.theorems.specs.Restarted.{plain_slack}
-use Rattle.definition.specs.Computing.{computing}
 
 -- ---------------------------------------------------------------- answers in numbers
 

@@ -14,7 +14,7 @@ use Rattle.definition.specs.declared.FieldKind.{FieldKind}
 use Rattle.definition.specs.declared.Pictured.{Pictured}
 use Rattle.definition.specs.declared.Refusal.{Refusal}
 use Rattle.definition.specs.declared.Statement.{Statement}
-use Rattle.definition.specs.declared.TheConstants.{DEEPEST, LARGEST, MOST_STATEMENTS}
+use Rattle.definition.specs.declared.TheConstants.{LARGEST}
 use Rattle.definition.specs.Tree.{Forest}
 use Rattle.definition.specs.Picture.{pictured}
 use Rattle.definition.specs.Storage.{elementary}
@@ -25,7 +25,6 @@ use Rattle.definition.proofs.Lists.{tested}
 use Rattle.rows.specs.declared.Row.{Row}
 use Rattle.rows.specs.Rows.{statement_at, row_in, row_code}
 use Rattle.layout.specs.Children.{ChildrenEnd, Numbered}
-use Rattle.layout.specs.Fingerprints.{Fingerprinted}
 use Rattle.layout.specs.Places.{rows_forest}
 use Rattle.layout.specs.Targets.{seen_at}
 use Rattle.layout.specs.Bare.{place_multiple, starts}

@@ -1,6 +1,5 @@
 -- `layout::place_item` meets its contract.
 use Prim.Native.Nat.{ℕ, ◌+◌, ◌-◌, max}
-use mathlib.Core.Bool.{false}
 use mathlib.Core.Path.{◌≡◌, sym, ap, ◌∙◌}
 use mathlib.Core.List.{List}
 use lib.ListN.{set}
@@ -9,7 +8,7 @@ use Rattle.definition.specs.declared.Entry.{Entry}
 use Rattle.definition.specs.declared.Statement.{Statement}
 use Rattle.definition.specs.declared.Pictured.{Pictured}
 use Rattle.std.specs.Prelude.{if◌then◌else◌}
-use Rattle.definition.specs.Basic.{is_given, fewest, Answer, Err, Ok}
+use Rattle.definition.specs.Basic.{is_given, fewest, Err, Ok}
 use Rattle.definition.specs.Layout.{slack_from, entry_of, too_large}
 use Rattle.definition.proofs.Answers.{handed_on}
 use Rattle.rows.specs.declared.Row.{Row}

@@ -1,13 +1,12 @@
 -- `redefines::FingerprintedRows::base_of` meets its contract: no target, a target that is a base, and one that is a redefiner.
-use Prim.Native.Nat.{ℕ, suc, ◌≤◌, ◌<◌}
+use Prim.Native.Nat.{ℕ, suc, ◌≤◌}
 use mathlib.Core.Path.{◌≡◌, sym, ap, ◌∙◌}
 use mathlib.Core.Bool.{Bool, true, false}
 use mathlib.Core.List.{List}
-use native.Mathlib.Omega.{arith}
 use Rattle.definition.specs.declared.Span.{Span}
 use Rattle.std.specs.Prelude.{if◌then◌else◌, Option, None, Some}
 use Rattle.rows.specs.declared.Row.{Row}
-use Rattle.rows.specs.Rows.{row_of_code, row_code, row_in, before_in}
+use Rattle.rows.specs.Rows.{row_of_code, row_code, before_in}
 use Rattle.rows.proofs.RowLaws.{row-back}
 use Rattle.layout.specs.declared.redefines.SearchEnd.{SearchEnd}
 use Rattle.layout.specs.Targets.{left_out, is_target, Ended, Named, base_from}

@@ -1,4 +1,4 @@
-use Prim.Native.Nat.{ℕ, suc, ◌+◌, ◌-◌, ◌≤◌, ◌<◌}
+use Prim.Native.Nat.{ℕ, suc, ◌+◌, ◌-◌, ◌≤◌}
 use mathlib.Core.Path.{◌≡◌, sym, ap, ◌∙◌}
 use mathlib.Core.Bool.{Bool, true, false}
 use mathlib.Core.List.{List}
@@ -7,7 +7,7 @@ use Rattle.definition.specs.declared.Span.{Span}
 use Rattle.std.specs.Prelude.{if◌then◌else◌, None, Some}
 use Rattle.text.specs.Fingerprints.{name_fingerprint}
 use Rattle.rows.specs.declared.Row.{Row}
-use Rattle.rows.specs.Rows.{row_of_code, row_in, before_in}
+use Rattle.rows.specs.Rows.{row_of_code, before_in}
 use Rattle.rows.proofs.RowLaws.{row-back}
 use Rattle.layout.specs.Targets.{is_target, row_from, looked_from, Ended}
 use Rattle.layout.specs.Fingerprints.{Fingerprinted, PassedBack}

@@ -577,7 +577,7 @@ pub enum Refusal {
     TooLong { position: usize },
     /// REDEFINES names no earlier sibling.
     NoTarget { position: usize },
-    /// A count, an offset, a size or an end that is too large.
+    /// A count, an offset, a width, a size or an end that is too large.
     TooLarge { position: usize },
     /// A redefiner begins before the item that it is folded under.
     StartsBeforeBase { position: usize },

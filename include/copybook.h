@@ -15,7 +15,7 @@
  *
  * A call changes no byte of `out` if it refuses, and none past the bytes that it writes. It keeps nothing between
  * calls, and needs no initialisation; calls on different buffers may run at the same time. It takes no memory but
- * stack: with 800 statements, at the deepest nesting that is accepted, 66 levels, 122 KB were measured, and 186 KB for
+ * stack: with 800 statements, at the deepest nesting that is accepted, 66 levels, 133 KB were measured, and 198 KB for
  * cards, whose text is copied there. How much is not proved; COPYBOOK_STACK bytes leave room for a thread's start.
  *
  * Buffers. A slice is handed over as a pointer and the number of its elements. What is proved holds if
@@ -75,7 +75,7 @@ extern "C" {
 /* end of limits */
 
 /* How many bytes of stack are enough for every call. */
-#define COPYBOOK_STACK 212992
+#define COPYBOOK_STACK 229376
 
 /* How many numbers `answer` needs. */
 #define COPYBOOK_LAYOUT_ANSWER 2
@@ -84,6 +84,7 @@ extern "C" {
 #define COPYBOOK_MASK_ANSWER 2
 #define COPYBOOK_OWNER_ANSWER 4
 #define COPYBOOK_REASONS_ANSWER 2
+#define COPYBOOK_WORDS_ANSWER 2
 #define COPYBOOK_EXTRACT_ANSWER 4
 #define COPYBOOK_KEY_ANSWER 2
 
@@ -194,7 +195,7 @@ enum copybook_number {
       "IBM's longest numbers have 31 digits: look for a typing error") \
     R(COPYBOOK_REDEFINES_TARGET, "REDEFINES names no earlier item of the same list", \
       "the target must stand before it, under the same group") \
-    R(COPYBOOK_TOO_LARGE, "a count, an offset, a size or an end above 2,147,483,647", \
+    R(COPYBOOK_TOO_LARGE, "a count, an offset, a width, a size or an end above 2,147,483,647", \
       "look at the counts of the groups around it") \
     R(COPYBOOK_REDEFINES_BEFORE, "a redefiner starts before the item that it is folded under", \
       "two siblings share a name: give them names of their own") \
@@ -300,21 +301,40 @@ enum copybook_storage { COPYBOOK_STORAGE_DISPLAY = 0, COPYBOOK_STORAGE_COMP_3 = 
 uint32_t copybook_layout(const uint8_t *text, size_t n, uint32_t *work, size_t w, uint8_t *out, size_t m,
                          uint64_t *answer, size_t k);
 
+/* What a SIGN clause says, in details; COPYBOOK_CLAUSE_TRAILING also where it has neither word. */
+enum copybook_sign_clause {
+    COPYBOOK_CLAUSE_TRAILING = 1,
+    COPYBOOK_CLAUSE_LEADING = 2,
+    COPYBOOK_CLAUSE_SEPARATE_TRAILING = 3,
+    COPYBOOK_CLAUSE_SEPARATE_LEADING = 4
+};
+
 /*
- * What the listing does not say of its entries, written to `out`: COPYBOOK_DETAIL bytes for each entry, in the order of
- * the listing, COPYBOOK_RECORD left out. `work`, the answer and the refusals are those of copybook_layout.
+ * What the listing does not say of its record and of its entries, written to `out`: COPYBOOK_DETAILS_HEAD bytes, then
+ * COPYBOOK_DETAIL bytes for each entry, in the order of the listing, COPYBOOK_RECORD left out. `work`, the answer and
+ * the refusals are those of copybook_layout.
  *
- * Numbers are little-endian: the position of the entry's statement (4 bytes); its level (1); the entry's depth, 0 at
- * the top (1); 1 for a group that the folding of REDEFINES made (1); the number of entries below it (4); its first byte
- * in the record, in the first occurrence of each group around it (8); the slack bytes directly before it (4); start and
- * length of its picture, of its REDEFINES and of its DEPENDING ON, as the statement has them (8 each, 0 where absent).
- * A group made by folding has its base's position and level, and 0 for slack and for the three places.
+ * Numbers are little-endian. The head has of the root that was dropped, the record's own statement, the position (4
+ * bytes), the level (1), and start and length of its name (8), all 0 where none was dropped; and the number of entries
+ * (4).
+ *
+ * An entry has the position of its statement (4 bytes); its level (1); its depth, 0 at the top (1); 1 for a group that
+ * the folding of REDEFINES made (1); the number of entries below it (4); its first byte in the record, in the first
+ * occurrence of each group around it (8); the slack bytes directly before it (4); start and length of its picture, of
+ * its REDEFINES and of its DEPENDING ON, as the statement has them (8 each, 0 where absent); the slack bytes at the end
+ * of each of its occurrences, which its width counts (4); of a number, an edited one too, the digits, those after the
+ * point, and 1 if the picture has a sign (1 each), 0 of any other; start and length of the word that names the usage
+ * that holds: its own last one, or that of the nearest group above that names one, a dropped root included (8, 0 where
+ * none does); and what its own SIGN clause says (1): copybook_sign_clause, or 0. A group made by folding has its base's
+ * position and level, and 0 for both slacks and for all of its clauses.
  *
  * Every group made by folding has two statements for itself, its base and that one's first redefiner: an `out` of
  * COPYBOOK_LONGEST_DETAILS bytes is never too short.
  */
-#define COPYBOOK_DETAIL 47
-#define COPYBOOK_LONGEST_DETAILS ((COPYBOOK_MOST_STATEMENTS + COPYBOOK_MOST_STATEMENTS / 2) * COPYBOOK_DETAIL)
+#define COPYBOOK_DETAILS_HEAD 17
+#define COPYBOOK_DETAIL 63
+#define COPYBOOK_LONGEST_DETAILS \
+    (COPYBOOK_DETAILS_HEAD + (COPYBOOK_MOST_STATEMENTS + COPYBOOK_MOST_STATEMENTS / 2) * COPYBOOK_DETAIL)
 
 uint32_t copybook_details(const uint8_t *text, size_t n, uint32_t *work, size_t w, uint8_t *out, size_t m,
                           uint64_t *answer, size_t k);
@@ -367,6 +387,27 @@ uint32_t copybook_reasons_cards(const uint8_t *cards, size_t n, uint64_t entry, 
                                 size_t m, uint64_t *answer, size_t k);
 
 /*
+ * The words of a copybook as the reader has them, statement by statement, written to `out`: also where what they say is
+ * refused by other calls. `work` and the answer are those of copybook_layout. Refusals: 1 to 3; on cards 51; 50; 31.
+ *
+ * Of each statement that has words, in the text's order, level 88 and those that cannot be read among them; numbers are
+ * little-endian, 4 bytes: how many words it has; the position of the period that ends it, or `n` where none does; then
+ * start and length of each word in `text`. Words stand in order, none over another, and none holds white space: in a
+ * literal that does, each part is a word.
+ *
+ * A word and a period have 8 bytes each here and at least one in the text, and a last statement may lack its period: an
+ * `out` of COPYBOOK_LONGEST_WORDS(n) bytes is never too short.
+ */
+#define COPYBOOK_LONGEST_WORDS(n) (((n) + 1) * 8)
+
+uint32_t copybook_words(const uint8_t *text, size_t n, uint32_t *work, size_t w, uint8_t *out, size_t m,
+                        uint64_t *answer, size_t k);
+
+/* The same for a copybook on cards, of what is read of them. */
+uint32_t copybook_words_cards(const uint8_t *cards, size_t n, uint32_t *work, size_t w, uint8_t *out, size_t m,
+                              uint64_t *answer, size_t k);
+
+/*
  * One key for a family of records: the column of the `l` bytes of `name` in a set of `c` copybooks in free text, which
  * stand one after the other in the `n` bytes of `texts`; `lengths` says how many bytes each has. A set has
  * COPYBOOK_FEWEST_IN_SET to COPYBOOK_MOST_IN_SET copybooks. To `answer`, 2 numbers: the key's offset and its width, in
@@ -406,7 +447,7 @@ enum copybook_owned { COPYBOOK_PIECE = 0, COPYBOOK_SLACK = 1 };
  * Which entry of the listing has the byte at `position` of the record. To `answer`, 4 numbers:
  *     COPYBOOK_PIECE, the entry's number, the first byte of that piece (one occurrence of the item), the place of the
  *     byte inside it; or
- *     COPYBOOK_SLACK, the number of the entry that the slack precedes, 0, 0
+ *     COPYBOOK_SLACK, the number of the item that the slack precedes, or of the group at whose end it stands, 0, 0
  * Entries are numbered from 0 in the order of the listing, COPYBOOK_RECORD not counted. `work` as for copybook_layout.
  * Refusals: the reader's, then 40, 41.
  */
@@ -472,6 +513,11 @@ struct copybook_entry {
     uint64_t first;                    /* its first byte in the record */
     uint32_t slack;                    /* the slack bytes directly before it */
     struct copybook_span overlays;     /* the name after REDEFINES, folded or not */
+    uint32_t slack_at_end;             /* the slack bytes at the end of each of its occurrences */
+    unsigned digits, after_point;      /* of a number, and */
+    int has_sign;                      /* 1 if its picture has a sign */
+    struct copybook_span usage;        /* the word that names the usage that holds for it */
+    unsigned sign_clause;              /* copybook_sign_clause, or 0 without one */
 };
 
 /* A listing and its details that are being read: the record, and what is left of the bytes. */
@@ -480,6 +526,12 @@ struct copybook_reader {
     int variable;           /* 1 if a table DEPENDING ON an item makes its length vary */
     uint32_t top;           /* number of entries at the top */
     uint32_t number;        /* of the next entry */
+
+    /* from the details: the record's own statement; 0 without them, or where the copybook has none */
+    uint32_t position;
+    unsigned level;
+    struct copybook_span name; /* absent means FILLER */
+
     const uint8_t *listing, *listing_end;
     const uint8_t *details, *details_end;
 };
@@ -561,6 +613,12 @@ static inline void copybook_read_details(const uint8_t *p, struct copybook_entry
     entry->slack = copybook_four(p + 19);
     entry->picture = copybook_span_at(p + 23);
     entry->overlays = copybook_span_at(p + 31);
+    entry->slack_at_end = copybook_four(p + 47);
+    entry->digits = p[51];
+    entry->after_point = p[52];
+    entry->has_sign = p[53];
+    entry->usage = copybook_span_at(p + 54);
+    entry->sign_clause = p[62];
 }
 
 /*
@@ -570,14 +628,19 @@ static inline void copybook_read_details(const uint8_t *p, struct copybook_entry
 static inline struct copybook_reader copybook_read(const uint8_t *listing, size_t n, const uint8_t *details, size_t m)
 {
     struct copybook_reader reader;
+    memset(&reader, 0, sizeof reader);
     reader.record_length = copybook_four(listing + 1);
     reader.variable = listing[5];
     reader.top = copybook_four(listing + 6);
-    reader.number = 0;
     reader.listing = listing + 10;
     reader.listing_end = listing + n;
-    reader.details = details;
-    reader.details_end = m == 0 ? details : details + m;
+    if (m > 0) {
+        reader.position = copybook_four(details);
+        reader.level = details[4];
+        reader.name = copybook_span_at(details + 5);
+        reader.details = details + COPYBOOK_DETAILS_HEAD;
+        reader.details_end = details + m;
+    }
     return reader;
 }
 

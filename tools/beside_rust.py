@@ -42,12 +42,13 @@ class Oracle:
 
 
 def has_answer(i):
-    """Whether the Rust has an answer, as far as literals, P and usages go."""
+    """Whether the Rust has an answer, as far as literals, P, usages and alignment go."""
     if i.usage is not None:
         return not original.has_scale(i.text)
     if len(i.text) > MOST_BYTES or max(i.text, default=0) > 127:
         return True
-    return original.plain_literals(i.text) and original.plain_usages(i.text) and not original.scaled(i.text)
+    plain = original.plain_literals, original.plain_usages, original.plain_slack
+    return all(holds(i.text) for holds in plain) and not original.scaled(i.text)
 
 
 def reading(i):

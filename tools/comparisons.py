@@ -12,8 +12,8 @@ from collections.abc import Callable, Iterable, Iterator
 from typing import Any, NamedTuple
 
 from library import Library
-from makers import copybooks, extracts, inputs, keys, redefined, written
-from readings import details, extract, key, layout, lines, original, owner, picture, reasons
+from makers import aligned, copybooks, extracts, inputs, keys, redefined, written
+from readings import details, extract, key, layout, lines, original, owner, picture, reasons, wording
 from readings.reader import Cards
 
 ROOT = pathlib.Path(__file__).resolve().parent.parent
@@ -72,6 +72,10 @@ def with_redefines(count, seed):
     return distinct(redefined.Maker(seed).copybook, count)
 
 
+def with_alignment(count, seed):
+    return distinct(aligned.Maker(seed).copybook, count, written.ALIGNED)
+
+
 def on_cards(count, seed):
     return map(Cards, distinct(lambda maker=copybooks.Maker(seed): maker.cards()[1], count, written.CARDS))
 
@@ -108,6 +112,25 @@ def listed(kind_of):
         for position in {0, length // 2, random.Random(len(text)).randrange(length + 2)}:
             yield Asked(f"owner of {position}", library.owner(text, position), owner_of(position))
     return asked
+
+
+MOST_OWNED = 400
+
+
+def aligned_asked(library, text):
+    """The listing and the details, and the owner of every byte of a record of up to so many, and of the byte behind
+    it; of a longer one of some."""
+    due, plain = layout.answer(text), original.plain_slack(text)
+    rust = "" if plain else ", without an answer of the Rust"
+    yield Asked("layout", library.layout(text), due, [outcome(due) + rust])
+    yield Asked("details", library.details(text), details.answer(text))
+    length, owner_of = record_length(due), owner.answers(text)
+    owned = {position: owner_of(position) for position in (0, length // 3, length - 1, length) if position >= 0}
+    if owned[0][0] and length <= MOST_OWNED:
+        owned |= {position: list(laid) for position, laid in enumerate(owner.laid(text)[0])}
+    for position, answer in owned.items():
+        kind = {owner.PIECE: "bytes of an item", owner.SLACK: "bytes of slack"}.get(answer[0], f"refused {answer[1]}")
+        yield Asked(f"owner of {position}", library.owner(text, position), answer, [kind] if due[0] else [])
 
 
 def listed_and_short(library, text):
@@ -155,6 +178,28 @@ def reasons_asked(library, text):
             yield Asked(f"reasons of {entry} in {room} bytes", library.reasons(text, entry, room),
                         [0, 31, 0, len(made[entry])])
         yield Asked("past the listing in 0 bytes", library.reasons(text, len(made), 0), refused)
+
+
+# ---------------------------------------------------------------- words
+
+WORDED = [every_family, with_quotes, on_cards]
+
+
+def worded(count, seed):
+    """Copybooks of every family, with literals, and on cards, in turn."""
+    for texts in zip(*(made((count + 2) // 3, seed) for made in WORDED)):
+        yield from texts
+
+
+def words_asked(library, text):
+    """The words, also in an output that is a byte short."""
+    due = wording.answer(text)
+    layout_due = layout.answer(text)
+    kind = outcome(due) + (", the layout too" if due[0] and layout_due[0] else
+                           f", the layout {outcome(layout_due)}" if due[0] else "")
+    yield Asked("words", library.words(text), due, [kind])
+    if due[0] and due[1]:
+        yield Asked("words in an output a byte short", library.words(text, due[1] - 1), [0, 31, 0, due[1]], ["31"])
 
 
 # ---------------------------------------------------------------- extracts, keys
@@ -245,13 +290,16 @@ def run(text, *words):
 
 
 def laid_facts(text):
-    """The first byte of each elementary entry that has one, and the slack before each entry, from the bytes as laid."""
-    first, slack, seen = {}, {}, 0
+    """The first byte of each elementary entry that has one, the slack before entries and that at the end of groups, from
+    the bytes as laid."""
+    first, before, at_end, seen = {}, {}, {}, 0
+    groups = [bool(inner) for _, inner in owner.flat(layout.top_list(text))]
     for mark, number, width in owner.runs(owner.laid(text)[0]):
+        slack = at_end if groups[number] else before
         facts, fact = (slack, width) if mark == owner.SLACK else (first, seen)
         facts.setdefault(number, fact)
         seen += width
-    return first, slack
+    return {"first": first, "slack_before": before, "slack_at_end": at_end}
 
 
 def printed_asked(_library, question):
@@ -262,7 +310,7 @@ def printed_asked(_library, question):
         yield Asked(what, run(text, what), lines.owner_lines(text).encode(), ["owners"])
     elif what == "places":
         entries = json.loads(run(text, "layout", "--json"))["entries"]
-        for field, facts in zip(("first", "slack_before"), laid_facts(text)):
+        for field, facts in laid_facts(text).items():
             yield Asked(field, {number: entries[number][field] for number in facts}, facts, ["places"])
     else:
         due = lines.owner_lines(text, what).encode()
@@ -281,9 +329,13 @@ COMPARISONS = {
     "floats": Comparison(f"COMP-1 and COMP-2: {LISTED}", with_floats, listed(kind_with_floats)),
     "redefined": Comparison(f"lists of up to 40 siblings, most with REDEFINES: {LISTED}", with_redefines,
                             listed(lambda text, due: outcome(due))),
+    "aligned": Comparison("SYNC in groups and tables, 29 behind slack: listing, details, the owner of every byte",
+                          with_alignment, aligned_asked),
     "cards": Comparison(f"copybooks on cards: {LISTED}", on_cards, listed(kind_of_cards)),
     "reasons": Comparison("folds, roots, groups, a fifth on cards: the reasons of every entry, and past the last",
                           placed_items, reasons_asked),
+    "words": Comparison("copybooks of every family, a third with literals, a third on cards: the words of each "
+                        "statement, also in an output a byte short", worded, words_asked),
     "extracts": Comparison("copybooks with weights, a limit and a budget: the extract", extracts.questions,
                            extract_asked),
     "keys": Comparison("sets of copybooks and a name: the key", sets, key_asked),

@@ -72,6 +72,9 @@ class Library:
     def details(self, text, room=ROOM):
         return self.report("copybook_details", text, room=room)
 
+    def words(self, text, room=ROOM):
+        return self.report("copybook_words", text, room=room)
+
     def reasons(self, text, entry, room=ROOM):
         return self.report("copybook_reasons", text, LONG(entry), room=room)
 

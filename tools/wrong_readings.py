@@ -5,7 +5,7 @@ context lasts.
 import functools
 from unittest import mock
 
-from readings import details, extract, key, layout, lines, owner, picture, reader, reasons
+from readings import details, extract, key, layout, lines, owner, picture, reader, reasons, wording
 
 
 def instead(module, name, value):
@@ -28,16 +28,42 @@ def usages_without(left_out):
 
 
 def own_usage(s, _kept):
-    return reader.HELD[s.usage or reader.NAMED_DISPLAY]
+    return {"held": reader.HELD[s.usage or reader.NAMED_DISPLAY], "held_word": s.word}
 
 
 def name_without_case(base):
     return base.kind == picture.GROUP and any(m.called().upper() == base.called().upper() for m in base.members)
 
 
+def from_the_list(nodes, depth, _base, right=layout.laid):
+    """A list laid as if it started the record."""
+    return right(nodes, depth, 0)
+
+
+def filled_under_depending(s, inner, width):
+    return -width % layout.largest_alignment(inner) if s.occurs is not None else 0
+
+
+def filled_without_occurs(s, inner, width):
+    return 0 if s.depending else -width % layout.largest_alignment(inner)
+
+
+def first_alignment(nodes, right=layout.largest_alignment):
+    return right(nodes[:1])
+
+
+def redefiner_aligned(s, inner, right=layout.alignment):
+    return right(s._replace(redefines=None), inner)
+
+
 def by_the_picture(found):
     """What keys must agree in, with the picture as it is written in place of the mask."""
     return found.offset, found.width, found.kind, list(map(int, found.details)), found.picture and found.picture.text
+
+
+def at_the_last_word(read):
+    """Statements that end with their last word, and not at their period."""
+    return [(words[-1].at + len(words[-1].text), words) for _, words in read]
 
 
 def first_as_highest(values):
@@ -76,6 +102,16 @@ WRONG = {
         "own names without case": instead(layout, "already_folded", name_without_case),
         "nothing folded": instead(layout, "folded", list),
     },
+    "aligned": {
+        "alignment from the list's start": instead(layout, "laid", from_the_list),
+        "no slack at an end": instead(layout, "slack_at_end", lambda *_: 0),
+        "slack at an end under DEPENDING ON": instead(layout, "slack_at_end", filled_under_depending),
+        "slack at an end without OCCURS": instead(layout, "slack_at_end", filled_without_occurs),
+        "an end by the first item's alignment": instead(layout, "largest_alignment", first_alignment),
+        "redefiners count for an end": instead(layout, "alignment", redefiner_aligned),
+        "no head": changed(details, "head", lambda head: bytes(13) + head[13:]),
+        "29 a byte later": instead(layout, "LARGEST", 2 ** 31),
+    },
     "cards": {
         "column 73 is read": instead(reader, "LAST_COLUMN", 73),
         "a small d as D": instead(reader, "INDICATORS", b" */Dd"),
@@ -85,6 +121,12 @@ WRONG = {
         "another kind for slack": instead(reasons, "SLACK", 6),
         "a group's own reason left out": changed(reasons, "chains", lambda chains: {
             at: [part for part in chain if part[0] != reasons.INSIDE] for at, chain in chains.items()}),
+    },
+    "words": {
+        "a statement ends with its last word": changed(wording, "statements", at_the_last_word),
+        "level 88 has no words": changed(wording, "statements", lambda read: [
+            (end, words) for end, words in read if words[0].text != b"88"]),
+        "no literals": instead(reader, "after_value", lambda _: False),
     },
     "extracts": {
         "17 items": instead(extract, "MOST_ITEMS", 17),

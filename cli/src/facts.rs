@@ -1,11 +1,13 @@
-//! What is said of each entry of a layout, from its listing and its details alone. Digits and sign of a binary item,
-//! and the sign of a packed one, which a listing leaves out, are what the library answers for the item's picture.
+//! What is said of a record and of each entry of its layout, from the listing and the details alone; but for the least
+//! count of a varying table, for which its statement is read again.
 
-use copybook::{Detail, Details, Entry, FieldKind, Form, Layout, NumRepr, SignKind, Usage};
+use copybook::{Detail, Details, Entry, FieldKind, Form, Layout, NumRepr, Record, SignClause};
 use std::ops::Range;
 
 /// A layout as it is shown.
 pub struct Facts<'t> {
+    /// The statement of the record itself, if the copybook has one.
+    pub record: Option<Record<'t>>,
     pub record_len: usize,
     pub variable: bool,
     /// The lengths of the record with every varying table at its least count, and at its most.
@@ -27,7 +29,7 @@ pub struct Row<'t> {
     pub after: Option<usize>,
     /// The least count of a table DEPENDING ON an item.
     pub least: Option<usize>,
-    /// What its digits are, if it holds a number.
+    /// What its digits are, if it holds a number; a float has none.
     pub number: Option<Number>,
     /// Line and column of its statement, from 1.
     pub line: usize,
@@ -41,23 +43,26 @@ pub struct Number {
     /// How many of them stand after the point.
     pub after_point: usize,
     pub signed: bool,
+    /// What SIGN says.
+    pub clause: Option<SignClause>,
 }
 
 impl<'t> Facts<'t> {
     pub fn new(form: Form, text: &'t [u8], layout: &Layout<'t, '_>, details: &Details<'t, '_>) -> Facts<'t> {
         let mut rows: Vec<Row> = Vec::new();
         let mut around: Vec<usize> = Vec::new();
+        let words = form.words(text).expect("a text that is laid out has words");
         for (entry, detail) in layout.entries().zip(details.iter()) {
             around.truncate(entry.depth);
             let group = around.last().copied();
             let name = entry.name.unwrap_or("FILLER");
             let path = group.map_or(name.to_owned(), |g| format!("{}.{name}", rows[g].path));
             let (line, column) = copybook::line_and_column(text, detail.position);
-            let number = number(&entry.kind, entry.width, detail.picture.as_deref());
+            let number = number(&entry.kind, &detail);
             around.push(entry.number);
             // a table without TO has 1 at least, as compilers take it
             let least = entry.depending_on.and(entry.occurs);
-            let least = least.map(|most| form.least_count(text, detail.position).unwrap_or(1).min(most));
+            let least = least.map(|most| words.least_count(detail.position).unwrap_or(1).min(most));
             rows.push(Row { entry, detail, group, path, after: None, least, number, line, column });
         }
         find_after(&mut rows);
@@ -65,7 +70,8 @@ impl<'t> Facts<'t> {
             true => (length(&rows, |row| row.least), length(&rows, |row| row.entry.occurs)),
             false => (layout.record_len() as u64, layout.record_len() as u64),
         };
-        Facts { record_len: layout.record_len(), variable: layout.variable(), shortest, longest, rows }
+        let (record_len, variable) = (layout.record_len(), layout.variable());
+        Facts { record: details.record(), record_len, variable, shortest, longest, rows }
     }
 }
 
@@ -90,7 +96,8 @@ impl Lengths<'_, '_> {
         while number < list.end {
             let row = &self.rows[number];
             let after = number + 1 + row.detail.below;
-            let width = self.end(number + 1..after).max(row.entry.width as u64);
+            let inside = self.end(number + 1..after).saturating_add(row.detail.slack_at_end as u64);
+            let width = inside.max(row.entry.width as u64);
             let times = if row.entry.depending_on.is_some() { (self.count)(row) } else { row.entry.occurs };
             let bytes = width.saturating_mul(times.unwrap_or(1) as u64);
             self.moved[number] = target(self.rows, number).map_or(next, |target| self.moved[target]);
@@ -159,33 +166,11 @@ impl Row<'_> {
     }
 }
 
-/// The digits of a kind, of which the library tells those that a listing doesn't have from the picture.
-pub fn number(kind: &FieldKind, width: usize, picture: Option<&str>) -> Option<Number> {
-    let asked = |usage| picture.and_then(|p| copybook::picture(p.as_bytes(), usage, None).ok()).map(|p| p.kind);
-    let says_sign = || matches!(asked(Usage::Comp), Some(FieldKind::Binary { signed: true }));
-    match *kind {
-        FieldKind::Text | FieldKind::Group { .. } | FieldKind::Float { .. } => None,
-        FieldKind::Int { signed, sign } => {
-            Some(Number { digits: width - usize::from(is_separate(sign)), after_point: 0, signed })
-        }
-        FieldKind::Binary { signed } => match asked(Usage::Comp3) {
-            Some(FieldKind::Decimal { precision, scale, .. }) => {
-                Some(Number { digits: precision.into(), after_point: scale.into(), signed })
-            }
-            _ => None,
-        },
-        FieldKind::Decimal { precision, scale, repr, sign } => {
-            let signed = if repr == NumRepr::Comp3 { says_sign() } else { sign != SignKind::Unsigned };
-            Some(Number { digits: precision.into(), after_point: scale.into(), signed })
-        }
-        FieldKind::Edited { precision, scale, signed, .. } => {
-            Some(Number { digits: precision.into(), after_point: scale.into(), signed })
-        }
-    }
-}
-
-fn is_separate(sign: SignKind) -> bool {
-    matches!(sign, SignKind::LeadingSeparate | SignKind::TrailingSeparate)
+/// The digits of an entry, if it holds a number.
+fn number(kind: &FieldKind, detail: &Detail) -> Option<Number> {
+    storage(kind).filter(|_| !matches!(kind, FieldKind::Float { .. }))?;
+    let (digits, after_point) = (detail.digits.into(), detail.after_point.into());
+    Some(Number { digits, after_point, signed: detail.signed, clause: detail.sign })
 }
 
 /// How a number is stored, in a word.
@@ -200,12 +185,25 @@ pub fn storage(kind: &FieldKind) -> Option<&'static str> {
     }
 }
 
-/// Where a number has its sign.
-pub fn sign(kind: &FieldKind) -> Option<SignKind> {
-    match *kind {
-        FieldKind::Int { sign, .. } | FieldKind::Decimal { sign, .. } => Some(sign),
-        _ => None,
-    }
+/// Where a number whose digits are characters has its sign: as SIGN says, and else after the digits. None where it has
+/// no sign.
+pub fn sign(kind: &FieldKind, number: Option<Number>) -> Option<Option<SignClause>> {
+    let Number { signed, clause, .. } = number?;
+    let in_digits = matches!(kind, FieldKind::Int { .. } | FieldKind::Decimal { .. });
+    let is_packed = matches!(kind, FieldKind::Decimal { repr: NumRepr::Comp3, .. });
+    (in_digits && !is_packed).then_some(signed.then_some(clause.unwrap_or(SignClause::Trailing)))
+}
+
+/// The word that names the usage of an entry.
+pub fn usage<'r>(row: &'r Row) -> Option<&'r str> {
+    row.detail.usage.as_deref()
+}
+
+/// The order of the bytes of a binary: the machine's own under COMP-5.
+pub fn endian(row: &Row) -> Option<&'static str> {
+    const NATIVE: [&str; 2] = ["COMP-5", "COMPUTATIONAL-5"];
+    let is_native = || usage(row).is_some_and(|word| NATIVE.iter().any(|native| word.eq_ignore_ascii_case(native)));
+    matches!(row.entry.kind, FieldKind::Binary { .. }).then(|| if is_native() { "native" } else { "big" })
 }
 
 /// What a kind holds, in words: `packed, 7 digits, 2 after the point, signed`.
@@ -217,16 +215,17 @@ pub fn holds(kind: &FieldKind, number: Option<Number>) -> String {
         return kind.word().into();
     };
     let mut words = storage.to_owned();
-    let Some(Number { digits, after_point, signed }) = number else {
+    let Some(Number { digits, after_point, signed, .. }) = number else {
         return words;
     };
     words += &format!(", {digits} digit{}", if digits == 1 { "" } else { "s" });
     if after_point > 0 {
         words += &format!(", {after_point} after the point");
     }
-    words += match sign(kind) {
-        Some(SignKind::LeadingSeparate) => ", sign leading, separate",
-        Some(SignKind::TrailingSeparate) => ", sign trailing, separate",
+    words += match sign(kind, number).flatten() {
+        Some(SignClause::SeparateLeading) => ", sign leading, separate",
+        Some(SignClause::SeparateTrailing) => ", sign trailing, separate",
+        Some(SignClause::Leading) => ", sign leading",
         _ if signed => ", signed",
         _ => "",
     };

@@ -124,9 +124,9 @@ fn too_many(count: u64) -> String {
 }
 
 /// Why each entry stands where it does.
-fn whys(form: Form, text: &[u8], layout: &Layout, places: Places) -> Vec<String> {
+fn whys(form: Form, text: &[u8], layout: &Layout, telling: &reasons::Telling) -> Vec<String> {
     let mut reader = Reader::of(form);
-    let line = |entry| reasons::line(&mut reader, text, &entry, places).expect("an entry of the layout has reasons");
+    let line = |entry| reasons::line(&mut reader, text, &entry, telling).expect("an entry of the layout has reasons");
     layout.entries().map(line).collect()
 }
 
@@ -164,7 +164,10 @@ impl Asked<'_> {
             Err(count) => return self.failed(&source.name, &too_many(count)),
         };
         let whys = match &self.format {
-            Format::Table { style, why: true } => whys(self.form, &source.text, &layout, style.places),
+            Format::Table { style, why: true } => {
+                let telling = reasons::Telling::new(&layout, &details, style.places);
+                whys(self.form, &source.text, &layout, &telling)
+            }
             _ => Vec::new(),
         };
         files::write(|out| self.write(&source.name, &facts, &rows, &whys, out))?;

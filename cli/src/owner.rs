@@ -3,7 +3,7 @@
 use crate::help::{Opt, ANY_BYTES, CARDS};
 use crate::places::{self, Places};
 use crate::{files, forms, refusals, Arguments, Command, Failure, Status};
-use copybook::{Entry, Form, Layout, Owner, Reader, Refusal};
+use copybook::{Entry, FieldKind, Form, Layout, Owner, Reader, Refusal};
 use std::ffi::OsStr;
 use std::io::{self, Write};
 
@@ -16,11 +16,13 @@ Whose the byte at a position of the record is. Positions count from 0, and 0x1a 
 
     POSITION entry NUMBER PATH KIND WIDTH first FIRST place PLACE
     POSITION slack before NUMBER PATH
+    POSITION slack at the end of NUMBER PATH
 
 Without a position, one line for each piece of the record and each run of slack, in the record's order:
 
     FIRST-LAST entry NUMBER PATH KIND WIDTH
     FIRST-LAST slack before NUMBER PATH
+    FIRST-LAST slack at the end of NUMBER PATH
 
 NUMBER is the entry's in the layout, from 0; FIRST the first byte of the piece, one occurrence of the item, and PLACE
 the byte's place in it. PATH has the names of the groups around the item and its own, joined by periods, and after
@@ -107,10 +109,15 @@ impl<'t> Record<'t> {
         format!("entry {number} {path}{} {} {}", named(entry, place), entry.kind.word(), entry.width)
     }
 
-    /// The words for the slack at a position, which stands before all occurrences of an entry.
+    /// The words for the slack at a position: that of a group stands at the end of each of its occurrences, that of an
+    /// item before all of them.
     fn slack(&self, number: usize, position: usize) -> String {
-        let (path, _) = self.path(number, position);
-        format!("slack before {number} {path}{}", copybook::escaped(self.entries[number].name.unwrap_or("FILLER")))
+        let (path, place) = self.path(number, position);
+        let entry = &self.entries[number];
+        match entry.kind {
+            FieldKind::Group { .. } => format!("slack at the end of {number} {path}{}", named(entry, place)),
+            _ => format!("slack before {number} {path}{}", copybook::escaped(entry.name.unwrap_or("FILLER"))),
+        }
     }
 
     /// The line of one position.

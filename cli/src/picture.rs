@@ -1,9 +1,10 @@
 //! `copybook picture`: kind and width of one picture.
 
+use crate::facts::{self, Number};
 use crate::files::Source;
 use crate::help::Opt;
-use crate::{facts, files, refusals, Arguments, Command, Failure, Status};
-use copybook::{SignKind, Usage};
+use crate::{files, refusals, Arguments, Command, Failure, Status};
+use copybook::{FieldKind, NumRepr, Picture, SignClause, SignKind, Usage};
 
 pub const COMMAND: Command = Command {
     name: "picture",
@@ -72,6 +73,39 @@ fn sign(word: &str) -> Result<SignKind, Failure> {
     })
 }
 
+fn separate(sign: SignKind) -> Option<SignClause> {
+    match sign {
+        SignKind::LeadingSeparate => Some(SignClause::SeparateLeading),
+        SignKind::TrailingSeparate => Some(SignClause::SeparateTrailing),
+        SignKind::Unsigned | SignKind::Embedded => None,
+    }
+}
+
+/// The digits of a picture. Those of a binary, and the sign of a packed number, are what the library answers for the
+/// same picture under another usage.
+fn number(found: &Picture, text: &[u8]) -> Option<Number> {
+    let under = |usage| copybook::picture(text, usage, None).ok().map(|other| other.kind);
+    let (digits, after_point, signed, sign) = match found.kind {
+        FieldKind::Text | FieldKind::Group { .. } | FieldKind::Float { .. } => return None,
+        FieldKind::Int { signed, sign } => (found.width - usize::from(separate(sign).is_some()), 0, signed, sign),
+        FieldKind::Binary { signed } => match under(Usage::Comp3)? {
+            FieldKind::Decimal { precision, scale, .. } => (precision.into(), scale.into(), signed, SignKind::Unsigned),
+            _ => return None,
+        },
+        FieldKind::Decimal { precision, scale, repr: NumRepr::Comp3, sign } => {
+            let signed = matches!(under(Usage::Comp), Some(FieldKind::Binary { signed: true }));
+            (precision.into(), scale.into(), signed, sign)
+        }
+        FieldKind::Decimal { precision, scale, sign, .. } => {
+            (precision.into(), scale.into(), sign != SignKind::Unsigned, sign)
+        }
+        FieldKind::Edited { precision, scale, signed, .. } => {
+            (precision.into(), scale.into(), signed, SignKind::Unsigned)
+        }
+    };
+    Some(Number { digits, after_point, signed, clause: separate(sign) })
+}
+
 fn run(arguments: &Arguments) -> Result<Status, Failure> {
     let usage = arguments.value("--usage").map_or(Ok(Usage::Display), usage)?;
     let sign = arguments.value("--sign").map(sign).transpose()?;
@@ -85,7 +119,7 @@ fn run(arguments: &Arguments) -> Result<Status, Failure> {
         Ok(answer) => answer,
         Err(refusal) => return refusals::print(&refusal, &source),
     };
-    let number = facts::number(&picture.kind, picture.width, Some(&String::from_utf8_lossy(&source.text)));
+    let number = number(&picture, &source.text);
     files::write(|out| {
         writeln!(
             out,

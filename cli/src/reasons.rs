@@ -3,7 +3,7 @@
 use crate::help::{Opt, ANY_BYTES, CARDS};
 use crate::places::{self, Places};
 use crate::{files, forms, nearest, refusals, Arguments, Command, Failure, Status};
-use copybook::{Entry, Form, Layout, Reader, Reason, Refusal, Word};
+use copybook::{Details, Entry, Form, Layout, Reader, Reason, Refusal, Word};
 use std::ffi::OsStr;
 use std::io::{self, Write};
 
@@ -17,8 +17,8 @@ of that name, with its number if there are several; and without either every ent
 
     NAME starts at byte FIRST: directly after SIBLING, at PLACE; 1 byte of slack, aligned to 2
 
-An item is the first of its list, or stands directly after the latest item before it without REDEFINES, or is laid
-over the item that it redefines. Places count from the start of the list; each group around the item has a line, the
+An item is the first of its list, or stands directly after the latest item before it without REDEFINES, and after the
+slack at the end of that, or is laid over the item that it redefines. Places count from the start of the list; each group around the item has a line, the
 outermost last, with the bytes before the item so far. An item and those that redefine it stand together in a group of
 the item's name, which starts where the item does.
 ",
@@ -50,8 +50,34 @@ struct Step {
     so_far: u64,
 }
 
+/// How reasons are told: how places are shown, and of which groups the slack at the end takes bytes of their lists. A
+/// group is known by its name, as a part of the text.
+pub struct Telling<'t> {
+    places: Places,
+    padded: Vec<&'t str>,
+}
+
+impl<'t> Telling<'t> {
+    pub fn new(layout: &Layout<'t, '_>, details: &Details<'t, '_>, places: Places) -> Telling<'t> {
+        let ends = layout.entries().zip(details.iter());
+        let padded = ends.filter(|(entry, detail)| detail.slack_at_end > 0 && entry.reserved_width() > 0);
+        Telling { places, padded: padded.filter_map(|(entry, _)| entry.name).collect() }
+    }
+
+    /// What is said behind the name of a sibling.
+    fn slack_at_end(&self, sibling: Option<Word>) -> &'static str {
+        let is = |padded: &&str| sibling.is_some_and(|word| std::ptr::eq(word.word, *padded));
+        if self.padded.iter().any(is) {
+            " and the slack at its end"
+        } else {
+            ""
+        }
+    }
+}
+
 /// The items of an entry's chain, the entry's own first, in words. A width of 2, 4 or 8 is what slack aligns to.
-fn steps<'t>(reasons: impl Iterator<Item = Reason<'t>>, width: usize, places: Places) -> Vec<Step> {
+fn steps<'t>(reasons: impl Iterator<Item = Reason<'t>>, width: usize, telling: &Telling) -> Vec<Step> {
+    let places = telling.places;
     let mut steps: Vec<Step> = Vec::new();
     let (mut group, mut so_far) = (None, 0);
     for reason in reasons {
@@ -59,7 +85,8 @@ fn steps<'t>(reasons: impl Iterator<Item = Reason<'t>>, width: usize, places: Pl
         let words = match reason {
             Reason::First => "first in its list".into(),
             Reason::After { name: sibling, end } => {
-                format!("directly after {}, at {}", name(sibling), places.shown(end as u64))
+                let slack = telling.slack_at_end(sibling);
+                format!("directly after {}{slack}, at {}", name(sibling), places.shown(end as u64))
             }
             Reason::Over { name: target, offset } => {
                 format!("laid over {}, at {}", name(target), places.shown(offset as u64))
@@ -81,8 +108,8 @@ fn steps<'t>(reasons: impl Iterator<Item = Reason<'t>>, width: usize, places: Pl
 }
 
 /// Why an entry stands where it does, in one line: `directly after TAG, at 5; inside G: first in its list`.
-pub fn line(reader: &mut Reader, text: &[u8], entry: &Entry, places: Places) -> Result<String, Refusal> {
-    let steps = steps(reader.reasons(text, entry.number)?.iter(), entry.width, places);
+pub fn line(reader: &mut Reader, text: &[u8], entry: &Entry, telling: &Telling) -> Result<String, Refusal> {
+    let steps = steps(reader.reasons(text, entry.number)?.iter(), entry.width, telling);
     let words = steps.iter().map(|step| match &step.group {
         Some(group) => format!("; inside {group}: {}", step.placed),
         None => step.placed.clone(),
@@ -92,11 +119,17 @@ pub fn line(reader: &mut Reader, text: &[u8], entry: &Entry, places: Places) -> 
 
 /// The sentences of an entry, after a few words: a line for itself and one for each group around it, with the bytes so
 /// far.
-fn sentences(reader: &mut Reader, text: &[u8], entry: &Entry, places: Places, before: &str) -> Result<String, Refusal> {
+fn sentences(
+    reader: &mut Reader,
+    text: &[u8],
+    entry: &Entry,
+    telling: &Telling,
+    before: &str,
+) -> Result<String, Refusal> {
     let found = reader.reasons(text, entry.number)?;
-    let steps = steps(found.iter(), entry.width, places);
+    let steps = steps(found.iter(), entry.width, telling);
     let item = copybook::escaped(entry.name.unwrap_or("FILLER"));
-    let mut out = format!("{before}{item} starts at byte {}: ", places.shown(found.sum()));
+    let mut out = format!("{before}{item} starts at byte {}: ", telling.places.shown(found.sum()));
     for step in &steps {
         if let Some(group) = &step.group {
             out += &format!("  inside {group}: ");
@@ -142,11 +175,11 @@ fn of_name<'t>(layout: &Layout<'t, '_>, name: &str) -> Vec<Entry<'t>> {
 }
 
 /// All that is printed of these entries.
-fn all(form: Form, text: &[u8], entries: &[Entry], places: Places, out: &mut dyn Write) -> io::Result<()> {
+fn all(form: Form, text: &[u8], entries: &[Entry], telling: &Telling, out: &mut dyn Write) -> io::Result<()> {
     let mut reader = Reader::of(form);
     for entry in entries {
         let before = if entries.len() > 1 { format!("entry {}: ", entry.number) } else { String::new() };
-        let told = sentences(&mut reader, text, entry, places, &before).expect("an entry of the layout has reasons");
+        let told = sentences(&mut reader, text, entry, telling, &before).expect("an entry of the layout has reasons");
         out.write_all(told.as_bytes())?;
     }
     Ok(())
@@ -156,8 +189,8 @@ fn run(arguments: &Arguments) -> Result<Status, Failure> {
     let (file, asked) = asked(arguments)?;
     let form = forms::asked(arguments);
     let source = files::read(file, arguments)?;
-    let layout = match form.layout(&source.text) {
-        Ok(layout) => layout,
+    let (layout, details) = match form.layout_and_details(&source.text) {
+        Ok(answer) => answer,
         Err(refusal) => return refusals::not_laid_out(&refusal, &source),
     };
     let status = refusals::doubts(&layout, &source, form, true);
@@ -176,6 +209,7 @@ fn run(arguments: &Arguments) -> Result<Status, Failure> {
             Err(refusal) => return refusals::print(&refusal, &source),
         },
     };
-    files::write(|out| all(form, &source.text, &entries, Places::asked(arguments), out))?;
+    let telling = Telling::new(&layout, &details, Places::asked(arguments));
+    files::write(|out| all(form, &source.text, &entries, &telling, out))?;
     Ok(status)
 }

@@ -7,9 +7,12 @@ use std::fmt::Write as _;
 use std::io::{self, Write};
 
 /// The cells of a line; the last one is empty unless it is asked for.
-type Line = [String; 8];
+type Line = [String; 9];
 
-const HEADS: [&str; 8] = ["line", "first", "last", "width", "item", "picture", "holds", "why"];
+/// The names of the columns. That of usages is there where something has one.
+const HEADS: [&str; 9] = ["line", "first", "last", "width", "item", "picture", USAGE, "holds", WHY];
+const USAGE: &str = "usage";
+const WHY: &str = "why";
 
 /// The columns of numbers stand to the right.
 const NUMBERS: usize = 4;
@@ -57,18 +60,30 @@ fn item(row: &Row, places: Places, why: Option<&String>) -> Line {
     };
     let last = row.last().map_or("-".into(), |last| places.shown(last));
     let picture = row.detail.picture.map_or(String::new(), |p| shown(&p));
+    let usage = facts::usage(row).map_or(String::new(), shown);
     let why = why.map_or(String::new(), |why| escaped(why));
-    [line, places.shown(row.detail.first), last, row.entry.width.to_string(), item, picture, holds, why]
+    [line, places.shown(row.detail.first), last, row.entry.width.to_string(), item, picture, usage, holds, why]
 }
 
-/// The slack before an entry, at the depth where it is shown.
-fn slack(row: &Row, depth: usize, places: Places) -> Line {
-    let bytes = row.detail.slack as u64;
-    let first = row.detail.first - bytes;
-    let holds = format!("aligns {}", shown(row.name()));
+/// Slack, from a place on, at the depth where it is shown.
+fn slack(first: u64, bytes: usize, depth: usize, holds: String, places: Places) -> Line {
     let item = format!("{}(slack)", " ".repeat(INDENT * depth));
-    let (none, last) = (String::new(), first + bytes - 1);
-    [none.clone(), places.shown(first), places.shown(last), bytes.to_string(), item, none.clone(), holds, none]
+    let (first, last) = (places.shown(first), places.shown(first + bytes as u64 - 1));
+    let none = String::new;
+    [none(), first, last, bytes.to_string(), item, none(), none(), holds, none()]
+}
+
+/// The slack before an entry.
+fn slack_before(row: &Row, depth: usize, places: Places) -> Line {
+    let bytes = row.detail.slack;
+    slack(row.detail.first - bytes as u64, bytes, depth, format!("aligns {}", shown(row.name())), places)
+}
+
+/// The slack at the end of the first occurrence of a group, as further in as its members.
+fn slack_at_end(row: &Row, places: Places) -> Line {
+    let bytes = row.detail.slack_at_end;
+    let first = row.detail.first + (row.entry.width - bytes) as u64;
+    slack(first, bytes, row.entry.depth + 1, format!("at the end of {}", shown(row.name())), places)
 }
 
 /// Whether the slack of an entry stands before the folded group that begins with it.
@@ -88,13 +103,21 @@ fn before_group(rows: &[Row], number: usize) -> bool {
 fn lines(facts: &Facts, places: Places, whys: &[String]) -> Vec<Line> {
     let rows = &facts.rows;
     let mut lines = Vec::new();
+    // the groups around the next entry with slack at their ends, the outermost first, each with the entry behind it
+    let mut open: Vec<(usize, &Row)> = Vec::new();
     for (number, row) in rows.iter().enumerate() {
         if before_group(rows, number) {
-            lines.push(slack(&rows[number + 1], row.entry.depth, places));
+            lines.push(slack_before(&rows[number + 1], row.entry.depth, places));
         } else if row.detail.slack > 0 && !(number > 0 && before_group(rows, number - 1)) {
-            lines.push(slack(row, row.entry.depth, places));
+            lines.push(slack_before(row, row.entry.depth, places));
         }
         lines.push(item(row, places, whys.get(number)));
+        if row.detail.slack_at_end > 0 {
+            open.push((number + 1 + row.detail.below, row));
+        }
+        while let Some((_, group)) = open.pop_if(|(after, _)| *after == number + 1) {
+            lines.push(slack_at_end(group, places));
+        }
     }
     lines
 }
@@ -116,10 +139,10 @@ fn wrapped(words: &str, width: usize) -> Vec<String> {
 }
 
 /// Writes a line; the last column that is not empty everywhere is wrapped at the width of the whole.
-fn write_line(line: [&str; 8], widths: &[usize; 8], most: Option<usize>, out: &mut dyn Write) -> io::Result<()> {
+fn write_line(line: [&str; 9], widths: &[usize; 9], most: Option<usize>, out: &mut dyn Write) -> io::Result<()> {
     let last = widths.iter().rposition(|&width| width > 0).unwrap_or(0);
     let mut written = String::new();
-    for (i, (cell, &width)) in line.iter().zip(widths).take(last).enumerate() {
+    for (i, (cell, &width)) in line.iter().zip(widths).take(last).enumerate().filter(|(_, (_, &width))| width > 0) {
         let _ = if i < NUMBERS { write!(written, "{cell:>width$}  ") } else { write!(written, "{cell:width$}  ") };
     }
     let before = written.chars().count();
@@ -156,12 +179,17 @@ pub struct Style {
 pub fn write(facts: &Facts, style: &Style, whys: &[String], out: &mut dyn Write) -> io::Result<()> {
     let bytes = if facts.record_len == 1 { "byte" } else { "bytes" };
     let more = if facts.variable { " or more" } else { "" };
-    writeln!(out, "record of {} {bytes}{more}; {}", facts.record_len, style.places.told())?;
+    let record = facts.record.map_or(String::new(), |record| {
+        format!("{:02} {}, ", record.level, shown(record.name.map_or("FILLER", |name| name.word)))
+    });
+    writeln!(out, "{record}record of {} {bytes}{more}; {}", facts.record_len, style.places.told())?;
     let lines = lines(facts, style.places, whys);
     if lines.is_empty() {
         return Ok(());
     }
-    let heads = HEADS.map(|head| if head == "why" && whys.is_empty() { "" } else { head });
+    let no_usage = facts.rows.iter().all(|row| row.detail.usage.is_none());
+    let left_out = |head| head == WHY && whys.is_empty() || head == USAGE && no_usage;
+    let heads = HEADS.map(|head| if left_out(head) { "" } else { head });
     let mut widths = heads.map(str::len);
     for line in &lines {
         for (width, cell) in widths.iter_mut().zip(line) {

@@ -260,6 +260,59 @@ fn lengths_of_variable_records() {
     assert!(json.contains(r#""occurs": 5, "least": 3, "stride": 1, "depending_on": "N""#), "{json}");
 }
 
+/// What a program decodes by: the usage as the copybook has it, the order of a binary's bytes, and where a sign stands.
+#[test]
+fn usages_and_signs() {
+    let text = "01 R COMP-5. 05 A PIC X. 05 B PIC 9 COMP. 05 C PIC 9 Computational-5.";
+    let json = ran(&["layout", "--json"], text).1;
+    for row in [
+        r#""usage": "COMP-5", "storage": null, "endian": null, "#,
+        r#""usage": "COMP", "storage": "binary", "endian": "big", "#,
+        r#""usage": "Computational-5", "storage": "binary", "endian": "native", "#,
+    ] {
+        assert!(json.contains(row), "{json}");
+    }
+    assert!(ran(&["layout", "--json"], "05 A PIC X.").1.contains(r#""usage": null, "storage": null"#));
+    let sign = |clause: &str| {
+        let json = ran(&["layout", "--json"], &format!("05 A PIC {clause}.")).1;
+        json.split("\"sign\": ").nth(1).unwrap().split(", \"").next().unwrap().to_owned()
+    };
+    assert_eq!(sign("9(3) SIGN LEADING"), r#""none""#);
+    assert_eq!(sign("S9(3)"), r#""trailing""#);
+    assert_eq!(sign("S9(3)V9 SIGN IS TRAILING"), r#""trailing""#);
+    assert_eq!(sign("S9(3) LEADING"), r#""trailing""#);
+    assert_eq!(sign("S9(3) SIGN LEADING"), r#""leading""#);
+    assert_eq!(sign("S9(3) SIGN LEADING SEPARATE"), r#""separate leading""#);
+    assert_eq!(sign("S9(3) SIGN SEPARATE"), r#""separate trailing""#);
+    assert_eq!(["S9 COMP", "S9 COMP-3", "-9", "X"].map(sign), ["null"; 4]);
+    // the record's name and level, where it has them
+    let record = |text: &str| {
+        let json = ran(&["layout", "--json"], text).1;
+        json.split(", \"record_length\"").next().unwrap().to_owned()
+    };
+    assert_eq!(record("02 R-1. 05 A PIC X."), r#"{"record": "R-1", "record_level": 2"#);
+    assert_eq!(record("01. 05 A PIC X."), r#"{"record": "FILLER", "record_level": 1"#);
+    assert_eq!(record("01 A PIC X."), r#"{"record": null, "record_level": null"#);
+    assert!(ran(&["layout", "--table"], "01. 05 A PIC X.").1.starts_with("01 FILLER, record of 1 byte; "));
+    assert!(ran(&["layout", "--table"], "01 A PIC X.").1.starts_with("record of 1 byte; "));
+}
+
+/// Slack at the end of groups, inside one another, in the table and by its bytes.
+#[test]
+fn slack_at_ends() {
+    let text = "01 R. 05 G OCCURS 2. 10 H OCCURS 2. 15 A PIC 9(5) COMP SYNC. 15 B PIC X. 10 C COMP-2 SYNC. 10 D PIC X.";
+    let table = ran(&["layout", "--table"], text).1;
+    let slack: Vec<_> = table.lines().filter(|line| line.contains("(slack)")).map(str::trim).collect();
+    assert_eq!(slack.len(), 2, "{table}");
+    assert!(slack[0].starts_with("5     7      3      (slack)") && slack[0].ends_with("at the end of H"), "{table}");
+    assert!(slack[1].starts_with("25    31      7    (slack)") && slack[1].ends_with("at the end of G"), "{table}");
+    assert_eq!(ran(&["owner", "-", "46"], text).1, "46 slack at the end of 1 G(2).H(2)\n");
+    assert_eq!(ran(&["owner", "-", "63"], text).1, "63 slack at the end of 0 G(2)\n");
+    let json = ran(&["layout", "--json"], text).1;
+    let ends: Vec<_> = json.split("\"slack_at_end\": ").skip(1).map(|rest| rest.split(',').next().unwrap()).collect();
+    assert_eq!(ends, ["7", "3", "0", "0", "0", "0"]);
+}
+
 /// A flat record: a row for each occurrence, with a name of its own, and what has its bytes too.
 #[test]
 fn flat_records() {
@@ -267,13 +320,13 @@ fn flat_records() {
     let flat = |text: &str| {
         let (status, out, err) = ran(&["layout", "--csv", "--flat"], text);
         assert_eq!((status, err.as_str()), (0, ""));
-        out.lines().skip(1).map(|line| line.splitn(5, ',').nth(4).unwrap().to_owned()).collect::<Vec<_>>()
+        out.lines().skip(1).map(|line| line.splitn(7, ',').nth(6).unwrap().to_owned()).collect::<Vec<_>>()
     };
     let rows = flat("05 S PIC X. 05 T OCCURS 2. 10 A PIC X. 10 B PIC 9 OCCURS 2.");
     let starts = [
         "S,0,S,0,1,text,",
         "A(1),2,T.A,1,1,text,",
-        "\"B(1,1)\",3,T.B,2,1,int,display,1,0,false,unsigned,9,",
+        "\"B(1,1)\",3,T.B,2,1,int,,display,,1,0,false,none,9,",
         "\"B(1,2)\",3,T.B,3,1,int,",
         "A(2),2,T.A,4,1,text,",
         "\"B(2,1)\",3,T.B,5,1,int,",
@@ -331,16 +384,17 @@ fn several_files() {
     let lines: Vec<&str> = out.lines().collect();
     assert_eq!((status, lines.len()), (2, 4));
     assert_eq!(lines[0], format!("{{\"file\": \"{none}\", \"failed\": \"there is no such file\"}}"));
+    let none = r#""record": null, "record_level": null"#;
     let record = r#""record_length": 0, "variable": false, "shortest": 0, "longest": 0, "entries": []"#;
-    assert_eq!(lines[1], format!("{{\"file\": \"{empty}\", {record}}}"));
-    assert!(lines[2].starts_with(&format!("{{\"file\": \"{good}\", \"record_length\": 1, ")), "{out}");
+    assert_eq!(lines[1], format!("{{\"file\": \"{empty}\", {none}, {record}}}"));
+    assert!(lines[2].starts_with(&format!("{{\"file\": \"{good}\", {none}, \"record_length\": 1, ")), "{out}");
     assert!(lines[3].starts_with(&format!("{{\"file\": \"{wrong}\", \"refused\": {{\"number\": 25, ")), "{out}");
     assert!(err.contains("none.cpy: there is no such file\n") && err.contains("wrong.cpy:1:1: Q in"), "{err}");
     let (status, out, _) = ran(&["layout", "--csv", &wrong, &good, &empty, &good], "");
     let lines: Vec<&str> = out.lines().collect();
     assert_eq!((status, lines.len()), (1, 3));
-    assert!(lines[0].starts_with("file,record_length,") && lines[1] == lines[2], "{out}");
-    assert!(lines[1].starts_with(&format!("{good},1,false,1,1,0,")), "{out}");
+    assert!(lines[0].starts_with("file,record,record_level,record_length,") && lines[1] == lines[2], "{out}");
+    assert!(lines[1].starts_with(&format!("{good},,,1,false,1,1,0,")), "{out}");
     assert_eq!(ran(&["layout", &empty, &good], "").0, 3);
     assert_eq!(ran(&["layout", "--csv", &good, &good], "").1.lines().count(), 3);
 }
@@ -417,13 +471,13 @@ fn an_answer_without_entries_says_so() {
 #[test]
 fn places() {
     let table = ran(&["layout", "--table", "--from-1", "--why"], FISH).1;
-    assert!(table.starts_with("record of 20 bytes; bytes count from 1\n"), "{table}");
+    assert!(table.starts_with("01 FISH, record of 20 bytes; bytes count from 1\n"), "{table}");
     assert!(
         table.contains("   1      7     8      2  05 SIRE") && table.contains("directly after TAG, at 6;"),
         "{table}"
     );
     let table = ran(&["layout", "--hex"], FISH).1;
-    assert!(table.starts_with("record of 20 bytes; bytes count from 0, in hexadecimal\n"), "{table}");
+    assert!(table.starts_with("01 FISH, record of 20 bytes; bytes count from 0, in hexadecimal\n"), "{table}");
     assert!(table.contains("   1    0x8  0x13      4  05 WT"), "{table}");
     assert_eq!(ran(&["owner", "--from-1", "20"], FISH).1, "20 entry 2 WT(3) dec 4 first 17 place 4\n");
     assert_eq!(ran(&["owner", "--hex", "0x13"], FISH).1, "0x13 entry 2 WT(3) dec 4 first 0x10 place 0x3\n");
@@ -441,18 +495,18 @@ fn tables_of_a_width() {
     let whole = lines(&[]);
     assert_eq!(lines(&["--width", "0"]), whole);
     assert_eq!(lines(&["--width=200"]), whole);
-    let narrow = lines(&["--width", "72"]);
-    assert!(narrow.lines().all(|line| line.len() <= 72), "{narrow}");
-    let last = "   1      8    19      4  05 WT    9(3)V9   display, 4 digits, 1 after
-                                            the point; OCCURS 3, every 4
-                                            bytes
+    let narrow = lines(&["--width", "79"]);
+    assert!(narrow.lines().all(|line| line.len() <= 79), "{narrow}");
+    let last = "   1      8    19      4  05 WT    9(3)V9          display, 4 digits, 1 after
+                                                   the point; OCCURS 3, every 4
+                                                   bytes
 ";
     assert!(narrow.ends_with(last), "{narrow}");
     let joined = |table: &str| table.split_whitespace().collect::<Vec<_>>().join(" ");
     assert_eq!(joined(&narrow), joined(&whole));
-    assert!(lines(&["--width=9"]).lines().all(|line| line.len() <= 44 + 20));
-    let why = lines(&["--why", "--width=145"]);
-    assert!(why.lines().all(|line| line.len() <= 145) && why.contains("at 5; 1 byte"), "{why}");
+    assert!(lines(&["--width=9"]).lines().all(|line| line.len() <= 51 + 20));
+    let why = lines(&["--why", "--width=152"]);
+    assert!(why.lines().all(|line| line.len() <= 152) && why.contains("at 5; 1 byte"), "{why}");
 }
 
 /// Whatever a copybook has, the table shows no control character.
@@ -575,17 +629,25 @@ fn reasons() {
     let sire = "SIRE starts at byte 6: directly after TAG, at 5; 1 byte of slack, aligned to 2\n";
     assert_eq!(ran(&["reasons", "1"], FISH), (0, sire.into(), String::new()));
     assert_eq!(ran(&["reasons", "-", "sire"], FISH), (0, sire.into(), String::new()));
-    let nested = "05 A PIC X(3). 05 G. 10 B PIC X. 10 C PIC 9(9) COMP SYNC.";
-    let told = "C starts at byte 7: directly after B, at 1; 3 bytes of slack, aligned to 4; 4 bytes so far\n  \
-        inside G: directly after A, at 3; 7 bytes so far\n";
+    let nested = "05 A PIC X(4). 05 G. 10 B PIC X. 10 C PIC 9(9) COMP SYNC.";
+    let told = "C starts at byte 8: directly after B, at 1; 3 bytes of slack, aligned to 4; 4 bytes so far\n  \
+        inside G: directly after A, at 4; 8 bytes so far\n";
     assert_eq!(ran(&["reasons", "-", "C"], nested).1, told);
-    let from_1 = "C starts at byte 8: directly after B, at 2; 3 bytes of slack, aligned to 4; 4 bytes so far\n  \
-        inside G: directly after A, at 4; 7 bytes so far\n";
+    let from_1 = "C starts at byte 9: directly after B, at 2; 3 bytes of slack, aligned to 4; 4 bytes so far\n  \
+        inside G: directly after A, at 5; 8 bytes so far\n";
     assert_eq!(ran(&["reasons", "--from-1", "-", "C"], nested).1, from_1);
     assert_eq!(
         ran(&["reasons", "--from-1", "--hex", "3"], nested).1,
-        from_1.replace("byte 8", "byte 0x8").replace("at 2", "at 0x2").replace("at 4", "at 0x4")
+        from_1.replace("byte 9", "byte 0x9").replace("at 2", "at 0x2").replace("at 5", "at 0x5")
     );
+    // the slack at the end of what stands before; none where it reserves nothing
+    let padded = "01 R. 05 G OCCURS 2. 10 A PIC 9 COMP SYNC. 10 B PIC X. 05 C PIC X. 05 H OCCURS 0. 10 A COMP-1 SYNC. \
+        10 B PIC X. 05 D PIC X.";
+    assert_eq!(
+        ran(&["reasons", "-", "C"], padded).1,
+        "C starts at byte 8: directly after G and the slack at its end, at 8\n"
+    );
+    assert_eq!(ran(&["reasons", "-", "D"], padded).1, "D starts at byte 9: directly after H, at 9\n");
     let folded = "05 A PIC X. 05 B PIC X. 05 C REDEFINES B PIC X.";
     let told = "entry 1: B starts at byte 1: directly after A, at 1\n\
         entry 2: B starts at byte 1: directly after A, at 1\n";

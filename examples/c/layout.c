@@ -34,6 +34,8 @@ static void print_entry(const struct copybook_entry *e)
         printf(", %lu ways to read the same bytes", (unsigned long)e->members);
     if (e->slack > 0)
         printf(", after slack of %lu", (unsigned long)e->slack);
+    if (e->slack_at_end > 0)
+        printf(", slack of %lu at its end included", (unsigned long)e->slack_at_end);
     printf("\n");
 }
 

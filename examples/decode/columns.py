@@ -15,7 +15,7 @@ def column(row):
     """The type of a row of the layout."""
     width = row["width"]
     if row["storage"] == "binary":
-        return f">{'i' if row['signed'] else 'u'}{width}"
+        return f"{'=' if row['endian'] == 'native' else '>'}{'i' if row['signed'] else 'u'}{width}"
     if row["storage"] == "float":
         return f"=f{width}"
     return f"{'V' if row['storage'] == 'packed' else 'S'}{width}"

@@ -11,14 +11,14 @@ from decimal import Decimal
 
 
 def zoned(data, sign):
-    """Digits, one a byte. A sign is a byte of its own, or stands in the last digit: 0x40 more where it is a minus."""
+    """Digits, one a byte. A sign is a byte of its own, or stands in the last digit or the first: 0x40 more where it is a
+    minus."""
     text = data.decode()
-    if sign == "leading-separate":
-        return int(text)
-    if sign == "trailing-separate":
-        return int(text[-1] + text[:-1])
-    if data[-1] >= 0x70:
-        return -int(text[:-1] + chr(data[-1] - 0x40))
+    if sign == "separate trailing":
+        text = text[-1] + text[:-1]
+    at = {"trailing": len(data) - 1, "leading": 0}.get(sign)
+    if at is not None and data[at] >= 0x70:
+        return -int(text[:at] + chr(data[at] - 0x40) + text[at + 1:])
     return int(text)
 
 
@@ -37,7 +37,8 @@ def value(row, data):
     if storage == "float":
         return Decimal(struct.unpack({4: "=f", 8: "=d"}[row["width"]], data)[0])
     if storage == "binary":
-        number = int.from_bytes(data, "big", signed=row["signed"])
+        order = sys.byteorder if row["endian"] == "native" else "big"
+        number = int.from_bytes(data, order, signed=row["signed"])
     elif storage == "packed":
         number = packed(data)
     else:

@@ -14,7 +14,7 @@ def column(row):
     """A row of the layout as a column of the view."""
     part = f"substr(bytes, {row['first'] + 1}, {row['width']})"
     as_text = f"CAST({part} AS TEXT)"
-    if row["storage"] == "display" and row["sign"] == "unsigned":
+    if row["storage"] == "display" and row["sign"] == "none":
         part = f"CAST({as_text} AS INTEGER) / 1{'0' * row['after_point']}.0" if row["after_point"] else \
             f"CAST({as_text} AS INTEGER)"
     elif row["storage"] in (None, "edited"):

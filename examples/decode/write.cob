@@ -18,10 +18,12 @@
            MOVE "TROLL" TO BOAT.
            MOVE 20240229 TO LANDED.
            MOVE -87 TO DEPTH.
+           MOVE -45 TO BEARING.
            MOVE -3.5 TO DRIFT.
            MOVE 34.71 TO SALINITY.
            MOVE 1 TO HAUL-NO.
            MOVE -1.2 TO TIDE.
+           MOVE 1000000 TO POTS.
            MOVE 12345.67 TO WEIGHT.
            MOVE 1999.95 TO PRICE.
            MOVE 4.25 TO TEMPERATURE.
@@ -35,10 +37,12 @@
            MOVE "HAVFRU" TO BOAT.
            MOVE 19991231 TO LANDED.
            MOVE 250 TO DEPTH.
+           MOVE 180 TO BEARING.
            MOVE 12 TO DRIFT.
            MOVE -0.01 TO SALINITY.
            MOVE 987654321 TO HAUL-NO.
            MOVE 987.6 TO TIDE.
+           MOVE -2 TO POTS.
            MOVE -0.05 TO WEIGHT.
            MOVE 0 TO PRICE.
            MOVE -0.5 TO TEMPERATURE.
@@ -50,9 +54,9 @@
            MOVE 999.99 TO ASKED.
            PERFORM WRITE-IT.
            MOVE "X" TO BOAT.
-           MOVE 0 TO LANDED DEPTH DRIFT SALINITY HAUL-NO TIDE
-               WEIGHT PRICE TEMPERATURE LATITUDE FISH-COUNT (2)
-               ASKED.
+           MOVE 0 TO LANDED DEPTH BEARING DRIFT SALINITY HAUL-NO
+               TIDE POTS WEIGHT PRICE TEMPERATURE LATITUDE
+               FISH-COUNT (2) ASKED.
            PERFORM WRITE-IT.
            CLOSE HAULS.
            STOP RUN.
@@ -69,6 +73,8 @@
            DISPLAY "DD " SHOWN.
            MOVE DEPTH TO SHOWN.
            DISPLAY "DEPTH " SHOWN.
+           MOVE BEARING TO SHOWN.
+           DISPLAY "BEARING " SHOWN.
            MOVE DRIFT TO SHOWN.
            DISPLAY "DRIFT " SHOWN.
            MOVE SALINITY TO SHOWN.
@@ -77,6 +83,8 @@
            DISPLAY "HAUL-NO " SHOWN.
            MOVE TIDE TO SHOWN.
            DISPLAY "TIDE " SHOWN.
+           MOVE POTS TO SHOWN.
+           DISPLAY "POTS " SHOWN.
            MOVE WEIGHT TO SHOWN.
            DISPLAY "WEIGHT " SHOWN.
            MOVE PRICE TO SHOWN.

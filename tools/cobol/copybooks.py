@@ -619,7 +619,7 @@ def sync_groups(m):
 
 def sync_tables(m):
     """SYNC items in groups with OCCURS."""
-    return m.list(("text", "display"), 0, 1) + [m.group(m.nested(("sync", "text", "comp3"), 2, 2, 1, 4), m.rng.randint(2, 4))] + m.list(PLAIN, 0, 2)
+    return m.list(("text", "display"), 0, 1) + [m.group(m.nested(("sync", "text", "comp3"), 2, 2, 1, 4), m.rng.randint(1, 4))] + m.list(PLAIN, 0, 2)
 
 
 def native(m):
@@ -631,8 +631,9 @@ def native(m):
 AGREEING = {"usages": (usages, 3), "signs": (signs, 2), "edited": (edited, 3), "scaled": (scaled, 3),
             "long": (long_numbers, 2), "groups": (groups, 2), "group-usages": (group_usages, 3), "floats": (floats, 3),
             "tables": (tables, 3), "redefines": (redefines, 3),
-            "conditions": (conditions, 1), "literals": (literals, 2), "cards": (cards, 3), "sync": (sync, 3), "sync-aligned": (sync_aligned, 2), "mixed": (mixed, 3), "single": (None, 1)}
-DEPARTURES = {"depending": (depending, 2), "comp-5": (native, 1), "sync-in-groups": (sync_groups, 2), "sync-in-tables": (sync_tables, 2)}
+            "conditions": (conditions, 1), "literals": (literals, 2), "cards": (cards, 3), "sync": (sync, 3), "sync-aligned": (sync_aligned, 2),
+            "sync-in-groups": (sync_groups, 2), "mixed": (mixed, 3), "single": (None, 1)}
+DEPARTURES = {"depending": (depending, 2), "comp-5": (native, 1), "sync-in-tables": (sync_tables, 2)}
 
 
 def number_levels(rng, items, level):

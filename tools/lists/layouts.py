@@ -1,19 +1,20 @@
 """Copybooks with their listing or refusal: those that the Rust answers too, those on cards, and some by hand."""
 
 import collections
+import itertools
 import re
 import struct
 import sys
 
 import beside_rust
-from lists.cases import SEED, distinct, escaped, refused
+from lists.cases import SEED, distinct, escaped, refused, same
 from lists.texts import float_inputs, mixed_inputs, usage_inputs
-from makers import copybooks, written
+from makers import aligned, copybooks, written
 from readings import layout
 from readings.picture import (BINARY, DECIMAL, EDITED, FLOAT, GROUP, INT, STORED_COMP3, STORED_DISPLAY, TEXT)
 from readings.reader import Cards
 
-LAYOUTS, USAGE_LAYOUTS, FLOAT_LAYOUTS, LAYOUT_LISTS = 2500, 200, 200, 4
+LAYOUTS, USAGE_LAYOUTS, FLOAT_LAYOUTS, ALIGNED_LAYOUTS, LAYOUT_LISTS = 2400, 200, 200, 200, 4
 
 
 # Groups in groups, each with a redefiner: around an item of a list of depth 64 stand 64 groups and 65 folds. Names that
@@ -34,7 +35,7 @@ def check_layout(i, made, answer):
     """How the Rust's answer stands to the one made here; ends the program where it says something else."""
     number = made[1] if made[0] == 0 else 0
     if not beside_rust.has_answer(i):
-        how, same = "literals, P or usages, without an answer of the Rust", True
+        how, same = "literals, P, usages or alignment, without an answer of the Rust", True
     elif number in beside_rust.ADDED:
         how, same = f"added refusal {number}", beside_rust.due(i, answer, number)
     elif number:
@@ -47,9 +48,15 @@ def check_layout(i, made, answer):
     return how
 
 
+def aligned_inputs():
+    maker = aligned.Maker(SEED)
+    return itertools.chain(written.ALIGNED, (maker.copybook() for _ in itertools.count()))
+
+
 def layouts(oracle):
     inputs = distinct(mixed_inputs(SEED + 1, [FOLDED_CHAINS, MANY], 100), LAYOUTS)
     inputs += distinct(usage_inputs(), USAGE_LAYOUTS) + distinct(float_inputs(), FLOAT_LAYOUTS)
+    inputs += distinct(aligned_inputs(), ALIGNED_LAYOUTS)
     cases, kinds = [], collections.Counter()
     for i, answer in zip(inputs, oracle.ask(inputs)):
         made = layout.answer(i.text)
@@ -61,11 +68,11 @@ def layouts(oracle):
 
 def parts(cases, count):
     """The cases in order, in so many lists of about the same length."""
-    numbers = sum(map(len, cases))
+    lengths = [len(" ".join(map(str, case))) for case in cases]
     out, seen = [[] for _ in range(count)], 0
-    for case in cases:
-        out[seen * count // numbers].append(case)
-        seen += len(case)
+    for case, length in zip(cases, lengths):
+        out[seen * count // sum(lengths)].append(case)
+        seen += length
     return out
 
 
@@ -145,6 +152,13 @@ def by_hand():
     table = "05 N PIC 9(2). 05 T OCCURS 1 TO 5 DEPENDING ON N PIC X(3). 05 Z PIC X."
     group = "05 A PIC X. 05 G. 10 B PIC X. 10 C PIC 9(4) COMP SYNC."
     sync = "05 A PIC X. 05 G SYNC. 10 B PIC 9(4) COMP."
+    padded, once, never = (f"01 R. 05 G OCCURS {n}. 10 A PIC 9 COMP SYNC. 10 B PIC X." for n in (2, 1, 0))
+    never += " 05 Z PIC X."
+    plain = "01 R. 05 G. 10 A PIC 9 COMP SYNC. 10 B PIC X."
+    varying = "05 N PIC 9. 05 G OCCURS 2 DEPENDING ON N. 10 A PIC 9 COMP SYNC. 10 B PIC X."
+    moved = "01 R. 05 A PIC X. 05 G OCCURS 2. 10 B PIC 9(10) COMP SYNC."
+    inner = "01 R. 05 A PIC X. 05 G OCCURS 2. 10 H OCCURS 1. 15 B COMP-1 SYNC. 15 C PIC X. 10 D PIC X."
+    largest = "01 R. 05 G OCCURS {}. 10 A COMP-2 SYNC. 10 B PIC X OCCURS 214748363{}."
     dots = "05 A PIC 9.9. 05 B.C PIC X."
     named = "05 VALUE PIC X. 05 B REDEFINES VALUE PIC X 'St. 4'. 05 C PIC X."
     root = "01 R OCCURS 9. 05 A PIC X."
@@ -171,7 +185,7 @@ def by_hand():
         one("05 A PIC 9(9)P COMP.", 0, 4, BINARY, 0),
         one("05 A PIC zp(2)9.9.", 0, 4, EDITED, 5, 3, 0, "zp(2)9.9"),
         # the traps: a statement that ends at every period, the cursor past a wide redefiner, COMP-3 digits modulo 256,
-        # an aligned group
+        # an item that is aligned from the start of its group, an aligned group
         (dots, listed(dots, 4, 0, 2, item("A", 0, 3, EDITED, 2, 1, 0, "9.9"), item("B.C", 3, 1, TEXT))),
         (wide, listed(wide, 5, 0, 2, item("A", 0, 5, GROUP, 2), item("A", 0, 2, TEXT),
                       item("B", 0, 5, TEXT), item("C", 2, 1, TEXT))),
@@ -179,9 +193,31 @@ def by_hand():
         ("05 A PIC 9(32) COMP-3.", refused(27, 0)),
         ("05 A PIC 9(256) COMP-3.", refused(27, 0)),
         ("05 A PIC 9(257) COMP-3.", refused(27, 0)),
-        (group, listed(group, 5, 0, 2, item("A", 0, 1, TEXT), item("G", 1, 4, GROUP, 2), item("B", 0, 1, TEXT),
-                       item("C", 2, 2, BINARY, 0))),
+        (group, listed(group, 4, 0, 2, item("A", 0, 1, TEXT), item("G", 1, 3, GROUP, 2), item("B", 0, 1, TEXT),
+                       item("C", 1, 2, BINARY, 0))),
         (sync, listed(sync, 3, 0, 2, item("A", 0, 1, TEXT), item("G", 1, 2, GROUP, 1), item("B", 0, 2, BINARY, 0))),
+        # alignment from the record's start, and at the end of a group with OCCURS
+        (padded, listed(padded, 8, 0, 1, item("G", 0, 4, GROUP, 2, occurs=2), item("A", 0, 2, BINARY, 0),
+                        item("B", 2, 1, TEXT))),
+        (once, listed(once, 4, 0, 1, item("G", 0, 4, GROUP, 2, occurs=1), item("A", 0, 2, BINARY, 0),
+                      item("B", 2, 1, TEXT))),
+        (never, listed(never, 1, 0, 2, item("G", 0, 4, GROUP, 2, occurs=0), item("A", 0, 2, BINARY, 0),
+                       item("B", 2, 1, TEXT), item("Z", 0, 1, TEXT))),
+        (plain, listed(plain, 3, 0, 1, item("G", 0, 3, GROUP, 2), item("A", 0, 2, BINARY, 0), item("B", 2, 1, TEXT))),
+        (varying, listed(varying, 1, 1, 2, item("N", 0, 1, INT, 0, 0),
+                         item("G", 1, 4, GROUP, 2, occurs=2, depending="N#2"), item("A", 1, 2, BINARY, 0),
+                         item("B", 3, 1, TEXT))),
+        (moved, listed(moved, 33, 0, 2, item("A", 0, 1, TEXT), item("G", 1, 16, GROUP, 1, occurs=2),
+                       item("B", 7, 8, BINARY, 0))),
+        (inner, listed(inner, 25, 0, 2, item("A", 0, 1, TEXT), item("G", 1, 12, GROUP, 2, occurs=2),
+                       item("H", 0, 8, GROUP, 2, occurs=1), item("B", 3, 4, FLOAT, 32), item("C", 7, 1, TEXT),
+                       item("D", 8, 1, TEXT))),
+        (largest.format(0, 2), listed(largest.format(0, 2), 0, 0, 1, item("G", 0, 2147483640, GROUP, 2, occurs=0),
+                                      item("A", 0, 8, FLOAT, 64), item("B", 8, 1, TEXT, occurs=2147483632))),
+        (largest.format(0, 3), refused(29, 6)),
+        (largest.format(1, 3), refused(29, 6)),
+        ("05 Z PIC X. 05 G REDEFINES Q. 10 A PIC Q.", refused(28, 12)),
+        ("05 Z PIC X. 05 G REDEFINES Z. 10 A PIC Q.", refused(25, 30)),
         # small ones of every rule
         ("", listed("", 0, 0, 0)),
         (root, listed(root, 1, 0, 1, item("A", 0, 1, TEXT))),
@@ -234,4 +270,5 @@ def by_hand():
     ]
     if cases[0][1][1] != 129:
         sys.exit("the worked example has 129 bytes")
-    return [[escaped(text.encode("latin-1")), *answer] for text, answer in cases]
+    made = [(text.encode("latin-1"), answer) for text, answer in cases]
+    return [[escaped(text), *same(text, answer, layout.answer(text))] for text, answer in made]

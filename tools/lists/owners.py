@@ -12,7 +12,7 @@ from readings import layout, owner, reader
 SEED = 3
 RECORDS, MOST_RECORD = 320, 400
 # What at least four records must have.
-WANTED = ("slack", "slack before OCCURS 0", "slack in a group that OCCURS", "slack by an inherited usage",
+WANTED = ("slack", "slack at an end", "slack before OCCURS 0", "slack in a group that OCCURS", "slack by an inherited usage",
           "OCCURS in OCCURS", "OCCURS 0", "FILLER", "empty record", "dropped root with clauses")
 
 
@@ -42,8 +42,8 @@ def features(text, record):
         yield "dropped root with clauses"
     for mark, number, *_ in record:
         if mark == owner.SLACK:
-            s, _, around = statements[number]
-            yield "slack"
+            s, inner, around = statements[number]
+            yield "slack at an end" if inner else "slack"
             if not s.usage:
                 yield "slack by an inherited usage"
             if s.occurs == 0:
@@ -77,7 +77,7 @@ def record_runs(text):
 def records():
     """Cases: the text, how many runs its record has, and for each its mark, entry and width."""
     maker = makers.Maker(SEED)
-    texts = dict.fromkeys(makers.WRITTEN + written.ROOTS + written.GOOD + written.FLOATS)
+    texts = dict.fromkeys(makers.WRITTEN + written.ROOTS + written.GOOD + written.FLOATS + written.ALIGNED)
     texts = itertools.chain(texts, (maker.copybook() for _ in itertools.count()))
     asked = filter(is_asked, (text.encode("latin-1") for text in texts))
     cases, seen, total = [], collections.Counter(), 0
@@ -105,7 +105,7 @@ def positions(text, owner_of):
 def asked():
     """Cases: the text, a position and the answer."""
     lists = [makers.HUGE, written.LARGE, written.ROOTS, written.ORDER, written.FOLDS, written.GOOD, written.REPEATED,
-             written.QUOTED[::4], written.USAGES[::2], written.FLOATS[::2],
+             written.QUOTED[::4], written.USAGES[::2], written.FLOATS[::2], written.ALIGNED,
              (text for text in written.edges() if len(text) < 100)]
     cases, kinds = [], collections.Counter()
     for text in dict.fromkeys(itertools.chain(*lists)):

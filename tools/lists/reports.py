@@ -17,7 +17,7 @@ PAST = 2 ** 64 - 1
 def reported():
     """Copybooks, and whether they are on cards: the limits, what is written by hand, then random ones."""
     deep = [chain(66), chain(67), FOLDED_CHAINS[0], MANY[0], "1.\n" * 801, "05 A PIC X.\x80", "05 A PIC X VALUE 'open"]
-    plain = [deep, written.FOLDS, written.ROOTS, written.LARGE, written.ORDER, written.GOOD,
+    plain = [deep, written.FOLDS, written.ROOTS, written.LARGE, written.ORDER, written.GOOD, written.ALIGNED,
              written.USAGES[::4], written.FLOATS[::3]]
     yield from itertools.product(itertools.chain(*plain), [False])
     yield from itertools.product(written.CARDS[:24] + written.CARDS[24::9], [True])

@@ -22,6 +22,8 @@ Where each thing that a comparison must cover is made, in `written` and by the m
   two refusals in one copybook                                          ORDER, damaged
   nested groups with SYNC items                                         nested; depth 64 and 65: chains
   damaged copies of good copybooks                                      damaged
+  SYNC items in groups and tables, slack at the end of a group, 29 behind slack, 28 before a group's list
+                                                                        ALIGNED, aligned.Maker
   801 statements, 65,536 bytes, bytes over 127                          edges, marked
   pictures: every symbol alone, pairs                                   alone, picture_pair
     floats, CR and DB split by repeats, zero repeats, counts, stray brackets
@@ -53,7 +55,7 @@ class Input(collections.namedtuple("Input", "text usage sign family")):
 
 def written_copybooks(shuffled):
     lists = [("fold", written.FOLDS), ("repeated", written.REPEATED), ("root", written.ROOTS), ("order", written.ORDER),
-             ("large", written.LARGE), ("good", written.GOOD), ("quoted", written.QUOTED), ("usage", written.USAGES),
+             ("large", written.LARGE), ("aligned", written.ALIGNED), ("good", written.GOOD), ("quoted", written.QUOTED), ("usage", written.USAGES),
              ("float", written.FLOATS), ("chains", written.chains())]
     combined = [written.edges, written.at_every_place, written.bare_clauses, written.levels, written.counts]
     return shuffled(lists) + shuffled([(f.__name__, f()) for f in combined])

@@ -9,6 +9,7 @@ One module for each subject, and each rule stands in one of them:
     reasons     11           53
     key         12           56, 57
     extract     15           58 to 60
+    wording     16
 Beside them, `lines` has what the command prints of an answer (docs/FORMATS.md), and `original` says where the original
 Rust has an answer, and which.
 

@@ -8,7 +8,8 @@ import dataclasses
 import struct
 
 from readings import Refused
-from readings.picture import (BINARY, COMP1, COMP2, EDITED, EMBEDDED, FLOAT, GROUP, LEADING, TRAILING, pictured)
+from readings.picture import (BINARY, COMP1, COMP2, EDITED, EMBEDDED, FLOAT, GROUP, LEADING, TRAILING, Pictured,
+                              pictured)
 from readings.reader import called, kept_statements
 
 LARGEST = 2147483647
@@ -32,10 +33,15 @@ class Entry:
     redefines: object
     picture: object = None
     members: list = dataclasses.field(default_factory=list)
-    # what the listing doesn't show: the statement's level and REDEFINES, the slack before it, whether folding made it
+    # what the listing doesn't show: the statement's level and REDEFINES, the slack before it and at the end of each of
+    # its occurrences, its digits, the word of the usage that holds, what SIGN says, and whether folding made it
     level: int = 0
     over: object = None
     slack: int = 0
+    slack_at_end: int = 0
+    digits: tuple = (0, 0, 0)
+    usage: object = None
+    sign: int = 0
     made: bool = False
 
     def called(self):
@@ -65,41 +71,56 @@ def sign_of(said):
 
 
 def elementary(s):
-    """Kind, its details and width of a statement without members, by the usage that holds for it."""
+    """What a statement without members holds, by the usage that holds for it."""
     if s.held in (COMP1, COMP2):  # COMP-1 takes 4 bytes and COMP-2 takes 8, neither with a picture.
         if s.picture is not None:
             raise Refused(52, s.at)
         width = 4 if s.held == COMP1 else 8
-        return FLOAT, [width * 8], width
+        return Pictured(FLOAT, [width * 8], width)
     if s.picture is None:
         raise Refused(21, s.at)
     return pictured(s.picture.text, s.held, sign_of(s.sign), s.at)
 
 
-def laid(nodes, depth):
-    """The entries of a sibling list before folding, and its width."""
+def alignment(s, inner):
+    """What the place of an item in the record must be a multiple of: the width of an elementary SYNC binary or float
+    item without REDEFINES, 1 for any other."""
+    if inner or s.redefines or not s.sync:
+        return 1
+    kind, _, width, _ = elementary(s)
+    return width if kind in ALIGNABLE else 1
+
+
+def largest_alignment(nodes):
+    """The largest alignment in a list, at any depth."""
+    return max((max(alignment(s, inner), largest_alignment(inner)) for s, inner in nodes), default=1)
+
+
+def slack_at_end(s, inner, width):
+    """The slack at the end of each occurrence of an item whose list is so wide: a group with OCCURS, 0 and 1 too, and
+    without DEPENDING ON is as wide as a multiple of the largest alignment in it."""
+    return -width % largest_alignment(inner) if s.occurs is not None and not s.depending else 0
+
+
+def laid(nodes, depth, base):
+    """The entries of a sibling list before folding, and its width. The list starts at that byte of the record."""
     if depth > MOST_DEPTH:
         raise Refused(20, nodes[0][0].at)
     entries, offsets, cursor, reach = [], {}, 0, 0
     for s, inner in nodes:
-        members = []
-        if inner:
-            members, width = laid(inner, depth + 1)
+        kind, details, width, digits = Pictured(GROUP, [], 0) if inner else elementary(s)
+        slack = -(base + cursor) % alignment(s, inner)
+        offset = offsets.get(s.redefines.text.upper()) if s.redefines else cursor + slack
+        if offset is None:
+            raise Refused(28, s.at)
+        members, at_end = [], 0
+        if inner:  # A group's 28 comes before all of its list, the fold's refusals included, and its 29 after it.
+            members, width = laid(inner, depth + 1, base + offset)
             members = folded(members)
-            kind, details = GROUP, []
-        else:
-            kind, details, width = elementary(s)
-        offset = cursor
-        if s.redefines:
-            offset = offsets.get(s.redefines.text.upper())
-            if offset is None:
-                raise Refused(28, s.at)
-        elif s.sync and kind in ALIGNABLE:
-            offset = -(-cursor // width) * width
-        slack = 0 if s.redefines else offset - cursor
-        e = Entry(s.at, s.name, offset, width, kind, details, s.occurs, s.depending, s.redefines, s.picture, members,
-                  s.level, s.redefines, slack)
-        if max(s.occurs or 0, offset, e.total(), e.end()) > LARGEST:
+            at_end = slack_at_end(s, inner, width)
+        e = Entry(s.at, s.name, offset, width + at_end, kind, details, s.occurs, s.depending, s.redefines, s.picture,
+                  members, s.level, s.redefines, slack, at_end, digits, s.held_word, s.sign)
+        if max(s.occurs or 0, offset, e.width, e.total(), e.end()) > LARGEST:
             raise Refused(29, s.at)
         offsets[e.called().upper()] = offset
         if not s.redefines:
@@ -140,15 +161,21 @@ def folded(entries):
     return out
 
 
-def top_list(text):
-    """The kept statements as a forest; if the only root has children, it is dropped with its clauses."""
+def root_and_list(text):
+    """The kept statements as a forest; if the only root has children, it is dropped with its clauses, and comes
+    first."""
     nodes = lists(kept_statements(text))
-    return nodes[0][1] if len(nodes) == 1 and nodes[0][1] else nodes
+    return nodes[0] if len(nodes) == 1 and nodes[0][1] else (None, nodes)
+
+
+def top_list(text):
+    """The kept statements as a forest, without the root that is dropped."""
+    return root_and_list(text)[1]
 
 
 def record(text: bytes) -> list[Entry]:
     """The folded top list."""
-    top = folded(laid(top_list(text), 0)[0])
+    top = folded(laid(top_list(text), 0, 0)[0])
     for e in top:
         if e.end() > LARGEST:
             raise Refused(29, e.at)

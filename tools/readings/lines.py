@@ -63,15 +63,15 @@ def owner_lines(text, position=None):
     if refusal[0] == 0 and (position is not None or refusal[1] != 41):
         return f"refused {refusal[1]} {refusal[2]}\n"
     record, paths = owner.laid(text)
-    statements = [s for s, _ in owner.flat(layout.top_list(text))]
+    statements = list(owner.flat(layout.top_list(text)))
 
     def described(p):
         mark, number, *_ = record[p]
+        s, inner = statements[number]
         if mark == owner.SLACK:
-            return f"slack before {number} {paths[p]}"
-        s = statements[number]
-        kind, _, width = layout.elementary(s)
-        return f"entry {number} {paths[p]} {WORDS[kind]} {width}"
+            return f"slack {'at the end of' if inner else 'before'} {number} {paths[p]}"
+        item = layout.elementary(s)
+        return f"entry {number} {paths[p]} {WORDS[item.kind]} {item.width}"
 
     if position is not None:
         inside = "" if record[position][0] == owner.SLACK else " first %d place %d" % record[position][2:]

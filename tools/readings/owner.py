@@ -1,8 +1,9 @@
-"""A record's bytes and whose each is: docs/RULES.md 10, over the kept statements and the widths of elementary items.
+"""A record's bytes and whose each is: docs/RULES.md 10, over the kept statements, and the widths and alignments of items.
 
 It uses no offset. `laid(text)` lays the whole record byte by byte; `answer(text, position)`, or `answers(text)` of many
 positions, is what the byte owner has to answer, as numbers: `1 ENTRY FIRST PLACE`, `2 ENTRY` for slack, or a refusal.
-It counts bytes instead of laying them, so that a record may be huge. Both hold their length against the layout's.
+It counts bytes instead of laying them, so that a record may be huge: all occurrences of an item are as long as its
+first. Both hold their length against the layout's.
 """
 
 from collections.abc import Callable
@@ -12,18 +13,12 @@ from readings import Refused, layout
 PIECE, SLACK = 1, 2
 
 
-# ---------------------------------------------------------------- the statements and the widths
+# ---------------------------------------------------------------- the statements
 
 
 def size(nodes):
     """How many entries a list has, those of its groups among them."""
     return sum(1 + size(inner) for _, inner in nodes)
-
-
-def elementary(s):
-    """The width of an elementary item, and what its place must be a multiple of: its width, if SYNC aligns it."""
-    kind, _, width = layout.elementary(s)
-    return width, width if s.sync and kind in layout.ALIGNABLE else 1
 
 
 def flat(nodes):
@@ -42,28 +37,29 @@ def overlaid(nodes):
 
 
 def lay(nodes, number, record, paths, around=""):
-    """Lays a sibling list whose first entry has this number at the end of the record; `paths` says for each byte which
-    occurrence of what it is."""
-    place = 0  # A sibling list is laid from place 0, item by item in copybook order.
+    """Lays a sibling list whose first entry has this number at the end of the record, item by item in copybook order;
+    `paths` says for each byte which occurrence of what it is."""
     for s, inner in nodes:
         name = around + s.called().decode()
-        if not inner:
-            width, align = elementary(s)
-            while place % align:  # An elementary SYNC binary or float item first lays slack:
-                record.append((SLACK, number))  # the fewest bytes that bring the place to a multiple of its width.
-                paths.append(name)
-                place += 1
+
+        def slack(multiple, start, path):
+            """The fewest bytes that bring what stands from a place on to a multiple."""
+            while (len(record) - start) % multiple:
+                record.append((SLACK, number))
+                paths.append(path)
+
+        slack(layout.alignment(s, inner), 0, name)  # An aligned item first lays slack, by its place in the record.
         for k in range(s.count()):  # Then each item is laid count times:
             first = len(record)
             path = name if s.occurs is None else f"{name}({k + 1})"
-            if inner:  # a group as its whole list, slack and all,
+            if inner:  # a group as its whole list, slack and all, with OCCURS up to a multiple of the largest alignment
                 lay(inner, number + 1, record, paths, path + ".")
-                place += len(record) - first
+                if s.occurs is not None and not s.depending:
+                    slack(layout.largest_alignment(inner), first, path)
                 continue
-            for inside in range(width):  # an elementary item as one piece of its width.
+            for inside in range(layout.elementary(s).width):  # an elementary item as one piece of its width.
                 record.append((PIECE, number, first, inside))
                 paths.append(path)
-                place += 1
         number += 1 + size(inner)
 
 
@@ -95,28 +91,36 @@ def runs(record):
 # ---------------------------------------------------------------- counting
 
 
-def extent(nodes):
-    """How many bytes a list lays."""
-    place = 0
-    for s, inner in nodes:
-        width, align = (extent(inner), 1) if inner else elementary(s)
-        place += -place % align + width * s.count()
-    return place
+def widths(s, inner, first):
+    """How many bytes an occurrence of an item lays there, and how many of these before the slack at its end."""
+    width = extent(inner, first) if inner else layout.elementary(s).width
+    return width + layout.slack_at_end(s, inner, width), width
 
 
-def find(nodes, number, first, q):
-    """The owner of byte q of a list whose first byte is byte `first` of the record."""
-    place = 0
+def extent(nodes, first):
+    """How many bytes a list lays whose first byte is that byte of the record."""
+    at = first
     for s, inner in nodes:
-        width, align = (extent(inner), 1) if inner else elementary(s)
-        place += -place % align
-        if q < place:
+        at += -at % layout.alignment(s, inner)
+        at += widths(s, inner, at)[0] * s.count()
+    return at - first
+
+
+def find(nodes, number, first, p):
+    """The owner of byte p of the record, which a list has whose first byte is byte `first`."""
+    at = first
+    for s, inner in nodes:
+        at += -at % layout.alignment(s, inner)
+        if p < at:
             return SLACK, number
-        if q < place + width * s.count():
-            k, inside = divmod(q - place, width)
-            start = first + place + k * width
-            return find(inner, number + 1, start, inside) if inner else (PIECE, number, start, inside)
-        place += width * s.count()
+        whole, width = widths(s, inner, at)
+        if p < at + whole * s.count():
+            inside = (p - at) % whole
+            start = p - inside
+            if not inner:
+                return PIECE, number, start, inside
+            return find(inner, number + 1, start, p) if inside < width else (SLACK, number)
+        at += whole * s.count()
         number += 1 + size(inner)
     raise AssertionError
 
@@ -131,7 +135,7 @@ def answers(text: bytes) -> Callable[[int], list[int]]:
     nodes = layout.top_list(text)
     if overlaid(nodes):
         return lambda _: [0, 40, 0, 0]
-    length = extent(nodes)
+    length = extent(nodes, 0)
     same_length(text, length, top)
     return lambda position: [0, 41, 0, 0] if position >= length else list(find(nodes, 0, 0, position))
 

@@ -5,6 +5,7 @@ itself have to answer.
 """
 
 import re
+from typing import NamedTuple
 
 from readings import Refused
 from readings.reader import MOST_BYTES, WHITE
@@ -14,6 +15,15 @@ DISPLAY, COMP3, COMP, COMP1, COMP2 = range(5)
 TEXT, INT, BINARY, DECIMAL, EDITED, GROUP, FLOAT = range(1, 8)
 UNSIGNED, EMBEDDED, LEADING, TRAILING = range(4)
 STORED_DISPLAY, STORED_COMP3, STORED_ZONED = range(3)
+
+
+class Pictured(NamedTuple):
+    """What an elementary item holds: its kind with the details of that, and its width; of a number the digits, those
+    after the point, and whether it has a sign."""
+    kind: int
+    details: list
+    width: int
+    digits: tuple = (0, 0, 0)
 
 
 def runs(picture, at):
@@ -49,7 +59,7 @@ def mask(out):
 
 
 def pictured(picture, usage, sign, at):
-    """Kind, its details and width of a picture."""
+    """What an item with this picture holds."""
     out = symbols(picture, at)
     if re.sub(rb"CR|DB|[XA9ZP*VS.,/B0$+-]", b"", out):
         raise Refused(25, at)
@@ -69,23 +79,25 @@ def pictured(picture, usage, sign, at):
     if chars:
         if digits or edited:
             raise Refused(26, at)
-        return TEXT, [], chars
+        return Pictured(TEXT, [], chars)
     masked = edited and usage == DISPLAY
     if digits > MOST_DIGITS or masked and len(mask(out)) > LONGEST_MASK:
         raise Refused(27, at)
     # P holds no byte: a width counts the digits, or the mask, without it.
     if masked:
-        return EDITED, [max(1, digits), after, signed], len(mask(out)) - out.count(b"P")
+        told = max(1, digits), after, signed
+        return Pictured(EDITED, [*told], len(mask(out)) - out.count(b"P"), told)
+    told = digits, after, signed
     if usage == COMP3:
-        return DECIMAL, [digits, after, STORED_COMP3, EMBEDDED], stored // 2 + 1
+        return Pictured(DECIMAL, [digits, after, STORED_COMP3, EMBEDDED], stored // 2 + 1, told)
     if usage == COMP:
-        return BINARY, [signed], 2 if stored <= 4 else 4 if stored <= 9 else 8
+        return Pictured(BINARY, [signed], 2 if stored <= 4 else 4 if stored <= 9 else 8, told)
     sign = sign if signed else UNSIGNED
     width = stored + (sign in (LEADING, TRAILING))
     zoned = sign == EMBEDDED
     if after or zoned:
-        return DECIMAL, [digits, after, STORED_ZONED if zoned else STORED_DISPLAY, sign], width
-    return INT, [signed, sign], width
+        return Pictured(DECIMAL, [digits, after, STORED_ZONED if zoned else STORED_DISPLAY, sign], width, told)
+    return Pictured(INT, [signed, sign], width, told)
 
 
 def answer(picture: bytes, usage: int, sign: int) -> tuple[list[int], bytes]:
@@ -98,7 +110,7 @@ def answer(picture: bytes, usage: int, sign: int) -> tuple[list[int], bytes]:
         return [0, 2, wide[0], 0], b""
     picture = picture.strip(WHITE)
     try:
-        kind, details, width = pictured(picture, usage, sign - 1 if sign else EMBEDDED, 0)
+        kind, details, width, _ = pictured(picture, usage, sign - 1 if sign else EMBEDDED, 0)
     except Refused as r:
         return r.numbers(), b""
     return [1, width, kind, *map(int, details)], mask(symbols(picture, 0)) if kind == EDITED else b""

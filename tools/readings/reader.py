@@ -36,11 +36,14 @@ INDICATORS, LAST_COLUMN = b" */D", 72
 
 Word = collections.namedtuple("Word", "at text")
 Literal = collections.namedtuple("Literal", "text")
+Stop = collections.namedtuple("Stop", "at")
 
 
 class Statement(collections.namedtuple(
-        "Statement", "level at depth parent name picture usage back float sign sync occurs depending redefines held")):
-    """A kept statement. `back`: DISPLAY took another usage back; `float`: a word named one."""
+        "Statement", "level at depth parent name picture usage word back float sign sync occurs depending redefines "
+        "held held_word")):
+    """A kept statement. `word` names its usage, `held_word` the one that holds for it. `back`: DISPLAY took another usage
+    back; `float`: a word named one."""
 
     def called(self):
         return called(self.name)
@@ -96,8 +99,7 @@ def after_value(words):
 
 
 def parts(text):
-    """The words; `None` for each period that ends a statement; and as `Literal` the bytes between the marks of each
-    literal."""
+    """The words; the periods that end statements; and as `Literal` the bytes between the marks of each literal."""
     words = []
     for start, line in lines(text):
         i, word = 0, b""
@@ -126,24 +128,34 @@ def parts(text):
                 word = b""
             if stop:
                 words = []
-                yield None
+                yield Stop(start + i)
             if cut:
                 break
             i += 1
 
 
-def statements(text):
-    """The words of each statement."""
+def ended(text):
+    """Where each statement ends, at its period or with the text, and its words."""
     words = []
     for part in parts(text):
         if isinstance(part, Word):
             words.append(part)
-        elif part is None:
+        elif isinstance(part, Stop):
             if words:  # Empty statements are skipped;
-                yield words
+                yield part.at, words
             words = []
     if words:  # a last one may lack its period.
-        yield words
+        yield len(text), words
+
+
+def statements(text):
+    """Where each statement ends, and its words; 1, 2, 51 and 50 in their order."""
+    if len(text) > MOST_BYTES:
+        raise Refused(1, 0)
+    for at, byte in enumerate(text):
+        if byte > 127:
+            raise Refused(2, at)
+    return list(ended(text))  # 50 is looked for in the whole text, before the first 10.
 
 
 # ---------------------------------------------------------------- Statement
@@ -162,8 +174,8 @@ class Clauses:
     def __init__(self, words):
         self.words, self.next = words, 2
         self.upper = [w.text.upper().decode("latin-1") for w in words]
-        self.said = dict(picture=None, usage=0, back=False, float=False, sign=0, sync=0, occurs=None, depending=None,
-                         redefines=None)
+        self.said = dict(picture=None, usage=0, word=None, back=False, float=False, sign=0, sync=0, occurs=None,
+                         depending=None, redefines=None)
 
     def step_over(self, *keys):
         """Whether the next word is one of these, which is then passed."""
@@ -209,7 +221,7 @@ class Clauses:
             self.said["back"] = True
         if named in (NAMED_COMP1, NAMED_COMP2):
             self.said["float"] = True
-        self.said["usage"] = named
+        self.said["usage"], self.said["word"] = named, self.words[self.next - 1]
 
     def sign(self):
         """SEPARATE counts anywhere at or after the word following SIGN [IS]."""
@@ -245,21 +257,16 @@ CLAUSES = {"PIC": Clauses.picture, "PICTURE": Clauses.picture, "REDEFINES": Clau
 
 def held(s, kept):
     """The usage that holds for a statement: its own, else that of the nearest group above it that names one; DISPLAY
-    where none does."""
+    where none does. And the word that names it."""
     while not s.usage and s.parent:
         s = kept[s.parent - 1]
-    return HELD[s.usage or NAMED_DISPLAY]
+    return {"held": HELD[s.usage or NAMED_DISPLAY], "held_word": s.word}
 
 
 def kept_statements(text: bytes) -> list[Statement]:
     """The statements that are kept; 1, 2, 51, 50 and 10 to 14 in their order."""
-    if len(text) > MOST_BYTES:
-        raise Refused(1, 0)
-    for at, byte in enumerate(text):
-        if byte > 127:
-            raise Refused(2, at)
     kept, open_levels = [], []
-    for words in list(statements(text)):  # 50 is looked for in the whole text, before the first 10.
+    for _, words in statements(text):
         level = number(words[0], 256)  # First word: level, 0 to 255.
         if level is None:
             raise Refused(10, words[0].at)
@@ -273,9 +280,9 @@ def kept_statements(text: bytes) -> list[Statement]:
             open_levels.pop()
         name = words[1] if len(words) > 1 else None  # Second word: name, whatever it says.
         parent = open_levels[-1][1] if open_levels else 0
-        kept.append(Statement(level, words[0].at, len(open_levels), parent, name, **said, held=None))
+        kept.append(Statement(level, words[0].at, len(open_levels), parent, name, **said, held=None, held_word=None))
         open_levels.append((level, len(kept)))
-    return [s._replace(held=held(s, kept)) for s in kept]
+    return [s._replace(**held(s, kept)) for s in kept]
 
 
 def numbers(s):

@@ -8,7 +8,7 @@ the reasons of every statement, by its first byte: kind, the item named, the byt
 import collections
 import struct
 
-from readings import Refused, owner
+from readings import Refused, layout
 from readings.layout import four, placed, record, span, top_list
 
 FIRST, AFTER, SLACK, OVER, INSIDE = range(1, 6)
@@ -21,8 +21,9 @@ def reserved(s, width):
 
 
 def listed(nodes, outward, out):
-    """Explains the items of a list, inside groups with these reasons, and below; how wide the list is."""
-    done, widest = [], 0
+    """Explains the items of a list, inside groups with these reasons, and below; how wide the list is. It starts where
+    the bytes of these reasons come to."""
+    done, widest, base = [], 0, sum(adds for _, _, adds in outward)
     for s, inner in nodes:
         if s.redefines:
             # laid over the redefined item: the latest earlier sibling of that name
@@ -32,13 +33,13 @@ def listed(nodes, outward, out):
             # directly after the latest earlier sibling without REDEFINES, or first in its list
             plain = [d for d in done if not d.statement.redefines]
             own = [(AFTER, plain[-1].statement.name, plain[-1].end)] if plain else [(FIRST, None, 0)]
-            if not inner:
-                _, align = owner.elementary(s)
-                slack = next(n for n in range(align) if (own[0][2] + n) % align == 0)
-                own += [(SLACK, None, slack)] if slack else []
+            align = layout.alignment(s, inner)
+            slack = next(n for n in range(align) if (base + own[0][2] + n) % align == 0)
+            own += [(SLACK, None, slack)] if slack else []
         chain = own + outward
         out[s.at] = chain
-        width = listed(inner, [(INSIDE, s.name, 0)] + chain, out) if inner else owner.elementary(s)[0]
+        width = listed(inner, [(INSIDE, s.name, 0)] + chain, out) if inner else layout.elementary(s).width
+        width += layout.slack_at_end(s, inner, width)
         offset = sum(adds for _, _, adds in own)
         done.append(Sibling(s, offset, offset + reserved(s, width)))
         widest = max(widest, done[-1].end)

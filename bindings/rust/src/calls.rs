@@ -49,6 +49,11 @@ pub fn details(form: Form, text: &[u8], work: &mut [u32], out: &mut [u8]) -> Res
     written(form, copybook_details, copybook_details_cards, text, work, out)
 }
 
+/// The number of bytes of the words.
+pub fn words(form: Form, text: &[u8], work: &mut [u32], out: &mut [u8]) -> Result<usize, Refusal> {
+    written(form, copybook_words, copybook_words_cards, text, work, out)
+}
+
 /// The number of bytes of an entry's reasons.
 pub fn reasons(form: Form, text: &[u8], entry: usize, work: &mut [u32], out: &mut [u8]) -> Result<usize, Refusal> {
     let call = if form == Form::Cards { copybook_reasons_cards } else { copybook_reasons };

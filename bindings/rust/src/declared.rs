@@ -10,7 +10,8 @@ macro_rules! calls {
 }
 
 calls! {
-    copybook_layout, copybook_layout_cards, copybook_details, copybook_details_cards: (
+    copybook_layout, copybook_layout_cards, copybook_details, copybook_details_cards, copybook_words,
+    copybook_words_cards: (
         text: *const u8,
         n: usize,
         work: *mut u32,

@@ -176,7 +176,8 @@ pub fn said(refusal: Refusal, text: &str) -> String {
 
 /// What the original says where it refuses too.
 fn original(refusal: Refusal, text: &str) -> Option<String> {
-    let around = refusal.around(text.as_bytes(), text.as_bytes());
+    let seen = refusal.seen(text.as_bytes());
+    let around = refusal.around(text.as_bytes(), &seen);
     let (statement, word) = (&around.statement, around.about.map_or("", |word| word.word));
     let item = statement.item();
     let picture = statement.picture.map_or(String::new(), |picture| picture.to_ascii_uppercase());

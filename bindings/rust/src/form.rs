@@ -1,8 +1,8 @@
 //! How a copybook is written: as free text, or on cards with columns. The calls are the same for both.
 
-use crate::statement::{self, Statement};
-use crate::{calls, Details, Layout, Owner, Reasons, Refusal};
-use crate::{LONGEST_DETAILS, LONGEST_LISTING, LONGEST_REASONS, WORK};
+use crate::limits::MOST_BYTES;
+use crate::{calls, Details, Layout, Owner, Reasons, Refusal, Words};
+use crate::{longest_words, LONGEST_DETAILS, LONGEST_LISTING, LONGEST_REASONS, WORK};
 use std::borrow::Cow;
 
 /// How a copybook is written.
@@ -56,19 +56,12 @@ impl Form {
         calls::owner(self, text, position, &mut vec![0; WORK])
     }
 
-    /// The count before TO of the statement that starts at this place of the text, and says OCCURS: the least one of a
-    /// table DEPENDING ON an item. None where it has no TO, and COBOL takes it to be 1.
-    pub fn least_count(self, text: &[u8], position: usize) -> Option<usize> {
-        Statement::of(&statement::words(&self.view(text), position)).least
-    }
-
-    /// What a reader sees of the text: of cards the code in its columns, with a blank for every byte that is ignored,
-    /// so that a place in the one is a place in the other.
-    pub fn view(self, text: &[u8]) -> Cow<'_, [u8]> {
-        match self {
-            Form::Free => Cow::Borrowed(text),
-            Form::Cards => Cow::Owned(text.split_inclusive(|&b| b == b'\n').flat_map(card).collect()),
-        }
+    /// The words of the copybook in `text`, also where what they say is refused. Refusals: 1, 2; on cards 51; 50.
+    pub fn words(self, text: &[u8]) -> Result<Words<'_, 'static>, Refusal> {
+        let (mut work, mut out) = (vec![0; WORK], vec![0; longest_words(text.len().min(MOST_BYTES))]);
+        let written = calls::words(self, text, &mut work, &mut out)?;
+        out.truncate(written);
+        Ok(Words::new(text, Cow::Owned(out)))
     }
 }
 
@@ -79,11 +72,4 @@ pub fn any_bytes(text: &[u8]) -> Cow<'_, [u8]> {
         true => Cow::Borrowed(text),
         false => Cow::Owned(text.iter().map(|&b| if b.is_ascii() { b } else { b'?' }).collect()),
     }
-}
-
-/// What a reader sees of one card.
-fn card(line: &[u8]) -> impl Iterator<Item = u8> + '_ {
-    let code = line.get(Form::BEFORE_INDICATOR) == Some(&b' ');
-    let read = move |i: usize| code && (Form::BEFORE_INDICATOR + 1..Form::BEFORE_IGNORED).contains(&i);
-    line.iter().enumerate().map(move |(i, &b)| if b == b'\n' || read(i) { b } else { b' ' })
 }

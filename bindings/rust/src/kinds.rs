@@ -52,6 +52,14 @@ numbered! {
         TrailingSeparate = 3 "trailing-separate",
     }
 
+    /// What a SIGN clause says; TRAILING where it has neither word. No clause is 0.
+    SignClause {
+        Trailing = 1 "trailing",
+        Leading = 2 "leading",
+        SeparateTrailing = 3 "separate trailing",
+        SeparateLeading = 4 "separate leading",
+    }
+
     /// How a decimal is stored.
     NumRepr { Display = 0 "display", Comp3 = 1 "packed", Zoned = 2 "zoned" }
 }

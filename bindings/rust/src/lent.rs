@@ -2,7 +2,7 @@
 //! what it wrote; `work` is zero after every call, whatever it held.
 
 use crate::key::key_of;
-use crate::{calls, Details, Extract, Form, Key, Layout, NoKey, Owner, Reasons, Refusal, Usage};
+use crate::{calls, Details, Extract, Form, Key, Layout, NoKey, Owner, Reasons, Refusal, Usage, Words};
 use std::borrow::Cow;
 
 /// As [`crate::layout()`], with the listing in `out`. Refusals: the reader's, then 31; `work` needs [`crate::WORK`]
@@ -60,6 +60,23 @@ pub fn reasons_of<'t, 'o>(
 ) -> Result<Reasons<'t, 'o>, Refusal> {
     let written = calls::reasons(form, text, entry, work, out)?;
     Ok(Reasons::new(text, Cow::Borrowed(&out[..written])))
+}
+
+/// As [`crate::words()`], with their bytes in `out`. Refusals: 1 to 3; on cards 51; 50; 31; an `out` of
+/// [`crate::longest_words`] bytes is never too short.
+pub fn words<'t, 'o>(text: &'t [u8], work: &mut [u32], out: &'o mut [u8]) -> Result<Words<'t, 'o>, Refusal> {
+    words_of(Form::Free, text, work, out)
+}
+
+/// The same for a copybook of this form.
+pub fn words_of<'t, 'o>(
+    form: Form,
+    text: &'t [u8],
+    work: &mut [u32],
+    out: &'o mut [u8],
+) -> Result<Words<'t, 'o>, Refusal> {
+    let written = calls::words(form, text, work, out)?;
+    Ok(Words::new(text, Cow::Borrowed(&out[..written])))
 }
 
 /// As [`crate::owner()`]. Refusals: the reader's, then 40, 41.

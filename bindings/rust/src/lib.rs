@@ -14,12 +14,12 @@
 //! # Ok::<(), copybook::Refusal>(())
 //! ```
 //!
-//! [`layout`], [`details`], [`owner`], [`reasons`], [`extract`], [`key`], [`picture`], [`mask`] and
-//! [`check_record_len`] are the calls. The first five take a copybook in free text; [`layout_cards`],
-//! [`details_cards`], [`owner_cards`] and
-//! [`reasons_cards`] take one on cards with columns, and a [`Form`] has them for either. A [`Reader`] keeps the buffers
-//! from call to call; with the functions of [`lent`] they are the caller's own. A [`Refusal`] has a number and a place;
-//! [`Refusal::told`] says it in words, with the [`Cause`] that the text shows:
+//! [`layout`], [`details`], [`owner`], [`reasons`], [`words`], [`extract`], [`key`], [`picture`], [`mask`] and
+//! [`check_record_len`] are the calls. The first six take a copybook in free text; [`layout_cards`],
+//! [`details_cards`], [`owner_cards`], [`reasons_cards`] and [`words_cards`] take one on cards with columns, and a
+//! [`Form`] has them for either. A [`Reader`] keeps the buffers from call to call; with the functions of [`lent`] they
+//! are the caller's own. A [`Refusal`] has a number and a place; [`Refusal::told`] says it in words, with the [`Cause`]
+//! that the text shows:
 //!
 //! ```
 //! let text = b"01 R.\n    05 TAG  PIC X(5).\n    05 YEAR REDEFINES TAGS PIC 9(4).\n";
@@ -63,32 +63,40 @@ mod refusal;
 mod statement;
 mod texts;
 mod told;
+mod words;
 
 pub use bytes::Word;
 pub use cause::Cause;
-pub use details::{Detail, Details};
+pub use details::{Detail, Details, Record};
 pub use form::{any_bytes, Form};
 pub use key::{Key, NoKey};
 use kinds::Facts;
-pub use kinds::{FieldKind, NumRepr, SignKind, Usage};
+pub use kinds::{FieldKind, NumRepr, SignClause, SignKind, Usage};
 pub use layout::{Entries, Entry, Layout};
-use limits::{DEEPEST, MOST_STATEMENTS};
+use limits::{DEEPEST, MOST_BYTES, MOST_STATEMENTS};
 pub use limits::{LONGEST_MASK, MOST_ITEMS, WORK};
 pub use reasons::{Reason, Reasons};
 pub use refusal::{line_and_column, Refusal, Row};
 pub use texts::REFUSALS;
 pub use told::{escaped, Told};
+pub use words::{Sentence, Words};
 
 /// The longest listing: a head, and at most 2 entries of at most 49 bytes for each statement.
 pub const LONGEST_LISTING: usize = 10 + MOST_STATEMENTS * 2 * 49;
 
-/// The longest details: 47 bytes for each entry. A group made by folding has two statements for itself: its base, and
-/// that one's first redefiner.
-pub const LONGEST_DETAILS: usize = (MOST_STATEMENTS + MOST_STATEMENTS / 2) * details::DETAIL;
+/// The longest details: a head, and 63 bytes for each entry. A group made by folding has two statements for itself: its
+/// base, and that one's first redefiner.
+pub const LONGEST_DETAILS: usize = details::HEAD + (MOST_STATEMENTS + MOST_STATEMENTS / 2) * details::DETAIL;
 
 /// The longest reasons: 13 bytes for each. An item has at most a placing reason and slack, and each group around it,
 /// of which there are at most as many as the deepest list is deep, two reasons.
 pub const LONGEST_REASONS: usize = (2 + DEEPEST * 2) * reasons::REASON;
+
+/// The longest words of a text of that length: a word and a period have 8 bytes each and at least one in the text, and
+/// a last statement may lack its period.
+pub const fn longest_words(len: usize) -> usize {
+    (len + 1) * 8
+}
 
 /// The subsets of the most items of which an extract is chosen.
 pub const ALL_SUBSETS: u64 = 1 << MOST_ITEMS;
@@ -177,6 +185,26 @@ pub fn reasons_cards(cards: &[u8], entry: usize) -> Result<Reasons<'_, 'static>,
     Form::Cards.reasons(cards, entry)
 }
 
+/// The words of the copybook in `text` as the reader has them, statement by statement, also where what they say is
+/// refused. Refusals: 1, 2; 50.
+///
+/// ```
+/// let text = b"05 TAG PIC Q. 88 OLD VALUE 'a. b'";
+/// let words = copybook::words(text)?;
+/// let said: Vec<String> = words.iter().map(|s| format!("{} words to {}", s.words.len(), s.end)).collect();
+/// assert_eq!(said, ["4 words to 12", "5 words to 33"]);
+/// assert_eq!(words.iter().next().unwrap().words[3].word, "Q");
+/// # Ok::<(), copybook::Refusal>(())
+/// ```
+pub fn words(text: &[u8]) -> Result<Words<'_, 'static>, Refusal> {
+    Form::Free.words(text)
+}
+
+/// The words of a copybook on cards. Refusals as for [`words()`], 51 with them.
+pub fn words_cards(cards: &[u8]) -> Result<Words<'_, 'static>, Refusal> {
+    Form::Cards.words(cards)
+}
+
 /// Of the top-level items, each with a weight from 1 to 1,000 in their order, the heaviest choice whose reserved widths
 /// sum to at most `limit` bytes, among the first `budget` subsets. Refusals: the reader's, then 40, 58, 59, 60.
 ///
@@ -225,6 +253,7 @@ pub struct Reader {
     listing: Vec<u8>,
     details: Vec<u8>,
     reasons: Vec<u8>,
+    words: Vec<u8>,
 }
 
 impl Reader {
@@ -241,6 +270,7 @@ impl Reader {
             listing: vec![0; LONGEST_LISTING],
             details: vec![0; LONGEST_DETAILS],
             reasons: vec![0; LONGEST_REASONS],
+            words: Vec::new(),
         }
     }
 
@@ -263,6 +293,13 @@ impl Reader {
     /// As [`reasons()`]; they stand in the reader until the next call.
     pub fn reasons<'t>(&mut self, text: &'t [u8], entry: usize) -> Result<Reasons<'t, '_>, Refusal> {
         lent::reasons_of(self.form, text, entry, &mut self.work, &mut self.reasons)
+    }
+
+    /// As [`words()`]; they stand in the reader until the next call.
+    pub fn words<'t>(&mut self, text: &'t [u8]) -> Result<Words<'t, '_>, Refusal> {
+        let needed = longest_words(text.len().min(MOST_BYTES));
+        self.words.resize(needed.max(self.words.len()), 0);
+        lent::words_of(self.form, text, &mut self.work, &mut self.words)
     }
 
     /// As [`owner()`].

@@ -3,7 +3,9 @@
 
 use crate::cause::{self, Around, Cause};
 use crate::statement::{self, Statement};
+use crate::words::with_words;
 use crate::{any_bytes, Form, Word, REFUSALS};
+use std::borrow::Cow;
 use std::fmt;
 
 /// Why a call turned its input down. Nothing was written.
@@ -129,9 +131,7 @@ impl Refusal {
 
     /// The same with what is behind it, and the word that is named then.
     fn with_cause(self, text: &[u8]) -> Refusal {
-        let plain = any_bytes(text);
-        // on cards a statement goes on behind columns that are ignored, so its words are looked for in the view
-        let seen = self.form.view(&plain);
+        let seen = self.seen(text);
         let around = self.around(text, &seen);
         let found = around.cause(&self);
         let word = found.as_ref().map_or(around.about, |found| found.word);
@@ -144,14 +144,35 @@ impl Refusal {
         Refusal { cause: self.row().causes.first(), ..self }
     }
 
-    /// What stands around it in a text, of which a reader sees this.
-    pub(crate) fn around<'t>(&self, text: &'t [u8], seen: &'t [u8]) -> Around<'t> {
-        let holds = |words: &Vec<Word>| words.iter().any(|word| word.range().contains(&self.position));
-        let words = match self.row().about {
-            _ if self.line == 0 => Vec::new(),
-            About::Byte => statement::statements(seen).find(holds).unwrap_or_default(),
-            _ => statement::words(seen, self.position),
+    /// The text that the library is asked for its words: the one that was refused, unless that is so for a byte.
+    pub(crate) fn seen<'t>(&self, text: &'t [u8]) -> Cow<'t, [u8]> {
+        match self.row().about {
+            About::Byte if self.line > 0 => Cow::Owned(with_words(self.form, text, self.position)),
+            _ => any_bytes(text),
+        }
+    }
+
+    /// The words of the statement that it is about, in the text that is asked for its words. A picture that is asked
+    /// for alone stands in no statement, and a text that is refused for a literal or an indicator has no words.
+    fn words<'t>(&self, seen: &'t [u8]) -> Vec<Word<'t>> {
+        let (place, about) = (self.position, self.row().about);
+        if self.line == 0 || matches!(about, About::Literal | About::Indicator) {
+            return Vec::new();
+        }
+        let Ok(read) = self.form.words(seen) else {
+            return Vec::new();
         };
+        let is_about = |words: &Vec<Word>| match about {
+            About::Byte => words.iter().any(|word| word.range().contains(&place)),
+            _ => words.first().is_some_and(|word| word.start == place),
+        };
+        let found = read.iter().map(|statement| statement.words).find(is_about);
+        found.unwrap_or_default()
+    }
+
+    /// What stands around it in a text, of which [`Refusal::seen`] is this.
+    pub(crate) fn around<'t>(&self, text: &'t [u8], seen: &'t [u8]) -> Around<'t> {
+        let words = self.words(seen);
         let statement = match self.line {
             0 => Statement { picture: Some(statement::trimmed(seen)), ..Statement::default() },
             _ => Statement::of(&words),
@@ -160,7 +181,7 @@ impl Refusal {
             About::Nothing | About::Indicator | About::Item => None,
             About::Byte => cause::utf_8(&text[self.position.min(text.len())..])
                 .map(|c| statement::word(text, self.position..self.position + c.len_utf8())),
-            About::Literal => Some(statement::line_from(seen, self.position)),
+            About::Literal => Some(statement::line_from(self.form, text, self.position)),
             About::Level => statement.level,
             About::Count => statement.no_count,
             About::Redefines => statement.redefines,

@@ -1,7 +1,6 @@
-//! The statement that a refusal is about, read again for its words. The library says where a statement stands; what its
-//! words are matters only to the sentence that tells a refusal to people.
+//! What the words of a statement say, as far as the sentence that tells a refusal to people names it.
 
-use crate::Word;
+use crate::{line_and_column, Form, Word};
 use std::ops::Range;
 
 /// Bytes 9 to 13 and 32.
@@ -22,27 +21,21 @@ pub(crate) fn trimmed(text: &[u8]) -> Word<'_> {
     word(text, start..end)
 }
 
-/// What stands from this place to the end of its line, without the white space there.
-pub(crate) fn line_from(text: &[u8], start: usize) -> Word<'_> {
+/// What stands from this place to the end of its line, on a card to the columns that are ignored, without the white
+/// space there.
+pub(crate) fn line_from(form: Form, text: &[u8], start: usize) -> Word<'_> {
     let start = start.min(text.len());
     let line = text[start..].split(|&b| b == b'\n').next().unwrap_or(b"");
-    let end = line.iter().rposition(|&b| !white(b)).map_or(0, |last| last + 1);
+    let read = match form {
+        Form::Free => line.len(),
+        Form::Cards => (Form::BEFORE_IGNORED + 1).saturating_sub(line_and_column(text, start).1).min(line.len()),
+    };
+    let end = line[..read].iter().rposition(|&b| !white(b)).map_or(0, |last| last + 1);
     word(text, start..start + end)
 }
 
-/// Where the first line that is no comment starts, from the start of a line on.
-fn code_line(text: &[u8], mut start: usize) -> usize {
-    while let Some(line) = text.get(start..).and_then(|rest| rest.split(|&b| b == b'\n').next()) {
-        if line.iter().find(|&&b| !white(b)) != Some(&b'*') {
-            break;
-        }
-        start += line.len() + 1;
-    }
-    start.min(text.len())
-}
-
-/// The mark of the open literal after a byte of a word that comes after VALUE: a quote or an apostrophe opens one, and the
-/// same mark closes it.
+/// The mark of the open literal after a byte of a word that comes after VALUE: a quote or an apostrophe opens one, and
+/// the same mark closes it.
 fn literal_after(open: Option<u8>, b: u8) -> Option<u8> {
     match open {
         Some(mark) => (b != mark).then_some(mark),
@@ -55,11 +48,6 @@ pub(crate) fn is_value(word: &Word) -> bool {
     ["VALUE", "VALUES"].iter().any(|key| word.eq_ignore_ascii_case(key))
 }
 
-/// Whether the last of a statement's words is VALUE, and third or later.
-fn says_value(words: &[Word]) -> bool {
-    words.len() > 2 && words.last().is_some_and(is_value)
-}
-
 /// The words of a statement after VALUE that stand in none of its literals.
 pub(crate) fn behind_value<'t>(words: &[Word<'t>]) -> Vec<Word<'t>> {
     let behind = words.iter().skip(2).skip_while(|word| !is_value(word));
@@ -70,54 +58,6 @@ pub(crate) fn behind_value<'t>(words: &[Word<'t>]) -> Vec<Word<'t>> {
         before.is_none()
     };
     behind.filter(|word| outside(word)).copied().collect()
-}
-
-/// The statements of a text as their words, those without words left out.
-pub(crate) fn statements(text: &[u8]) -> impl Iterator<Item = Vec<Word<'_>>> {
-    let mut start = Some(code_line(text, 0));
-    let all = std::iter::from_fn(move || {
-        let (words, end) = words_to_end(text, start?);
-        start = (end < text.len()).then_some(end + 1);
-        Some(words)
-    });
-    all.filter(|words| !words.is_empty())
-}
-
-/// The words of the statement that starts at this place, up to its period.
-pub(crate) fn words(text: &[u8], start: usize) -> Vec<Word<'_>> {
-    words_to_end(text, start.min(text.len())).0
-}
-
-/// The words of the statement that starts at this place, and where its period stands, or else the text's end. Neither a
-/// period nor `*>` counts inside a literal after VALUE.
-fn words_to_end(text: &[u8], start: usize) -> (Vec<Word<'_>>, usize) {
-    let ends_line = |i: usize| i >= text.len() || text[i] == b'\n' || text[i..].starts_with(b"*>");
-    let mut words = Vec::new();
-    let (mut value, mut literal) = (false, None);
-    let (mut from, mut i) = (start, start);
-    loop {
-        let stop = i < text.len() && text[i] == b'.' && (ends_line(i + 1) || white(text[i + 1]));
-        let in_word = i < text.len() && !white(text[i]) && (literal.is_some() || !stop && !ends_line(i));
-        if in_word {
-            literal = if value { literal_after(literal, text[i]) } else { None };
-            i += 1;
-            continue;
-        }
-        if from < i {
-            words.push(word(text, from..i));
-            value = value || says_value(&words);
-        }
-        if stop || i >= text.len() {
-            return (words, i);
-        }
-        if ends_line(i) {
-            let end = text[i..].iter().position(|&b| b == b'\n').map_or(text.len(), |n| i + n);
-            i = code_line(text, end + 1);
-        } else {
-            i += 1;
-        }
-        from = i;
-    }
 }
 
 /// Whether a word is a count: digits, with a plus in front or none, below 2^64.

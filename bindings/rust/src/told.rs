@@ -3,7 +3,7 @@
 
 use crate::cause::{self, When};
 use crate::refusal::About;
-use crate::{any_bytes, Refusal, Word};
+use crate::{Refusal, Word};
 use std::fmt;
 use std::ops::Range;
 
@@ -34,8 +34,7 @@ const INDENT: &str = "    ";
 impl Refusal {
     /// The refusal in the words of the text that was refused: the copybook, or the picture that was asked for alone.
     pub fn told<'t>(&self, text: &'t [u8]) -> Told<'t> {
-        let plain = any_bytes(text);
-        let seen = self.form.view(&plain);
+        let seen = self.seen(text);
         let statement = self.around(text, &seen).statement;
         let word = self.word(text);
         let byte = *text.get(self.position).unwrap_or(&0);

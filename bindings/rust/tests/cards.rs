@@ -1,6 +1,8 @@
 //! Copybooks on cards: which columns are read, what the indicators say, how lines end, and what a refusal tells.
 
-use copybook::{details_cards, layout, layout_cards, lent, owner_cards, Form, Owner, Reader, LONGEST_LISTING, WORK};
+use copybook::{
+    details_cards, layout, layout_cards, lent, owner_cards, words_cards, Form, Owner, Reader, LONGEST_LISTING, WORK,
+};
 use std::fs;
 
 /// A card with this indicator whose code ends in the column.
@@ -167,27 +169,31 @@ fn stack() {
             lent::layout_of(form, text.as_bytes(), &mut work, &mut out).unwrap();
             lent::details_of(form, text.as_bytes(), &mut work, &mut out).unwrap();
             lent::owner_of(form, text.as_bytes(), 0, &mut work).unwrap();
+            lent::words_of(form, text.as_bytes(), &mut work, &mut out).unwrap();
         }
     };
     std::thread::Builder::new().stack_size(stack.parse().unwrap()).spawn(calls).unwrap().join().unwrap();
 }
 
-/// What the command shows of a text is what the library reads of it.
-#[test]
-fn view() {
-    let text = b"000100*x\r\n\n0002\n000300 05\r\n000400D06\n000500/";
-    assert_eq!(&*Form::Cards.view(text), b"         \n\n    \n       05\r\n         \n       ");
-    assert_eq!(&*Form::Free.view(text), text);
-    let wide = format!("{}XX\n{}", card(' ', "X", 72), card(' ', "", 72));
-    let seen = format!("{:>72}  \n{:72}", "X", "");
-    assert_eq!(&*Form::Cards.view(wide.as_bytes()), seen.as_bytes());
+/// The words of a card text and the periods behind them, in free text at the same places.
+fn seen(cards: &[u8]) -> Vec<u8> {
+    let mut seen: Vec<u8> = cards.iter().map(|&b| if b == b'\n' { b } else { b' ' }).collect();
+    for statement in words_cards(cards).unwrap().iter() {
+        for word in statement.words {
+            seen[word.range()].copy_from_slice(word.as_bytes());
+        }
+        if let Some(end) = seen.get_mut(statement.end) {
+            *end = b'.';
+        }
+    }
+    seen
 }
 
-/// A card text whose lines are blanked by hand reads as free text with the same answer.
+/// What is read of a card text, as free text, has the same answers.
 #[test]
 fn as_free_text() {
     let text = fs::read("../../examples/stocking.cards").expect("an example");
-    let seen = Form::Cards.view(&text);
+    let seen = seen(&text);
     assert_eq!(layout_cards(&text).unwrap().listing(), layout(&seen).unwrap().listing());
     let (mut cards, mut free) = (Reader::of(Form::Cards), Reader::new());
     for position in 0..100 {

@@ -1,6 +1,6 @@
 //! Details of entries: the worked example, folds, groups, places that pass 32 bits, and lent buffers.
 
-use copybook::{details, layout_and_details, lent, Detail, Reader, Word, LONGEST_DETAILS, WORK};
+use copybook::{details, layout_and_details, lent, Detail, Reader, Record, SignClause, Word, LONGEST_DETAILS, WORK};
 
 const FISH: &[u8] = b"01 FISH. 05 TAG PIC X(5). 05 SIRE PIC 9(4) COMP SYNC. 05 WT OCCURS 3 PIC 9(3)V9.";
 
@@ -19,15 +19,46 @@ const PLAIN: Detail = Detail {
     picture: None,
     redefines: None,
     depending_on: None,
+    slack_at_end: 0,
+    digits: 0,
+    after_point: 0,
+    signed: false,
+    usage: None,
+    sign: None,
 };
 
 #[test]
 fn worked_example() {
     let tag = Detail { position: 9, picture: at(20, "X(5)"), ..PLAIN };
-    let sire = Detail { position: 26, first: 6, slack: 1, picture: at(38, "9(4)"), ..PLAIN };
-    let wt = Detail { position: 54, first: 8, picture: at(73, "9(3)V9"), ..PLAIN };
-    assert_eq!(details(FISH).unwrap().iter().collect::<Vec<_>>(), [tag, sire, wt]);
-    assert_eq!(details(FISH).unwrap().bytes().len(), 3 * 47);
+    let usage = at(43, "COMP");
+    let sire = Detail { position: 26, first: 6, slack: 1, picture: at(38, "9(4)"), digits: 4, usage, ..PLAIN };
+    let wt = Detail { position: 54, first: 8, picture: at(73, "9(3)V9"), digits: 4, after_point: 1, ..PLAIN };
+    let found = details(FISH).unwrap();
+    assert_eq!(found.iter().collect::<Vec<_>>(), [tag, sire, wt]);
+    assert_eq!(found.record(), Some(Record { position: 0, level: 1, name: at(3, "FISH") }));
+    assert_eq!(found.bytes().len(), 17 + 3 * 63);
+}
+
+/// The bytes of the head, one by one.
+#[test]
+fn bytes_of_the_head() {
+    let head = |text: &[u8]| details(text).unwrap().bytes()[..17].to_vec();
+    let mut row = vec![0, 0, 0, 0, 1, 3, 0, 0, 0, 4, 0, 0, 0];
+    row.extend([3, 0, 0, 0]);
+    assert_eq!(head(FISH), row);
+    assert_eq!(head(b" 02. 5 A PIC X. 5 B PIC X."), [1, 0, 0, 0, 2, 0, 0, 0, 0, 0, 0, 0, 0, 2, 0, 0, 0]);
+    assert_eq!(head(b"1 R PIC X. 1 S. 5 A PIC X."), [&[0; 13][..], &[3, 0, 0, 0]].concat());
+}
+
+/// A record is a root with members, the only one.
+#[test]
+fn records() {
+    let record = |text: &'static [u8]| details(text).unwrap().record();
+    assert_eq!(record(b"\n 02 X. 5 A PIC X."), Some(Record { position: 2, level: 2, name: at(5, "X") }));
+    assert_eq!(record(b"01. 5 A PIC X."), Some(Record { position: 0, level: 1, name: None }));
+    assert_eq!(record(b"01 A PIC X."), None);
+    assert_eq!(record(b"01 A. 5 B PIC X. 01 C PIC X."), None);
+    assert_eq!(record(b""), None);
 }
 
 /// The bytes of the second entry, one by one.
@@ -39,7 +70,10 @@ fn bytes_of_an_entry() {
     row.extend([1, 0, 0, 0]);
     row.extend([38, 0, 0, 0, 4, 0, 0, 0]);
     row.extend([0; 16]);
-    assert_eq!(details(FISH).unwrap().bytes()[47..94], row);
+    row.extend([0, 0, 0, 0, 4, 0, 0]);
+    row.extend([43, 0, 0, 0, 4, 0, 0, 0]);
+    row.push(0);
+    assert_eq!(details(FISH).unwrap().bytes()[17 + 63..17 + 2 * 63], row);
 }
 
 /// A group made by folding has its base's position and level; the base keeps its slack, a redefiner its REDEFINES.
@@ -49,7 +83,16 @@ fn folded() {
     let expected = [
         Detail { picture: at(9, "X"), ..PLAIN },
         Detail { position: 12, folded: true, below: 2, first: 2, ..PLAIN },
-        Detail { position: 12, depth: 1, first: 2, slack: 1, picture: at(21, "9(4)"), ..PLAIN },
+        Detail {
+            position: 12,
+            depth: 1,
+            first: 2,
+            slack: 1,
+            picture: at(21, "9(4)"),
+            digits: 4,
+            usage: at(26, "COMP"),
+            ..PLAIN
+        },
         Detail { position: 37, depth: 1, first: 2, picture: at(58, "X"), redefines: at(52, "B"), ..PLAIN },
     ];
     assert_eq!(found.iter().collect::<Vec<_>>(), expected);
@@ -84,6 +127,53 @@ fn words_of_the_statement() {
     assert_eq!((table.depending_on, table.picture, table.below), (at(44, "N"), at(50, "X"), 1));
 }
 
+/// Slack at the end of each occurrence of a group with OCCURS: its width is a multiple of the largest alignment in it.
+#[test]
+fn slack_at_an_end() {
+    let ends = |text: &'static str| -> Vec<(usize, usize)> {
+        details(text.as_bytes()).unwrap().iter().map(|d| (d.slack, d.slack_at_end)).collect()
+    };
+    assert_eq!(ends("01 R. 05 G OCCURS 2. 10 A PIC 9 COMP SYNC. 10 B PIC X."), [(0, 1), (0, 0), (0, 0)]);
+    assert_eq!(ends("01 R. 05 A PIC X. 05 G OCCURS 0. 10 B COMP-2 SYNC."), [(0, 0), (0, 1), (7, 0)]);
+    assert_eq!(ends("01 R. 05 G. 10 A PIC 9 COMP SYNC. 10 B PIC X."), [(0, 0); 3]);
+}
+
+/// The word of the usage that holds: the last of its own, or that of the nearest group above that names one.
+#[test]
+fn usages() {
+    let text = b"01 R COMP-5. 05 A PIC 9. 05 G DISPLAY. 10 B PIC 9. 10 C Binary PIC 9 comp. 05 D PIC X.";
+    let found = details(text).unwrap();
+    let words: Vec<_> = found.iter().map(|d| d.usage.map_or("", |word| word.word)).collect();
+    assert_eq!(words, ["COMP-5", "DISPLAY", "DISPLAY", "comp", "COMP-5"]);
+    assert_eq!(details(b"05 A PIC 9 USAGE IS. 05 B PIC 9.").unwrap().get(0).unwrap().usage, None);
+}
+
+/// What SIGN says, which is not inherited; and digits of every number.
+#[test]
+fn numbers() {
+    let said = |clause: &str| {
+        let text = format!("05 A PIC S9(5)V99 {clause}. 05 B PIC X.");
+        let found = details(text.as_bytes()).unwrap();
+        let detail = found.get(0).unwrap();
+        assert_eq!((detail.digits, detail.after_point, detail.signed), (7, 2, true));
+        detail.sign
+    };
+    assert_eq!(said(""), None);
+    assert_eq!(said("SIGN"), Some(SignClause::Trailing));
+    assert_eq!(said("SIGN IS LEADING COMP-3"), Some(SignClause::Leading));
+    assert_eq!(said("SIGN TRAILING SEPARATE"), Some(SignClause::SeparateTrailing));
+    assert_eq!(said("COMP SIGN LEADING SEPARATE CHARACTER"), Some(SignClause::SeparateLeading));
+    let digits = |picture: &str| {
+        let text = format!("05 A PIC {picture}.");
+        let found = details(text.as_bytes()).unwrap();
+        found.get(0).map(|d| (d.digits, d.after_point, d.signed))
+    };
+    assert_eq!(digits("9PPP"), Some((4, 3, false)));
+    assert_eq!(digits("-(3).99"), Some((4, 2, true)));
+    assert_eq!(digits("$"), Some((1, 0, false)));
+    assert_eq!(digits("X(3)"), Some((0, 0, false)));
+}
+
 /// Groups of OCCURS 0 may hold offsets of any size: the place in the record passes 32 bits.
 #[test]
 fn places_past_32_bits() {
@@ -97,18 +187,18 @@ fn places_past_32_bits() {
 #[test]
 fn empty_copybook() {
     let found = details(b"").unwrap();
-    assert_eq!((found.len(), found.is_empty(), found.bytes().len()), (0, true, 0));
+    assert_eq!((found.len(), found.is_empty(), found.bytes()), (0, true, &[0; 17][..]));
 }
 
 /// Refusals are the layout's; an output that is too short is refused with the length that it needs, and left alone.
 #[test]
 fn refused() {
     assert_eq!(details(b"05 A PIC X.\n05 B.").unwrap_err(), copybook::layout(b"05 A PIC X.\n05 B.").unwrap_err());
-    let mut out = [0xa5; 141];
+    let mut out = [0xa5; 206];
     let mut work = vec![7; WORK];
-    let r = lent::details(FISH, &mut work, &mut out[..140]).unwrap_err();
-    assert_eq!((r.number, r.needed), (31, 141));
-    assert_eq!(out, [0xa5; 141]);
+    let r = lent::details(FISH, &mut work, &mut out[..205]).unwrap_err();
+    assert_eq!((r.number, r.needed), (31, 206));
+    assert_eq!(out, [0xa5; 206]);
     assert!(work.iter().all(|&n| n == 0));
     assert_eq!(lent::details(FISH, &mut work, &mut out).unwrap().len(), 3);
     assert_eq!(lent::details(FISH, &mut work[1..], &mut out).unwrap_err().number, 3);

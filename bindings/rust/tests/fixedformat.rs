@@ -96,7 +96,7 @@ fn errors() {
     );
     says(
         "05 A PIC X OCCURS 3000000000.",
-        "A has a count, an offset, a size or an end above 2,147,483,647 (refused 29, line 1 column 1)",
+        "A has a count, an offset, a width, a size or an end above 2,147,483,647 (refused 29, line 1 column 1)",
     );
     says("05 \u{c5} PIC X.", "\u{c5} (0xc3 0x85 in UTF-8) stands in the name \u{c5} (refused 2, line 1 column 4)");
     let pic = book::parse_pic("9(n)", Usage::Comp, None).unwrap_err();

@@ -2,7 +2,8 @@
 //! version.
 
 use copybook::limits::{DEEPEST, MOST_STATEMENTS};
-use copybook::{FieldKind, NumRepr, SignKind, Usage, LONGEST_DETAILS, LONGEST_LISTING, LONGEST_REASONS};
+use copybook::{longest_words, FieldKind, NumRepr, SignClause, SignKind, Usage};
+use copybook::{LONGEST_DETAILS, LONGEST_LISTING, LONGEST_REASONS};
 
 const HEADER: &str = include_str!("../../../include/copybook.h");
 
@@ -60,6 +61,8 @@ fn numbers_of_usages_signs_and_storages() {
     let mut asked = all(&signs, 1);
     asked.insert(0, ("NONE".into(), 0));
     assert_eq!(numbers("copybook_sign", "COPYBOOK_SIGN_"), asked);
+    let clauses: Vec<_> = SignClause::ALL.iter().map(|value| (format!("{value:?}"), value.number())).collect();
+    assert_eq!(numbers("copybook_sign_clause", "COPYBOOK_CLAUSE_"), all(&clauses, 0));
 }
 
 #[test]
@@ -68,12 +71,16 @@ fn lengths() {
     let says = |name: &str, length: &str| assert!(HEADER.contains(&format!("#define COPYBOOK_{name} {length}\n")));
     says("LONGEST_LISTING", &format!("(10 + {statements} * 2 * 49)"));
     assert_eq!(LONGEST_LISTING, 10 + MOST_STATEMENTS * 2 * 49);
-    says("DETAIL", "47");
-    says("LONGEST_DETAILS", &format!("(({statements} + {statements} / 2) * COPYBOOK_DETAIL)"));
-    assert_eq!(LONGEST_DETAILS, (MOST_STATEMENTS + MOST_STATEMENTS / 2) * 47);
+    says("DETAILS_HEAD", "17");
+    says("DETAIL", "63");
+    let entries = format!("({statements} + {statements} / 2) * COPYBOOK_DETAIL");
+    says("LONGEST_DETAILS", &format!("\\\n    (COPYBOOK_DETAILS_HEAD + {entries})"));
+    assert_eq!(LONGEST_DETAILS, 17 + (MOST_STATEMENTS + MOST_STATEMENTS / 2) * 63);
     says("REASON", "13");
     says("LONGEST_REASONS", "((2 + COPYBOOK_DEEPEST * 2) * COPYBOOK_REASON)");
     assert_eq!(LONGEST_REASONS, (2 + DEEPEST * 2) * 13);
+    says("LONGEST_WORDS(n)", "(((n) + 1) * 8)");
+    assert!((0..10).all(|n| longest_words(n) == (n + 1) * 8));
 }
 
 #[test]

@@ -100,7 +100,11 @@ fn sentences() {
     says("05 A PIC CRDBQ(0)n.", "n in the picture of A is no symbol of a picture", "n");
     says("05 A PIC XX9.", "the picture XX9 of A mixes text with digits or editing", "XX9");
     says("05 A PIC X. 05 B REDEFINES C REDEFINES D PIC X.", "no earlier item of this list is called D", "D");
-    says("05 A OCCURS 9999999999 PIC X.", "A has a count, an offset, a size or an end above 2,147,483,647", "");
+    says(
+        "05 A OCCURS 9999999999 PIC X.",
+        "A has a count, an offset, a width, a size or an end above 2,147,483,647",
+        "",
+    );
     let fold = "05 A PIC X. 05 B PIC X. 05 B REDEFINES A PIC X. 05 C REDEFINES B PIC X.";
     says(fold, "C starts before the item B that it is folded under", "B");
     let far = "05 A PIC 9(32). 05 B PIC Q.";
@@ -181,6 +185,12 @@ fn causes() {
     );
     says(b"1 A PIC X. *> \xe6", "comment", "\u{e6} (0xe6 in Latin-1) stands in a comment", "");
     says(b"1 A PIC X VALUE ' \xe6'.", "literal", "\u{e6} (0xe6 in Latin-1) stands in a literal", "");
+    // what else a text is refused for hides nothing: an open literal, a continued card
+    says(b"1 A VALUE 'x.\n* \xe6", "comment", "\u{e6} (0xe6 in Latin-1) stands in a comment", "");
+    says(b"1 A VALUE '\xe6", "literal", "\u{e6} (0xe6 in Latin-1) stands in a literal", "");
+    let cards = b"000100 1 A VALUE 'x\n000200-    'y'.\n000300* \xe6";
+    let refusal = copybook::layout_cards(cards).unwrap_err();
+    assert_eq!((refusal.number, refusal.cause.map(|cause| cause.name)), (2, Some("comment")));
     // the sentence has the name as it stands, and a mark is one for a character
     let text = "1 M\u{c5}L PIC X.".as_bytes();
     says(text, "name", "\u{c5} (0xc3 0x85 in UTF-8) stands in the name M\u{c5}L", "\u{c5}");

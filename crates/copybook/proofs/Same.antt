@@ -12,10 +12,10 @@ use Rattle.definition.specs.declared.Owner.{Owner}
 use Rattle.definition.specs.declared.Extract.{Extract}
 use Rattle.definition.specs.Basic.{Answer, Err, Ok, ◌>>=◌, and_then}
 use Rattle.definition.specs.Cards.{view}
-use Rattle.definition.specs.Tree.{Forest}
+use Rattle.definition.specs.Tree.{Forest, fields, root}
 use Rattle.definition.specs.Fold.{Entries}
 use Rattle.definition.specs.Record.{unfolded}
-use Rattle.definition.specs.Calls.{left, cleared, record_fields, Question, asked, report, owner_in, extract_in, called}
+use Rattle.definition.specs.Calls.{left, cleared, record_tree, Question, asked, report, owner_in, extract_in, called}
 use Rattle.definition.specs.Calls.{card_checks, on_cards, after_writing, report_call, silent_call, owner_call, extract_call}
 use Rattle.record.specs.Asking.{Given, after_given, asked_call}
 use Rattle.copybook.specs.declared.answers.OwnerAt.{OwnerAt}
@@ -26,30 +26,33 @@ use Rattle.copybook.specs.Questions.{written_as, unwritten, report_given, owner_
 module _ {A B : Type 0} (g : Answer A → Answer B) (stays : (r : Refusal) → g (Err r) ≡ Err r) where
   in-asked :
       (q : Question A) (text : List ℕ) (work : ℕ) →
-      g (asked q text work) ≡ asked (λ t f es. g (q t f es)) text work
+      g (asked q text work) ≡ asked (λ t r f es. g (q t r f es)) text work
   unfolding asked and_then
-  in-asked q text work = by-fields (record_fields text work)
+  in-asked q text work = by-tree (record_tree text work)
     where
-      by-laid : (f : Forest) (x : Answer Entries) → g (x >>= λ es. q text f es) ≡ (x >>= λ es. g (q text f es))
-      by-laid f (Err r) = stays r
-      by-laid f (Ok es) = refl
+      by-laid :
+          (t : Forest) (x : Answer Entries) →
+          g (x >>= λ es. q text (root t) (fields t) es) ≡ (x >>= λ es. g (q text (root t) (fields t) es))
+      by-laid t (Err r) = stays r
+      by-laid t (Ok es) = refl
 
-      by-fields :
+      by-tree :
           (a : Answer Forest) →
-          g (a >>= λ f. unfolded text f >>= λ es. q text f es) ≡ (a >>= λ f. unfolded text f >>= λ es. g (q text f es))
-      by-fields (Err r) = stays r
-      by-fields (Ok f) = by-laid f (unfolded text f)
+          g (a >>= λ t. unfolded text (fields t) >>= λ es. q text (root t) (fields t) es)
+          ≡ (a >>= λ t. unfolded text (fields t) >>= λ es. g (q text (root t) (fields t) es))
+      by-tree (Err r) = stays r
+      by-tree (Ok t) = by-laid t (unfolded text (fields t))
 
   in-called :
       (form : Form) (q : Question A) (text : List ℕ) (work : ℕ) →
-      g (called form (λ t. asked q t work) text work) ≡ called form (λ t. asked (λ t f es. g (q t f es)) t work) text work
+      g (called form (λ t. asked q t work) text work) ≡ called form (λ t. asked (λ t r f es. g (q t r f es)) t work) text work
   unfolding on_cards and_then
   in-called Form.FreeText q text work = in-asked q text work
   in-called Form.Cards q text work = by-checks (card_checks text work)
     where
       by-checks :
           (a : Answer (Unit {0})) →
-          g (a >>= λ _. asked q (view text) work) ≡ (a >>= λ _. asked (λ t f es. g (q t f es)) (view text) work)
+          g (a >>= λ _. asked q (view text) work) ≡ (a >>= λ _. asked (λ t r f es. g (q t r f es)) (view text) work)
       by-checks (Err r) = stays r
       by-checks (Ok u) = in-asked q (view text) work
 
@@ -88,7 +91,7 @@ unwritten-given (Ok x) out work = refl
 
 pub silent-asked :
     {A : Type 0} (form : Form) (q : Question A) (text work : List ℕ) {r : Answer A} {out w : List ℕ} →
-    left r out w ≡ asked_call form (λ _ t f es. unwritten (q t f es)) text [] work →
+    left r out w ≡ asked_call form (λ _ t r f es. unwritten (q t r f es)) text [] work →
     left r [] w ≡ silent_call form q text work
 silent-asked form q text work h =
     let e = h ∙ ap (λ a. after_given a [] work) (sym (in-called unwritten (λ r. refl) form q text (length work)))

@@ -22,11 +22,11 @@ unwritten (Err r) = Err r
 unwritten (Ok a) = Ok (record { value = a; bytes = [] })
 
 abbrev pub report_given : ReportOf → ℕ → Question (Given ℕ)
-report_given r room text f es = written_as (report r.what room text f es)
+report_given r room text root f es = written_as (report r.what room text root f es)
 
 abbrev pub owner_given : OwnerAt → ℕ → Question (Given Owner)
-owner_given o room text f es = unwritten (owner_in o.position text f es)
+owner_given o room text root f es = unwritten (owner_in o.position text root f es)
 
 abbrev pub extract_given : ExtractBy → ℕ → Question (Given Extract)
-extract_given x room text f es =
-    unwritten (extract_in x.terms.weights.now x.terms.limit x.terms.budget text f es)
+extract_given x room text root f es =
+    unwritten (extract_in x.terms.weights.now x.terms.limit x.terms.budget text root f es)

@@ -1,7 +1,7 @@
 //! The public entries: what a copybook's columns are, and which of them has a byte, in free text and on cards; and
-//! which of them fit into a short record. Each answers in full or with one refusal of docs/REFUSALS.md; a refusal
-//! changes no byte of the output, and work memory is zero after every call. What is asked of a record is a question of
-//! `answers`.
+//! which of them fit into a short record; and what the words of a copybook are. Each answers in full or with one
+//! refusal of docs/REFUSALS.md; a refusal changes no byte of the output, and work memory is zero after every call. What
+//! is asked of a record is a question of `answers`.
 //!
 //! The reader's refusals, in this order: 1 a text that is too long; 2 a byte over 127, at the first one; 3 too little
 //! work memory; on cards 51, at the first byte in column 7 that is no blank and marks no line that is ignored; 50 a
@@ -13,7 +13,7 @@
 
 ghost use Rattle.std.specs.Prelude.{◌≡◌, []};
 ghost use Rattle.definition.specs.Calls.{left, layout_call, details_call, reasons_call, owner_call};
-ghost use Rattle.definition.specs.Calls.{extract_call, mask_call, picture_answer, record_check};
+ghost use Rattle.definition.specs.Calls.{words_call, extract_call, mask_call, picture_answer, record_check};
 ghost use Rattle.definition.specs.Key.{key_call};
 
 use crate::answers::{ExtractBy, OwnerAt, ReportOf};
@@ -47,13 +47,19 @@ pub fn layout_listing(text: &[u8], work: &mut [u32], out: &mut [u8]) -> Result<u
     )
 }
 
-/// The details of the listing's entries: 47 bytes for each, in the order of the listing, numbers little-endian. The
-/// position of the statement (4), its level (1), the entry's depth (1), 1 for a group made by folding (1), the number
-/// of entries below it (4), its first byte in the record (8), the slack bytes directly before it (4), and start and
-/// length of its picture, its REDEFINES and its DEPENDING ON as the statement has them (8 each, 0 where absent). A
-/// group made by folding has its base's position and level, and 0 for slack and the three places. Answer, output and
-/// work memory are as in `layout_listing`, and so are the refusals: 31 has the length of the details. The contract
-/// rules out a program that takes an entry's offset for its first byte, and one that gives a fold its base's slack.
+/// The details of the listing: a head of 17 bytes, then 63 for each entry, in the order of the listing, numbers
+/// little-endian. The head: of the root that was dropped the position (4) and level (1) of its statement, start and
+/// length of its name (8), 0 where none was; and the number of entries (4). An entry: the position of the statement
+/// (4), its level (1), the entry's depth (1), 1 for a group made by folding (1), the number of entries below it (4),
+/// its first byte in the record (8), the slack bytes directly before it (4), start and length of its picture, its
+/// REDEFINES and its DEPENDING ON as the statement has them (8 each, 0 where absent); the slack bytes at the end of
+/// each occurrence, which its width counts (4); of a number, edited ones included, the digits (1), those after the
+/// point (1) and whether its picture is signed (1); start and length of the word that names the usage that holds for it
+/// (8), its own or that of the nearest group above it; and SIGN (1): 0 none, 1 TRAILING or neither word, 2 LEADING, 3
+/// and 4 the same with SEPARATE. A group made by folding has its base's position and level, and 0 for the slack and all
+/// clauses. Answer, output and work memory are as in `layout_listing`, and so are the refusals: 31 has the length of
+/// the details. The contract rules out a program that takes an entry's offset for its first byte, and one that gives a
+/// fold its base's slack.
 #[tactic(auto, using(crate::proofs::Same::report_steps))]
 pub fn layout_details(text: &[u8], work: &mut [u32], out: &mut [u8]) -> Result<usize, Refusal>
     ensures { left result out.new work.new
@@ -72,9 +78,10 @@ pub fn layout_details(text: &[u8], work: &mut [u32], out: &mut [u8]) -> Result<u
 
 /// The owner of the byte at a position of the record: an occurrence of an elementary item, with its entry's number in
 /// the listing, its first byte in the record and the place inside it, or slack, with the number of the entry it stands
-/// before. Refusals: the reader's; then 40 for a REDEFINES or DEPENDING ON, a dropped root's own aside, and 41 for a
-/// position that is not below the record length. Work memory is zero after every call. The contract rules out a program
-/// that answers with the next occurrence, and one that measures slack from the record's start.
+/// before, or of the group at the end of whose occurrence it stands. Refusals: the reader's; then 40 for a REDEFINES or
+/// DEPENDING ON, a dropped root's own aside, and 41 for a position that is not below the record length. Work memory is
+/// zero after every call. The contract rules out a program that answers with the next occurrence, and one that aligns
+/// from the list's start.
 pub fn byte_owner(text: &[u8], position: usize, work: &mut [u32]) -> Result<Owner, Refusal>
     ensures { left result [] work.new
         ≡ owner_call Form.FreeText text.now position work.old }
@@ -176,6 +183,29 @@ pub fn byte_owner_cards(cards: &[u8], position: usize, work: &mut [u32]) -> Resu
         ≡ owner_call Form.Cards cards.now position work.old }
 {
     asking::answer(Form::Cards, OwnerAt { position }, cards, work, &mut [])
+}
+
+/// The words of a copybook as the reader has them, statement by statement, also where what they say is refused: of each
+/// statement that has words, level 88 and those that cannot be read among them, how many they are (4), the position of
+/// the period that ends it, or the length of the text where none does (4), and start and length of each word (4 each),
+/// numbers little-endian. Refusals: 1, 2 and 3, then 50; then 31, with the length of the words. Answer, output and work
+/// memory are as in `layout_listing`. The contract rules out a program that ends a statement behind its period, and one
+/// that does not count a statement's first word.
+pub fn words(text: &[u8], work: &mut [u32], out: &mut [u8]) -> Result<usize, Refusal>
+    ensures { left result out.new work.new
+        ≡ words_call Form.FreeText text.now out.old work.old }
+{
+    wording::write_words(Form::FreeText, text, work, out)
+}
+
+/// The words of cards: `words` of what the reader sees of them, at their places in the card text. Refusals: 1, 2 and 3,
+/// then 51, then 50; then 31. The contract rules out a program that reads column 73, and one that takes column 7 for
+/// code.
+pub fn words_cards(cards: &[u8], work: &mut [u32], out: &mut [u8]) -> Result<usize, Refusal>
+    ensures { left result out.new work.new
+        ≡ words_call Form.Cards cards.now out.old work.old }
+{
+    wording::write_words(Form::Cards, cards, work, out)
 }
 
 /// An extract that fits: of the record's top-level items, each with a weight in the listing's order, the heaviest

@@ -6,7 +6,7 @@
 ghost use Rattle.std.specs.Prelude.{◌≡◌, ◌||◌, true, false, []};
 ghost use Rattle.definition.specs.declared.Form.{Form};
 ghost use Rattle.definition.specs.Calls.{layout_call, details_call, reasons_call, owner_call, extract_call};
-ghost use Rattle.definition.specs.Calls.{left, picture_answer, mask_call, record_check};
+ghost use Rattle.definition.specs.Calls.{left, words_call, picture_answer, mask_call, record_check};
 ghost use Rattle.definition.specs.Key.{key_call};
 ghost use Rattle.rows.specs.Kinds.{sign_at};
 ghost use Rattle.rows.specs.Usages.{usage_at, clause_at};
@@ -204,6 +204,37 @@ pub extern "C" fn copybook_owner_cards(
         copybook::byte_owner_cards(cards, position as usize, work),
         answer,
     )
+}
+
+/// The words of a copybook, statement by statement, as `copybook::words` says. To `answer`, 2 numbers, as
+/// `copybook_layout`.
+/// The contract rules out the same two wrong calls as that of `copybook_layout`.
+#[unsafe(no_mangle)]
+pub extern "C" fn copybook_words(
+    text: &[u8],
+    work: &mut [u32],
+    out: &mut [u8],
+    answer: &mut [u64],
+) -> u32
+    ensures { IsHandedOn writing_numbers (words_call Form.FreeText text.now out.old work.old) answer.old result
+        answer.new out.new work.new }
+{
+    numbers::hand_on(copybook::words(text, work, out), answer)
+}
+
+/// The words of cards, as `copybook::words_cards` says. To `answer`, 2 numbers, as `copybook_layout`.
+/// The contract rules out the same two wrong calls as that of `copybook_layout`.
+#[unsafe(no_mangle)]
+pub extern "C" fn copybook_words_cards(
+    cards: &[u8],
+    work: &mut [u32],
+    out: &mut [u8],
+    answer: &mut [u64],
+) -> u32
+    ensures { IsHandedOn writing_numbers (words_call Form.Cards cards.now out.old work.old) answer.old result
+        answer.new out.new work.new }
+{
+    numbers::hand_on(copybook::words_cards(cards, work, out), answer)
 }
 
 /// An extract that fits, as `copybook::extract` says. To `answer`, 4 numbers: the subset's number, its weight, how many

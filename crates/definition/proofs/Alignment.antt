@@ -1,12 +1,13 @@
--- One fact of alignment, over the width: what `fewest` gives is below the width, brings the place to a multiple of it,
--- and is the smallest such number.
+-- Facts of alignment: what `fewest` gives is below the alignment, brings the place to a multiple of it, and is the
+-- smallest such number; it is the same a multiple of the alignment later. The alignments are 1, 2, 4 and 8, of which
+-- each divides the larger ones.
 -- Assumes nothing.
-use Prim.Native.Nat.{ℕ, ◌+◌, ◌-◌, ◌%◌, ◌≤◌, ◌<◌}
+use Prim.Native.Nat.{ℕ, ◌+◌, ◌-◌, ◌%◌, ◌≤◌, ◌<◌, ◌∣◌, max}
 use mathlib.Core.Path.{◌≡◌, sym, ◌∙◌, ap}
-use mathlib.Core.Logic.{⊎_elim}
+use mathlib.Core.Logic.{◌⊎◌, ⊎_elim}
 use native.Mathlib.Omega.{arith}
-use native.Mathlib.Nat.{mod-lt, mod-eq_of_lt, mod_self, mod-add-mod}
-use native.Mathlib.Nat.{sub-zero, add-zero}
+use native.Mathlib.Nat.{mod-lt, mod-eq_of_lt, mod_self, mod-add-mod, add-mod, mod-mod, mod-one}
+use native.Mathlib.Nat.{mod-eq-zero_of_dvd, dvd_of_mod-eq-zero, sub-zero, add-zero}
 use Rattle.definition.specs.Basic.{fewest}
 use Rattle.definition.specs.Demand.{Fewest}
 use Rattle.definition.proofs.Lists.{order}
@@ -45,3 +46,43 @@ module _ (w p : ℕ) (pos : 0 < w) where
   -- two numbers that are the fewest are equal, so that the record says all there is to say
   pub fewest-only : (n : ℕ) → Fewest w p n → n ≡ fewest w p
   fewest-only n f = omega (arith, f.least (fewest w p) fewest-slack.reaches, fewest-slack.least n f.reaches)
+
+-- a multiple of the alignment later
+module _ (w p d : ℕ) (h : w ∣ d) where
+  pub mod-moved : (p + d) % w ≡ p % w
+  mod-moved =
+      add-mod p d w
+      ∙ ap (λ (x : ℕ). (p % w + x) % w) (mod-eq-zero_of_dvd w h)
+      ∙ ap (λ (x : ℕ). x % w) (add-zero (p % w))
+      ∙ mod-mod p w
+
+  pub fewest-moved : fewest w (p + d) ≡ fewest w p
+  fewest-moved = ap (λ (x : ℕ). (w - x) % w) mod-moved
+
+-- alignment 1 takes none
+pub fewest-one : (p : ℕ) → fewest 1 p ≡ 0
+fewest-one p = mod-one (1 - p % 1)
+
+-- ---------------------------------------------------------------- the alignments
+
+abbrev pub Aligning : ℕ → Type 0
+Aligning w = (w ≡ 1) ⊎ (w ≡ 2) ⊎ (w ≡ 4) ⊎ (w ≡ 8)
+
+pub aligning-positive : (w : ℕ) → Aligning w → 0 < w
+aligning-positive w a = grind arith
+
+-- each divides the larger ones
+aligning-divides : (w m : ℕ) → Aligning w → Aligning m → w ≤ m → w ∣ m
+aligning-divides w m a b l = dvd_of_mod-eq-zero w (grind arith)
+
+pub aligning-max : (w m : ℕ) → Aligning w → Aligning m → Aligning (max w m)
+aligning-max w m a b = grind arith
+
+pub divides-left : (w m : ℕ) → Aligning w → Aligning m → w ∣ max w m
+divides-left w m a b = aligning-divides w (max w m) a (aligning-max w m a b) (omega arith)
+
+pub divides-right : (w m : ℕ) → Aligning w → Aligning m → m ∣ max w m
+divides-right w m a b = aligning-divides m (max w m) b (aligning-max w m a b) (omega arith)
+
+pub divides-8 : (w : ℕ) → Aligning w → w ∣ 8
+divides-8 w a = dvd_of_mod-eq-zero w (grind arith)

@@ -1,33 +1,28 @@
 -- The kept statements of a copybook begin at rising positions, in the forest too: the first byte of a statement tells
 -- it from all others.
 -- Assumes nothing.
-use Prim.Native.Nat.{ℕ, suc, ◌+◌, ◌≤◌, ◌<◌}
+use Prim.Native.Nat.{ℕ, suc, ◌+◌, ◌≤◌}
 use mathlib.Core.Path.{◌≡◌, refl, sym, ◌∙◌, subst}
 use mathlib.Core.List.{List, [], ◌∷◌, ◌++◌, append_assoc, append-nil}
 use Rattle.std.specs.Prelude.{Option, None, Some}
 use native.Mathlib.Omega.{arith}
 use lib.Dec.{leb}
 use Rattle.definition.specs.declared.Span.{Span}
-use Rattle.definition.specs.declared.ByteKind.{ByteKind}
-use Rattle.definition.specs.declared.ByteKind.TheVariants.{Newline}
-use Rattle.definition.specs.declared.Mode.{Mode}
-use Rattle.definition.specs.declared.Mode.TheVariants.{Fresh, Between, Dropped, Within}
 use Rattle.definition.specs.declared.Token.{Token}
 use Rattle.definition.specs.declared.Token.TheVariants.{Word, Stop, Open}
-use Rattle.definition.specs.declared.LiteralState.{LiteralState}
-use Rattle.definition.specs.declared.LiteralState.TheVariants.{Before}
 use Rattle.definition.specs.declared.Statement.{Statement}
-use Rattle.definition.specs.declared.ItemUsage.{ItemUsage}
+use Rattle.definition.specs.declared.NamedUsage.{NamedUsage}
 use Rattle.definition.specs.declared.Refusal.{Refusal}
 use Rattle.definition.specs.declared.TheConstants.{MOST_STATEMENTS}
 use Rattle.definition.specs.Basic.{Answer, Ok, ◌>>=◌, and_then, refuse_if}
-use Rattle.definition.specs.Words.{byte_kind, next, completed, completed_end, seen, said_next, unless_open, tokens}
-use Rattle.definition.specs.Words.{on_first, sentences, statement_words}
-use Rattle.definition.specs.Statement.{named, statement, statements, outermost}
+use Rattle.definition.specs.Words.{tokens_of, on_first, sentences, statement_words}
+use Rattle.definition.specs.Statement.{named, statement, statements}
 use Rattle.definition.specs.Tree.{Forest, leaf, item, above, not_above, forest, fields}
 use Rattle.definition.specs.Usages.{inheriting, inherit, inherited}
 use Rattle.definition.specs.Calls.{kept_statements, record_fields}
 use Rattle.definition.proofs.Answers.{through, given-same}
+use Rattle.definition.proofs.CallsLaws.{through-fields}
+use Rattle.definition.proofs.OrderLaws.{Along, tokens-along}
 
 -- ---------------------------------------------------------------- words
 
@@ -43,62 +38,18 @@ rises-from n m (a ∷ l) h r = (omega (arith, r.0), r.1)
 -- where words start
 abbrev word_starts : List Token → List ℕ
 word_starts [] = []
-word_starts (Stop ∷ ts) = word_starts ts
+word_starts (Stop p ∷ ts) = word_starts ts
 word_starts (Word w ∷ ts) = w.start ∷ word_starts ts
 word_starts (Open p ∷ ts) = []
 
--- from where on the words of the rest start
-abbrev low : Mode → ℕ → ℕ
-low Dropped p = p
-low Fresh p = p
-low Between p = p
-low (Within s) p = s
-
-abbrev Behind : Mode → ℕ → Type 0
-Behind Dropped p = Unit {0}
-Behind Fresh p = Unit {0}
-Behind Between p = Unit {0}
-Behind (Within s) p = s < p
-
--- one byte of kind k, before the tokens ts
-module _ (p : ℕ) (ts : List Token) where
-  by_kind :
-      (m : Mode) (k : ByteKind) →
-      Behind m p →
-      Rises (low (next m p k) (p + 1)) (word_starts ts) →
-      Rises (low m p) (word_starts (completed m p k ++ ts))
-  by_kind m k h r =
-      grind (arith, rises-from (p + 1) p (word_starts ts), rises-from (p + 1) (suc (low m p)) (word_starts ts))
-
-behind-next : (m : Mode) (p : ℕ) (k : ByteKind) → Behind m p → Behind (next m p k) (p + 1)
-behind-next m p k h = grind arith
-
--- a literal that is left open ends the words
-unless-open :
-    (q : LiteralState) (k : ByteKind) (ts : List Token) (n : ℕ) →
-    Rises n (word_starts ts) →
-    Rises n (word_starts (unless_open q k ts))
-unless-open q k ts n r = grind arith
-
-at-end :
-    (m : Mode) (p : ℕ) (ts : List Token) →
-    Behind m p →
-    Rises p (word_starts ts) →
-    Rises (low m p) (word_starts (completed_end m p ++ ts))
-at-end m p ts h r = grind (arith, rises-from p (suc (low m p)) (word_starts ts))
-
-tokens-rise :
-    (text bs : List ℕ) (q : LiteralState) (m : Mode) (p : ℕ) →
-    Behind m p →
-    Rises (low m p) (word_starts (tokens text q m p bs))
-unfolding tokens
-tokens-rise text [] q m p h = at-end m p (unless_open q Newline []) h (unless-open q Newline [] p tt)
-tokens-rise text (b ∷ bs) q m p h =
-    let k = seen q (byte_kind b bs) in
-    let ts = tokens text (said_next text q m p b k) (next m p k) (p + 1) bs in
-    by_kind p (unless_open q k ts) m k h
-    (unless-open q k ts (low (next m p k) (p + 1))
-    (tokens-rise text bs (said_next text q m p b k) (next m p k) (p + 1) (behind-next m p k h)))
+starts-rise : (text : List ℕ) (n : ℕ) (ts : List Token) → Along text n ts → Rises n (word_starts ts)
+starts-rise text n [] a = tt
+starts-rise text n (Word w ∷ ts) a =
+    let ih = starts-rise text (w.start + w.len) ts a.3 in
+    (a.0, rises-from (w.start + w.len) (suc w.start) (word_starts ts) (omega (arith, a.1)) ih)
+starts-rise text n (Stop p ∷ ts) a =
+    rises-from (p + 1) n (word_starts ts) (omega (arith, a.0)) (starts-rise text (p + 1) ts a.2)
+starts-rise text n (Open p ∷ ts) a = tt
 
 -- ---------------------------------------------------------------- statements
 
@@ -120,13 +71,13 @@ rises-on_first n w ((v ∷ vs) ∷ wss) h r = (h, rises-from (suc v.start) (suc 
 sentences-rise : (ts : List Token) (n : ℕ) → Rises n (word_starts ts) → Rises n (begins (sentences ts))
 unfolding sentences
 sentences-rise [] n r = tt
-sentences-rise (Stop ∷ ts) n r = sentences-rise ts n r
+sentences-rise (Stop p ∷ ts) n r = sentences-rise ts n r
 sentences-rise (Open p ∷ ts) n r = tt
 sentences-rise (Word w ∷ ts) n r = rises-on_first n w (sentences ts) r.0 (sentences-rise ts (suc w.start) r.1)
 
 words-rise : (text : List ℕ) → Rises 0 (begins (statement_words text))
 unfolding statement_words
-words-rise text = sentences-rise (tokens text (Before 0) Fresh 0 text) 0 (tokens-rise text text (Before 0) Fresh 0 tt)
+words-rise text = sentences-rise (tokens_of text) 0 (starts-rise text 0 (tokens_of text) (tokens-along text))
 
 abbrev pub ats : List Statement → List ℕ
 ats [] = []
@@ -199,7 +150,7 @@ unfolding forest
 forest-begin [] = refl
 forest-begin (s ∷ ss) = cc (above-begin s.level (forest ss), forest-begin ss)
 
-inherit-begin : (outer : ItemUsage) (f : Forest) → beginnings (inherit outer f) ≡ beginnings f
+inherit-begin : (outer : Option NamedUsage) (f : Forest) → beginnings (inherit outer f) ≡ beginnings f
 unfolding inherit
 inherit-begin outer leaf = refl
 inherit-begin outer (item s kids later) = cc (inherit-begin (inheriting outer s).usage kids, inherit-begin outer later)
@@ -216,12 +167,11 @@ fields-rise (item s (item u us vs) (item t kids later)) r = r
 
 -- the fields of a copybook's record begin at rising positions
 pub fields-begin : (text : List ℕ) (work : ℕ) (f : Forest) → record_fields text work ≡ Ok f → Rises 0 (beginnings f)
-unfolding record_fields kept_statements
+unfolding kept_statements
 fields-begin text work f h =
-    through _ _ h λ _ _ h₁.
-    through _ _ h₁ λ ss kept h₂.
+    through-fields text work f h λ ss kept is.
     through _ _ kept λ _ _ e.
-    subst (λ (g : Forest). Rises 0 (beginnings g)) (given-same h₂)
+    subst (λ (g : Forest). Rises 0 (beginnings g)) is
     (fields-rise (inherited (forest ss))
-    (subst (Rises 0) (sym (inherit-begin outermost (forest ss) ∙ forest-begin ss))
+    (subst (Rises 0) (sym (inherit-begin None (forest ss) ∙ forest-begin ss))
     (statements-rise text (statement_words text) 0 0 ss e (words-rise text))))

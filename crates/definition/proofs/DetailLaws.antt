@@ -5,31 +5,30 @@ use Prim.Native.Nat.{ℕ, suc, ◌+◌, ◌*◌, ◌-◌, max, ◌≤◌, ◌<�
 use mathlib.Core.Path.{◌≡◌, refl, sym, ◌∙◌, ap, subst}
 use mathlib.Core.Bool.{Bool, false}
 use mathlib.Core.List.{List, [], ◌∷◌, ◌++◌, append_assoc, append-nil}
-use Rattle.std.specs.Prelude.{Some}
+use Rattle.std.specs.Prelude.{Option, Some}
 use native.Mathlib.Omega.{arith}
 use lib.ListN.{length, length-append}
 use Rattle.definition.specs.declared.Entry.{Entry}
-use Rattle.definition.specs.declared.Pictured.{Pictured}
 use Rattle.definition.specs.declared.Statement.{Statement}
 use Rattle.std.specs.Prelude.{if◌then◌else◌}
-use Rattle.definition.specs.Basic.{is_given, Ok}
+use Rattle.definition.specs.Basic.{is_given, le4, Ok}
 use Rattle.definition.specs.Tree.{Forest, leaf, item}
 use Rattle.definition.specs.Fold.{Entries, end, entry, append, entry_end, Place, place_of}
 use Rattle.definition.specs.Fold.{redefiners, with_redefiners, folded_list, folded_below}
 use Rattle.definition.specs.Fold.{folded_all}
-use Rattle.definition.specs.Layout.{Laid, start, slack_from, entry_of, shallow, advance, lay}
+use Rattle.definition.specs.Layout.{Laid, start, shallow, advance, lay}
 use Rattle.definition.specs.Record.{unfolded}
 use Rattle.definition.specs.Search.{entries#}
-use Rattle.definition.specs.Details.{Detail, detail, details_in, detail_bytes, details_bytes, entries_details, group_around}
+use Rattle.definition.specs.Details.{Detail, detail, details_in, detail_bytes, details_bytes, root_bytes, listing_details, group_around}
 use Rattle.definition.specs.Details.{first_of, FirstBytes, Following, height}
 use Rattle.definition.proofs.Answers.{given-same}
-use Rattle.definition.proofs.Cover.{item-laid, laid-out}
+use Rattle.definition.proofs.Cover.{start-given, entry_laid, item-laid, laid-out}
 
 -- ---------------------------------------------------------------- how many
 
-pub detail-length : (x : Detail) → length (detail_bytes x) ≡ 47
+pub detail-length : (x : Detail) → length (detail_bytes x) ≡ 63
 unfolding detail_bytes
-detail-length x = refl
+detail-length x = grind arith
 
 pub rows-many : (es : Entries) (depth start : ℕ) → length (details_in depth start es) ≡ entries# es
 unfolding details_in
@@ -42,7 +41,7 @@ rows-many (entry e members later) depth start =
       rows-many later depth start,
     )
 
-bytes-many : (xs : List Detail) → length (details_bytes xs) ≡ 47 * length xs
+bytes-many : (xs : List Detail) → length (details_bytes xs) ≡ 63 * length xs
 unfolding details_bytes
 bytes-many [] = refl
 bytes-many (x ∷ xs) = omega (arith, length-append (detail_bytes x) (details_bytes xs), detail-length x, bytes-many xs)
@@ -52,9 +51,21 @@ unfolding details_bytes
 bytes-both [] ys = refl
 bytes-both (x ∷ xs) ys = simp (bytes-both xs ys, append_assoc)
 
--- as many rows as the listing has entries
-pub details-length : (es : Entries) → length (entries_details es) ≡ 47 * entries# es
-details-length es = omega (arith, bytes-many (details_in 0 0 es), rows-many es 0 0)
+root-length : (root : Option Statement) → length (root_bytes root) ≡ 13
+root-length root = grind arith
+
+-- as many rows as the listing has entries, after the head
+pub details-length : (root : Option Statement) (es : Entries) → length (listing_details root es) ≡ 17 + 63 * entries# es
+unfolding listing_details
+details-length root es =
+    omega (
+      arith,
+      length-append (root_bytes root ++ le4 (entries# es)) (details_bytes (details_in 0 0 es)),
+      length-append (root_bytes root) (le4 (entries# es)),
+      root-length root,
+      bytes-many (details_in 0 0 es),
+      rows-many es 0 0,
+    )
 
 -- ---------------------------------------------------------------- the first byte of a member
 
@@ -99,61 +110,67 @@ inside es = subst (FirstBytes []) (append-nil (details_in 0 0 es)) (inside-list 
 module _ (text : List ℕ) where
   -- an item without REDEFINES does not start before the cursor
   start-low :
-      (s : Statement) (c : Pictured) (seen : List Place) (cursor offset : ℕ) →
+      (s : Statement) (kids : Forest) (base : ℕ) (seen : List Place) (cursor offset : ℕ) →
       is_given s.clauses.redefines ≡ false →
-      start text s c seen cursor ≡ Ok offset →
+      start text s kids seen base cursor ≡ Ok offset →
       cursor ≤ offset
-  start-low s c seen cursor offset g h = grind arith
+  start-low s kids base seen cursor offset g h =
+      omega (arith, given-same (sym (start-given text base cursor seen s kids g) ∙ h))
 
   laid-following :
-      (f : Forest) (depth : ℕ) (seen : List Place) (cursor reach : ℕ) (l : Laid) →
-      lay text depth seen cursor reach f ≡ Ok l →
+      (f : Forest) (depth base : ℕ) (seen : List Place) (cursor reach : ℕ) (l : Laid) →
+      lay text depth base seen cursor reach f ≡ Ok l →
       Following cursor l.entries
   unfolding lay
-  laid-following leaf depth seen cursor reach l h = subst (λ (x : Laid). Following cursor x.entries) (given-same h) tt
-  laid-following (item s kids later) depth seen cursor reach l h =
-      let r = item-laid text depth seen cursor reach s kids later l h in
-      let e = entry_of s r.has r.offset (slack_from cursor s r.offset) in
+  laid-following leaf depth base seen cursor reach l h =
+      subst (λ (x : Laid). Following cursor x.entries) (given-same h) tt
+  laid-following (item s kids later) depth base seen cursor reach l h =
+      let r = item-laid text depth base seen cursor reach s kids later l h in
+      let e = entry_laid text s kids cursor r.has r.offset r.inner in
       subst (λ (x : Laid). Following cursor x.entries) (sym r.result) (
         λ g. grind arith,
-        λ g. grind (arith, start-low s r.has seen cursor r.offset g r.begins),
-        laid-following kids (suc depth) [] 0 0 r.inner r.inner-laid,
-        laid-following later depth (place_of e ∷ seen) (advance cursor e) (max reach (entry_end e)) r.rest r.later-laid,
+        λ g. grind (arith, start-low s kids base seen cursor r.offset g r.begins),
+        laid-following kids (suc depth) (base + r.offset) [] 0 0 r.inner r.inner-laid,
+        laid-following later depth base (place_of e ∷ seen) (advance cursor e)
+            (max reach (entry_end e)) r.rest r.later-laid,
       )
 
   -- before folding, slack begins where the latest earlier item without REDEFINES ended
   pub following : (f : Forest) (es : Entries) → unfolded text f ≡ Ok es → Following 0 es
   following f es h =
-      let r = laid-out text f es h in subst (Following 0) r.is (laid-following f 0 [] 0 0 r.list r.list-laid)
+      let r = laid-out text f es h in subst (Following 0) r.is (laid-following f 0 0 [] 0 0 r.list r.list-laid)
 
 -- ---------------------------------------------------------------- how deep
 
 module _ (text : List ℕ) where
   -- lists nest at most 65 deep: 20 refuses more
   laid-height :
-      (f : Forest) (depth : ℕ) (seen : List Place) (cursor reach : ℕ) (l : Laid) →
-      lay text depth seen cursor reach f ≡ Ok l →
+      (f : Forest) (depth base : ℕ) (seen : List Place) (cursor reach : ℕ) (l : Laid) →
+      lay text depth base seen cursor reach f ≡ Ok l →
       depth ≤ 64 →
       depth + height l.entries ≤ 65
   unfolding lay
-  laid-height leaf depth seen cursor reach l h d = omega (arith, ap (λ (x : Laid). height x.entries) (given-same h))
-  laid-height (item s kids later) depth seen cursor reach l h d =
-      let r = item-laid text depth seen cursor reach s kids later l h in
-      let e = entry_of s r.has r.offset (slack_from cursor s r.offset) in
+  laid-height leaf depth base seen cursor reach l h d =
+      omega (arith, ap (λ (x : Laid). height x.entries) (given-same h))
+  laid-height (item s kids later) depth base seen cursor reach l h d =
+      let r = item-laid text depth base seen cursor reach s kids later l h in
+      let e = entry_laid text s kids cursor r.has r.offset r.inner in
       omega (
         arith,
         ap (λ (x : Laid). height x.entries) r.result,
-        laid-height later depth (place_of e ∷ seen) (advance cursor e) (max reach (entry_end e)) r.rest r.later-laid d,
-        below kids r.nested r.inner-laid (laid-height kids (suc depth) [] 0 0 r.inner r.inner-laid),
+        laid-height later depth base (place_of e ∷ seen) (advance cursor e)
+            (max reach (entry_end e)) r.rest r.later-laid d,
+        below kids (base + r.offset) r.nested r.inner-laid
+            (laid-height kids (suc depth) (base + r.offset) [] 0 0 r.inner r.inner-laid),
       )
     where
       below :
-          (kids : Forest) {inner : Laid} →
+          (kids : Forest) (start : ℕ) {inner : Laid} →
           shallow (suc depth) kids ≡ Ok tt →
-          lay text (suc depth) [] 0 0 kids ≡ Ok inner →
+          lay text (suc depth) start [] 0 0 kids ≡ Ok inner →
           (suc depth ≤ 64 → suc depth + height inner.entries ≤ 65) →
           suc depth + height inner.entries ≤ 65
-      below kids n e k = grind arith
+      below kids start n e k = grind arith
 
   -- folding a list adds one at most
   append-height : (a b : Entries) → height (append a b) ≤ max (height a) (height b)
@@ -208,6 +225,6 @@ module _ (text : List ℕ) where
       omega (
         arith,
         ap height r.is,
-        laid-height f 0 [] 0 0 r.list r.list-laid (omega arith),
+        laid-height f 0 0 [] 0 0 r.list r.list-laid (omega arith),
         all-height es (below-height es),
       )

@@ -17,7 +17,7 @@ use Rattle.definition.specs.Extract.{heavier, heaviest, alone, off_by, extract}
 use Rattle.definition.specs.Extracted.{Choice, none, with, without, LookedAt, Best, Extracted}
 use Rattle.definition.specs.Fold.{Entries, folded_all}
 use Rattle.definition.specs.Record.{layout}
-use Rattle.definition.specs.Tree.{Forest}
+use Rattle.definition.specs.Tree.{Forest, fields}
 use Rattle.definition.specs.Owner.{overlaid}
 use Rattle.definition.specs.Calls.{record_fields, asked, extract_of, extract_in}
 use Rattle.definition.proofs.Answers.{give-next, through, given-same}
@@ -247,9 +247,10 @@ pub extracted :
     (text : List ℕ) (work : ℕ) (weights : List ℕ) (limit budget : ℕ) {a : Extract} →
     asked (extract_in weights limit budget) text work ≡ Ok a →
     Extracted text work weights limit budget a
-unfolding asked extract_in layout
+unfolding asked extract_in record_fields layout
 extracted text work weights limit budget h =
-    through _ _ h λ f read h₁.
+    through _ _ h λ t h₀ h₁.
     through _ _ h₁ λ tree laid_out h₂.
+    let read = ap (λ (x : Answer Forest). x >>= λ t. Ok (fields t)) h₀ ∙ give-next t _ in
     let shown = ap (λ (x : Answer Entries). x >>= λ es. Ok (folded_all text es)) laid_out ∙ give-next tree _ in
-    of_items text work weights limit budget f (folded_all text tree) read shown h₂
+    of_items text work weights limit budget (fields t) (folded_all text tree) read shown h₂

@@ -1,14 +1,18 @@
 -- One step of the search for a name, of folding, of laying a sibling list, and of the record.
 -- Assumes nothing.
-use Prim.Native.Nat.{ℕ}
+use Prim.Native.Nat.{ℕ, ◌+◌, max}
 use mathlib.Core.Path.{◌≡◌, refl, ap}
 use mathlib.Core.Bool.{true, false}
 use mathlib.Core.List.{List, [], ◌∷◌}
 use Rattle.std.specs.Prelude.{None, Some}
 use Rattle.definition.specs.declared.Span.{Span}
+use Rattle.definition.specs.declared.Pictured.{Pictured}
+use Rattle.definition.specs.declared.Statement.{Statement}
 use Rattle.definition.specs.declared.Entry.{Entry}
-use Rattle.definition.specs.Basic.{is_given}
-use Rattle.definition.specs.Fold.{Entries, end, entry, append}
+use Rattle.definition.specs.declared.Refusal.{Refusal}
+use Rattle.definition.specs.Basic.{is_given, fewest, Answer, Ok, ◌>>=◌, refuse_if}
+use Rattle.definition.specs.Layout.{slack_from, entry_of, too_large, advance, Laid}
+use Rattle.definition.specs.Fold.{Entries, end, entry, append, entry_end}
 use Rattle.definition.specs.Fold.{same_name, Place, place_of, Search, one_more, search_back, find}
 use Rattle.definition.specs.Fold.{rebased, redefiners, fold_check}
 
@@ -89,6 +93,34 @@ module _ (text : List ℕ) where
       fold_check text bases (entry e members later) ≡ fold_check text (place_of e ∷ bases) later
   unfolding fold_check
   check-base bases e members later g = rw (g, fold_check)
+
+  -- ---------------------------------------------------------------- a sibling list
+
+  -- an item laid, line by line of `lay`, by what it takes of its text and of the lists below and after it: what it is,
+  -- where it starts, the depth of its list, that list, and what its width is a multiple of
+  abbrev pub lay_item :
+      List Place →
+      ℕ →
+      ℕ →
+      Statement →
+      Answer Pictured →
+      Answer ℕ →
+      Answer (Unit {0}) →
+      (ℕ → Answer Laid) →
+      ℕ →
+      (List Place → ℕ → ℕ → Answer Laid) →
+      Answer Laid
+  lay_item seen cursor reach s own begins deep below alignment after = do
+    c ← own
+    offset ← begins
+    _ ← deep
+    inner ← below offset
+    _ ← fold_check text [] inner.entries
+    let slack_at_end = fewest alignment (c.width + inner.width)
+    let e = entry_of s c offset (slack_from cursor s offset) inner.width slack_at_end
+    _ ← refuse_if (too_large e) (Refusal.TooLarge s.at)
+    l ← after (place_of e ∷ seen) (advance cursor e) (max reach (entry_end e))
+    Ok (record { entries = entry e inner.entries l.entries; width = l.width })
 
 -- ---------------------------------------------------------------- lists of entries
 

@@ -5,11 +5,14 @@ pub mod WordLaws
 pub mod PictureLaws
 pub mod StatementLaws
 pub mod SpanLaws
+pub mod OrderLaws
+pub mod WordingLaws
 pub mod CardLaws
 pub mod TreeLaws
 pub mod ParentLaws
 pub mod UsageLaws
 pub mod LayoutLaws
+pub mod MovedLaws
 pub mod ListingLaws
 pub mod CallsLaws
 pub mod Pieces

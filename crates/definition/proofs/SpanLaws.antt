@@ -1,17 +1,21 @@
 -- What holds of every word of the statements, and of an absent span, holds of every span of the kept statements, and of
 -- every span of the entries that are laid from them.
 -- Assumes nothing.
-use Prim.Native.Nat.{ℕ, suc, max}
+use Prim.Native.Nat.{ℕ, suc, ◌+◌, max}
 use mathlib.Core.Path.{◌≡◌, subst, sym}
-use mathlib.Core.Bool.{Bool}
+use mathlib.Core.Bool.{Bool, ◌||◌}
 use mathlib.Core.List.{List, [], ◌∷◌}
 use Rattle.std.specs.Prelude.{Option, None, Some}
 use native.Mathlib.Omega.{arith}
 use lib.Dec.{leb}
 use Rattle.definition.specs.declared.Clauses.{Clauses}
 use Rattle.definition.specs.declared.ParseState.{ParseState}
-use Rattle.definition.specs.declared.ParseState.TheVariants.{Clause}
-use Rattle.definition.specs.declared.ItemUsage.{ItemUsage}
+use Rattle.definition.specs.declared.ParseState.TheVariants.{Clause, IsPicture, APicture, Target, ACount, To}
+use Rattle.definition.specs.declared.ParseState.TheVariants.{Bound, Times, DependingOn, OnName, AName, UsageIs}
+use Rattle.definition.specs.declared.ParseState.TheVariants.{SignIs, SignWord, Side, Nothing}
+use Rattle.definition.specs.declared.Keyword.{Keyword}
+use Rattle.definition.specs.declared.Missing.{Missing}
+use Rattle.definition.specs.declared.NamedUsage.{NamedUsage}
 use Rattle.definition.specs.declared.Span.{Span}
 use Rattle.definition.specs.declared.Refusal.{Refusal}
 use Rattle.definition.specs.declared.Statement.{Statement}
@@ -19,31 +23,38 @@ use Rattle.definition.specs.declared.Entry.{Entry}
 use Rattle.definition.specs.declared.Refusal.{Refusal}
 use Rattle.definition.specs.declared.TheConstants.{MOST_STATEMENTS}
 use Rattle.std.specs.Prelude.{if◌then◌else◌}
-use Rattle.definition.specs.Basic.{absent, uppers, part, Answer, Err, Ok, ◌>>=◌, and_then}
+use Rattle.definition.specs.Basic.{absent, count, uppers, part, Answer, Err, Ok, ◌>>=◌, and_then}
 use Rattle.definition.specs.Basic.{refuse_if}
 use Rattle.definition.specs.Tree.{Forest, leaf, item, above, not_above, forest, fields}
 use Rattle.definition.specs.Usages.{inheriting, inherit, inherited, record_of}
 use Rattle.definition.specs.Fold.{Entries, end, entry, append, entry_end, Place, place_of}
 use Rattle.definition.specs.Fold.{rebased, redefiners, with_redefiners, folded_list, folded_below}
-use Rattle.definition.specs.Layout.{slack_from, entry_of, advance, Laid, lay}
+use Rattle.definition.specs.Layout.{word_of, advance, Laid, lay}
 use Rattle.definition.specs.Record.{layout}
 use Rattle.definition.specs.Demand.{EntrySpans, EachSpan}
 use Rattle.definition.specs.Statement.{no_clauses}
-use Rattle.definition.specs.Statement.{Step, missing}
+use Rattle.definition.specs.Statement.{Step, missing, go, key, keyword_of, begin, on_clause, on_depending, on_times, counted}
 use Rattle.definition.specs.Statement.{clause_step, separated, step, finish, clauses, named, statement}
-use Rattle.definition.specs.Statement.{statements, outermost}
+use Rattle.definition.specs.Statement.{statements, held}
 use Rattle.definition.proofs.Answers.{through, given-same}
-use Rattle.definition.proofs.Cover.{item-laid, laid-out}
+use Rattle.definition.proofs.Cover.{entry_laid, item-laid, laid-out}
+
+-- what holds of the word that names a usage, where one is named
+abbrev pub UsageSpan : (Span → Type 0) → Option NamedUsage → Type 0
+UsageSpan P None = Unit {0}
+UsageSpan P (Some u) = P u.word
 
 -- what holds of the spans of clauses, and of a statement
 pub record Spans (P : Span → Type 0) (c : Clauses) : Type 0 where
   pub picture : P c.picture
+  pub usage : UsageSpan P c.usage
   pub depending : P c.depending
   pub redefines : P c.redefines
 
 pub record StatementSpans (P : Span → Type 0) (s : Statement) : Type 0 where
   pub name : P s.name
   pub clauses : Spans P s.clauses
+  pub usage : UsageSpan P s.usage
 
 module _ (P : Span → Type 0) where
   -- ---------------------------------------------------------------- clauses and statements
@@ -102,14 +113,18 @@ module _ (P : Span → Type 0) where
       let ih = forest-spans ss a.1 in
       (a.0, above-spans s.level (forest ss) ih, not_above-spans s.level (forest ss) ih)
 
-  inherit-spans : (u : ItemUsage) (f : Forest) → ForestSpans f → ForestSpans (inherit u f)
+  held-span : (outer own : Option NamedUsage) → UsageSpan P outer → UsageSpan P own → UsageSpan P (held outer own)
+  held-span outer own x y = grind arith
+
+  inherit-spans : (u : Option NamedUsage) (f : Forest) → UsageSpan P u → ForestSpans f → ForestSpans (inherit u f)
   unfolding inherit
-  inherit-spans u leaf x = tt
-  inherit-spans u (item s kids later) x = (
-    record { name = x.0.name; clauses = x.0.clauses },
-    inherit-spans (inheriting u s).usage kids x.1,
-    inherit-spans u later x.2,
-  )
+  inherit-spans u leaf y x = tt
+  inherit-spans u (item s kids later) y x =
+      let own = held-span u s.clauses.usage y x.0.clauses.usage in (
+        record { name = x.0.name; clauses = x.0.clauses; usage = own },
+        inherit-spans (inheriting u s).usage kids own x.1,
+        inherit-spans u later y x.2,
+      )
 
   fields-spans : (f : Forest) → ForestSpans f → ForestSpans (fields f)
   unfolding fields
@@ -118,34 +133,9 @@ module _ (P : Span → Type 0) where
   -- of every span of the fields of the record
   pub record-spans : (ss : List Statement) → AllSpans ss → ForestSpans (record_of ss)
   record-spans ss a =
-      fields-spans (inherited (forest ss)) (inherit-spans outermost (forest ss) (forest-spans ss a))
+      fields-spans (inherited (forest ss)) (inherit-spans None (forest ss) tt (forest-spans ss a))
 
   -- ---------------------------------------------------------------- the entries that are laid from it
-
-  laid-spans :
-      (text : List ℕ) (f : Forest) (depth : ℕ) (seen : List Place) (cursor reach : ℕ) (l : Laid) →
-      ForestSpans f →
-      lay text depth seen cursor reach f ≡ Ok l →
-      EachSpan P l.entries
-  unfolding lay
-  laid-spans text leaf depth seen cursor reach l x h =
-      subst (λ (y : Laid). EachSpan P y.entries) (given-same h) tt
-  laid-spans text (item s kids later) depth seen cursor reach l x h =
-      let r = item-laid text depth seen cursor reach s kids later l h in
-      let e = entry_of s r.has r.offset (slack_from cursor s r.offset) in
-      let c = x.0.clauses in
-      let ihs = laid-spans text later depth (place_of e ∷ seen) (advance cursor e) (max reach (entry_end e)) in
-      subst (λ (y : Laid). EachSpan P y.entries) (sym r.result) (
-        record {
-          name = x.0.name;
-          picture = c.picture;
-          depending = c.depending;
-          redefines = c.redefines;
-          over = c.redefines;
-        },
-        laid-spans text kids (suc depth) [] 0 0 r.inner x.1 r.inner-laid,
-        ihs r.rest x.2 r.later-laid,
-      )
 
   append-spans : (a b : Entries) → EachSpan P a → EachSpan P b → EachSpan P (append a b)
   unfolding append
@@ -157,13 +147,44 @@ module _ (P : Span → Type 0) where
   module _ (nothing : P absent) where
     -- of no clauses, and where one span is replaced
     pub none-spans : Spans P no_clauses
-    none-spans = record { picture = nothing; depending = nothing; redefines = nothing }
+    none-spans = record { picture = nothing; usage = tt; depending = nothing; redefines = nothing }
 
     -- a word, by what is expected
-    clause-step-spans :
-        (e : ParseState) (w : Span) (u : List ℕ) (c : Clauses) → P w → Spans P c → StepSpans (clause_step e w u c)
-    unfolding clause_step
-    clause-step-spans e w u c h f = grind (arith, nothing)
+    module _ (w : Span) (u : List ℕ) (c : Clauses) (h : P w) (f : Spans P c) where
+      by-test : (b : Bool) (x y : Step) → StepSpans x → StepSpans y → StepSpans (if b then x else y)
+      by-test b x y p q = grind arith
+
+      begin-spans : (k : Option Keyword) → StepSpans (begin w k c)
+      begin-spans k = grind (arith, nothing)
+
+      depending-spans : StepSpans (on_depending w u c)
+      depending-spans = by-test (key "DEPENDING" u) (go OnName c) (on_clause w u c) f (begin-spans (keyword_of u))
+
+      times-spans : StepSpans (on_times w u c)
+      times-spans = by-test (key "TIMES" u) (go DependingOn c) (on_depending w u c) f depending-spans
+
+      counted-spans : (m : Missing) (e : ParseState) (o : Option ℕ) → StepSpans (counted m e c o)
+      counted-spans m e o = grind arith
+
+      clause-step-spans : (e : ParseState) → StepSpans (clause_step e w u c)
+      unfolding clause_step
+      clause-step-spans Clause = begin-spans (keyword_of u)
+      clause-step-spans To = by-test (key "TO" u) (go Bound c) (on_times w u c) f times-spans
+      clause-step-spans Times = times-spans
+      clause-step-spans DependingOn = depending-spans
+      clause-step-spans UsageIs = by-test (key "IS" u) (go Clause c) (on_clause w u c) f (begin-spans (keyword_of u))
+      clause-step-spans Side =
+          by-test (key "LEFT" u || key "RIGHT" u) (go Clause c) (on_clause w u c) f (begin-spans (keyword_of u))
+      clause-step-spans ACount = counted-spans Missing.Count To (count u)
+      clause-step-spans Bound = counted-spans Missing.Bound Times (count u)
+      clause-step-spans IsPicture = grind arith
+      clause-step-spans APicture = grind arith
+      clause-step-spans Target = grind arith
+      clause-step-spans OnName = grind arith
+      clause-step-spans AName = grind arith
+      clause-step-spans SignIs = grind arith
+      clause-step-spans SignWord = grind arith
+      clause-step-spans Nothing = f
 
     -- SEPARATE
     separated-spans : (u : List ℕ) (s : Step) → StepSpans s → StepSpans (separated u s)
@@ -172,7 +193,7 @@ module _ (P : Span → Type 0) where
     -- a step, at a word of which it holds
     pub step-spans : (e : ParseState) (w : Span) (u : List ℕ) (c : Clauses) → P w → Spans P c → StepSpans (step e w u c)
     unfolding step
-    step-spans e w u c h f = separated-spans u (clause_step e w u c) (clause-step-spans e w u c h f)
+    step-spans e w u c h f = separated-spans u (clause_step e w u c) (clause-step-spans w u c h f e)
 
     after-step :
         (text : List ℕ) (at : ℕ) (ws : List Span) {d : Clauses} (s : Step) →
@@ -202,11 +223,11 @@ module _ (P : Span → Type 0) where
         StatementSpans P s
     unfolding named
     named-spans text at level [] a h =
-        subst (StatementSpans P) (given-same h) (record { name = nothing; clauses = none-spans })
+        subst (StatementSpans P) (given-same h) (record { name = nothing; clauses = none-spans; usage = tt })
     named-spans text at level (w ∷ ws) a h =
         through _ _ h λ c e k.
         let said = clauses-spans ws text at Clause no_clauses a.1 none-spans e in
-        subst (StatementSpans P) (given-same k) (record { name = a.0; clauses = said })
+        subst (StatementSpans P) (given-same k) (record { name = a.0; clauses = said; usage = said.usage })
 
     statement-spans :
         (text : List ℕ) (ws : List Span) {r : Option Statement} →
@@ -243,9 +264,45 @@ module _ (P : Span → Type 0) where
         λ m ts q. statements-spans wss text m a.1 q in
         after-statement text n wss r (statement-spans text ws a.0 e) ih k
 
+    word-span : (u : Option NamedUsage) → UsageSpan P u → P (word_of u)
+    word-span u x = grind (arith, nothing)
+
+    laid-spans :
+        (text : List ℕ) (f : Forest) (depth base : ℕ) (seen : List Place) (cursor reach : ℕ) (l : Laid) →
+        ForestSpans f →
+        lay text depth base seen cursor reach f ≡ Ok l →
+        EachSpan P l.entries
+    unfolding lay
+    laid-spans text leaf depth base seen cursor reach l x h =
+        subst (λ (y : Laid). EachSpan P y.entries) (given-same h) tt
+    laid-spans text (item s kids later) depth base seen cursor reach l x h =
+        let r = item-laid text depth base seen cursor reach s kids later l h in
+        let e = entry_laid text s kids cursor r.has r.offset r.inner in
+        let c = x.0.clauses in
+        let ihs = laid-spans text later depth base (place_of e ∷ seen) (advance cursor e) (max reach (entry_end e)) in
+        subst (λ (y : Laid). EachSpan P y.entries) (sym r.result) (
+          record {
+            name = x.0.name;
+            picture = c.picture;
+            usage = word-span s.usage x.0.usage;
+            depending = c.depending;
+            redefines = c.redefines;
+            over = c.redefines;
+          },
+          laid-spans text kids (suc depth) (base + r.offset) [] 0 0 r.inner x.1 r.inner-laid,
+          ihs r.rest x.2 r.later-laid,
+        )
+
     rebased-spans : (start : ℕ) (e : Entry) → EntrySpans P e → EntrySpans P (rebased start e)
     rebased-spans start e x =
-        record { name = x.name; picture = x.picture; depending = x.depending; redefines = nothing; over = x.over }
+        record {
+          name = x.name;
+          picture = x.picture;
+          usage = x.usage;
+          depending = x.depending;
+          redefines = nothing;
+          over = x.over;
+        }
 
     module _ (text : List ℕ) where
       redefiners-spans : (base : Place) (es : Entries) → EachSpan P es → EachSpan P (redefiners text base es)
@@ -295,5 +352,5 @@ module _ (P : Span → Type 0) where
       layout-spans f es x h =
           through _ _ h λ us e h₁.
           let r = laid-out text f us e in
-          let laid = subst (EachSpan P) r.is (laid-spans text f 0 [] 0 0 r.list x r.list-laid) in
+          let laid = subst (EachSpan P) r.is (laid-spans text f 0 0 [] 0 0 r.list x r.list-laid) in
           subst (EachSpan P) (given-same h₁) (folded-spans (folded_below text us) [] (below-spans us laid))

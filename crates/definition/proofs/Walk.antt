@@ -20,21 +20,30 @@ module _ (k first : ℕ) (r : Row) (rs : List Row) (q : ℕ) where
   unfolding walk
   walk-slack h = grind arith
 
-  pub walk-piece :
-      r.offset ≤ q →
-      q < r.offset + r.width * r.count →
-      r.below ≡ 0 →
-      walk 0 k first (r ∷ rs) q ≡ Some (Owner.Piece k (first + r.offset + (q - r.offset) / r.width * r.width) ((q - r.offset) % r.width))
-  unfolding walk
-  walk-piece h l z = grind arith
+  module _ (h : r.offset ≤ q) (l : q < r.offset + r.width * r.count) where
+    abbrev start : ℕ
+    start = first + r.offset + (q - r.offset) / r.width * r.width
 
-  pub walk-in :
-      r.offset ≤ q →
-      q < r.offset + r.width * r.count →
-      0 < r.below →
-      walk 0 k first (r ∷ rs) q ≡ walk 0 (suc k) (first + r.offset + (q - r.offset) / r.width * r.width) rs ((q - r.offset) % r.width)
-  unfolding walk
-  walk-in h l z = grind arith
+    abbrev place : ℕ
+    place = (q - r.offset) % r.width
+
+    pub walk-end : r.width ≤ place + r.slack_at_end → walk 0 k first (r ∷ rs) q ≡ Some (Owner.Slack k)
+    unfolding walk
+    walk-end e = grind arith
+
+    pub walk-piece :
+        place + r.slack_at_end < r.width →
+        r.below ≡ 0 →
+        walk 0 k first (r ∷ rs) q ≡ Some (Owner.Piece k start place)
+    unfolding walk
+    walk-piece e z = grind arith
+
+    pub walk-in :
+        place + r.slack_at_end < r.width →
+        0 < r.below →
+        walk 0 k first (r ∷ rs) q ≡ walk 0 (suc k) start rs place
+    unfolding walk
+    walk-in e z = grind arith
 
   pub walk-later :
       r.offset ≤ q →
@@ -64,10 +73,16 @@ in_entry :
     q < e.offset + total e →
     (seek (suc k) (start_in first e q) members (place_in e q) ≡ Some o →
     walk 0 (suc k) (start_in first e q) (rows members ++ (rows later ++ rs)) (place_in e q) ≡ Some o) →
-    inside k (start_in first e q) (place_in e q) members (seek (suc k) (start_in first e q) members (place_in e q)) ≡ Some o →
+    inside k (start_in first e q) e (place_in e q) members (seek (suc k) (start_in first e q) members (place_in e q))
+    ≡ Some o →
     walk 0 k first (row_of_entry e (entries# members) ∷ (rows members ++ (rows later ++ rs))) q ≡ Some o
 unfolding rows seek
-in_entry e members later k first q rs g l ih h = grind (arith, walk-piece, walk-in, ih)
+in_entry e end later k first q rs g l ih h = grind (arith, walk-end, walk-piece)
+in_entry e (entry m ms more) later k first q rs g l ih h =
+    ⊎_elim
+    (λ (b : place_in e q + e.slack_at_end < e.width). grind (arith, walk-in, ih))
+    (λ (b : e.width ≤ place_in e q + e.slack_at_end). grind (arith, walk-end))
+    (order (place_in e q + e.slack_at_end) e.width)
 
 -- the owner that the search among the entries finds is what the walk finds, whatever rows stand behind
 pub walk-seek :

@@ -1,6 +1,6 @@
 -- The reasons of every accepted copybook are those by which the layout rules placed its items.
 -- Assumes nothing.
-use Prim.Native.Nat.{ℕ, zero, suc, ◌+◌, ◌≤◌, max}
+use Prim.Native.Nat.{ℕ, zero, suc, ◌+◌, ◌-◌, ◌≤◌, max}
 use mathlib.Core.Path.{◌≡◌, refl, sym, ◌∙◌, ap, subst}
 use mathlib.Core.Bool.{Bool, true, false}
 use mathlib.Core.List.{List, [], ◌∷◌, ◌++◌, map}
@@ -15,7 +15,7 @@ use Rattle.definition.specs.declared.Entry.{Entry}
 use Rattle.definition.specs.declared.Reason.{Reason}
 use Rattle.definition.specs.declared.Refusal.{Refusal}
 use Rattle.std.specs.Prelude.{if◌then◌else◌}
-use Rattle.definition.specs.Basic.{Err, same, uppers, is_given, Answer, Ok, and_then}
+use Rattle.definition.specs.Basic.{Err, same, uppers, is_given, fewest, Answer, Ok, and_then}
 use Rattle.definition.specs.Basic.{or_refuse}
 use Rattle.definition.specs.Tree.{Forest, leaf, item}
 use Rattle.definition.specs.Fold.{Entries, end, entry, append, reserved, entry_end, name_of, same_name, Place}
@@ -23,13 +23,12 @@ use Rattle.definition.specs.Fold.{place_of, search_back, find, rebased, redefine
 use Rattle.definition.specs.Fold.{folded_list, folded_below, folded_all}
 use Rattle.definition.specs.Layout.{Laid, start, slack_from, entry_of, advance, lay}
 use Rattle.definition.specs.Record.{unfolded, layout}
-use Rattle.definition.specs.Owner.{extent, slack_before}
-use Rattle.definition.specs.Placed.{content_of}
+use Rattle.definition.specs.Storage.{place_alignment}
 use Rattle.definition.specs.Cards.{view_in}
 use Rattle.definition.specs.declared.Form.{Form}
 use Rattle.definition.specs.declared.Report.{Report}
 use Rattle.definition.specs.Calls.{record_fields, asked, entries, report, called}
-use Rattle.definition.specs.Demand.{Starts, aligned, Among}
+use Rattle.definition.specs.Demand.{Fewest, Among}
 use Rattle.definition.specs.Reasons.{adds, after, slack_of, inside, latest, plain, has_name, or_first}
 use Rattle.definition.specs.Reasons.{placing, own, Chain, chain, chains, chain_at, flat, numbered, reasons_in}
 use Rattle.definition.specs.Explained.{inside_names, Latest, Turn, Because, Explains, added, is_placing, placings#}
@@ -40,9 +39,9 @@ use Rattle.definition.proofs.CallsLaws.{called-as, asked-of}
 use Rattle.definition.proofs.Answers.{through, given-same}
 use Rattle.definition.proofs.LayoutLaws.{find-hit, find-miss}
 use Rattle.definition.proofs.LayoutLaws.{check-base}
-use Rattle.definition.proofs.Cover.{item-laid, laid-out, content-given, start-given}
+use Rattle.definition.proofs.Cover.{entry_laid, item-laid, laid-out, start-given}
 use Rattle.definition.proofs.Pieces.{among-left, among-right}
-use Rattle.definition.proofs.SpotLaws.{starts-placed}
+use Rattle.definition.proofs.SpotLaws.{place-fewest}
 use Rattle.definition.proofs.Begins.{Rises, beginnings, fields-begin}
 
 -- ---------------------------------------------------------------- one item
@@ -127,14 +126,13 @@ module _ (text : List ℕ) where
       (λ y. (e, grind arith, grind arith))
       (λ y. let r = find-latest w seen n (grind arith) in (r.0, grind arith, r.2))
 
-  -- the slack of an item is what lies between the cursor and the item
-  module _ (s : Statement) (kids : Forest) (seen : List Entry) (w : ℕ) (c : Pictured) (offset : ℕ) where
+  -- the slack of an item is what lies between the cursor and the item, in a list that starts at the byte `base`
+  module _ (base : ℕ) (s : Statement) (kids : Forest) (seen : List Entry) (c : Pictured) (offset inner at_end : ℕ) where
     -- the item's entry
     abbrev it : Entry
-    it = entry_of s c offset (slack_from (reached_by seen) s offset)
+    it = entry_of s c offset (slack_from (reached_by seen) s offset) inner at_end
 
-    module _ (same : c ≡ content_of text s kids w)
-        (begins : start text s c (map place_of seen) (reached_by seen) ≡ Ok offset) where
+    module _ (begins : start text s kids (map place_of seen) base (reached_by seen) ≡ Ok offset) where
       over-target :
           is_given s.clauses.redefines ≡ true →
           (t : Entry)
@@ -148,39 +146,37 @@ module _ (text : List ℕ) where
           (t.0, latest-is (has_name text s.clauses.redefines) seen t.0 t.1, grind arith, t.2)
 
       module _ (g : is_given s.clauses.redefines ≡ false) where
-        at_offset : reached_by seen + extent (slack_before text 0 (reached_by seen) s kids) ≡ offset
-        at_offset =
-            given-same (
-            sym (start-given text 0 (reached_by seen) (map place_of seen) s kids w g)
-            ∙ ap (λ (x : Pictured). start text s x (map place_of seen) (reached_by seen)) (sym same)
-            ∙ begins
-            )
+        at_offset : reached_by seen + fewest (place_alignment text s kids) (base + reached_by seen) ≡ offset
+        at_offset = given-same (sym (start-given text base (reached_by seen) (map place_of seen) s kids g) ∙ begins)
 
-        turn : (r : Reason) → or_first after (latest plain seen) ≡ r → Turn text s kids seen it r
+        slack-is : fewest (place_alignment text s kids) (base + reached_by seen) ≡ it.slack
+        slack-is =
+            omega (arith, at_offset) ∙ sym (ap (λ (b : Bool). if b then 0 else offset - reached_by seen) g)
+
+        turn : (r : Reason) → or_first after (latest plain seen) ≡ r → Turn text base s kids seen it r
         turn r is =
             let begun : reached_by seen ≡ adds r = ap adds is in
             record {
               reasons = grind arith;
-              stands = grind (arith, at_offset);
+              stands = omega (arith, at_offset, slack-is);
               fewest =
-                  subst (λ (n : ℕ). Starts (aligned text s kids) c.width n offset) begun
-                  (subst (λ (x : Pictured). Starts (aligned text s kids) x.width (reached_by seen) offset) (sym same)
-                  (subst (Starts (aligned text s kids) (content_of text s kids w).width (reached_by seen)) at_offset
-                  (starts-placed text 0 (reached_by seen) s kids w)));
+                  subst (λ (n : ℕ). Fewest (place_alignment text s kids) (base + n) it.slack) begun
+                  (subst (Fewest (place_alignment text s kids) (base + reached_by seen)) slack-is
+                  (place-fewest text s kids (base + reached_by seen)));
             }
 
         by-latest :
             (latest plain seen ≡ None → seen ≡ []) →
             (o : Option Entry) →
             latest plain seen ≡ o →
-            ((seen ≡ []) × Turn text s kids seen it Reason.First)
-            ⊎ ((t : Entry) × Latest plain seen t × Turn text s kids seen it
+            ((seen ≡ []) × Turn text base s kids seen it Reason.First)
+            ⊎ ((t : Entry) × Latest plain seen t × Turn text base s kids seen it
             (Reason.After t.name (t.offset + reserved t)))
         by-latest first None q = inl (first q, turn Reason.First (ap (or_first after) q))
         by-latest first (Some t) q =
             inr (t, latest-is plain seen t q, turn (Reason.After t.name (t.offset + reserved t)) (ap (or_first after) q))
 
-      because : (latest plain seen ≡ None → seen ≡ []) → Because text s kids seen it
+      because : (latest plain seen ≡ None → seen ≡ []) → Because text base s kids seen it
       because first = record { laid-over = over-target; in-turn = λ g. by-latest g first (latest plain seen) refl }
 
   -- the cursor after an entry
@@ -195,54 +191,53 @@ module _ (text : List ℕ) where
   none-earlier has t l = omega (arith, ap length l.stands, length-append l.since (t ∷ l.before))
 
   first_next :
-      (s : Statement) (kids : Forest) (e : Entry) (seen : List Entry) →
-      Because text s kids seen e →
+      (base : ℕ) (s : Statement) (kids : Forest) (e : Entry) (seen : List Entry) →
+      Because text base s kids seen e →
       (latest plain seen ≡ None → seen ≡ []) →
       (b : Bool) →
       is_given s.clauses.redefines ≡ b →
       is_given e.redefines ≡ b →
       latest plain (e ∷ seen) ≡ None →
       e ∷ seen ≡ []
-  first_next s kids e seen r first true g h q =
+  first_next base s kids e seen r first true g h q =
       let t = r.laid-over g in
       let empty = first (sym (latest-next e seen true h) ∙ q) in
       absurd (none-earlier (has_name text s.clauses.redefines) t.0
       (subst (λ (l : List Entry). Latest (has_name text s.clauses.redefines) l t.0) empty t.1))
-  first_next s kids e seen r first false g h q = absurd (cc (latest-next e seen false h))
+  first_next base s kids e seen r first false g h q = absurd (cc (latest-next e seen false h))
 
   pub explains :
-      (f : Forest) (depth : ℕ) (seen : List Entry) (cursor reach : ℕ) (l : Laid) →
+      (f : Forest) (depth base : ℕ) (seen : List Entry) (cursor reach : ℕ) (l : Laid) →
       cursor ≡ reached_by seen →
       (latest plain seen ≡ None → seen ≡ []) →
-      lay text depth (map place_of seen) cursor reach f ≡ Ok l →
-      Explains text seen f l.entries
+      lay text depth base (map place_of seen) cursor reach f ≡ Ok l →
+      Explains text base seen f l.entries
   unfolding lay latest
-  explains leaf depth seen cursor reach l q first h =
-      subst (λ (x : Laid). Explains text seen leaf x.entries) (given-same h) tt
-  explains (item s kids later) depth seen cursor reach l q first h =
-      let r = item-laid text depth (map place_of seen) cursor reach s kids later l h in
-      let e = entry_of s r.has r.offset (slack_from cursor s r.offset) in
-      let same = content-given text s kids r.inner.width r.has r.contains in
-      let begins = ap (start text s r.has (map place_of seen)) (sym q) ∙ r.begins in
+  explains leaf depth base seen cursor reach l q first h =
+      subst (λ (x : Laid). Explains text base seen leaf x.entries) (given-same h) tt
+  explains (item s kids later) depth base seen cursor reach l q first h =
+      let r = item-laid text depth base (map place_of seen) cursor reach s kids later l h in
+      let e = entry_laid text s kids cursor r.has r.offset r.inner in
+      let begins = ap (start text s kids (map place_of seen) base) (sym q) ∙ r.begins in
       let because-it =
-      subst (λ (n : ℕ). Because text s kids seen (entry_of s r.has r.offset (slack_from n s r.offset))) (sym q)
-      (because s kids seen r.inner.width r.has r.offset same begins first) in
-      let inner = explains kids (suc depth) [] 0 0 r.inner refl (λ _. refl) r.inner-laid in
+      subst (λ (n : ℕ). Because text base s kids seen (entry_laid text s kids n r.has r.offset r.inner)) (sym q)
+      (because base s kids seen r.has r.offset r.inner.width e.slack_at_end begins first) in
+      let inner = explains kids (suc depth) (base + r.offset) [] 0 0 r.inner refl (λ _. refl) r.inner-laid in
       let moved = ap (λ (n : ℕ). advance n e) q ∙ moves e seen (is_given e.redefines) refl in
       let others =
-      explains later depth (e ∷ seen) (advance cursor e) (max reach (entry_end e)) r.rest moved
-      (first_next s kids e seen because-it first (is_given s.clauses.redefines) refl refl) r.later-laid in
-      subst (λ (x : Laid). Explains text seen (item s kids later) x.entries) (sym r.result)
+      explains later depth base (e ∷ seen) (advance cursor e) (max reach (entry_end e)) r.rest moved
+      (first_next base s kids e seen because-it first (is_given s.clauses.redefines) refl refl) r.later-laid in
+      subst (λ (x : Laid). Explains text base seen (item s kids later) x.entries) (sym r.result)
       ((refl, refl), because-it, inner, others)
 
   -- ---------------------------------------------------------------- sums and counts
 
   -- an item's own reasons add up to its offset
   pub added-own :
-      (s : Statement) (kids : Forest) (seen : List Entry) (e : Entry) →
-      Because text s kids seen e →
+      (base : ℕ) (s : Statement) (kids : Forest) (seen : List Entry) (e : Entry) →
+      Because text base s kids seen e →
       added (own text seen e) ≡ e.offset
-  added-own s kids seen e r = grind (arith, r.laid-over, r.in-turn, added-slack)
+  added-own base s kids seen e r = grind (arith, r.laid-over, r.in-turn, added-slack)
 
   added-append : (xs ys : List Reason) → added (xs ++ ys) ≡ added xs + added ys
   added-append [] ys = omega arith
@@ -253,23 +248,23 @@ module _ (text : List ℕ) where
   every_append {A = A} f (x ∷ xs) ys = ap (λ (l : List A). f x.reasons ∷ l) (every_append f xs ys)
 
   pub sums :
-      (f : Forest) (es : Entries) (seen : List Entry) (outward : List Reason) →
-      Explains text seen f es →
+      (f : Forest) (es : Entries) (base : ℕ) (seen : List Entry) (outward : List Reason) →
+      Explains text base seen f es →
       every added (chains text outward seen es) ≡ from_start (added outward) es
   unfolding chains
-  sums leaf end seen outward x = refl
-  sums (item s kids later) (entry e members others) seen outward x =
+  sums leaf end base seen outward x = refl
+  sums (item s kids later) (entry e members others) base seen outward x =
       let reasons = own text seen e ++ outward in
       grind (
         arith,
         added-append (own text seen e) outward,
-        added-own s kids seen e x.1,
+        added-own base s kids seen e x.1,
         every_append added (chains text (inside e ∷ reasons) [] members) (chains text outward (e ∷ seen) others),
-        sums kids members [] (inside e ∷ reasons) x.2,
-        sums later others (e ∷ seen) outward x.3,
+        sums kids members (base + e.offset) [] (inside e ∷ reasons) x.2,
+        sums later others base (e ∷ seen) outward x.3,
       )
-  sums leaf (entry e members others) seen outward x = elim x [ ]
-  sums (item s kids later) end seen outward x = elim x [ ]
+  sums leaf (entry e members others) base seen outward x = elim x [ ]
+  sums (item s kids later) end base seen outward x = elim x [ ]
 
   -- a placing reason is one, and names no group
   abbrev Placing : Reason → Type 0
@@ -360,15 +355,15 @@ module _ (text : List ℕ) where
   Checked (entry e members later) = (fold_check text [] members ≡ Ok tt) × Checked members × Checked later
 
   lay-checked :
-      (f : Forest) (depth : ℕ) (seen : List Place) (cursor reach : ℕ) (l : Laid) →
-      lay text depth seen cursor reach f ≡ Ok l →
+      (f : Forest) (depth base : ℕ) (seen : List Place) (cursor reach : ℕ) (l : Laid) →
+      lay text depth base seen cursor reach f ≡ Ok l →
       Checked l.entries
   unfolding lay
-  lay-checked leaf depth seen cursor reach l h = subst (λ (x : Laid). Checked x.entries) (given-same h) tt
-  lay-checked (item s kids later) depth seen cursor reach l h =
-      let r = item-laid text depth seen cursor reach s kids later l h in
-      let inner = lay-checked kids (suc depth) [] 0 0 r.inner r.inner-laid in
-      let others = lay-checked later depth _ _ _ r.rest r.later-laid in
+  lay-checked leaf depth base seen cursor reach l h = subst (λ (x : Laid). Checked x.entries) (given-same h) tt
+  lay-checked (item s kids later) depth base seen cursor reach l h =
+      let r = item-laid text depth base seen cursor reach s kids later l h in
+      let inner = lay-checked kids (suc depth) (base + r.offset) [] 0 0 r.inner r.inner-laid in
+      let others = lay-checked later depth base _ _ _ r.rest r.later-laid in
       subst (λ (x : Laid). Checked x.entries) (sym r.result) (r.checked, inner, others)
 
   -- what holds of the first byte and of the place in the record of every entry of a list and below it, holds of those
@@ -510,32 +505,32 @@ module _ (text : List ℕ) where
   Has cs at place = (c : Chain) × Among c cs × (c.at ≡ at) × (added c.reasons ≡ place)
 
   chains-all :
-      (f : Forest) (es : Entries) (outward : List Reason) (seen : List Entry) →
-      Explains text seen f es →
+      (f : Forest) (es : Entries) (base : ℕ) (outward : List Reason) (seen : List Entry) →
+      Explains text base seen f es →
       All (Has (chains text outward seen es)) (added outward) es
   unfolding chains
-  chains-all leaf end outward seen x = tt
-  chains-all (item s kids later) (entry e members others) outward seen x =
+  chains-all leaf end base outward seen x = tt
+  chains-all (item s kids later) (entry e members others) base outward seen x =
       let reasons = own text seen e ++ outward in
       let here = chain e.at reasons in
       let below = chains text (inside e ∷ reasons) [] members in
       let after-it = chains text outward (e ∷ seen) others in
       let whole = here ∷ (below ++ after-it) in
       let sum : added reasons ≡ added outward + e.offset =
-      omega (arith, added-append (own text seen e) outward, added-own s kids seen e x.1) in
-      let base : 0 + added reasons ≡ added outward + e.offset = omega (arith, sum) in (
+      omega (arith, added-append (own text seen e) outward, added-own base s kids seen e x.1) in
+      let from : 0 + added reasons ≡ added outward + e.offset = omega (arith, sum) in (
         (here, inl refl, refl, sum),
         all_map (Has below) (Has whole)
             (λ n p h. (h.0, inr (among-left h.0 below after-it h.1), h.2, h.3)) members
             (added outward + e.offset)
-            (subst (λ (n : ℕ). All (Has below) n members) base
-            (chains-all kids members (inside e ∷ reasons) [] x.2)),
+            (subst (λ (n : ℕ). All (Has below) n members) from
+            (chains-all kids members (base + e.offset) (inside e ∷ reasons) [] x.2)),
         all_map (Has after-it) (Has whole)
             (λ n p h. (h.0, inr (among-right h.0 below after-it h.1), h.2, h.3)) others (added outward)
-            (chains-all later others outward (e ∷ seen) x.3),
+            (chains-all later others base outward (e ∷ seen) x.3),
       )
-  chains-all leaf (entry e members others) outward seen x = elim x [ ]
-  chains-all (item s kids later) end outward seen x = elim x [ ]
+  chains-all leaf (entry e members others) base outward seen x = elim x [ ]
+  chains-all (item s kids later) end base outward seen x = elim x [ ]
 
   -- the chains stand in the order of the statements
   abbrev pub starts : List Chain → List ℕ
@@ -547,20 +542,20 @@ module _ (text : List ℕ) where
   starts-append (x ∷ xs) ys = ap (λ (l : List ℕ). x.at ∷ l) (starts-append xs ys)
 
   pub chains-begin :
-      (f : Forest) (es : Entries) (seen : List Entry) (outward : List Reason) →
-      Explains text seen f es →
+      (f : Forest) (es : Entries) (base : ℕ) (seen : List Entry) (outward : List Reason) →
+      Explains text base seen f es →
       starts (chains text outward seen es) ≡ beginnings f
   unfolding chains
-  chains-begin leaf end seen outward x = refl
-  chains-begin (item s kids later) (entry e members others) seen outward x =
+  chains-begin leaf end base seen outward x = refl
+  chains-begin (item s kids later) (entry e members others) base seen outward x =
       let reasons = own text seen e ++ outward in
       cc (
         starts-append (chains text (inside e ∷ reasons) [] members) (chains text outward (e ∷ seen) others),
-        chains-begin kids members [] (inside e ∷ reasons) x.2,
-        chains-begin later others (e ∷ seen) outward x.3,
+        chains-begin kids members (base + e.offset) [] (inside e ∷ reasons) x.2,
+        chains-begin later others base (e ∷ seen) outward x.3,
       )
-  chains-begin leaf (entry e members others) seen outward x = elim x [ ]
-  chains-begin (item s kids later) end seen outward x = elim x [ ]
+  chains-begin leaf (entry e members others) base seen outward x = elim x [ ]
+  chains-begin (item s kids later) end base seen outward x = elim x [ ]
 
   among-from : (cs : List Chain) (n : ℕ) (c : Chain) → Rises n (starts cs) → Among c cs → n ≤ c.at
   among-from [] n c r a = absurd a
@@ -596,7 +591,7 @@ module _ (text : List ℕ) where
 
   -- what an accepted record went through: its tree is explained, and every list of it was checked
   pub record Went (f : Forest) (tree : Entries) : Type 0 where
-    pub rules : Explains text [] f tree
+    pub rules : Explains text 0 [] f tree
     pub checked : Checked tree
     pub top : fold_check text [] tree ≡ Ok tt
 
@@ -606,8 +601,8 @@ module _ (text : List ℕ) where
       let r = laid-out text f tree h in
       subst (Went f) r.is
       (record {
-        rules = explains f 0 [] 0 0 r.list refl (λ _. refl) r.list-laid;
-        checked = lay-checked f 0 [] 0 0 r.list r.list-laid;
+        rules = explains f 0 0 [] 0 0 r.list refl (λ _. refl) r.list-laid;
+        checked = lay-checked f 0 0 [] 0 0 r.list r.list-laid;
         top = r.list-checked;
       })
 
@@ -622,13 +617,13 @@ module _ (text : List ℕ) where
         let cs = chains text [] [] tree in
         let w = went f tree laid_out in
         let P = Has cs in
-        let below = all-below P tree 0 w.checked (chains-all f tree [] [] w.rules) in
+        let below = all-below P tree 0 w.checked (chains-all f tree 0 [] [] w.rules) in
         let folded = all-folded P (folded_below text tree) [] 0 (check-below tree [] ∙ w.top) below in
         let r =
         numbered-has P n (flat (folded_all text tree)) (from_start 0 (folded_all text tree)) e
         (all-flat P (folded_all text tree) 0 folded) q in
         let found = ap (λ (x : ℕ). chain_at x cs) (sym r.2)
-        ∙ chain-of cs 0 r.0 (subst (Rises 0) (sym (chains-begin f tree [] [] w.rules)) rise) r.1 in
+        ∙ chain-of cs 0 r.0 (subst (Rises 0) (sym (chains-begin f tree 0 [] [] w.rules)) rise) r.1 in
         (r.0, r.1, r.2, r.3, rw q (ap Ok found))
 
     pub past : (n : ℕ) → numbered n (flat (folded_all text tree)) ≡ None → reasons_in n text tree ≡ Err Refusal.NoSuchEntry
@@ -648,10 +643,10 @@ reasoned text work f tree es read laid_out folds =
     let cs = chains text [] [] tree in
     record {
       rules = rules;
-      sums = sums text f tree [] [] rules;
+      sums = sums text f tree 0 [] [] rules;
       placed-once = placed-once text tree [] [];
       inside-each = inside-each text tree [] [];
-      one-chain = λ c d. one-chain text cs 0 c d (subst (Rises 0) (sym (chains-begin text f tree [] [] rules)) rise);
+      one-chain = λ c d. one-chain text cs 0 c d (subst (Rises 0) (sym (chains-begin text f tree 0 [] [] rules)) rise);
       answered = λ n e q.
           subst (λ (x : Entries). (c : Chain) × Among c cs × (c.at ≡ e.at) ×
           (added c.reasons ≡ get_or (from_start 0 x) n 0) × (reasons_in n text tree ≡ Ok c.reasons)) folds
@@ -680,5 +675,5 @@ explained form text work es h =
       reasoned = reasoned seen work f tree es read laid_out folds;
       calls = λ n room.
           called-as laying (λ t. asked (report (Report.Reasons n) room) t work) form text work h
-          ∙ asked-of (report (Report.Reasons n) room) seen work f tree read laid_out;
+          ∙ asked-of (report (Report.Reasons n) room) seen work f tree read laid_out (λ _. refl);
     }

@@ -239,19 +239,19 @@ pub sentences-word :
     sentences (Word w ∷ ts) ≡ (w ∷ first_words ts) ∷ sentences (after_stop ts)
 unfolding sentences
 sentences-word [] w = refl
-sentences-word (Stop ∷ ts) w = refl
+sentences-word (Stop p ∷ ts) w = refl
 sentences-word (Open p ∷ ts) w = refl
 sentences-word (Word v ∷ ts) w = ap (on_first w) (sentences-word ts v)
 
-pub sentences-stop : (ts : List Token) → sentences (Stop ∷ ts) ≡ [] ∷ sentences ts
+pub sentences-stop : (p : ℕ) (ts : List Token) → sentences (Stop p ∷ ts) ≡ [] ∷ sentences ts
 unfolding sentences
-sentences-stop ts = refl
+sentences-stop p ts = refl
 
 -- what is left open is so after the first statement
 pub open_after : (ts : List Token) → first_open (after_stop ts) ≡ first_open ts
 unfolding first_open
 open_after [] = refl
-open_after (Stop ∷ ts) = refl
+open_after (Stop p ∷ ts) = refl
 open_after (Open p ∷ ts) = refl
 open_after (Word v ∷ ts) = open_after ts
 

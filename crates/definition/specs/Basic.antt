@@ -88,9 +88,9 @@ number limit (b ∷ bs) = below limit (if is "+" b then numeral bs else numeral 
 abbrev pub count : List ℕ → Option ℕ
 count = number 18446744073709551616
 
--- the fewest bytes that bring a place to a multiple of the width (`Alignment`, of the proofs, says so)
+-- the fewest bytes that bring a place, or a width, to a multiple of the alignment (`Alignment`, of the proofs, says so)
 abbrev pub fewest : ℕ → ℕ → ℕ
-fewest width place = (width - place % width) % width
+fewest alignment place = (alignment - place % alignment) % alignment
 
 -- little-endian in four bytes
 abbrev pub le4 : ℕ → List ℕ

@@ -1,7 +1,7 @@
 -- The calls, each from what the caller hands in to what the call answers and leaves. Most ask something of a copybook's
 -- record, in free text or on cards: the layout listing, its details, the reasons of an entry, the byte owner and the
--- extract; then the picture answer, the mask and the record check. A line of a `do` is a check or a stage, and they come
--- in that order.
+-- extract; then the words, the picture answer, the mask and the record check. A line of a `do` is a check or a stage,
+-- and they come in that order.
 -- Assumes nothing.
 use Rattle.std.specs.Prelude.{ℕ, ◌+◌, Bool, ◌&&◌, ◌||◌, not, List, [], ◌∷◌, ◌++◌, eqb, ltb, length, drop, replicate, if◌then◌else◌}
 use Rattle.std.specs.Prelude.{Option, None, Some}
@@ -19,14 +19,15 @@ use Rattle.definition.specs.Basic.{Answer, Err, Ok, ◌>>=◌, refuse_if, or_ref
 use Rattle.definition.specs.Words.{tokens_of, first_open, statement_words}
 use Rattle.definition.specs.Cards.{view, first_other}
 use Rattle.definition.specs.Statement.{statements}
-use Rattle.definition.specs.Tree.{Forest}
-use Rattle.definition.specs.Usages.{record_of}
+use Rattle.definition.specs.Tree.{Forest, forest, fields, root}
+use Rattle.definition.specs.Usages.{inherited}
 use Rattle.definition.specs.Picture.{picture, symbols, is_masked, mask}
 use Rattle.definition.specs.Fold.{Entries, folded_all}
 use Rattle.definition.specs.Record.{unfolded, layout}
 use Rattle.definition.specs.Listing.{listing}
+use Rattle.definition.specs.Wording.{wording}
 use Rattle.definition.specs.Owner.{pieces, owner_of, overlaid}
-use Rattle.definition.specs.Details.{entries_details}
+use Rattle.definition.specs.Details.{listing_details}
 use Rattle.definition.specs.Reasons.{reasons_in, reasons_bytes}
 use Rattle.definition.specs.Extract.{widths, items, misweighed, extract}
 
@@ -59,12 +60,18 @@ kept_statements text = do
   _ ← literal_check text
   statements text 0 (statement_words text)
 
--- its statements, with `work` numbers of work memory lent, as the fields of the record
-unfoldable pub record_fields : List ℕ → ℕ → Answer Forest
-record_fields text work = do
+-- its statements, with `work` numbers of work memory lent, as a forest, each with the usage that holds for it
+unfoldable pub record_tree : List ℕ → ℕ → Answer Forest
+record_tree text work = do
   _ ← entry_checks text work
   ss ← kept_statements text
-  Ok (record_of ss)
+  Ok (inherited (forest ss))
+
+-- and as the fields of the record
+unfoldable pub record_fields : List ℕ → ℕ → Answer Forest
+record_fields text work = do
+  t ← record_tree text work
+  Ok (fields t)
 
 -- its folded top list: the refusals so far are the reader's, and a copybook without one is accepted
 unfoldable pub entries : List ℕ → ℕ → Answer Entries
@@ -74,17 +81,17 @@ entries text work = do
 
 -- ---------------------------------------------------------------- what is asked of a record
 
--- a question of a record: what it answers of a text, of the fields that were read from it, and of their entries, laid
--- out, as the copybook has them before folding
+-- a question of a record: what it answers of a text, of the root that was dropped and the fields that were read from it,
+-- and of their entries, laid out, as the copybook has them before folding
 abbrev pub Question : Type 0 → Type 0
-Question A = List ℕ → Forest → Entries → Answer A
+Question A = List ℕ → Option Statement → Forest → Entries → Answer A
 
 -- the answer about a copybook: its text is read, then laid out, then asked, and the first refusal is given
 unfoldable pub asked : {A : Type 0} → Question A → List ℕ → ℕ → Answer A
 asked question text work = do
-  f ← record_fields text work
-  es ← unfolded text f
-  question text f es
+  t ← record_tree text work
+  es ← unfolded text (fields t)
+  question text (root t) (fields t) es
 
 -- the bytes to be written, or 31 and their number where the lent output has only `room` bytes
 abbrev pub fitting : ℕ → List ℕ → Answer (List ℕ)
@@ -94,16 +101,16 @@ fitting room bs =
 -- what is written of a record: the layout listing, the details of its entries, or the reasons of an entry by its number:
 -- 53 comes after all refusals of the reader but 31
 unfoldable pub report : Report → ℕ → Question (List ℕ)
-report Report.Listing room text f es = fitting room (listing (folded_all text es))
-report Report.Details room text f es = fitting room (entries_details (folded_all text es))
-report (Report.Reasons number) room text f es = do
+report Report.Listing room text root f es = fitting room (listing (folded_all text es))
+report Report.Details room text root f es = fitting room (listing_details root (folded_all text es))
+report (Report.Reasons number) room text root f es = do
   rs ← reasons_in number text es
   fitting room (reasons_bytes rs)
 
 -- the owner of a position: 40 for a kept REDEFINES or DEPENDING ON, 41 for a position that no piece has, so for one not
 -- below record length (`refuses-41`, of the proofs, says so)
 unfoldable pub owner_in : ℕ → Question Owner
-owner_in position text f es = do
+owner_in position text root f es = do
   _ ← refuse_if (overlaid f) Refusal.Overlaid
   or_refuse Refusal.OutsideRecord (owner_of (pieces text f) position)
 
@@ -118,9 +125,19 @@ extract_of bytes weights limit budget = do
 
 -- an extract of a record's top-level items: 40 for a kept REDEFINES or DEPENDING ON
 unfoldable pub extract_in : List ℕ → ℕ → ℕ → Question Extract
-extract_in weights limit budget text f es = do
+extract_in weights limit budget text root f es = do
   _ ← refuse_if (overlaid f) Refusal.Overlaid
   extract_of (widths (folded_all text es)) weights limit budget
+
+-- ---------------------------------------------------------------- words
+
+-- the words of a text, statement by statement: they ask nothing of what the statements say, so that a copybook that is
+-- refused for that (10 to 30, 52) has words too
+unfoldable pub words_in : List ℕ → ℕ → ℕ → Answer (List ℕ)
+words_in text work room = do
+  _ ← entry_checks text work
+  _ ← literal_check text
+  fitting room (wording text)
 
 -- ---------------------------------------------------------------- pictures and records
 
@@ -210,6 +227,11 @@ details_call form = report_call form Report.Details
 abbrev pub reasons_call : Form → List ℕ → ℕ → List ℕ → List ℕ → After ℕ
 reasons_call form text number = report_call form (Report.Reasons number) text
 
+-- the words of a copybook of this form, with an output and work memory lent
+abbrev pub words_call : Form → List ℕ → List ℕ → List ℕ → After ℕ
+words_call form text out work =
+    after_writing (called form (λ t. words_in t (length work) (length out)) text (length work)) out work
+
 -- the mask of a picture, with an output lent
 abbrev pub mask_call : Usage → List ℕ → List ℕ → After ℕ
 mask_call usage bs out = after_writing (picture_mask usage bs (length out)) out []
@@ -219,7 +241,7 @@ abbrev pub silent_call : {A : Type 0} → Form → Question A → List ℕ → L
 silent_call form question text work =
     left (called form (λ t. asked question t (length work)) text (length work)) [] (cleared work)
 
--- the byte owner, and the extract, of free text
+-- the byte owner of a copybook of this form, and an extract, of free text alone
 abbrev pub owner_call : Form → List ℕ → ℕ → List ℕ → After Owner
 owner_call form text position = silent_call form (owner_in position) text
 

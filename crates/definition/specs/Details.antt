@@ -1,8 +1,11 @@
--- The details of the listing's entries, an answer of our own: what the listing does not show of them. Each entry has 47
--- bytes, in the order of the listing. Numbers are little-endian, 4 bytes unless said.
+-- The details of the listing's entries, an answer of our own: what the listing does not show of them. A head of 17
+-- bytes, then 63 for each entry, in the order of the listing. Numbers are little-endian, 4 bytes unless said.
 -- Assumes nothing.
-use Rattle.std.specs.Prelude.{ℕ, suc, ◌+◌, max, ◌≡◌, true, false, List, [], ◌∷◌, ◌++◌, ltb, if◌then◌else◌}
+use Rattle.std.specs.Prelude.{ℕ, suc, ◌+◌, ◌*◌, max, ◌≡◌, true, false, List, [], ◌∷◌, ◌++◌, ltb, replicate, if◌then◌else◌}
 use Rattle.std.specs.Prelude.{Option, None, Some}
+use Rattle.definition.specs.declared.Digits.{Digits}
+use Rattle.definition.specs.declared.SignWords.{SignWords}
+use Rattle.definition.specs.declared.Statement.{Statement}
 use Rattle.definition.specs.declared.Entry.{Entry}
 use Rattle.definition.specs.Basic.{is_given, le4, le8}
 use Rattle.definition.specs.Fold.{Entries, end, entry}
@@ -28,22 +31,39 @@ details_in depth start (entry e members later) =
     let first = start + e.offset in
     detail e depth (entries# members) first ∷ (details_in (depth + 1) first members ++ details_in depth start later)
 
+-- digits, those after the point and whether the picture has a sign, 1 byte each; 0, 0, 0 where there are none
+abbrev pub digits_bytes : Option Digits → List ℕ
+digits_bytes None = 0 ∷ 0 ∷ 0 ∷ []
+digits_bytes (Some d) = d.precision ∷ d.scale ∷ flag d.signed ∷ []
+
+-- 0 where there is no SIGN; 1 for TRAILING or neither word, 2 for LEADING, 3 and 4 the same with SEPARATE
+abbrev pub sign_words_byte : Option SignWords → ℕ
+sign_words_byte None = 0
+sign_words_byte (Some w) = 1 + flag w.leading + 2 * flag w.separate
+
 -- the position of the statement; its level, the depth, and 1 for a group made by folding, 1 byte each; the number of
 -- entries below; the first byte in the record, 8 bytes; the slack bytes directly before; picture, REDEFINES and
--- DEPENDING ON as the statement has them, start and length
+-- DEPENDING ON as the statement has them, start and length; the slack bytes at the end of each occurrence; digits; the
+-- word that names the usage that holds, start and length; and SIGN, 1 byte. A group made by folding has no clauses
 unfoldable pub detail_bytes : Detail → List ℕ
 detail_bytes x =
     let e = x.own in
     le4 e.at ++ (e.level ∷ x.depth ∷ flag e.folded ∷ le4 x.below) ++ le8 x.first ++ le4 e.slack
     ++ span_bytes e.picture ++ span_bytes e.over ++ span_bytes e.depending
+    ++ le4 e.slack_at_end ++ digits_bytes e.digits ++ span_bytes e.usage ++ (sign_words_byte e.sign ∷ [])
 
 unfoldable pub details_bytes : List Detail → List ℕ
 details_bytes [] = []
 details_bytes (x ∷ xs) = detail_bytes x ++ details_bytes xs
 
--- of the entries of a listing
-abbrev pub entries_details : Entries → List ℕ
-entries_details es = details_bytes (details_in 0 0 es)
+-- the dropped root: the position of its statement, its level, 1 byte, its name, start and length; 0 where none is
+abbrev pub root_bytes : Option Statement → List ℕ
+root_bytes None = replicate 13 0
+root_bytes (Some s) = le4 s.at ++ (s.level ∷ span_bytes s.name)
+
+-- of a listing: the dropped root, and the number of entries; then the entries
+unfoldable pub listing_details : Option Statement → Entries → List ℕ
+listing_details root es = root_bytes root ++ le4 (entries# es) ++ details_bytes (details_in 0 0 es)
 
 -- ---------------------------------------------------------------- what holds of them (`DetailLaws`, of the proofs)
 

@@ -10,13 +10,14 @@ use Rattle.definition.specs.declared.Reason.{Reason}
 use Rattle.definition.specs.declared.Refusal.{Refusal}
 use Rattle.definition.specs.Basic.{Err, is_given, Ok, ◌>>=◌}
 use Rattle.definition.specs.Tree.{Forest, leaf, item}
+use Rattle.definition.specs.Storage.{place_alignment}
 use Rattle.definition.specs.Fold.{Entries, end, entry, reserved, folded_all}
 use Rattle.definition.specs.Record.{unfolded}
 use Rattle.definition.specs.Cards.{view_in}
 use Rattle.definition.specs.declared.Form.{Form}
 use Rattle.definition.specs.declared.Report.{Report}
 use Rattle.definition.specs.Calls.{record_fields, asked, fitting, report, called}
-use Rattle.definition.specs.Demand.{Starts, aligned, Among}
+use Rattle.definition.specs.Demand.{Fewest, Among}
 use Rattle.definition.specs.Reasons.{adds, slack_of, plain, has_name, own, Chain, chains, flat, numbered}
 use Rattle.definition.specs.Reasons.{reasons_in, reasons_bytes}
 
@@ -35,15 +36,16 @@ pub record Latest (has : Entry → Bool) (seen : List Entry) (t : Entry) : Type 
   pub none-since : NoneHas has since
 
 -- the item's own reasons are r and the slack, if any: with it the item stands where it does, and it is the fewest bytes
--- that align an elementary SYNC binary or float item; no other item has any
-pub record Turn (text : List ℕ) (s : Statement) (kids : Forest) (seen : List Entry) (e : Entry)
+-- that bring its place in the record to a multiple of its alignment. Its list starts at the byte `base` of the record
+pub record Turn (text : List ℕ) (base : ℕ) (s : Statement) (kids : Forest) (seen : List Entry) (e : Entry)
     (r : Reason) : Type 0 where
   pub reasons : own text seen e ≡ r ∷ slack_of e.slack
   pub stands : e.offset ≡ adds r + e.slack
-  pub fewest : Starts (aligned text s kids) e.width (adds r) e.offset
+  pub fewest : Fewest (place_alignment text s kids) (base + adds r) e.slack
 
 -- the item of a statement, with its earlier siblings, the latest first
-pub record Because (text : List ℕ) (s : Statement) (kids : Forest) (seen : List Entry) (e : Entry) : Type 0 where
+pub record Because (text : List ℕ) (base : ℕ) (s : Statement) (kids : Forest) (seen : List Entry)
+    (e : Entry) : Type 0 where
   -- with REDEFINES one reason, kind 4: it names the latest earlier sibling of that name and adds its offset, at which
   -- the item stands
   pub laid-over :
@@ -56,19 +58,19 @@ pub record Because (text : List ℕ) (s : Statement) (kids : Forest) (seen : Lis
   -- its end; then the slack
   pub in-turn :
       is_given s.clauses.redefines ≡ false →
-      ((seen ≡ []) × Turn text s kids seen e Reason.First)
-      ⊎ ((t : Entry) × Latest plain seen t × Turn text s kids seen e (Reason.After t.name (t.offset + reserved t)))
+      ((seen ≡ []) × Turn text base s kids seen e Reason.First)
+      ⊎ ((t : Entry) × Latest plain seen t × Turn text base s kids seen e (Reason.After t.name (t.offset + reserved t)))
 
--- the entries of a list and of those below it, one for each statement
-abbrev pub Explains : List ℕ → List Entry → Forest → Entries → Type 0
-Explains text seen leaf end = Unit {0}
-Explains text seen (item s kids later) (entry e members others) =
+-- the entries of a list that starts at the byte `base` of the record, and of those below it, one for each statement
+abbrev pub Explains : List ℕ → ℕ → List Entry → Forest → Entries → Type 0
+Explains text base seen leaf end = Unit {0}
+Explains text base seen (item s kids later) (entry e members others) =
     ((e.at ≡ s.at) × (e.name ≡ s.name))
-    × Because text s kids seen e
-    × Explains text [] kids members
-    × Explains text (e ∷ seen) later others
-Explains text seen leaf (entry e members others) = ⊥
-Explains text seen (item s kids later) end = ⊥
+    × Because text base s kids seen e
+    × Explains text (base + e.offset) [] kids members
+    × Explains text base (e ∷ seen) later others
+Explains text base seen leaf (entry e members others) = ⊥
+Explains text base seen (item s kids later) end = ⊥
 
 -- ---------------------------------------------------------------- chains
 
@@ -128,7 +130,7 @@ groups_around ws (entry e members later) = ws ∷ (groups_around (e.name ∷ ws)
 -- folding, es those of its listing
 pub record Reasoned (text : List ℕ) (f : Forest) (tree es : Entries) : Type 0 where
   -- each reason is the one by which the layout rules placed the item
-  pub rules : Explains text [] f tree
+  pub rules : Explains text 0 [] f tree
   -- the bytes added up are the item's offset from the record start
   pub sums : every added (chains text [] [] tree) ≡ from_start 0 tree
   -- one placing reason for the item and one for each group outward,

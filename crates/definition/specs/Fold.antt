@@ -88,22 +88,7 @@ has_member text w (entry e members later) = if same_spelling text w e.name then 
 
 -- an entry as a member of the group that starts at the offset
 abbrev pub rebased : ℕ → Entry → Entry
-rebased start e =
-    record {
-      at = e.at;
-      level = e.level;
-      name = e.name;
-      offset = e.offset - start;
-      width = e.width;
-      kind = e.kind;
-      picture = e.picture;
-      occurs = e.occurs;
-      depending = e.depending;
-      redefines = absent;
-      over = e.over;
-      slack = e.slack;
-      folded = e.folded;
-    }
+rebased start e = record e { offset = e.offset - start; redefines = absent }
 
 -- the entries that redefine a base: those of its name before the next base of that name
 unfoldable pub redefiners : List ℕ → Place → Entries → Entries
@@ -131,12 +116,16 @@ union e width =
       offset = e.offset;
       width = width;
       kind = FieldKind.Group;
+      digits = None;
       picture = absent;
+      usage = absent;
+      sign = None;
       occurs = None;
       depending = absent;
       redefines = absent;
       over = absent;
       slack = 0;
+      slack_at_end = 0;
       folded = true;
     }
 

@@ -5,11 +5,13 @@ pub mod Statement
 pub mod Tree
 pub mod Usages
 pub mod Picture
+pub mod Storage
 pub mod Fold
 pub mod Layout
 pub mod Record
 pub mod Refusals
 pub mod Listing
+pub mod Wording
 pub mod Owner
 pub mod Search
 pub mod Details

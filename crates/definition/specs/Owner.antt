@@ -1,24 +1,23 @@
--- The owner rule: which piece of a record each byte belongs to. It uses the kept statements and the widths of
--- elementary items, and no offset. A sibling list is laid from place 0, item by item in copybook order. An elementary
--- SYNC binary or float item first lays slack: the smallest number of bytes, 0 included, that brings the place to a
--- multiple of its width. Then each item is laid count times: an elementary item as one piece of its width, a group as
--- its whole list, slack and all. With OCCURS 0 no piece is laid, but the slack stays.
+-- The owner rule: which piece of a record each byte belongs to. It uses the kept statements, the widths of elementary
+-- items and the alignments, and no offset. The record is laid from place 0, list by list and item by item in copybook
+-- order, each occurrence at its own place in the record. An elementary SYNC binary or float item first lays slack: the
+-- smallest number of bytes, 0 included, that brings its place to a multiple of its width. Then each item is laid count
+-- times: an elementary item as one piece of its width, a group as its whole list, slack and all; and at the end of each
+-- occurrence of a group with OCCURS that holds such an item, the smallest number of bytes that brings its width to a
+-- multiple of the largest alignment in it. With OCCURS 0 no piece is laid, but the slack before it stays.
 -- Assumes nothing.
-use Rattle.std.specs.Prelude.{ℕ, zero, suc, ◌+◌, ◌-◌, Bool, false, ◌&&◌, ◌||◌, Option, None, Some, List, [], ◌∷◌, ◌++◌, ltb, take, drop, if◌then◌else◌}
-use Rattle.definition.specs.declared.FieldKind.{FieldKind}
-use Rattle.definition.specs.declared.Pictured.{Pictured}
+use Rattle.std.specs.Prelude.{ℕ, zero, suc, ◌+◌, ◌-◌, Bool, false, ◌||◌, Option, None, Some, List, [], ◌∷◌, ◌++◌, ltb, take, drop, if◌then◌else◌}
 use Rattle.definition.specs.declared.Statement.{Statement}
 use Rattle.definition.specs.declared.Owner.{Owner}
-use Rattle.definition.specs.Basic.{is_given, fewest, Answer, Err, Ok}
+use Rattle.definition.specs.Basic.{is_given, fewest}
 use Rattle.definition.specs.Tree.{Forest, leaf, item}
-use Rattle.definition.specs.Picture.{pictured, is_alignable}
+use Rattle.definition.specs.Storage.{storage, place_alignment, width_alignment}
 use Rattle.definition.specs.Fold.{times}
-use Rattle.definition.specs.Layout.{elementary}
 
 -- ---------------------------------------------------------------- pieces
 
 -- whose bytes they are: one occurrence of the elementary item whose entry has that number, or the slack before that
--- entry
+-- entry, or at the end of an occurrence of that group
 pub data Holder : Type 0 where
   occurrence : ℕ → Holder
   slack : ℕ → Holder
@@ -31,15 +30,24 @@ pub record Piece : Type 0 where
 abbrev pub piece : Holder → ℕ → Piece
 piece h w = record { holder = h; width = w }
 
--- the bytes of pieces: each byte laid moves the place by one
+-- so many bytes of slack of an entry, where there are any
+abbrev pub slack_piece : ℕ → ℕ → List Piece
+slack_piece k zero = []
+slack_piece k (suc n) = piece (slack k) (suc n) ∷ []
+
+-- the bytes of pieces
 abbrev pub extent : List Piece → ℕ
 extent [] = 0
 extent (p ∷ ps) = p.width + extent ps
 
--- pieces laid n times
-abbrev pub repeated : ℕ → List Piece → List Piece
-repeated zero ps = []
-repeated (suc n) ps = ps ++ repeated n ps
+-- pieces from a place on, and what follows from the place that they reach: each byte laid moves the place by one
+abbrev pub onward : ℕ → List Piece → (ℕ → List Piece) → List Piece
+onward place ps more = ps ++ more (place + extent ps)
+
+-- n occurrences, each laid at its own place
+abbrev pub repeated : ℕ → ℕ → (ℕ → List Piece) → List Piece
+repeated zero place one = []
+repeated (suc n) place one = onward place (one place) (λ p. repeated n p one)
 
 -- ---------------------------------------------------------------- laying
 
@@ -48,40 +56,31 @@ abbrev pub size : Forest → ℕ
 size leaf = 0
 size (item s kids later) = suc (size kids + size later)
 
--- kind and width of an elementary item; none is refused in an accepted copybook
-abbrev pub or_none : Answer Pictured → Pictured
-or_none (Err r) = pictured FieldKind.Text 0
-or_none (Ok c) = c
-
-abbrev pub storage : List ℕ → Statement → Pictured
-storage text s = or_none (elementary text s)
-
--- an elementary item with SYNC whose picture and usage make it binary, or whose usage makes it a float
-abbrev pub is_aligned : List ℕ → Statement → Bool
-is_aligned text s = s.clauses.sync && is_alignable (storage text s).kind
-
--- the slack before an item whose entry has number k: an elementary SYNC binary or float item lays it
+-- the slack before an item whose entry has number k, at a place in the record
 abbrev pub slack_before : List ℕ → ℕ → ℕ → Statement → Forest → List Piece
-slack_before text k place s (item t kids later) = []
-slack_before text k place s leaf =
-    if is_aligned text s then piece (slack k) (fewest (storage text s).width place) ∷ [] else []
+slack_before text k place s kids = slack_piece k (fewest (place_alignment text s kids) place)
 
--- one occurrence of an item: an elementary one is a piece, a group its whole list `inner`
-abbrev pub once : List ℕ → ℕ → Statement → Forest → List Piece → List Piece
-once text k s (item t kids later) inner = inner
-once text k s leaf inner = piece (occurrence k) (storage text s).width ∷ []
+-- the slack at the end of an occurrence whose list is so long
+abbrev pub slack_after : List ℕ → ℕ → Statement → Forest → ℕ → List Piece
+slack_after text k s kids long = slack_piece k (fewest (width_alignment text s kids) long)
 
--- an item: its slack, then each occurrence
-abbrev pub laid_item : List ℕ → ℕ → ℕ → Statement → Forest → List Piece → List Piece
-laid_item text k place s kids inner =
-    slack_before text k place s kids ++ repeated (times s.clauses.occurs) (once text k s kids inner)
+-- one occurrence of an item at a place: an elementary one is a piece, a group its whole list, laid there, and the slack
+-- at its end
+abbrev pub once : List ℕ → ℕ → Statement → Forest → (ℕ → List Piece) → ℕ → List Piece
+once text k s leaf list place = piece (occurrence k) (storage text s).width ∷ []
+once text k s (item t kids later) list place = onward 0 (list place) (slack_after text k s (item t kids later))
 
--- a sibling list, of which `place` bytes are laid already, and whose next item has the entry number k
+-- an item at a place: its slack, then each occurrence
+abbrev pub laid_item : List ℕ → ℕ → ℕ → Statement → Forest → (ℕ → List Piece) → List Piece
+laid_item text k place s kids list =
+    onward place (slack_before text k place s kids) (λ p. repeated (times s.clauses.occurs) p (once text k s kids list))
+
+-- a sibling list from a place in the record on, whose first item has the entry number k
 unfoldable pub laid : List ℕ → ℕ → ℕ → Forest → List Piece
 laid text k place leaf = []
 laid text k place (item s kids later) =
-    let own = laid_item text k place s kids (laid text (suc k) 0 kids) in
-    own ++ laid text (suc k + size kids) (place + extent own) later
+    onward place (laid_item text k place s kids (λ p. laid text (suc k) p kids))
+    (λ p. laid text (suc k + size kids) p later)
 
 -- the record is the top list so laid
 abbrev pub pieces : List ℕ → Forest → List Piece

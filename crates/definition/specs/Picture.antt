@@ -12,6 +12,7 @@ use Rattle.definition.specs.declared.Usage.{Usage}
 use Rattle.definition.specs.declared.SignKind.{SignKind}
 use Rattle.definition.specs.declared.NumRepr.{NumRepr}
 use Rattle.definition.specs.declared.FieldKind.{FieldKind}
+use Rattle.definition.specs.declared.Digits.{Digits}
 use Rattle.definition.specs.declared.Pictured.{Pictured}
 use Rattle.definition.specs.declared.Refusal.{Refusal}
 use Rattle.definition.specs.declared.TheConstants.{MOST_SYMBOLS, MOST_DIGITS, LONGEST_MASK}
@@ -123,8 +124,11 @@ mask l = without "SV" l
 
 -- ---------------------------------------------------------------- kind and width
 
-abbrev pub pictured : FieldKind → ℕ → Pictured
-pictured k w = record { kind = k; width = w }
+abbrev pub pictured : FieldKind → Option Digits → ℕ → Pictured
+pictured k d w = record { kind = k; digits = d; width = w }
+
+abbrev pub digits_of : ℕ → ℕ → Bool → Option Digits
+digits_of precision scale signed = Some (record { precision = precision; scale = scale; signed = signed })
 
 -- SYNC aligns binary and float items
 abbrev pub is_alignable : FieldKind → Bool
@@ -190,14 +194,17 @@ numeric Usage.Comp precision scale signed sign = FieldKind.Binary signed
 abbrev pub is_masked : Usage → List ℕ → Bool
 is_masked usage l = is_edited l && is_display usage
 
--- kind and width of legal symbols; edited precision is at least 1
+-- kind, digits and width of legal symbols; edited precision is at least 1
 unfoldable pub kinded : Usage → Option SignKind → List ℕ → Pictured
 kinded usage clause l =
-    let sign = resolve_sign (is_signed l) clause in
-    if is_text l then pictured FieldKind.Text (tally "XA" l)
+    let signed = is_signed l in
+    let sign = resolve_sign signed clause in
+    let scale = fraction l in
+    let edited = max 1 (all_digits l) in
+    if is_text l then pictured FieldKind.Text None (tally "XA" l)
     else if is_masked usage l
-    then pictured (FieldKind.Edited (max 1 (all_digits l)) (fraction l) (is_signed l)) (length (without "P" (mask l)))
-    else pictured (numeric usage (all_digits l) (fraction l) (is_signed l) sign)
+    then pictured (FieldKind.Edited edited scale signed) (digits_of edited scale signed) (length (without "P" (mask l)))
+    else pictured (numeric usage (all_digits l) scale signed sign) (digits_of (all_digits l) scale signed)
     (storage_width usage sign (stored_digits l))
 
 -- 26: text with a digit or editing

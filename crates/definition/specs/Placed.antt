@@ -1,33 +1,38 @@
 -- The entries as the owner rule places them: an entry's offset is the place that its sibling list has reached after the
--- earlier items and the entry's own slack, and a group is as wide as its list laid once.
+-- earlier items and the entry's own slack, and a group is as wide as its first occurrence, slack at its end included.
 -- Assumes nothing.
-use Rattle.std.specs.Prelude.{ℕ, suc, ◌+◌, List}
+use Rattle.std.specs.Prelude.{ℕ, suc, ◌+◌, List, None}
 use Rattle.definition.specs.declared.FieldKind.{FieldKind}
 use Rattle.definition.specs.declared.Pictured.{Pictured}
 use Rattle.definition.specs.declared.Statement.{Statement}
 use Rattle.definition.specs.declared.Entry.{Entry}
+use Rattle.definition.specs.Basic.{fewest}
 use Rattle.definition.specs.Tree.{Forest, leaf, item}
 use Rattle.definition.specs.Picture.{pictured}
+use Rattle.definition.specs.Storage.{storage, place_alignment, width_alignment}
 use Rattle.definition.specs.Fold.{Entries, end, entry}
 use Rattle.definition.specs.Layout.{entry_of}
-use Rattle.definition.specs.Owner.{Piece, extent, size, storage, slack_before, laid_item, laid}
+use Rattle.definition.specs.Owner.{extent, size, laid_item, laid}
 
--- kind and width of an item: a group as wide as its list, or what its picture says
-abbrev pub content_of : List ℕ → Statement → Forest → ℕ → Pictured
-content_of text s (item t kids later) width = pictured FieldKind.Group width
-content_of text s leaf width = storage text s
+-- kind and width of an item, the list of a group aside
+abbrev pub content_of : List ℕ → Statement → Forest → Pictured
+content_of text s leaf = storage text s
+content_of text s (item t kids later) = pictured FieldKind.Group None 0
 
--- the entry of an item whose list lays `inner`, of number k, after `place` bytes of its sibling list
-abbrev pub entry_at : List ℕ → ℕ → ℕ → Statement → Forest → List Piece → Entry
-entry_at text k place s kids inner =
-    let slack = extent (slack_before text k place s kids) in
-    entry_of s (content_of text s kids (extent inner)) (place + slack) slack
+-- the entry of an item whose list lays so many bytes, after `place` bytes of its sibling list, which starts at the byte
+-- `base` of the record
+abbrev pub entry_at : List ℕ → ℕ → ℕ → Statement → Forest → ℕ → Entry
+entry_at text base place s kids inner =
+    let c = content_of text s kids in
+    let slack = fewest (place_alignment text s kids) (base + place) in
+    entry_of s c (place + slack) slack inner (fewest (width_alignment text s kids) (c.width + inner))
 
-unfoldable pub placed : List ℕ → ℕ → ℕ → Forest → Entries
-placed text k place leaf = end
-placed text k place (item s kids later) =
-    let inner = laid text (suc k) 0 kids in
+unfoldable pub placed : List ℕ → ℕ → ℕ → ℕ → Forest → Entries
+placed text k base place leaf = end
+placed text k base place (item s kids later) =
+    let first = base + (place + fewest (place_alignment text s kids) (base + place)) in
+    let own = laid_item text k (base + place) s kids (λ p. laid text (suc k) p kids) in
     entry
-    (entry_at text k place s kids inner)
-    (placed text (suc k) 0 kids)
-    (placed text (suc k + size kids) (place + extent (laid_item text k place s kids inner)) later)
+    (entry_at text base place s kids (extent (laid text (suc k) first kids)))
+    (placed text (suc k) first 0 kids)
+    (placed text (suc k + size kids) base (place + extent own) later)

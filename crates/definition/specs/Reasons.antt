@@ -13,7 +13,7 @@ use Rattle.definition.specs.Listing.{span_bytes}
 
 -- ---------------------------------------------------------------- reasons
 
--- directly after the sibling named: adds that sibling's offset plus reserved width
+-- directly after the sibling named: adds that sibling's offset plus reserved width, slack at ends included
 abbrev pub after : Entry → Reason
 after e = Reason.After e.name (entry_end e)
 

@@ -28,7 +28,7 @@ ends_fit (entry e members later) = do
 -- the fields of the record, laid out, as the copybook has them before folding
 unfoldable pub unfolded : List ℕ → Forest → Answer Entries
 unfolded text f = do
-  l ← lay text 0 [] 0 0 f
+  l ← lay text 0 0 [] 0 0 f
   _ ← fold_check text [] l.entries
   _ ← ends_fit (folded_all text l.entries)
   Ok l.entries

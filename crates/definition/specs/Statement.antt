@@ -11,6 +11,7 @@ use Rattle.std.specs.Prelude.{Option, None, Some, Result}
 use Rattle.definition.specs.declared.Span.{Span}
 use Rattle.definition.specs.declared.Usage.{Usage}
 use Rattle.definition.specs.declared.ItemUsage.{ItemUsage}
+use Rattle.definition.specs.declared.NamedUsage.{NamedUsage}
 use Rattle.definition.specs.declared.SignKind.{SignKind}
 use Rattle.definition.specs.declared.SignWords.{SignWords}
 use Rattle.definition.specs.declared.Clauses.{Clauses}
@@ -80,7 +81,7 @@ keyword_of u = meaning u spellings
 
 -- ---------------------------------------------------------------- the clauses, one replaced at a time
 
-abbrev pub clauses_of : Span → Option ItemUsage → Option SignWords → Bool → Option ℕ → Span → Span → Clauses
+abbrev pub clauses_of : Span → Option NamedUsage → Option SignWords → Bool → Option ℕ → Span → Span → Clauses
 clauses_of p u s y o d r =
     record { picture = p; usage = u; sign = s; sync = y; occurs = o; depending = d; redefines = r }
 
@@ -93,7 +94,10 @@ no_clauses = clauses_of absent None None false None absent absent
 abbrev pub with_picture : Span → Clauses → Clauses
 with_picture v c = clauses_of v c.usage c.sign c.sync c.occurs c.depending c.redefines
 
-abbrev pub with_usage : ItemUsage → Clauses → Clauses
+abbrev pub named_usage : ItemUsage → Span → NamedUsage
+named_usage u w = record { usage = u; word = w }
+
+abbrev pub with_usage : NamedUsage → Clauses → Clauses
 with_usage v c =
     clauses_of c.picture (Some v) c.sign c.sync c.occurs c.depending c.redefines
 
@@ -132,27 +136,27 @@ abbrev pub counted : Missing → ParseState → Clauses → Option ℕ → Step
 counted m e c None = Err m
 counted m e c (Some k) = go e (with_occurs k c)
 
--- where a clause begins, what the next word may be; a word that begins none is passed over
-abbrev pub begin : Option Keyword → Clauses → Step
-begin (Some Keyword.Picture) c = go IsPicture (with_picture absent c)
-begin (Some Keyword.Redefines) c = go Target (with_redefines absent c)
-begin (Some Keyword.Occurs) c = go ACount c
-begin (Some Keyword.Usage) c = go UsageIs c
-begin (Some (Keyword.Names u)) c = go Clause (with_usage u c)
-begin (Some Keyword.Sign) c = go SignIs (with_sign (Some (sign_words false false)) c)
-begin (Some Keyword.Sync) c = go Side (with_sync true c)
-begin (Some Keyword.Value) c = go Nothing c
-begin None c = go Clause c
+-- where the word w begins a clause, what the next word may be; a word that begins none is passed over
+abbrev pub begin : Span → Option Keyword → Clauses → Step
+begin w (Some Keyword.Picture) c = go IsPicture (with_picture absent c)
+begin w (Some Keyword.Redefines) c = go Target (with_redefines absent c)
+begin w (Some Keyword.Occurs) c = go ACount c
+begin w (Some Keyword.Usage) c = go UsageIs c
+begin w (Some (Keyword.Names u)) c = go Clause (with_usage (named_usage u w) c)
+begin w (Some Keyword.Sign) c = go SignIs (with_sign (Some (sign_words false false)) c)
+begin w (Some Keyword.Sync) c = go Side (with_sync true c)
+begin w (Some Keyword.Value) c = go Nothing c
+begin w None c = go Clause c
 
--- a word where a clause may begin: u is the word in upper case
-abbrev pub on_clause : List ℕ → Clauses → Step
-on_clause u c = begin (keyword_of u) c
+-- a word w where a clause may begin: u is the word in upper case
+abbrev pub on_clause : Span → List ℕ → Clauses → Step
+on_clause w u c = begin w (keyword_of u) c
 
-abbrev pub on_depending : List ℕ → Clauses → Step
-on_depending u c = if key "DEPENDING" u then go OnName c else on_clause u c
+abbrev pub on_depending : Span → List ℕ → Clauses → Step
+on_depending w u c = if key "DEPENDING" u then go OnName c else on_clause w u c
 
-abbrev pub on_times : List ℕ → Clauses → Step
-on_times u c = if key "TIMES" u then go DependingOn c else on_depending u c
+abbrev pub on_times : Span → List ℕ → Clauses → Step
+on_times w u c = if key "TIMES" u then go DependingOn c else on_depending w u c
 
 -- the word of SIGN: LEADING or not
 abbrev pub on_sign : List ℕ → Clauses → Step
@@ -160,21 +164,21 @@ on_sign u c = go Clause (with_sign (Some (sign_words (key "LEADING" u) false)) c
 
 -- the word w, which is u in upper case
 unfoldable pub clause_step : ParseState → Span → List ℕ → Clauses → Step
-clause_step Clause w u c = on_clause u c
+clause_step Clause w u c = on_clause w u c
 clause_step IsPicture w u c = if key "IS" u then go APicture c else go Clause (with_picture w c)
 clause_step APicture w u c = go Clause (with_picture w c)
 clause_step Target w u c = go Clause (with_redefines w c)
 clause_step ACount w u c = counted Missing.Count To c (count u)
-clause_step To w u c = if key "TO" u then go Bound c else on_times u c
+clause_step To w u c = if key "TO" u then go Bound c else on_times w u c
 clause_step Bound w u c = counted Missing.Bound Times c (count u)
-clause_step Times w u c = on_times u c
-clause_step DependingOn w u c = on_depending u c
+clause_step Times w u c = on_times w u c
+clause_step DependingOn w u c = on_depending w u c
 clause_step OnName w u c = if key "ON" u then go AName c else go Clause (with_depending w c)
 clause_step AName w u c = go Clause (with_depending w c)
-clause_step UsageIs w u c = if key "IS" u then go Clause c else on_clause u c
+clause_step UsageIs w u c = if key "IS" u then go Clause c else on_clause w u c
 clause_step SignIs w u c = if key "IS" u then go SignWord c else on_sign u c
 clause_step SignWord w u c = on_sign u c
-clause_step Side w u c = if key "LEFT" u || key "RIGHT" u then go Clause c else on_clause u c
+clause_step Side w u c = if key "LEFT" u || key "RIGHT" u then go Clause c else on_clause w u c
 clause_step Nothing w u c = go Nothing c
 
 -- SEPARATE counts anywhere at or after the word following SIGN [IS]: at the latest SIGN, whatever was expected, and
@@ -223,20 +227,21 @@ sign_of (Some w) =
     else Some SignKind.Embedded
 
 -- the usage that holds for a statement where `outer` holds around it: its own, else the outer one
-abbrev pub usage_of : ItemUsage → Option ItemUsage → ItemUsage
-usage_of outer None = outer
-usage_of outer (Some u) = u
+abbrev pub held : Option NamedUsage → Option NamedUsage → Option NamedUsage
+held outer None = outer
+held outer (Some u) = Some u
 
--- around the record DISPLAY holds
-abbrev pub outermost : ItemUsage
-outermost = ItemUsage.Picture Usage.Display
+-- DISPLAY holds where none is named
+abbrev pub usage_of : Option NamedUsage → ItemUsage
+usage_of None = ItemUsage.Picture Usage.Display
+usage_of (Some u) = u.usage
 
 -- ---------------------------------------------------------------- statements
 
--- a statement by itself, where DISPLAY holds around it; `Usages` has what its groups name
+-- a statement by itself; `Usages` has what its groups name
 abbrev pub statement_of : ℕ → ℕ → Span → Clauses → Statement
 statement_of level at name c =
-    record { level = level; at = at; name = name; clauses = c; usage = usage_of outermost c.usage }
+    record { level = level; at = at; name = name; clauses = c; usage = c.usage }
 
 -- the words after the level: a name, or none, and clauses
 unfoldable pub named : List ℕ → ℕ → ℕ → List Span → Answer Statement

@@ -3,8 +3,8 @@
 -- first of no higher level. Departure from COBOL: siblings may have different levels, and a level may be any number
 -- below 256.
 -- Assumes nothing.
-use Rattle.std.specs.Prelude.{ℕ, suc, ◌+◌, List, [], ◌∷◌, ◌++◌, ltb, length, if◌then◌else◌}
-use Rattle.definition.specs.declared.ItemUsage.{ItemUsage}
+use Rattle.std.specs.Prelude.{ℕ, suc, ◌+◌, List, [], ◌∷◌, ◌++◌, ltb, length, if◌then◌else◌, Option, None, Some}
+use Rattle.definition.specs.declared.NamedUsage.{NamedUsage}
 use Rattle.definition.specs.declared.Statement.{Statement}
 
 -- a list of siblings: nothing, or a statement with the list of its children and the list of its later siblings
@@ -39,9 +39,9 @@ higher n (s ∷ ss) = if ltb n s.level then suc (higher n ss) else 0
 pub record Open : Type 0 where
   pub level : ℕ
   pub number : ℕ
-  pub usage : ItemUsage
+  pub usage : Option NamedUsage
 
-abbrev pub opened : ℕ → ℕ → ItemUsage → Open
+abbrev pub opened : ℕ → ℕ → Option NamedUsage → Open
 opened level number usage = record { level = level; number = number; usage = usage }
 
 -- the open statements whose level is smaller than n, the innermost first
@@ -74,3 +74,10 @@ fields leaf = leaf
 fields (item s leaf leaf) = item s leaf leaf
 fields (item s (item t kids later) leaf) = item t kids later
 fields (item s kids (item t kids' later)) = item s kids (item t kids' later)
+
+-- the root that is dropped
+abbrev pub root : Forest → Option Statement
+root leaf = None
+root (item s leaf leaf) = None
+root (item s (item t kids later) leaf) = Some s
+root (item s kids (item t kids' later)) = None

@@ -63,15 +63,15 @@ up_to s p = Word (span s (p - s))
 -- the tokens that a byte at position p completes
 abbrev pub completed : Mode → ℕ → ByteKind → List Token
 completed Dropped p = λ _. []
-completed Fresh p = elim [ Newline ↦ [] | Blank ↦ [] | Cut ↦ [] | Star ↦ [] | Period ↦ Stop ∷ [] | Other ↦ [] ]
-completed Between p = elim [ Newline ↦ [] | Blank ↦ [] | Cut ↦ [] | Star ↦ [] | Period ↦ Stop ∷ [] | Other ↦ [] ]
+completed Fresh p = elim [ Newline ↦ [] | Blank ↦ [] | Cut ↦ [] | Star ↦ [] | Period ↦ Stop p ∷ [] | Other ↦ [] ]
+completed Between p = elim [ Newline ↦ [] | Blank ↦ [] | Cut ↦ [] | Star ↦ [] | Period ↦ Stop p ∷ [] | Other ↦ [] ]
 completed (Within s) p =
     elim [
       | Newline ↦ up_to s p ∷ []
       | Blank ↦ up_to s p ∷ []
       | Cut ↦ up_to s p ∷ []
       | Star ↦ []
-      | Period ↦ up_to s p ∷ Stop ∷ []
+      | Period ↦ up_to s p ∷ Stop p ∷ []
       | Other ↦ []
     ]
 
@@ -110,7 +110,7 @@ after_word (Literal mark at) bs = Literal mark at
 abbrev pub ended : List ℕ → LiteralState → List Token → LiteralState
 ended text q [] = q
 ended text q (Word w ∷ ts) = ended text (after_word q (part text w)) ts
-ended text q (Stop ∷ ts) = ended text (Before 0) ts
+ended text q (Stop p ∷ ts) = ended text (Before 0) ts
 ended text q (Open p ∷ ts) = ended text q ts
 
 -- in a word
@@ -147,7 +147,7 @@ tokens_of text = tokens text (Before 0) Fresh 0 text
 unfoldable pub first_open : List Token → Option ℕ
 first_open [] = None
 first_open (Word w ∷ ts) = first_open ts
-first_open (Stop ∷ ts) = first_open ts
+first_open (Stop p ∷ ts) = first_open ts
 first_open (Open p ∷ ts) = Some p
 
 -- ---------------------------------------------------------------- statements
@@ -160,23 +160,30 @@ on_first w (ws ∷ wss) = (w ∷ ws) ∷ wss
 -- the words of each statement; a statement may be empty. An unclosed literal ends the reading
 unfoldable pub sentences : List Token → List (List Span)
 sentences [] = []
-sentences (Stop ∷ ts) = [] ∷ sentences ts
+sentences (Stop p ∷ ts) = [] ∷ sentences ts
 sentences (Word w ∷ ts) = on_first w (sentences ts)
 sentences (Open p ∷ ts) = []
 
 unfoldable pub statement_words : List ℕ → List (List Span)
 statement_words text = sentences (tokens_of text)
 
+-- the positions of the periods that end them, in the same order; a last one may lack it
+unfoldable pub periods : List Token → List ℕ
+periods [] = []
+periods (Word w ∷ ts) = periods ts
+periods (Stop p ∷ ts) = p ∷ periods ts
+periods (Open p ∷ ts) = []
+
 -- the words of the first statement, and the tokens after it, where an unclosed literal stays: a reader goes statement
 -- by statement (`WordLaws`, of the proofs, says how)
 abbrev pub first_words : List Token → List Span
 first_words [] = []
-first_words (Stop ∷ ts) = []
+first_words (Stop p ∷ ts) = []
 first_words (Word w ∷ ts) = w ∷ first_words ts
 first_words (Open p ∷ ts) = []
 
 abbrev pub after_stop : List Token → List Token
 after_stop [] = []
-after_stop (Stop ∷ ts) = ts
+after_stop (Stop p ∷ ts) = ts
 after_stop (Word w ∷ ts) = after_stop ts
 after_stop (Open p ∷ ts) = Open p ∷ []

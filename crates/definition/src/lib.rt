@@ -148,8 +148,8 @@ pub enum LiteralState {
 pub enum Token {
     /// A word.
     Word(Span),
-    /// The period that ends a statement.
-    Stop,
+    /// The period, at this position, that ends a statement.
+    Stop(usize),
     /// The opening mark, at this position, of a literal that its line does not close.
     Open(usize),
 }
@@ -176,6 +176,15 @@ pub enum ItemUsage {
     Comp1,
     /// That of a float of 64 bits, which has no picture.
     Comp2,
+}
+
+/// A usage that is named.
+#[derive(Clone, Copy)]
+pub struct NamedUsage {
+    /// The usage.
+    pub usage: ItemUsage,
+    /// The word that names it.
+    pub word: Span,
 }
 
 /// Where a number has its sign.
@@ -269,11 +278,24 @@ impl FieldKind {
     }
 }
 
+/// The digits that a picture says.
+#[derive(Clone, Copy)]
+pub struct Digits {
+    /// How many they are, P included; of an edited item at least 1.
+    pub precision: u8,
+    /// How many of them stand after the point, P included.
+    pub scale: u8,
+    /// Whether the picture has a sign.
+    pub signed: bool,
+}
+
 /// What a picture says.
 #[derive(Clone, Copy)]
 pub struct Pictured {
     /// What the item holds.
     pub kind: FieldKind,
+    /// The digits of a number, an edited one included; a text, a float and a group have none.
+    pub digits: Option<Digits>,
     /// The bytes of one occurrence.
     pub width: usize,
 }
@@ -285,8 +307,8 @@ pub struct Pictured {
 pub struct Clauses {
     /// The word after PIC.
     pub picture: Span,
-    /// The usage that is named.
-    pub usage: Option<ItemUsage>,
+    /// The usage that is named, by the last of the words that name one.
+    pub usage: Option<NamedUsage>,
     /// What SIGN says.
     pub sign: Option<SignWords>,
     /// Whether SYNC was said.
@@ -393,14 +415,15 @@ pub struct Statement {
     pub name: Span,
     /// What its own clauses say.
     pub clauses: Clauses,
-    /// The usage that holds for it: its own, or else that of the nearest group above it that names one, or DISPLAY.
-    pub usage: ItemUsage,
+    /// The usage that holds for it: its own, or else that of the nearest group above it that names one; DISPLAY where
+    /// none does.
+    pub usage: Option<NamedUsage>,
 }
 
 // ---------------------------------------------------------------- entries
 
 /// An entry of the listing. Offsets and widths are in bytes. A group made by folding has the statement of its base, but
-/// neither its picture, its count nor the names that it refers to.
+/// none of its clauses.
 #[derive(Clone, Copy)]
 pub struct Entry {
     /// The first byte of its statement.
@@ -415,8 +438,14 @@ pub struct Entry {
     pub width: usize,
     /// What it holds.
     pub kind: FieldKind,
+    /// The digits of a number.
+    pub digits: Option<Digits>,
     /// The picture of its statement.
     pub picture: Span,
+    /// The word that names the usage that holds for it.
+    pub usage: Span,
+    /// What SIGN says.
+    pub sign: Option<SignWords>,
     /// The count of its OCCURS.
     pub occurs: Option<u64>,
     /// The name after its DEPENDING ON.
@@ -427,6 +456,8 @@ pub struct Entry {
     pub over: Span,
     /// The slack bytes directly before it.
     pub slack: usize,
+    /// The slack bytes at the end of each of its occurrences, which its width counts.
+    pub slack_at_end: usize,
     /// Whether it is a group made by folding.
     pub folded: bool,
 }
@@ -458,7 +489,7 @@ pub enum Owner {
         first: usize,
         place: usize,
     },
-    /// The slack before this entry.
+    /// The slack before this entry, or at the end of an occurrence of it, a group.
     Slack {
         entry: usize,
     },
@@ -546,7 +577,7 @@ pub enum Refusal {
     TooLong { position: usize },
     /// REDEFINES names no earlier sibling.
     NoTarget { position: usize },
-    /// A count, an offset, a size or an end that is too large.
+    /// A count, an offset, a width, a size or an end that is too large.
     TooLarge { position: usize },
     /// A redefiner begins before the item that it is folded under.
     StartsBeforeBase { position: usize },

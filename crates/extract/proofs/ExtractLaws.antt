@@ -15,6 +15,7 @@ use Rattle.definition.specs.Calls.{extract_of, extract_in}
 use Rattle.definition.specs.Extract.{widths}
 use Rattle.definition.specs.Fold.{total, folded_all}
 use Rattle.definition.specs.Owner.{size, overlaid}
+use Rattle.definition.specs.Tree.{root}
 use Rattle.layout.specs.Places.{entry_in, rows_forest}
 use Rattle.layout.proofs.EntriesLaws.{size-stretch}
 use Rattle.layout.specs.Shown.{list_in}
@@ -35,21 +36,21 @@ module _ {text : List ℕ} {w : List Row} {from to long top : ℕ} (t : Itemed t
     {b : Bool} (p : b ≡ overlaid (rows_forest w from to)) where
   module _ (weights : List ℕ) (limit budget : ℕ) where
     -- 40
-    pub answers-40 : b ≡ true → Err Refusal.Overlaid ≡ extract_in weights limit budget text (rows_forest w from to) (list_in w from to)
+    pub answers-40 : b ≡ true → Err Refusal.Overlaid ≡ extract_in weights limit budget text (root (rows_forest w 0 to)) (rows_forest w from to) (list_in w from to)
     unfolding extract_in and_then
     answers-40 e = rw (← p, e)
 
     -- else the items decide
     of-widths :
         b ≡ false →
-        extract_in weights limit budget text (rows_forest w from to) (list_in w from to)
+        extract_in weights limit budget text (root (rows_forest w 0 to)) (rows_forest w from to) (list_in w from to)
         ≡ extract_of (widths (folded_all text (list_in w from to))) weights limit budget
     unfolding extract_in and_then
     of-widths e = rw (← p, e)
 
     -- 58 for too many
     pub answers-58 : b ≡ false → MOST_ITEMS < top →
-        Err Refusal.WrongItems ≡ extract_in weights limit budget text (rows_forest w from to) (list_in w from to)
+        Err Refusal.WrongItems ≡ extract_in weights limit budget text (root (rows_forest w 0 to)) (rows_forest w from to) (list_in w from to)
     answers-58 e h =
         sym (of-widths e ∙ too_many (widths (folded_all text (list_in w from to))) weights limit budget
         (omega (arith, widths-length (folded_all text (list_in w from to)), t.counted)))
@@ -78,7 +79,7 @@ module _ {text : List ℕ} {w : List Row} {from to long top : ℕ} (t : Itemed t
       -- and the search among them gives the extract
       pub answers-chosen :
           (weights : List ℕ) (limit budget : ℕ) →
-          extract_of bs weights limit budget ≡ extract_in weights limit budget text (rows_forest w from to) (list_in w from to)
+          extract_of bs weights limit budget ≡ extract_in weights limit budget text (root (rows_forest w 0 to)) (rows_forest w from to) (list_in w from to)
       answers-chosen weights limit budget =
           ap (λ (xs : List ℕ). extract_of xs weights limit budget) (g ∙ gathered)
           ∙ sym (of-widths weights limit budget e)

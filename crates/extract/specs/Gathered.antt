@@ -23,7 +23,7 @@ pub record Gatherable (w : List Row) (from to : ℕ) (out : List ℕ) : Type 0 w
 
 -- the rows from `from` up to `to` hold a record, of so many items at the top
 pub record Itemed (text : List ℕ) (w : List Row) (from to long top : ℕ) : Type 0 where
-  pub listed : Listed text (Ok (rows_forest w from to)) w from to long
+  pub listed : Listed text (Ok (rows_forest w 0 to)) w from to long
   pub counted : top ≡ members# (folded_all text (list_in w from to))
 
 -- such a record, with its text

@@ -4,6 +4,7 @@
 
 ghost use Rattle.std.specs.Prelude.{◌≡◌};
 ghost use Rattle.definition.specs.Calls.{extract_in};
+ghost use Rattle.definition.specs.Tree.{root};
 ghost use Rattle.layout.specs.Places.{rows_forest};
 ghost use Rattle.layout.specs.Shown.{list_in};
 ghost use Rattle.extract.specs.Gathered.{totals, Gatherable, Extractable};
@@ -33,6 +34,7 @@ pub fn extract_of(laid: LaidRecord, terms: Terms) -> Result<Extract, Refusal>
     requires { Extractable laid }
     ensures { result
         ≡ extract_in terms.entry.weights.now terms.entry.limit terms.entry.budget laid.entry.text.now
+        (root (rows_forest laid.entry.table.rows.all.now 0 laid.entry.table.rows.count))
         (rows_forest laid.entry.table.rows.all.now laid.entry.from laid.entry.table.rows.count)
         (list_in laid.entry.table.rows.all.now laid.entry.from laid.entry.table.rows.count) }
 {

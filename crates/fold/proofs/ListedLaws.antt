@@ -15,9 +15,11 @@ use Rattle.definition.specs.Listing.{members#, entries_bytes, listing}
 use Rattle.definition.specs.Record.{record_length, variable, ends_fit}
 use Rattle.layout.specs.Places.{rows_forest}
 use Rattle.layout.proofs.EntriesLaws.{size-stretch}
-use Rattle.fold.specs.declared.listing.Sink.{Sink}
-use Rattle.fold.specs.Puts.{Puts, head_bytes}
-use Rattle.fold.proofs.PutLaws.{◌and◌, listing-parts}
+use Rattle.output.specs.declared.Sink.{Sink}
+use Rattle.output.specs.Puts.{Puts}
+use Rattle.fold.specs.Puts.{head_bytes}
+use Rattle.output.proofs.PutLaws.{◌and◌}
+use Rattle.fold.proofs.PutLaws.{listing-parts}
 use Rattle.layout.specs.Shown.{list_in}
 use Rattle.layout.proofs.ShownLaws.{entries-size}
 use Rattle.fold.specs.declared.table.TableEntry.{TableEntry}

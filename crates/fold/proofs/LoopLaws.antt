@@ -2,9 +2,9 @@
 -- Assumes nothing.
 use Rattle.rows.specs.declared.Row.{Row}
 use Prim.Native.Nat.{ℕ, ◌+◌, max, ◌≤◌, ◌<◌}
-use mathlib.Core.Path.{◌≡◌, refl, sym, ap, subst, ◌∙◌}
+use mathlib.Core.Path.{◌≡◌, refl, ap, ◌∙◌}
 use mathlib.Core.Bool.{Bool, ◌||◌}
-use mathlib.Core.List.{List, [], ◌∷◌, ◌++◌, append_assoc, append-nil}
+use mathlib.Core.List.{List, [], ◌∷◌}
 use native.Mathlib.Omega.{arith}
 use lib.ListN.{length, length-append, drop, get_or}
 use borrow.Author.Tests.{lt-ltb, le-ltb}
@@ -14,9 +14,9 @@ use Rattle.definition.specs.declared.Refusal.{Refusal}
 use Rattle.definition.specs.declared.TheConstants.{LARGEST}
 use Rattle.definition.specs.Basic.{is_given, Ok, Err, and_then}
 use Rattle.definition.specs.Listing.{entry_bytes}
-use Rattle.fold.specs.declared.listing.Sink.{Sink}
-use Rattle.fold.specs.Puts.{Puts}
-use Rattle.fold.proofs.PutLaws.{puts-none, ◌and◌}
+use Rattle.output.specs.declared.Sink.{Sink}
+use Rattle.output.specs.Puts.{Puts}
+use Rattle.output.proofs.PutLaws.{Left, left-all, left-none, left-on}
 use Rattle.fold.specs.declared.table.TableEntry.{TableEntry}
 use Rattle.fold.specs.Entered.{Shown, flat_bytes, flat_varies, top_end, flat_length, flat_fits, own_of, shown_of}
 use Rattle.fold.specs.Entered.{shown_all}
@@ -38,23 +38,20 @@ module _ (w : List Row) (t : List TableEntry) (k : ℕ) where
 
 -- the bytes of the entries before item k were put
 pub record Putting (w : List Row) (t : List TableEntry) (s : Sink) (k : ℕ) (s' : Sink) : Type 0 where
-  pub done : List ℕ
-  pub put : Puts s done s'
-  pub same : flat_bytes (shown_all w t) ≡ done ++ flat_bytes (rest w t k)
+  pub left : Left s (flat_bytes (shown_all w t)) (flat_bytes (rest w t k)) s'
 
 pub putting_starts : (w : List Row) (t : List TableEntry) (s : Sink) → Putting w t s 0 s
-putting_starts w t s = record { done = []; put = puts-none s; same = refl }
+putting_starts w t s = record { left = left-all s (flat_bytes (shown_all w t)) }
 
 module _ {w : List Row} {t : List TableEntry} {s : Sink} {k : ℕ} {s' : Sink} (inv : Putting w t s k s') where
   pub putting_ends : length t ≤ k → Puts s (flat_bytes (shown_all w t)) s'
   unfolding flat_bytes
-  putting_ends h =
-      let all : flat_bytes (shown_all w t) ≡ inv.done =
-      inv.same ∙ ap (λ (l : List Shown). inv.done ++ flat_bytes l) (none_left w t k h) ∙ append-nil inv.done in
-      subst (λ (bs : List ℕ). Puts s bs s') (sym all) inv.put
+  putting_ends h = left-none inv.left (ap flat_bytes (none_left w t k h))
 
   pub putting_small : s.at + length (flat_bytes (shown_all w t)) < 4294967296 → s'.at ≤ 4294967295
-  putting_small m = omega (arith, inv.put.put.next, ap length inv.same, length-append inv.done (flat_bytes (rest w t k)))
+  putting_small m =
+      let l = inv.left in
+      omega (arith, l.put.put.next, ap length l.same, length-append l.done (flat_bytes (rest w t k)))
 
   pub putting_on :
       (x : TableEntry) → k < length t →
@@ -62,16 +59,7 @@ module _ {w : List Row} {t : List TableEntry} {s : Sink} {k : ℕ} {s' : Sink} (
       Puts s' (entry_bytes (own_of w (get_or t k x)) (get_or t k x).members) s'' →
       Putting w t s (k + 1) s''
   unfolding flat_bytes
-  putting_on x h p =
-      let bs = entry_bytes (own_of w (get_or t k x)) (get_or t k x).members in
-      record {
-        done = inv.done ++ bs;
-        put = inv.put and p;
-        same =
-            inv.same
-            ∙ ap (λ (l : List Shown). inv.done ++ flat_bytes l) (rest-next w t k x h)
-            ∙ sym (append_assoc inv.done bs (flat_bytes (rest w t (k + 1))));
-      }
+  putting_on x h p = record { left = left-on inv.left (ap flat_bytes (rest-next w t k x h)) p }
 
 -- ---------------------------------------------------------------- what is asked of them, one at a time
 
@@ -106,6 +94,15 @@ length_from w (x ∷ t) m = omega (arith, length_from w t (max m (top_end (shown
 pub length_fold : (w : List Row) (t : List TableEntry) → fold (λ n x. max n (top_end (shown_of w x))) 0 t ≡ flat_length (shown_all w t)
 length_fold w t = omega (arith, length_from w t 0)
 
-pub ruleset fitting = (fits_none, fits_over, fits_next)
+-- where the largest end is not too large, none is
+fits_all : (xs : List Shown) → flat_length xs ≤ LARGEST → flat_fits xs ≡ Ok tt
+unfolding flat_length flat_fits and_then
+fits_all [] h = refl
+fits_all (x ∷ xs) h = rw (le-ltb LARGEST (top_end x) (omega arith)) (fits_all xs (omega arith))
+
+pub length_fits : (w : List Row) (t : List TableEntry) → flat_length (shown_all w t) ≤ LARGEST → flat_fits (shown_all w t) ≡ Ok tt
+length_fits w t = fits_all (shown_all w t)
+
+pub ruleset fitting = (fits_none, fits_over, fits_next, length_fits)
 
 pub ruleset putting = (putting_starts, putting_ends, putting_small, putting_on)

@@ -1,65 +1,19 @@
--- Laws of bytes that were put: some after others, and what stands in the output then; the parts of an entry and of the
--- listing.
+-- Laws of the parts of the listing and of an entry, as they are put.
 -- Assumes nothing.
-use Prim.Native.Nat.{ℕ, ◌+◌, ◌-◌, ◌≤◌}
-use mathlib.Core.Path.{◌≡◌, refl, sym, ap, ◌∙◌}
-use mathlib.Core.List.{List, [], ◌++◌}
-use native.Mathlib.Nat.{zero-add}
+use Prim.Native.Nat.{ℕ, ◌+◌, ◌≤◌}
+use mathlib.Core.Path.{◌≡◌, refl, ap}
+use mathlib.Core.List.{◌++◌}
 use native.Mathlib.Omega.{arith}
-use lib.ListN.{length, drop, length-append}
-use lib.Seq.{sets, sets-eq, take_all}
-use borrow.Rule.Slice.PartMut.{put_mid}
-use borrow.Author.Tests.{le-ltb}
+use lib.ListN.{length, length-append}
 use Rattle.definition.specs.declared.Entry.{Entry}
-use Rattle.definition.specs.Basic.{Ok}
-use Rattle.definition.specs.Calls.{fitting, left, after_writing}
 use Rattle.definition.specs.declared.FieldKind.{FieldKind}
 use Rattle.definition.specs.Fold.{Entries}
 use Rattle.definition.specs.Record.{record_length, variable}
 use Rattle.definition.specs.Listing.{members#, span_bytes, occurs_bytes, details, entry_bytes, entries_bytes, listing}
-use Rattle.std.proofs.lemmas.Slice.{put_mid-paste}
-use Rattle.definition.proofs.Lists.{sets-append}
 use Rattle.definition.proofs.ListingLaws.{details#, entry_length}
-use Rattle.fold.specs.Puts.{Countable, Put, Puts, head_bytes, place_bytes, line_of, line_bytes}
+use Rattle.output.specs.Puts.{Countable}
+use Rattle.fold.specs.Puts.{head_bytes, place_bytes, line_of, line_bytes}
 use Rattle.fold.specs.declared.listing.Line.{Line}
-use Rattle.fold.specs.declared.listing.Sink.{Sink}
-
--- nothing is put
-pub puts-none : (s : Sink) → Puts s [] s
-puts-none s = record { name = refl; put = record { next = omega arith; same = refl } }
-
-infixl 5 ◌and◌
-module _ {s s' : Sink} {xs : List ℕ} (p : Puts s xs s') where
-  -- bytes, then others
-  pub ◌and◌ : {ys : List ℕ} {s'' : Sink} → Puts s' ys s'' → Puts s (xs ++ ys) s''
-  ◌and◌ {ys} q =
-      record {
-        name = q.name ∙ p.name;
-        put = record {
-          next = rw (length-append xs ys) (omega (arith, p.put.next, q.put.next));
-          same = rw (sets-append xs ys s.out.now s.at, ← p.put.same, ← p.put.next) q.put.same;
-        };
-      }
-
--- a part of an output that was written over
-pub put-part :
-    (out bs : List ℕ) (at n : ℕ) {ys : List ℕ} →
-    ys ≡ bs → n ≡ length bs → at + n ≤ length out → put_mid at (at + n - at) out ys ≡ sets out at bs
-put-part out bs at n {ys} f e h =
-    put_mid-paste at (at + n - at) out ys bs n f (omega arith) e
-    ∙ rw e (rw (take_all (length bs) bs (omega arith)) (sym (sets-eq bs out at (omega arith))))
-
--- where they fit, the output begins with the bytes, and the rest is as before
-pub put_first : {out bs : List ℕ} {r : ℕ} {after : List ℕ} → Put out 0 bs r after → length bs ≤ length out → after ≡ bs ++ drop (length bs) out
-put_first {out} {bs} p h =
-    let e : 0 + length bs ≡ length bs = zero-add (length bs) in
-    p.same ∙ sets-eq bs out 0 (omega arith) ∙ rw e
-
--- where they fit, that is what a call answers and leaves
-pub room :
-    (bs out : List ℕ) {n : ℕ} → n ≡ length bs → n ≤ length out → {m : ℕ} {o : List ℕ} → Put out 0 bs m o →
-    left (Ok n) o [] ≡ after_writing (fitting (length out) bs) out []
-room bs out e h p = rw (le-ltb (length out) (length bs) (omega arith), e, put_first p (omega arith))
 
 -- ---------------------------------------------------------------- the listing's parts
 

@@ -11,10 +11,10 @@ use native.Mathlib.Omega.{arith}
 use Rattle.definition.specs.declared.Entry.{Entry}
 use Rattle.std.specs.Prelude.{if◌then◌else◌}
 use Rattle.definition.specs.Fold.{Entries, end, entry, append, rebased, redefiners, widest, union, union_members}
-use Rattle.definition.specs.Fold.{with_redefiners, folded_below, folded_all}
+use Rattle.definition.specs.Fold.{with_redefiners, folded_list, folded_below, folded_all}
 use Rattle.definition.specs.Search.{entries#}
 use Rattle.rows.specs.declared.Row.{Row}
-use Rattle.rows.specs.Rows.{row_of_code, row_code, row_in}
+use Rattle.rows.specs.Rows.{row_of_code, row_code, row_in, before_in}
 use Rattle.rows.proofs.RowLaws.{row-none, row-some, code-back}
 use Rattle.layout.specs.Targets.{bases_at, place_at}
 use Rattle.layout.specs.Places.{entry_in}
@@ -23,7 +23,7 @@ use Rattle.layout.proofs.RowLaws.{children-end}
 use Rattle.layout.specs.declared.unions.Standing.{Standing}
 use Rattle.layout.specs.Shown.{standing, shown_as, list_in, redefiners_in, folded_rest, shown_at, Known, Tree, Branch, Base}
 use Rattle.layout.proofs.FoldedLaws.{append-end, append-append, redefiners-below}
-use Rattle.layout.proofs.ShownLaws.{walking_here, walking-ends}
+use Rattle.layout.proofs.ShownLaws.{list-none, walking_here, walking-ends}
 use Rattle.layout.proofs.WidthLaws.{Along, along-starts, along-before, along-on, Next}
 use Rattle.layout.proofs.WidthLaws.{Onward, Following, following-starts, following-none, following-next}
 use Rattle.layout.proofs.WidthLaws.{next-numbered, next-sibling, next-is, next-on}
@@ -35,6 +35,11 @@ use Rattle.fold.proofs.FlatLaws.{size-append}
 use Rattle.fold.proofs.BuildLaws.{built-none, built-as, built-wider, ◌then◌, room-rest, room-first, room-part}
 
 -- ---------------------------------------------------------------- what a row comes to
+
+-- no rows
+pub listed-none : (t : List ℕ) (w : List Row) (a b : ℕ) → b ≤ a → listed t w a b ≡ end
+unfolding folded_below folded_list
+listed-none t w a b h = ap (folded_all t) (list-none w a b h)
 
 -- a base with some redefiners
 with-union :
@@ -172,12 +177,12 @@ module _ {t : List ℕ} {w : List Row} {out₀ out : List TableEntry} {from to :
     pub listing-falls : to - row < suc (to - from)
     listing-falls = omega (arith, at, inv.along.low)
 
-    shown-here : shown_at t w i j to inv.last ≡ shown_at t w row j to (row_in w row).place.before
+    shown-here : shown_at t w i j to inv.last ≡ shown_at t w row j to (before_in w row)
     shown-here =
         ap (shown_at t w i j to) (sym (along-before inv.along h))
-        ∙ ap (λ (k : ℕ). shown_at t w k j to (row_in w k).place.before) (sym at)
+        ∙ ap (λ (k : ℕ). shown_at t w k j to (before_in w k)) (sym at)
 
-    pub listing-room : TableRoom out b (entries# (shown_at t w row j to (row_in w row).place.before)) to
+    pub listing-room : TableRoom out b (entries# (shown_at t w row j to (before_in w row))) to
     listing-room =
         let shown = shown_at t w i j to inv.last in
         let rest = folded_rest t w j to (suc i) in
@@ -186,7 +191,7 @@ module _ {t : List ℕ} {w : List Row} {out₀ out : List TableEntry} {from to :
 
     pub listing-on :
         {r : Block} {after : List TableEntry} →
-        Built row to w out b (shown_at t w row j to (row_in w row).place.before) r after →
+        Built row to w out b (shown_at t w row j to (before_in w row)) r after →
         {k : ℕ} →
         k ≡ j →
         Listing t w out₀ after from to b₀ k r
@@ -259,7 +264,7 @@ module _ {t : List ℕ} {w : List Row} {out₀ out : List TableEntry} {i j to : 
     redefining-numbered = next-numbered inv.following redefining-next
 
     module _ {m : ℕ} (h : ChildrenEnd w row to m) where
-      pub redefining-sibling : Branch t w row m to × Known t w row (row_in w row).place.before
+      pub redefining-sibling : Branch t w row m to × Known t w row (before_in w row)
       redefining-sibling = next-sibling inv.following redefining-next h
 
       module _ {start : ℕ} (z : start ≡ (row_in w i).place.offset) where

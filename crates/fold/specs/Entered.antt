@@ -4,7 +4,6 @@
 use Rattle.rows.specs.declared.Row.{Row}
 use Rattle.std.specs.Prelude.{ℕ, ◌+◌, ◌*◌, max, ◌≤◌, ◌<◌, ◌≡◌, Bool, false, ◌||◌, List, [], ◌∷◌, ◌++◌, eqb, ltb, length, if◌then◌else◌, All}
 use Rattle.definition.specs.declared.Entry.{Entry}
-use Rattle.definition.specs.declared.Span.{Span}
 use Rattle.definition.specs.declared.Refusal.{Refusal}
 use Rattle.definition.specs.declared.TheConstants.{LARGEST}
 use Rattle.definition.specs.Basic.{absent, is_given, Answer, Ok, ◌>>=◌, refuse_if}
@@ -60,28 +59,9 @@ flat_fits (x ∷ xs) = do
 
 -- ---------------------------------------------------------------- what an item says, by the rows
 
--- what an entry says beside its line in the listing: its REDEFINES as written, its slack, and whether folding made it
-abbrev pub written_of : Entry → Span × ℕ × Bool
-written_of e = (e.over, e.slack, e.folded)
-
 -- an entry at another offset, as a member of a union
 abbrev pub moved : ℕ → Entry → Entry
-moved offset e =
-    record {
-      at = e.at;
-      level = e.level;
-      name = e.name;
-      offset = offset;
-      width = e.width;
-      kind = e.kind;
-      picture = e.picture;
-      occurs = e.occurs;
-      depending = e.depending;
-      redefines = absent;
-      over = e.over;
-      slack = e.slack;
-      folded = e.folded;
-    }
+moved offset e = record e { offset = offset; redefines = absent }
 
 -- the entry that an item stands for, from its row's
 abbrev pub by_mark : Mark → Entry → Entry

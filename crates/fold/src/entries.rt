@@ -7,7 +7,7 @@ ghost use Rattle.definition.specs.Fold.{total, widest};
 ghost use Rattle.definition.specs.Listing.{members#};
 ghost use Rattle.definition.specs.Search.{entries#};
 ghost use Rattle.layout.specs.Places.{entry_in};
-ghost use Rattle.rows.specs.Rows.{row_in};
+ghost use Rattle.rows.specs.Rows.{row_in, before_in};
 ghost use Rattle.layout.specs.Shown.{shown_at, IsBase};
 ghost use Rattle.fold.specs.Entered.{listed, Entered};
 ghost use Rattle.fold.specs.Building.{item_in, redefined, union_in, own_member, based_in, within, TableRoom};
@@ -117,6 +117,22 @@ fn close_union(row: MarkedRow, entries: &mut [TableEntry], b: Block, inner: Bloc
 
 // ---------------------------------------------------------------- the walk
 
+// Builds the members of a row, if it has any.
+#[cycle(build)]
+fn build_inner(row: MarkedRow, entries: &mut [TableEntry], b: Block) -> Block
+    requires { TableRoom entries.old b (entries# (listed row.text.now row.rows.all.now (row.row + 1) row.end))
+        row.end }
+    ensures { Built (row.entry.row + 1) row.entry.end row.entry.rows.all.now entries.old b
+        (listed row.entry.text.now row.entry.rows.all.now (row.entry.row + 1) row.entry.end) result entries.new }
+{
+    // Most rows have none, and no list is walked for them.
+    let first = row.row + 1;
+    if row.end <= first {
+        return b;
+    }
+    build_list(row.children(), entries, b)
+}
+
 // Builds a row with its members, by itself or as a member of the union that starts there.
 #[cycle(build)]
 fn build_item(row: MarkedRow, union: Option<usize>, entries: &mut [TableEntry], b: Block) -> Block
@@ -125,7 +141,7 @@ fn build_item(row: MarkedRow, union: Option<usize>, entries: &mut [TableEntry], 
     ensures { Built row.entry.row row.entry.end row.entry.rows.all.now entries.old b
         (item_in row.entry.text.now row.entry.rows.all.now row.entry.row row.entry.end union) result entries.new }
 {
-    let inner = build_list(row.children(), entries, b.within());
+    let inner = build_inner(row, entries, b.within());
     close_item(row, union, entries, b, inner)
 }
 
@@ -196,10 +212,10 @@ fn build_members(base: MarkedRow, entries: &mut [TableEntry], b: Block) -> Block
 fn build_shown(row: MarkedRow, entries: &mut [TableEntry], b: Block) -> Block
     requires { TableRoom entries.old b
         (entries# (shown_at row.text.now row.rows.all.now row.row row.end row.rows.count
-        (row_in row.rows.all.now row.row).place.before)) row.rows.count }
+        (before_in row.rows.all.now row.row))) row.rows.count }
     ensures { Built row.entry.row row.entry.rows.count row.entry.rows.all.now entries.old b
         (shown_at row.entry.text.now row.entry.rows.all.now row.entry.row row.entry.end row.entry.rows.count
-        (row_in row.entry.rows.all.now row.entry.row).place.before) result entries.new }
+        (before_in row.entry.rows.all.now row.entry.row)) result entries.new }
 {
     match row.standing() {
         Standing::Under => b,

@@ -1,18 +1,21 @@
 //! The table of entries: the folded listing, each entry as an item that names its row, in the order of the listing.
 //! What is asked of the folded listing is asked of the table. `entries` makes its items.
 
-ghost use Rattle.std.specs.Prelude.{◌≡◌, ◌+◌, ◌≤◌, ◌<◌, length, All};
+ghost use Rattle.std.specs.Prelude.{◌≡◌, ◌+◌, ◌≤◌, ◌<◌, length, All, MatchResult};
 ghost use Rattle.std.specs.List.{list_any};
 ghost use Rattle.definition.specs.Fold.{entry_end, total};
-ghost use Rattle.definition.specs.Basic.{is_given};
+ghost use Rattle.definition.specs.Basic.{is_given, Ok, Err};
 ghost use Rattle.definition.specs.Listing.{entry_bytes};
-ghost use Rattle.fold.specs.Puts.{Puts, line_of};
+ghost use Rattle.fold.specs.Puts.{line_of};
+ghost use Rattle.output.specs.Puts.{Puts};
 ghost use Rattle.fold.specs.Entered.{flat_bytes, flat_varies, top_end, flat_length, flat_fits, own_of, shown_of};
-ghost use Rattle.fold.specs.Entered.{shown_all, written_of, Sound};
+ghost use Rattle.fold.specs.Entered.{shown_all, Sound};
 
-use crate::listing::{Line, Sink};
+use crate::listing;
+use crate::listing::Line;
 use definition::{Entry, FieldKind, LARGEST, Refusal, Span};
-use layout::unions;
+use layout::{places, unions};
+use output::Sink;
 use rows::Rows;
 
 /// What an item stands for: its row's own entry, the same as a member of a union, or the union.
@@ -102,42 +105,34 @@ impl<'a> RowItem<'a> {
         }
     }
 
-    // Its REDEFINES as written, its slack, and whether folding made it.
-    fn written(self) -> (Span, usize, bool)
-        ensures { result ≡ written_of (own_of self.entry.rows.all.now self.entry.item.now) }
-    {
-        let row = self.rows.row(self.row());
-        match self.item.mark {
-            Mark::Union { .. } => (Span::ABSENT, 0, true),
-            _ => (
-                row.statement.clauses.redefines,
-                row.place.slack as usize,
-                false,
-            ),
-        }
-    }
-
     /// The entry that it stands for: what the listing says of it, and what it doesn't say.
     pub fn entry(self) -> Entry
         ensures { result ≡ own_of self.entry.rows.all.now self.entry.item.now }
     {
-        let statement = self.rows.row(self.row()).statement;
-        let line = self.line();
-        let (over, slack, folded) = self.written();
-        Entry {
-            at: usize::from(statement.at),
-            level: statement.level,
-            name: line.name,
-            offset: line.offset,
-            width: line.width,
-            kind: line.kind,
-            picture: line.picture,
-            occurs: line.occurs,
-            depending: line.depending,
-            redefines: line.redefines,
-            over,
-            slack,
-            folded,
+        let own = places::entry_at(self.rows.row(self.row()));
+        match self.item.mark {
+            Mark::Own => own,
+            Mark::Member { offset } => Entry {
+                offset: offset as usize,
+                redefines: Span::ABSENT,
+                ..own
+            },
+            Mark::Union { width } => Entry {
+                width: width as usize,
+                kind: FieldKind::Group,
+                digits: None,
+                picture: Span::ABSENT,
+                usage: Span::ABSENT,
+                sign: None,
+                occurs: None,
+                depending: Span::ABSENT,
+                redefines: Span::ABSENT,
+                over: Span::ABSENT,
+                slack: 0,
+                slack_at_end: 0,
+                folded: true,
+                ..own
+            },
         }
     }
 
@@ -148,7 +143,7 @@ impl<'a> RowItem<'a> {
             (entry_bytes (own_of self.entry.rows.all.now self.entry.item.now) self.entry.item.now.members)
             sink.new }
     {
-        sink.line(self.line(), self.item.members as usize);
+        listing::put_line(sink, self.line(), self.item.members as usize);
     }
 
     /// Whether it has a DEPENDING ON: that of its row, and none for a union.
@@ -254,8 +249,8 @@ impl<'a> Table<'a> {
         self.row_item(item).end()
     }
 
-    /// How long the record is, in bytes: the largest end at the top.
-    pub fn length(self) -> usize
+    // How long the record is, in bytes: the largest end at the top.
+    fn length(self) -> usize
         ensures { result ≡ flat_length (shown_all self.entry.rows.all.now self.entry.items.now) }
     {
         self.items
@@ -263,9 +258,9 @@ impl<'a> Table<'a> {
             .fold(0, |long: usize, item| long.max(self.top_end(item)))
     }
 
-    /// 29 for the first entry at the top that ends above `LARGEST`.
+    // 29 for the first entry at the top that ends above `LARGEST`.
     #[tactic(auto, using(crate::proofs::LoopLaws::fitting))]
-    pub fn ends_fit(self) -> Result<(), Refusal>
+    fn ends_fit(self) -> Result<(), Refusal>
         ensures { result ≡ flat_fits (shown_all self.entry.rows.all.now self.entry.items.now) }
     {
         for item in self.items {
@@ -276,5 +271,22 @@ impl<'a> Table<'a> {
             }
         }
         Ok(())
+    }
+
+    /// How long the record is, or 29 for the first entry at the top that ends above `LARGEST`: which one that is, is
+    /// asked only where one does.
+    #[tactic(auto, using(crate::proofs::LoopLaws::fitting))]
+    pub fn fitting_length(self) -> Result<usize, Refusal>
+        ensures { MatchResult result
+            (λ n. (n ≡ flat_length (shown_all self.entry.rows.all.now self.entry.items.now))
+            × (flat_fits (shown_all self.entry.rows.all.now self.entry.items.now) ≡ Ok tt))
+            (λ r. flat_fits (shown_all self.entry.rows.all.now self.entry.items.now) ≡ Err r) }
+    {
+        let length = self.length();
+        if length <= LARGEST {
+            return Ok(length);
+        }
+        self.ends_fit()?;
+        Ok(length)
     }
 }

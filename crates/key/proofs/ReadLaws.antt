@@ -2,11 +2,11 @@
 -- Assumes nothing.
 use Rattle.std.proofs.Common.{ℕ, ◌≡◌, refl, ap, List}
 use Rattle.definition.specs.Basic.{Answer, Err, Ok, ◌>>=◌, and_then}
-use Rattle.definition.specs.Calls.{record_fields, entries, asked}
+use Rattle.definition.specs.Calls.{record_tree, record_fields, entries, asked}
 use Rattle.definition.specs.Fold.{Entries, folded_all}
 use Rattle.definition.specs.Key.{key_among, key_in}
 use Rattle.definition.specs.Record.{unfolded, layout}
-use Rattle.definition.specs.Tree.{Forest}
+use Rattle.definition.specs.Tree.{Forest, fields, root}
 use Rattle.key.proofs.SoughtLaws.{sought-key}
 use Rattle.record.specs.Asking.{value_of}
 use Rattle.key.specs.declared.family.KeyNamed.{KeyNamed}
@@ -15,19 +15,19 @@ use Rattle.key.specs.Sets.{key_given, read_key}
 pub key-asked :
     (k : KeyNamed) (text : List ℕ) (n room : ℕ) →
     read_key text (value_of (asked (key_given k room) text n)) ≡ key_in n k.name.now text
-unfolding asked key_in entries layout and_then
-key-asked k text n room = by-fields (record_fields text n)
+unfolding asked key_in entries record_fields layout and_then
+key-asked k text n room = by-tree (record_tree text n)
   where
     by-laid :
-        (f : Forest) (x : Answer Entries) →
-        read_key text (value_of (x >>= λ es. key_given k room text f es))
+        (t : Forest) (x : Answer Entries) →
+        read_key text (value_of (x >>= λ es. key_given k room text (root t) (fields t) es))
         ≡ ((x >>= λ es. Ok (folded_all text es)) >>= λ es. Ok (key_among text k.name.now es))
-    by-laid f (Err r) = refl
-    by-laid f (Ok es) = ap Ok (sought-key text k.name.now (folded_all text es))
+    by-laid t (Err r) = refl
+    by-laid t (Ok es) = ap Ok (sought-key text k.name.now (folded_all text es))
 
-    by-fields :
+    by-tree :
         (a : Answer Forest) →
-        read_key text (value_of (a >>= λ f. unfolded text f >>= λ es. key_given k room text f es))
-        ≡ ((a >>= λ f. unfolded text f >>= λ es. Ok (folded_all text es)) >>= λ es. Ok (key_among text k.name.now es))
-    by-fields (Err r) = refl
-    by-fields (Ok f) = by-laid f (unfolded text f)
+        read_key text (value_of (a >>= λ t. unfolded text (fields t) >>= λ es. key_given k room text (root t) (fields t) es))
+        ≡ (((a >>= λ t. Ok (fields t)) >>= λ f. unfolded text f >>= λ es. Ok (folded_all text es)) >>= λ es. Ok (key_among text k.name.now es))
+    by-tree (Err r) = refl
+    by-tree (Ok t) = by-laid t (unfolded text (fields t))

@@ -19,7 +19,7 @@ use Rattle.key.specs.declared.family.KeyNamed.{KeyNamed}
 
 -- what is found among the entries at the top
 abbrev pub key_given : KeyNamed → ℕ → Question (Given Sought)
-key_given k room text f es =
+key_given k room text root f es =
     Ok (record { value = sought_in text k.name.now false Sought.Nothing (flat_in 0 (folded_all text es)); bytes = [] })
 
 -- the key of what was found

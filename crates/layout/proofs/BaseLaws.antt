@@ -13,7 +13,7 @@ use Rattle.std.specs.Prelude.{if◌then◌else◌}
 use Rattle.definition.specs.Basic.{is_given}
 use Rattle.definition.specs.Fold.{Place, place_of, find, same_name, has_base}
 use Rattle.rows.specs.declared.Row.{Row}
-use Rattle.rows.specs.Rows.{row_in}
+use Rattle.rows.specs.Rows.{row_in, before_in}
 use Rattle.layout.specs.Targets.{seen_from, bases_at, offset_of, base_from}
 use Rattle.layout.proofs.SearchLaws.{row-most, row-found, back, back_step}
 use Rattle.layout.specs.Places.{entry_in}
@@ -24,10 +24,10 @@ use Rattle.layout.specs.Shown.{bases_after, Findable}
 
 -- the bases after row i
 pub bases-after :
-    (w : List Row) (i last : ℕ) → (row_in w i).place.before ≡ last → last ≤ i → bases_at w (suc i) ≡ bases_after (entry_in w i) (bases_at w last)
+    (w : List Row) (i last : ℕ) → before_in w i ≡ last → last ≤ i → bases_at w (suc i) ≡ bases_after (entry_in w i) (bases_at w last)
 bases-after w i last h l = go (is_given (entry_in w i).redefines) refl
   where
-    before : seen_from true w i (row_in w i).place.before ≡ bases_at w last
+    before : seen_from true w i (before_in w i) ≡ bases_at w last
     before = ap (seen_from true w i) h ∙ seen_low true w i last l
 
     go : (b : Bool) → is_given (entry_in w i).redefines ≡ b → bases_at w (suc i) ≡ bases_after (entry_in w i) (bases_at w last)
@@ -55,7 +55,7 @@ module _ (t : List ℕ) (w : List Row) where
 
   -- ---------------------------------------------------------------- a base that a search finds
 
-  module _ (i k last : ℕ) (e : (row_in w k).place.before ≡ last) (l : last ≤ k) where
+  module _ (i k last : ℕ) (e : before_in w k ≡ last) (l : last ≤ k) where
     -- the base's own row
     pub opens : i ≡ k → is_given (row_in w k).statement.clauses.redefines ≡ false → Findable t w k (suc k)
     opens q g target =

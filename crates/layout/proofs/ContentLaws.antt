@@ -12,16 +12,19 @@ use Rattle.std.proofs.lemmas.Bool.{or_parts}
 use Rattle.definition.specs.declared.Usage.{Usage}
 use Rattle.definition.specs.declared.ItemUsage.{ItemUsage}
 use Rattle.definition.specs.declared.SignKind.{SignKind}
+use Rattle.definition.specs.declared.Digits.{Digits}
 use Rattle.definition.specs.declared.Pictured.{Pictured}
 use Rattle.definition.specs.declared.Statement.{Statement}
 use Rattle.definition.specs.declared.TheConstants.{MOST_BYTES, MOST_DIGITS, LONGEST_MASK}
 use Rattle.std.specs.Prelude.{if◌then◌else◌, Option}
 use Rattle.definition.specs.Basic.{upper, Ok}
-use Rattle.definition.specs.Tree.{leaf}
+use Rattle.definition.specs.Tree.{Forest, leaf, item}
 use Rattle.definition.specs.Picture.{expand, all_digits, stored_digits, fraction, is_text, is_masked, mask, pictured}
 use Rattle.definition.specs.Picture.{sign_bytes, storage_width, numeric, kinded, too_long, symbols}
 use Rattle.definition.specs.Picture.{picture}
-use Rattle.definition.specs.Layout.{under_usage, content}
+use Rattle.definition.specs.Statement.{usage_of}
+use Rattle.definition.specs.Storage.{under_usage}
+use Rattle.definition.specs.Layout.{content}
 use Rattle.definition.proofs.Answers.{through, given-same, not-refused}
 use Rattle.definition.proofs.PictureLaws.{tally-le, without-length, mask-width}
 
@@ -63,8 +66,8 @@ eight true b = omega arith
 eight false true = omega arith
 eight false false = omega arith
 
-module _ (precision scale digits : ℕ) (h : precision ≤ MOST_DIGITS) (l : scale ≤ precision) (d : digits ≤ precision) (signed : Bool) (g : SignKind) where
-  numeric-bounded : (u : Usage) → Bounded (pictured (numeric u precision scale signed g) (storage_width u g digits))
+module _ (precision scale digits : ℕ) (h : precision ≤ MOST_DIGITS) (l : scale ≤ precision) (d : digits ≤ precision) (signed : Bool) (g : SignKind) (o : Option Digits) where
+  numeric-bounded : (u : Usage) → Bounded (pictured (numeric u precision scale signed g) o (storage_width u g digits))
   numeric-bounded Usage.Display = record { width = omega (arith, one_byte g) }
   numeric-bounded Usage.Comp3 = record { width = omega arith }
   numeric-bounded Usage.Comp = record { width = omega (arith, eight (leb digits 4) (leb digits 9)) }
@@ -84,7 +87,7 @@ module _ (u : Usage) (g : Option SignKind) (l : List ℕ) (h : length l ≤ MOST
       let d = short e in
       by-test (is_masked u l) _ _
       (λ m. record { width = omega (arith, without-length "SV" l, mask-width l) })
-      (λ m. numeric-bounded (all_digits l) (fraction l) (stored_digits l) d (omega arith) (omega arith) _ _ u))
+      (λ m. numeric-bounded (all_digits l) (fraction l) (stored_digits l) d (omega arith) (omega arith) _ _ _ u))
 
 -- ---------------------------------------------------------------- an item
 
@@ -109,5 +112,10 @@ under-bounded text s ItemUsage.Comp2 e =
     through _ _ e λ x e₁ h₁. subst Bounded (given-same h₁) (record { width = omega arith })
 
 -- an item without children
-pub leaf-bounded : (text : List ℕ) (s : Statement) (w : ℕ) {c : Pictured} → content text s leaf w ≡ Ok c → Bounded c
-leaf-bounded text s w e = under-bounded text s s.usage e
+pub leaf-bounded : (text : List ℕ) (s : Statement) {c : Pictured} → content text s leaf ≡ Ok c → Bounded c
+leaf-bounded text s e = under-bounded text s (usage_of s.usage) e
+
+-- any item, its children aside
+pub content-bounded : (text : List ℕ) (s : Statement) (kids : Forest) {c : Pictured} → content text s kids ≡ Ok c → Bounded c
+content-bounded text s leaf e = leaf-bounded text s e
+content-bounded text s (item t more later) e = subst Bounded (given-same e) (record { width = omega arith })

@@ -2,17 +2,14 @@
 -- Assumes nothing.
 use Prim.Native.Nat.{ℕ, ◌≤◌}
 use mathlib.Core.Path.{◌≡◌, refl, ap, ◌∙◌}
-use mathlib.Core.Bool.{Bool, true, false, ◌||◌}
+use mathlib.Core.Bool.{Bool, true, false}
 use native.Mathlib.Omega.{arith}
-use lib.Dec.{ltb}
-use borrow.Author.Tests.{ltb-false}
-use Rattle.std.proofs.lemmas.Bool.{or_parts}
 use Rattle.definition.specs.declared.Entry.{Entry}
 use Rattle.definition.specs.declared.Refusal.{Refusal}
 use Rattle.definition.specs.declared.TheConstants.{LARGEST}
 use Rattle.std.specs.Prelude.{if◌then◌else◌}
 use Rattle.definition.specs.Basic.{Answer, Err, Ok}
-use Rattle.definition.specs.Fold.{times, total, entry_end}
+use Rattle.definition.specs.Fold.{entry_end}
 use Rattle.definition.specs.Layout.{too_large}
 use Rattle.layout.specs.Ends.{end_of}
 
@@ -22,11 +19,7 @@ pub record Within (e : Entry) : Type 0 where
   pub ends : entry_end e ≤ LARGEST
 
 pub within : (e : Entry) → too_large e ≡ false → Within e
-within e h =
-    let a = or_parts (ltb LARGEST (times e.occurs) || ltb LARGEST e.offset || ltb LARGEST (total e)) (ltb LARGEST (entry_end e)) h in
-    let b = or_parts (ltb LARGEST (times e.occurs) || ltb LARGEST e.offset) (ltb LARGEST (total e)) a.0 in
-    let d = or_parts (ltb LARGEST (times e.occurs)) (ltb LARGEST e.offset) b.0 in
-    record { starts = ltb-false LARGEST e.offset d.1; ends = ltb-false LARGEST (entry_end e) a.1 }
+within e h = record { starts = grind arith; ends = grind arith }
 
 -- where an entry ends, and that 29 is not due
 pub record Ends (e : Entry) (n : ℕ) : Type 0 where

@@ -21,14 +21,14 @@ use Rattle.definition.specs.Owner.{size}
 use Rattle.definition.specs.Search.{entries#}
 use Rattle.definition.proofs.Lists.{tested}
 use Rattle.rows.specs.declared.Row.{Row}
-use Rattle.rows.specs.Rows.{row_in, row_code, statement_at, statements_from}
+use Rattle.rows.specs.Rows.{row_in, before_in, row_code, statement_at, statements_from}
 use Rattle.rows.proofs.RowLaws.{code-back, statements-same, length-statements}
 use Rattle.layout.specs.Places.{put_places, placed_in, known, unnamed, entry_at, entry_in, rows_forest, entries_in}
 use Rattle.layout.specs.Places.{RowLinked, Linked}
 use Rattle.layout.specs.Targets.{base_after, plain_after, target_after}
 use Rattle.layout.specs.Children.{ChildrenEnd, Numbered, BelowCounted}
 use Rattle.layout.proofs.PlaceLaws.{members_put, first_put, known-place, place-other, length-places, known-places}
-use Rattle.layout.proofs.PlaceLaws.{before-places, first_place}
+use Rattle.layout.proofs.PlaceLaws.{back_by, before-places, first_place}
 use Rattle.layout.proofs.SearchLaws.{found, found_none, found-step, after_same, searched_same, plain-next, plain-same}
 use Rattle.layout.proofs.RowLaws.{children-end, forest-split}
 
@@ -56,7 +56,9 @@ pub record EntryOf (s : Statement) (e : Entry) : Type 0 where
   pub place : ℕ
   pub contents : Pictured
   pub slack : ℕ
-  pub is : e ≡ entry_of s contents place slack
+  pub inner : ℕ
+  pub at_end : ℕ
+  pub is : e ≡ entry_of s contents place slack inner at_end
 
 -- a list of entries has an entry for each statement of a forest, in its shape
 abbrev pub Of : Forest → Entries → Type 0
@@ -116,16 +118,21 @@ entries-same w w' k (item s kids later) h =
     let more = entries-same w w' (suc k + size kids) later (λ j p m. h j (omega arith) (omega arith)) in
     λ i. entry (own i) (members i) (more i)
 
+-- an entry by its statement and what a place holds of it
+abbrev as_placed : Statement → Entry → Entry
+as_placed s e =
+    record (entry_of s (pictured e.kind e.digits 0) e.offset e.slack 0 0) {
+      width = e.width;
+      slack_at_end = e.slack_at_end;
+    }
+
 -- an entry is its statement's, at its place
 pub entry-placed :
     (r : Row) (s : Statement) (e : Entry) →
     EntryOf s e →
     r.statement ≡ s →
-    entry_of r.statement (pictured e.kind e.width) e.offset e.slack ≡ e
-entry-placed r s e o h =
-    ap (λ (x : Statement). entry_of x (pictured e.kind e.width) e.offset e.slack) h
-    ∙ ap (λ (y : Entry). entry_of s (pictured y.kind y.width) y.offset y.slack) o.is
-    ∙ sym o.is
+    as_placed r.statement e ≡ e
+entry-placed r s e o h = ap (λ (x : Statement). as_placed x e) h ∙ ap (as_placed s) o.is ∙ sym o.is
 
 -- ---------------------------------------------------------------- a row, its children and the rest
 
@@ -219,7 +226,7 @@ linked-same t w w' leaf k last l h plain same x = tt
 linked-same t w w' (item s kids later) k last l h plain same x =
     let row : unnamed (row_in w k) ≡ unnamed (row_in w' k) = h k (omega arith) (omega arith) in
     let of : (row_in w k).statement ≡ (row_in w' k).statement = ap (λ (r : Row). r.statement) row in
-    let before : (row_in w' k).place.before ≡ last = sym (ap (λ (r : Row). r.place.before) row) ∙ x.0.before in (
+    let before : before_in w' k ≡ last = sym (ap (λ (r : Row). k - r.place.gap) row) ∙ x.0.before in (
       record {
         before = before;
         below = sym (ap (λ (r : Row). r.below) row) ∙ x.0.below;
@@ -290,7 +297,7 @@ places-held t (item s kids later) (entry e members more) w k last b o r x fits =
       entries = λ i. entry (own i) (members-held i) (rest'.entries i);
       linked = (
         record {
-          before = ap (λ (r : Row). r.place.before) here;
+          before = ap (λ (r : Row). k - r.place.gap) here ∙ back_by k last b;
           below = ap (λ (r : Row). r.below) here ∙ ap (λ (y : Statement × ℕ × ℕ × Option ℕ). y.1) (known₁ k) ∙ x.0;
           base =
               ap (λ (r : Row). row_code r.place.base) here

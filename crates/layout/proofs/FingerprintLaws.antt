@@ -12,7 +12,7 @@ use Rattle.std.specs.Prelude.{if◌then◌else◌}
 use Rattle.text.specs.Fingerprints.{name_fingerprint}
 use Rattle.text.proofs.SameLaws.{fingerprint-apart}
 use Rattle.rows.specs.declared.Row.{Row}
-use Rattle.rows.specs.Rows.{row_in}
+use Rattle.rows.specs.Rows.{row_in, before_in}
 use Rattle.layout.specs.Targets.{left_out, is_target, row_from, looked_from}
 use Rattle.layout.specs.Fingerprints.{FingerprintedRow, Fingerprinted, PassedBack}
 use Rattle.layout.proofs.SearchLaws.{row_here, looked-here}
@@ -53,7 +53,7 @@ module _ (t : List ℕ) (w : List Row) (target : Span) (bases : Bool) {fingerpri
   -- a run of such rows
   run :
       (d r : ℕ) →
-      ((j : ℕ) → r ≤ j → j < r + d → ((row_in w j).fingerprint ≡ fingerprint → ⊥) × ((row_in w j).place.before ≡ j)) →
+      ((j : ℕ) → r ≤ j → j < r + d → ((row_in w j).fingerprint ≡ fingerprint → ⊥) × ((row_in w j).place.gap ≡ 0)) →
       Fingerprinted t w (r + d) →
       Passed (r + d) r
   run zero r h p =
@@ -65,20 +65,21 @@ module _ (t : List ℕ) (w : List Row) (target : Span) (bases : Bool) {fingerpri
   run (suc d) r h p =
       let k = r + d in
       let other = h k (omega arith) (omega arith) in
+      let next : before_in w k ≡ k = omega (arith, other.1) in
       let no = not-target k (p.rows k (omega arith)) other.0 in
       let ih = run d r (λ j l m. h j l (omega arith)) (fingerprinted-less p (omega arith)) in
       let z : r + suc d ≡ suc k = omega arith in
       let one =
       ap (λ (m : ℕ). looked_from t target bases w m m) z
       ∙ looked-here t w target bases k
-      ∙ ap (λ (b : Bool). if b then 1 else suc (looked_from t target bases w k (row_in w k).place.before)) no
-      ∙ ap (λ (m : ℕ). suc (looked_from t target bases w k m)) other.1 in
+      ∙ ap (λ (b : Bool). if b then 1 else suc (looked_from t target bases w k (before_in w k))) no
+      ∙ ap (λ (m : ℕ). suc (looked_from t target bases w k m)) next in
       record {
         row =
             ap (λ (m : ℕ). row_from t target bases w m m) z
             ∙ row_here t w target bases k
-            ∙ ap (λ (b : Bool). if b then suc k else row_from t target bases w k (row_in w k).place.before) no
-            ∙ ap (row_from t target bases w k) other.1
+            ∙ ap (λ (b : Bool). if b then suc k else row_from t target bases w k (before_in w k)) no
+            ∙ ap (row_from t target bases w k) next
             ∙ ih.row;
         looked = omega (arith, one, ih.looked);
       }

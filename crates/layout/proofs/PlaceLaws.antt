@@ -1,7 +1,7 @@
 -- Laws of the places in the rows: what a place leaves alone, and how it is read back; the earlier siblings.
 -- Assumes nothing.
 use Rattle.std.specs.Prelude.{Option, None}
-use Prim.Native.Nat.{ℕ, zero, suc, ◌+◌, ◌≤◌, ◌<◌}
+use Prim.Native.Nat.{ℕ, zero, suc, ◌+◌, ◌-◌, ◌≤◌, ◌<◌}
 use mathlib.Core.Path.{◌≡◌, refl, ap, subst, ◌∙◌}
 use mathlib.Core.Bool.{Bool, true, false}
 use mathlib.Core.List.{List, ◌∷◌}
@@ -16,12 +16,16 @@ use Rattle.definition.specs.Fold.{Entries, end, entry}
 use Rattle.definition.specs.Search.{entries#}
 use Rattle.definition.proofs.Lists.{order}
 use Rattle.rows.specs.declared.Row.{Row}
-use Rattle.rows.specs.Rows.{row_in, statement_at, statements_from}
+use Rattle.rows.specs.Rows.{row_in, before_in, statement_at, statements_from}
 use Rattle.rows.proofs.RowLaws.{set_keeps, statements-same}
 use Rattle.layout.specs.Places.{known, placed_in, put_place, put_places}
 use Rattle.layout.specs.Targets.{place_at, left_out, seen_from}
 use Rattle.layout.specs.Fingerprints.{Fingerprinted}
 use Rattle.layout.proofs.FingerprintLaws.{fingerprinted-same}
+
+-- as many rows back as stand between
+pub back_by : (k last : ℕ) → last ≤ k → k - (k - last) ≡ last
+back_by k last h = omega arith
 
 module _ (t : List ℕ) where
   -- ---------------------------------------------------------------- one place
@@ -137,11 +141,11 @@ module _ (bases : Bool) (w : List Row) where
 
   -- the latest sibling, and those before it
   module _ (k : ℕ) where
-    pub seen-out : left_out bases w k ≡ true → seen_from bases w (suc k) (suc k) ≡ seen_from bases w k (row_in w k).place.before
+    pub seen-out : left_out bases w k ≡ true → seen_from bases w (suc k) (suc k) ≡ seen_from bases w k (before_in w k)
     unfolding seen_from
     seen-out h = rw (h, eq-eqb (suc k) (suc k) refl, seen_from)
 
-    pub seen-in : left_out bases w k ≡ false → seen_from bases w (suc k) (suc k) ≡ place_at w k ∷ seen_from bases w k (row_in w k).place.before
+    pub seen-in : left_out bases w k ≡ false → seen_from bases w (suc k) (suc k) ≡ place_at w k ∷ seen_from bases w k (before_in w k)
     unfolding seen_from
     seen-in h = rw (h, eq-eqb (suc k) (suc k) refl, seen_from)
 
@@ -153,6 +157,6 @@ pub seen_same :
 unfolding seen_from
 seen_same bases w w' zero last h = refl
 seen_same bases w w' (suc k) last h =
-    let back = seen_same bases w w' k (row_in w k).place.before (λ j l. h j (omega arith)) in
+    let back = seen_same bases w w' k (before_in w k) (λ j l. h j (omega arith)) in
     let on = seen_same bases w w' k last (λ j l. h j (omega arith)) in
     cc (h k (omega arith), back, on)

@@ -17,7 +17,7 @@ use Rattle.definition.specs.Fold.{Place, Search, search_back, find, same_name}
 use Rattle.definition.proofs.LayoutLaws.{search-none, search-hit, search-miss, find_none, find-hit, find-miss}
 use Rattle.definition.proofs.Lists.{order}
 use Rattle.rows.specs.declared.Row.{Row}
-use Rattle.rows.specs.Rows.{row_code, row_in}
+use Rattle.rows.specs.Rows.{row_code, row_in, before_in}
 use Rattle.rows.proofs.RowLaws.{code-back}
 use Rattle.layout.specs.declared.redefines.SearchEnd.{SearchEnd}
 use Rattle.layout.specs.Targets.{place_at, left_out, seen_from, seen_at, is_target, row_from, looked_from, offset_of}
@@ -39,26 +39,17 @@ module _ (f : ℕ → ℕ → ℕ) (skip : (k last : ℕ) → (last ≡ suc k �
       (λ (l : suc k ≤ last). ap (λ (m : ℕ). f m last) (let e : suc k ≡ last = omega arith in e))
       (order last (suc k))
 
-  -- and finds none past the rows
-  over : (n last : ℕ) → f 0 last ≡ 0 → n < last → f n last ≡ 0
-  over zero last z h = z
-  over (suc k) last z h = skip k last (λ e. omega arith) ∙ over k last z (omega arith)
-
 module _ (t : List ℕ) (w : List Row) (target : Span) (bases : Bool) where
   row-skip : (k last : ℕ) → (last ≡ suc k → ⊥) → row_from t target bases w (suc k) last ≡ row_from t target bases w k last
   unfolding row_from
   row-skip k last h = rw (ne_eqb last (suc k) h, row_from)
 
-  -- rows after the last sibling do not count, and there is no sibling past the rows
+  -- rows after the last sibling do not count
   pub row_low : (n last : ℕ) → last ≤ n → row_from t target bases w n last ≡ row_from t target bases w last last
   row_low = low (row_from t target bases w) row-skip
 
-  pub row-over : (n last : ℕ) → n < last → row_from t target bases w n last ≡ 0
-  unfolding row_from
-  row-over n last = over (row_from t target bases w) row-skip n last refl
-
   -- the latest sibling, or those before it
-  pub row_here : (k : ℕ) → row_from t target bases w (suc k) (suc k) ≡ (if is_target t target bases w k then suc k else row_from t target bases w k (row_in w k).place.before)
+  pub row_here : (k : ℕ) → row_from t target bases w (suc k) (suc k) ≡ (if is_target t target bases w k then suc k else row_from t target bases w k (before_in w k))
   unfolding row_from
   row_here k = rw (eq-eqb (suc k) (suc k) refl, row_from)
 
@@ -66,7 +57,7 @@ module _ (t : List ℕ) (w : List Row) (target : Span) (bases : Bool) where
   unfolding row_from
   row-most zero last = omega arith
   row-most (suc k) last =
-      let back = row-most k (row_in w k).place.before in
+      let back = row-most k (before_in w k) in
       let on = row-most k last in
       if-most (eqb last (suc k)) (if-most (is_target t target bases w k) (omega arith) (omega (arith, back))) (omega (arith, on))
 
@@ -79,14 +70,10 @@ module _ (t : List ℕ) (w : List Row) (target : Span) (bases : Bool) where
   pub looked-low : (n last : ℕ) → last ≤ n → looked_from t target bases w n last ≡ looked_from t target bases w last last
   looked-low = low (looked_from t target bases w) looked-skip
 
-  pub looked-over : (n last : ℕ) → n < last → looked_from t target bases w n last ≡ 0
-  unfolding looked_from
-  looked-over n last = over (looked_from t target bases w) looked-skip n last refl
-
   pub looked-here :
       (k : ℕ) →
       looked_from t target bases w (suc k) (suc k)
-      ≡ (if is_target t target bases w k then 1 else suc (looked_from t target bases w k (row_in w k).place.before))
+      ≡ (if is_target t target bases w k then 1 else suc (looked_from t target bases w k (before_in w k)))
   unfolding looked_from
   looked-here k = rw (eq-eqb (suc k) (suc k) refl, looked_from)
 
@@ -94,23 +81,23 @@ module _ (t : List ℕ) (w : List Row) (target : Span) (bases : Bool) where
   pub row-found : (n last : ℕ) → find t target (seen_from bases w n last) ≡ offset_of w (row_from t target bases w n last)
   unfolding row_from seen_from
   row-found zero last = find_none t target
-  row-found (suc k) last = go (eqb last (suc k)) (left_out bases w k) (row-found k (row_in w k).place.before) (row-found k last)
+  row-found (suc k) last = go (eqb last (suc k)) (left_out bases w k) (row-found k (before_in w k)) (row-found k last)
     where
       named :
           (c : Bool) →
           same_name t target (row_in w k).statement.name ≡ c →
-          find t target (seen_from bases w k (row_in w k).place.before) ≡ offset_of w (row_from t target bases w k (row_in w k).place.before) →
-          find t target (place_at w k ∷ seen_from bases w k (row_in w k).place.before)
-          ≡ offset_of w (if c then suc k else row_from t target bases w k (row_in w k).place.before)
-      named true q p = find-hit t target (place_at w k) (seen_from bases w k (row_in w k).place.before) q
-      named false q p = find-miss t target (place_at w k) (seen_from bases w k (row_in w k).place.before) q ∙ p
+          find t target (seen_from bases w k (before_in w k)) ≡ offset_of w (row_from t target bases w k (before_in w k)) →
+          find t target (place_at w k ∷ seen_from bases w k (before_in w k))
+          ≡ offset_of w (if c then suc k else row_from t target bases w k (before_in w k))
+      named true q p = find-hit t target (place_at w k) (seen_from bases w k (before_in w k)) q
+      named false q p = find-miss t target (place_at w k) (seen_from bases w k (before_in w k)) q ∙ p
 
       go :
           (a b : Bool) →
-          find t target (seen_from bases w k (row_in w k).place.before) ≡ offset_of w (row_from t target bases w k (row_in w k).place.before) →
+          find t target (seen_from bases w k (before_in w k)) ≡ offset_of w (row_from t target bases w k (before_in w k)) →
           find t target (seen_from bases w k last) ≡ offset_of w (row_from t target bases w k last) →
-          find t target (if a then (if b then seen_from bases w k (row_in w k).place.before else place_at w k ∷ seen_from bases w k (row_in w k).place.before) else seen_from bases w k last)
-          ≡ offset_of w (if a then (if (if b then false else same_name t target (row_in w k).statement.name) then suc k else row_from t target bases w k (row_in w k).place.before) else row_from t target bases w k last)
+          find t target (if a then (if b then seen_from bases w k (before_in w k) else place_at w k ∷ seen_from bases w k (before_in w k)) else seen_from bases w k last)
+          ≡ offset_of w (if a then (if (if b then false else same_name t target (row_in w k).statement.name) then suc k else row_from t target bases w k (before_in w k)) else row_from t target bases w k last)
       go true true p q = p
       go true false p q = named (same_name t target (row_in w k).statement.name) refl p
       go false b p q = q
@@ -125,13 +112,13 @@ module _ (t : List ℕ) (w : List Row) (target : Span) where
   looked-compared : (n last : ℕ) → compared_from n last ≡ looked_from t target false w n last
   unfolding looked_from seen_from
   looked-compared zero last = ap (λ (s : Search). s.compared) (search-none t target)
-  looked-compared (suc k) last = go (eqb last (suc k)) (looked-compared k (row_in w k).place.before) (looked-compared k last)
+  looked-compared (suc k) last = go (eqb last (suc k)) (looked-compared k (before_in w k)) (looked-compared k last)
     where
       seen : List Place
-      seen = seen_from false w k (row_in w k).place.before
+      seen = seen_from false w k (before_in w k)
 
       looked : ℕ
-      looked = looked_from t target false w k (row_in w k).place.before
+      looked = looked_from t target false w k (before_in w k)
 
       is : Bool
       is = same_name t target (row_in w k).statement.name
@@ -170,11 +157,11 @@ module _ (t : List ℕ) (w : List Row) (target : Span) where
   unfolding row_from
   row_named zero last = tt
   row_named (suc k) last =
-      let p = row_named k (row_in w k).place.before in
+      let p = row_named k (before_in w k) in
       go (eqb last (suc k)) (same_name t target (row_in w k).statement.name) refl p (row_named k last)
     where
       back : ℕ
-      back = row_from t target false w k (row_in w k).place.before
+      back = row_from t target false w k (before_in w k)
 
       on : ℕ
       on = row_from t target false w k last
@@ -203,28 +190,28 @@ module _ (t : List ℕ) (w : List Row) (target : Span) where
   pub base_on : (n last : ℕ) → base_from t target w n last ≡ base_from t target w (row_from t target false w n last) (row_from t target false w n last)
   unfolding row_from
   base_on zero last = refl
-  base_on (suc k) last = go (eqb last (suc k)) refl (same_name t target (row_in w k).statement.name) refl (base_on k (row_in w k).place.before) (base_on k last)
+  base_on (suc k) last = go (eqb last (suc k)) refl (same_name t target (row_in w k).statement.name) refl (base_on k (before_in w k)) (base_on k last)
     where
       go :
           (a : Bool) →
           eqb last (suc k) ≡ a →
           (b : Bool) →
           same_name t target (row_in w k).statement.name ≡ b →
-          base_from t target w k (row_in w k).place.before ≡ base_from t target w (row_from t target false w k (row_in w k).place.before) (row_from t target false w k (row_in w k).place.before) →
+          base_from t target w k (before_in w k) ≡ base_from t target w (row_from t target false w k (before_in w k)) (row_from t target false w k (before_in w k)) →
           base_from t target w k last ≡ base_from t target w (row_from t target false w k last) (row_from t target false w k last) →
-          (if a then (if (if is_given (row_in w k).statement.clauses.redefines then false else same_name t target (row_in w k).statement.name) then suc k else base_from t target w k (row_in w k).place.before) else base_from t target w k last)
-          ≡ base_from t target w (if a then (if same_name t target (row_in w k).statement.name then suc k else row_from t target false w k (row_in w k).place.before) else row_from t target false w k last)
-          (if a then (if same_name t target (row_in w k).statement.name then suc k else row_from t target false w k (row_in w k).place.before) else row_from t target false w k last)
+          (if a then (if (if is_given (row_in w k).statement.clauses.redefines then false else same_name t target (row_in w k).statement.name) then suc k else base_from t target w k (before_in w k)) else base_from t target w k last)
+          ≡ base_from t target w (if a then (if same_name t target (row_in w k).statement.name then suc k else row_from t target false w k (before_in w k)) else row_from t target false w k last)
+          (if a then (if same_name t target (row_in w k).statement.name then suc k else row_from t target false w k (before_in w k)) else row_from t target false w k last)
       go true p true q back on =
           sym (row_here t w target true k)
-          ∙ ap (λ (b : Bool). base_from t target w (if b then suc k else row_from t target false w k (row_in w k).place.before) (if b then suc k else row_from t target false w k (row_in w k).place.before)) (sym q)
+          ∙ ap (λ (b : Bool). base_from t target w (if b then suc k else row_from t target false w k (before_in w k)) (if b then suc k else row_from t target false w k (before_in w k))) (sym q)
       go true p false q back on =
-          ap (λ (b : Bool). if (if is_given (row_in w k).statement.clauses.redefines then false else b) then suc k else base_from t target w k (row_in w k).place.before) q
+          ap (λ (b : Bool). if (if is_given (row_in w k).statement.clauses.redefines then false else b) then suc k else base_from t target w k (before_in w k)) q
           ∙ no-base (is_given (row_in w k).statement.clauses.redefines)
           ∙ back
-          ∙ ap (λ (b : Bool). base_from t target w (if b then suc k else row_from t target false w k (row_in w k).place.before) (if b then suc k else row_from t target false w k (row_in w k).place.before)) (sym q)
+          ∙ ap (λ (b : Bool). base_from t target w (if b then suc k else row_from t target false w k (before_in w k)) (if b then suc k else row_from t target false w k (before_in w k))) (sym q)
         where
-          no-base : (g : Bool) → (if (if g then false else false) then suc k else base_from t target w k (row_in w k).place.before) ≡ base_from t target w k (row_in w k).place.before
+          no-base : (g : Bool) → (if (if g then false else false) then suc k else base_from t target w k (before_in w k)) ≡ base_from t target w k (before_in w k)
           no-base true = refl
           no-base false = refl
       go false p b q back on = on
@@ -239,7 +226,7 @@ module _ (t : List ℕ) (w : List Row) (target : Span) where
 
   pub found-step :
       (bases : Bool) (k last : ℕ) →
-      (row_in w k).place.before ≡ last →
+      before_in w k ≡ last →
       last ≤ k →
       found bases (suc k) ≡ (if is_target t target bases w k then suc k else found bases last)
   found-step bases k last e l =
@@ -255,7 +242,7 @@ module _ (t : List ℕ) (w : List Row) (target : Span) where
 
   pub back_step :
       (k last : ℕ) →
-      (row_in w k).place.before ≡ last →
+      before_in w k ≡ last →
       last ≤ k →
       back (suc k) ≡ (if is_target t target true w k then suc k else back last)
   back_step = found-step true
@@ -268,7 +255,7 @@ row_same :
 unfolding row_from
 row_same t target bases w w' zero last h = refl
 row_same t target bases w w' (suc k) last h =
-    let back = row_same t target bases w w' k (row_in w k).place.before (λ j l. h j (omega arith)) in
+    let back = row_same t target bases w w' k (before_in w k) (λ j l. h j (omega arith)) in
     let on = row_same t target bases w w' k last (λ j l. h j (omega arith)) in
     cc (h k (omega arith), back, on)
 

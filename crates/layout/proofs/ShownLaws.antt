@@ -18,7 +18,7 @@ use Rattle.definition.specs.Owner.{size}
 use Rattle.definition.specs.Search.{entries#}
 use Rattle.definition.proofs.LayoutLaws.{redefiners-hit, redefiners-miss, redefiners-ends, redefiners-next}
 use Rattle.rows.specs.declared.Row.{Row}
-use Rattle.rows.specs.Rows.{row_code, row_in, statement_at, statements_from}
+use Rattle.rows.specs.Rows.{row_code, row_in, before_in, statement_at, statements_from}
 use Rattle.layout.specs.Targets.{seen_from, bases_at, base_from, base_after, place_at}
 use Rattle.layout.specs.Places.{entry_in, entries_in, Linked, rows_forest}
 use Rattle.layout.specs.Children.{ChildrenEnd, Numbered}
@@ -43,7 +43,7 @@ entries-size w (item s kids later) k = omega (arith, entries-size w kids (suc k)
 
 -- what row i holds, whose children end at j, and its siblings at `to`
 pub record RowIs (t : List ℕ) (w : List Row) (i j to last : ℕ) : Type 0 where
-  pub before : (row_in w i).place.before ≡ last
+  pub before : before_in w i ≡ last
   pub base : row_code (row_in w i).place.base ≡ base_after t w i last
   pub chain : row_code (row_in w i).place.next ≡ next_in w (union_of w i) j (rows_forest w j to)
 
@@ -125,7 +125,7 @@ module _ (t : List ℕ) (w : List Row) (i k to : ℕ) where
 rest-step :
     (t : List ℕ) (w : List Row) (i to last j : ℕ) →
     ChildrenEnd w i to j →
-    (row_in w i).place.before ≡ last →
+    before_in w i ≡ last →
     last ≤ i →
     folded_rest t w i to last ≡ append (shown_at t w i j to last) (folded_rest t w j to (suc i))
 unfolding folded_below

@@ -19,7 +19,7 @@ use Rattle.definition.proofs.Lists.{order}
 use Rattle.definition.specs.Tree.{Forest, leaf, item, higher}
 use Rattle.definition.specs.Owner.{size}
 use Rattle.rows.specs.declared.Row.{Row}
-use Rattle.rows.specs.Rows.{row_code, row_in, statement_at, statements_from}
+use Rattle.rows.specs.Rows.{row_code, row_in, before_in, statement_at, statements_from}
 use Rattle.layout.proofs.RowLaws.{children-end, forest-empty, forest-split}
 use Rattle.layout.proofs.EntriesLaws.{next_row}
 use Rattle.definition.proofs.WordLaws.{never}
@@ -96,7 +96,7 @@ module _ (t : List ℕ) (w : List Row) {i to last : ℕ} (fits : to ≤ length w
       }
 
   -- and whether it has a base is known, after the sibling that it names
-  pub named-known : Known t w i (row_in w i).place.before
+  pub named-known : Known t w i (before_in w i)
   named-known =
       subst (Known t w i) (sym (marked_step w i to j h t last m).0.before)
       (marked-known t w i to last fits before (omega (arith, h.low, h.high)) m)
@@ -124,14 +124,14 @@ along-starts t w from to h =
 module _ {t : List ℕ} {w : List Row} {from to i last : ℕ} {done : Entries} (inv : Along t w from to i last done) where
   module _ {j : ℕ} (h : ChildrenEnd w i to j) where
     -- the sibling before row i
-    pub along-before : (row_in w i).place.before ≡ last
+    pub along-before : before_in w i ≡ last
     along-before = (marked_step w i to j h t last inv.marks).0.before
 
     -- row i, as the loop names it
-    pub along-sibling : {row : ℕ} → row ≡ i → Branch t w row j to × Known t w row (row_in w row).place.before
+    pub along-sibling : {row : ℕ} → row ≡ i → Branch t w row j to × Known t w row (before_in w row)
     along-sibling at =
         let sized = sized-part inv.tree.sized i to inv.low (omega arith) in
-        subst (λ (k : ℕ). Branch t w k j to × Known t w k (row_in w k).place.before) (sym at)
+        subst (λ (k : ℕ). Branch t w k j to × Known t w k (before_in w k)) (sym at)
         (marked-branch t w inv.tree.fits inv.back sized inv.marks h, named-known t w inv.tree.fits inv.back sized inv.marks h)
 
     pub along-on : Along t w from to j (i + 1) (append done (shown_at t w i j to last))
@@ -310,7 +310,7 @@ module _ {t : List ℕ} {w : List Row} {i j to k n : ℕ} (inv : Following t w i
     row_is : RowIs t w row m to x.before
     row_is = (marked_step w row to m h t x.before x.marks).0
 
-    pub next-sibling : Branch t w row m to × Known t w row (row_in w row).place.before
+    pub next-sibling : Branch t w row m to × Known t w row (before_in w row)
     next-sibling =
         let later = sized-part inv.base.branch.sized row to (omega (arith, inv.base.low, inv.low, x.low)) (omega arith) in
         (marked-branch t w inv.base.fits x.back later x.marks h, named-known t w inv.base.fits x.back later x.marks h)

@@ -1,4 +1,4 @@
--- The fingerprints of the names in the rows: what putting them there does, and what a search may pass over by them.
+-- The fingerprints of the names in the rows: that each is its name's, and what a search may pass over by them.
 -- Assumes nothing.
 use Rattle.std.specs.Prelude.{ℕ, ◌≤◌, ◌<◌, ◌≡◌, List}
 use Rattle.text.specs.Fingerprints.{name_fingerprint}
@@ -13,7 +13,7 @@ FingerprintedRow text w k = (row_in w k).fingerprint ≡ name_fingerprint text (
 pub record Fingerprinted (text : List ℕ) (w : List Row) (n : ℕ) : Type 0 where
   pub rows : (k : ℕ) → k < n → FingerprintedRow text w k
 
--- the rows from r up to `last` have other fingerprints, and each names the row before it as its sibling
+-- the rows from r up to `last` have other fingerprints, and the row before each is its sibling
 pub record PassedBack (w : List Row) (fingerprint last r : ℕ) : Type 0 where
   pub low : r ≤ last
-  pub others : (j : ℕ) → r ≤ j → j < last → ((row_in w j).fingerprint ≡ fingerprint → ⊥) × ((row_in w j).place.before ≡ j)
+  pub others : (j : ℕ) → r ≤ j → j < last → ((row_in w j).fingerprint ≡ fingerprint → ⊥) × ((row_in w j).place.gap ≡ 0)

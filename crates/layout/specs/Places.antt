@@ -1,5 +1,5 @@
--- What the layout adds to the rows: the offset, the width, the kind and the slack of the entry, the sibling before it,
--- its base and the siblings that may place it.
+-- What the layout adds to the rows: the offset, the width, the kind, the digits and the slack of the entry, the sibling
+-- before it, its base and the siblings that may place it.
 -- Assumes nothing.
 use Rattle.std.specs.Prelude.{ℕ, suc, ◌+◌, ◌-◌, ◌≡◌, List, set, Option, None}
 use Rattle.definition.specs.declared.Statement.{Statement}
@@ -11,12 +11,17 @@ use Rattle.definition.specs.Layout.{entry_of}
 use Rattle.definition.specs.Owner.{size}
 use Rattle.definition.specs.Search.{entries#}
 use Rattle.rows.specs.declared.Row.{Row}
-use Rattle.rows.specs.Rows.{row_of_code, row_code, row_in, statements_from}
+use Rattle.rows.specs.Rows.{row_of_code, row_code, row_in, before_in, statements_from}
 use Rattle.layout.specs.Targets.{base_after, plain_after, target_after}
 
 -- the entry in a row
 abbrev pub entry_at : Row → Entry
-entry_at r = entry_of r.statement (pictured r.place.kind r.place.width) r.place.offset r.place.slack
+entry_at r =
+    let p = r.place in
+    record (entry_of r.statement (pictured p.kind p.digits 0) p.offset p.slack 0 0) {
+      width = p.width;
+      slack_at_end = p.slack_at_end;
+    }
 
 abbrev pub entry_in : List Row → ℕ → Entry
 entry_in w k = entry_at (row_in w k)
@@ -36,17 +41,20 @@ unnamed r = named r None
 
 -- ---------------------------------------------------------------- places
 
--- a row with the place of an entry; the next row of its union is not known yet
+-- a row with the place of an entry, behind so many rows that are no siblings; the next row of its union is not known
+-- yet
 abbrev pub placed : Row → ℕ → Option ℕ → Option ℕ → Option ℕ → Entry → Row
-placed r last base plain target e =
+placed r gap base plain target e =
     record r {
       place =
           record {
             offset = e.offset;
             width = e.width;
             slack = e.slack;
+            slack_at_end = e.slack_at_end;
             kind = e.kind;
-            before = last;
+            digits = e.digits;
+            gap = gap;
             base = base;
             plain = plain;
             target = target;
@@ -57,7 +65,7 @@ placed r last base plain target e =
 -- row k of w with the place of an entry, after the sibling `last`, whose base and placers are found in w
 abbrev pub placed_in : List ℕ → List Row → ℕ → ℕ → Entry → Row
 placed_in text w k last e =
-    placed (row_in w k) last (row_of_code (base_after text w k last)) (row_of_code (plain_after w last))
+    placed (row_in w k) (k - last) (row_of_code (base_after text w k last)) (row_of_code (plain_after w last))
     (row_of_code (target_after text w k last)) e
 
 -- w with that row
@@ -86,7 +94,7 @@ entries_in w k (item s kids later) =
 -- row k, after the sibling `last` and over the forest of its children, names that sibling, its base and what may place
 -- it, and counts the rows below it
 pub record RowLinked (text : List ℕ) (w : List Row) (k last : ℕ) (kids : Forest) : Type 0 where
-  pub before : (row_in w k).place.before ≡ last
+  pub before : before_in w k ≡ last
   pub below : (row_in w k).below ≡ size kids
   pub base : row_code (row_in w k).place.base ≡ base_after text w k last
   pub plain : row_code (row_in w k).place.plain ≡ plain_after w last

@@ -10,7 +10,7 @@ use Rattle.definition.specs.Fold.{Entries, end, entry, total, same_name, same_sp
 use Rattle.definition.specs.Fold.{with_redefiners, has_base, folded_list, folded_below, folded_all}
 use Rattle.definition.specs.Owner.{size}
 use Rattle.rows.specs.declared.Row.{Row}
-use Rattle.rows.specs.Rows.{row_code, row_in}
+use Rattle.rows.specs.Rows.{row_code, row_in, before_in}
 use Rattle.layout.specs.Targets.{bases_at, base_from, place_at}
 use Rattle.layout.specs.Places.{entry_in, entries_in, rows_forest, RowLinked}
 use Rattle.layout.specs.declared.unions.Standing.{Standing}
@@ -81,7 +81,7 @@ IsBase w i = is_given (row_in w i).statement.clauses.redefines ≡ false
 
 -- how row i stands in the folded list, after the sibling that it names
 abbrev pub standing_at : List ℕ → List Row → ℕ → Standing
-standing_at text w i = standing text (bases_at w (row_in w i).place.before) (entry_in w i)
+standing_at text w i = standing text (bases_at w (before_in w i)) (entry_in w i)
 
 -- row i is there, after the sibling `last`, and a redefiner knows whether it has a base
 pub record Known (text : List ℕ) (w : List Row) (i last : ℕ) : Type 0 where

@@ -8,7 +8,7 @@ use Rattle.definition.specs.declared.Span.{Span}
 use Rattle.definition.specs.Basic.{is_given, Answer, Err, Ok}
 use Rattle.definition.specs.Fold.{same_name, Place, Search, search_back}
 use Rattle.rows.specs.declared.Row.{Row}
-use Rattle.rows.specs.Rows.{row_of_code, row_code, row_in}
+use Rattle.rows.specs.Rows.{row_of_code, row_code, row_in, before_in}
 use Rattle.layout.specs.declared.redefines.Among.{Among}
 use Rattle.layout.specs.declared.redefines.SearchEnd.{SearchEnd}
 use Rattle.layout.specs.declared.redefines.Start.{Start}
@@ -31,8 +31,8 @@ unfoldable pub seen_from : Bool → List Row → ℕ → ℕ → List Place
 seen_from bases w zero last = []
 seen_from bases w (suc k) last =
     if eqb last (suc k) then
-    (if left_out bases w k then seen_from bases w k (row_in w k).place.before
-    else place_at w k ∷ seen_from bases w k (row_in w k).place.before)
+    (if left_out bases w k then seen_from bases w k (before_in w k)
+    else place_at w k ∷ seen_from bases w k (before_in w k))
     else seen_from bases w k last
 
 -- the siblings from `last` back
@@ -52,7 +52,7 @@ unfoldable pub row_from : List ℕ → Span → Bool → List Row → ℕ → �
 row_from text target bases w zero last = 0
 row_from text target bases w (suc k) last =
     if eqb last (suc k)
-    then (if is_target text target bases w k then suc k else row_from text target bases w k (row_in w k).place.before)
+    then (if is_target text target bases w k then suc k else row_from text target bases w k (before_in w k))
     else row_from text target bases w k last
 
 -- how many siblings it looked at to get there, those left out too
@@ -60,7 +60,7 @@ unfoldable pub looked_from : List ℕ → Span → Bool → List Row → ℕ →
 looked_from text target bases w zero last = 0
 looked_from text target bases w (suc k) last =
     if eqb last (suc k) then
-    (if is_target text target bases w k then 1 else suc (looked_from text target bases w k (row_in w k).place.before))
+    (if is_target text target bases w k then 1 else suc (looked_from text target bases w k (before_in w k)))
     else looked_from text target bases w k last
 
 -- the offset of the row that a search found, if it found one

@@ -1,7 +1,7 @@
 //! What is too large and what too short: refusal 29, where an entry ends unless one of its numbers is above the
 //! largest, and refusal 42.
 
-ghost use Rattle.std.specs.Prelude.{◌≡◌, ◌≤◌};
+ghost use Rattle.std.specs.Prelude.{◌≡◌};
 ghost use Rattle.definition.specs.Calls.{record_check};
 ghost use Rattle.definition.specs.Fold.{times};
 ghost use Rattle.layout.specs.Ends.{end_of};
@@ -15,14 +15,13 @@ pub fn times_of(occurs: Option<u64>) -> u64
     occurs.unwrap_or(1)
 }
 
-/// Where an entry ends: 29 where its count, offset, bytes or end are above `LARGEST`.
+/// Where an entry ends: 29 where its count, offset, width, bytes or end are above `LARGEST`.
 pub fn entry_end(e: Entry) -> Result<usize, Refusal>
-    requires { e.width ≤ LARGEST }
     ensures { result ≡ end_of e }
 {
     let refusal = Refusal::TooLarge { position: e.at };
     let n = times_of(e.occurs);
-    if LARGEST_COUNT < n || LARGEST < e.offset {
+    if LARGEST_COUNT < n || LARGEST < e.offset || LARGEST < e.width {
         return Err(refusal);
     }
     let total = e.width * n as usize;

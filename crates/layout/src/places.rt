@@ -2,11 +2,12 @@
 
 ghost use Rattle.std.specs.Prelude.{◌≡◌, ◌+◌, ◌-◌, ◌≤◌, ◌<◌, length, MatchOption};
 ghost use Rattle.std.specs.Iterator.{at_most};
-ghost use Rattle.definition.specs.Layout.{entry_of};
-ghost use Rattle.definition.specs.declared.TheConstants.{MOST_STATEMENTS};
+ghost use Rattle.definition.specs.Layout.{word_of, entry_of};
+ghost use Rattle.definition.specs.declared.TheConstants.{LARGEST, MOST_STATEMENTS};
+ghost use Rattle.layout.specs.Places.{entry_at};
 ghost use Rattle.layout.specs.Children.{ChildrenEnd, Numbered, ListCounted, ListCounted-prop, BelowPut};
 
-use definition::{Entry, Pictured, Statement};
+use definition::{Entry, NamedUsage, Pictured, Span, Statement};
 use rows::{Row, Rows};
 
 /// The end of the children of row i, which counts the rows below it.
@@ -91,23 +92,72 @@ pub fn count_below(rows: &mut [Row], n: usize)
     }
 }
 
-/// An item's entry, after so much slack.
-pub fn entry_of(s: Statement, c: Pictured, offset: usize, slack: usize) -> Entry
-    ensures { result ≡ entry_of s c offset slack }
+/// The word that names a usage.
+fn word_of(named: Option<NamedUsage>) -> Span
+    ensures { result ≡ word_of named }
+{
+    match named {
+        Some(n) => n.word,
+        None => Span::ABSENT,
+    }
+}
+
+/// The entry in a row.
+pub fn entry_at(row: &Row) -> Entry
+    ensures { result ≡ entry_at row.now }
+{
+    let s = row.statement;
+    let place = row.place;
+    Entry {
+        at: usize::from(s.at),
+        level: s.level,
+        name: s.name,
+        offset: place.offset as usize,
+        width: place.width as usize,
+        kind: place.kind,
+        digits: place.digits,
+        picture: s.clauses.picture,
+        usage: word_of(s.usage),
+        sign: s.clauses.sign,
+        occurs: s.clauses.occurs,
+        depending: s.clauses.depending,
+        redefines: s.clauses.redefines,
+        over: s.clauses.redefines,
+        slack: place.slack as usize,
+        slack_at_end: usize::from(place.slack_at_end),
+        folded: false,
+    }
+}
+
+/// An item's entry, after so much slack, whose list is `inner` bytes wide and is followed by so much slack.
+pub fn entry_of(
+    s: Statement,
+    c: Pictured,
+    offset: usize,
+    slack: usize,
+    inner: usize,
+    slack_at_end: usize,
+) -> Entry
+    requires { (c.width ≤ LARGEST) × (inner ≤ LARGEST) × (slack_at_end ≤ LARGEST) }
+    ensures { result ≡ entry_of s c offset slack inner slack_at_end }
 {
     Entry {
         at: usize::from(s.at),
         level: s.level,
         name: s.name,
         offset,
-        width: c.width,
+        width: c.width + inner + slack_at_end,
         kind: c.kind,
+        digits: c.digits,
         picture: s.clauses.picture,
+        usage: word_of(s.usage),
+        sign: s.clauses.sign,
         occurs: s.clauses.occurs,
         depending: s.clauses.depending,
         redefines: s.clauses.redefines,
         over: s.clauses.redefines,
         slack,
+        slack_at_end,
         folded: false,
     }
 }

@@ -84,23 +84,19 @@ impl<'a> FingerprintedRows<'a> {
             && names::same_names(self.text, target, self.rows.row(k).statement.name)
     }
 
-    // The end of the siblings before row k.
-    fn siblings_end(self, k: usize) -> usize
-        requires { k < self.rows.count }
-        ensures { result ≡ (row_in self.entry.rows.all.now k).place.before }
-    {
-        usize::from(self.rows.row(k).place.before)
-    }
-
     // From `last` back over siblings with other fingerprints, as long as each is the row after the one before it.
     fn pass_back(self, last: usize, fingerprint: u32) -> usize
         requires { last ≤ self.rows.count }
         ensures { PassedBack self.entry.rows.all.now fingerprint last result }
     {
-        for row in (0..last).rev() {
-            if self.rows.row(row).fingerprint == fingerprint || self.siblings_end(row) != row {
-                return row + 1;
+        let mut k = last;
+        // Not a `for` over the rows before: it is compiled with one instruction more for each of them.
+        while 0 < k {
+            let row = self.rows.row(k - 1);
+            if row.fingerprint == fingerprint || row.place.gap != 0 {
+                return k;
             }
+            k -= 1;
         }
         0
     }
@@ -116,20 +112,13 @@ impl<'a> FingerprintedRows<'a> {
         let mut gaps = 0;
         // A turn goes back over all rows that `pass_back` and `siblings_end` leave out.
         while let Some(row) = k.checked_sub(1) {
-            let compared = last - row - gaps;
             if self.is_target(target, fingerprint, row, among) {
                 return SearchEnd {
                     row: Some(row),
-                    compared,
+                    compared: last - row - gaps,
                 };
             }
-            let before = self.siblings_end(row);
-            if row < before {
-                return SearchEnd {
-                    row: None,
-                    compared,
-                };
-            }
+            let before = self.rows.siblings_end(row);
             gaps += row - before;
             k = self.pass_back(before, fingerprint);
         }
@@ -187,10 +176,7 @@ impl<'a> FingerprintedRows<'a> {
     {
         let row = target?;
         if self.passed_over(row, Among::Bases) {
-            let before = self.siblings_end(row);
-            if row < before {
-                return None;
-            }
+            let before = self.rows.siblings_end(row);
             return self.search_back(redefines, before, Among::Bases).row;
         }
         Some(row)

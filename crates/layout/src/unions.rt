@@ -6,7 +6,7 @@ ghost use Rattle.definition.specs.declared.TheConstants.{MOST_STATEMENTS};
 ghost use Rattle.definition.specs.Fold.{total, has_member, folded_all};
 ghost use Rattle.layout.specs.Places.{entry_in};
 ghost use Rattle.layout.specs.Targets.{bases_at};
-ghost use Rattle.rows.specs.Rows.{row_in, row_code};
+ghost use Rattle.rows.specs.Rows.{row_in, before_in, row_code};
 ghost use Rattle.layout.specs.Checks.{check_row};
 ghost use Rattle.layout.specs.Marks.{link_row, Unlinked, UnionsLinked};
 ghost use Rattle.layout.specs.Shown.{standing, standing_at, list_in, shown_named, Known, Tree, Branch};
@@ -103,14 +103,14 @@ pub struct MarkedRow<'a> {
     /// The end of its children.
     pub end: usize,
     ghost branch: { Branch text.now rows.all.now row end rows.count } by { Branch-prop },
-    ghost known: { Known text.now rows.all.now row (row_in rows.all.now row).place.before },
+    ghost known: { Known text.now rows.all.now row (before_in rows.all.now row) },
 }
 
 impl<'a> MarkedRow<'a> {
     /// This sibling in these rows.
     pub fn new(text: &'a [u8], rows: Rows<'a>, sibling: Sibling) -> Self
         requires { Branch text.now rows.all.now sibling.row sibling.end rows.count
-            × Known text.now rows.all.now sibling.row (row_in rows.all.now sibling.row).place.before }
+            × Known text.now rows.all.now sibling.row (before_in rows.all.now sibling.row) }
         ensures { (result.text.now ≡ text.now) × (result.rows ≡ rows.entry) × (result.row ≡ sibling.row)
             × (result.end ≡ sibling.end) }
     {
@@ -126,7 +126,7 @@ impl<'a> MarkedRow<'a> {
     pub fn standing(self) -> Standing
         ensures { result ≡ standing_at self.entry.text.now self.entry.rows.all.now self.entry.row }
     {
-        let last = usize::from(self.rows.row(self.row).place.before);
+        let last = self.rows.siblings_end(self.row);
         standing_of(self.text, self.rows, self.row, last)
     }
 

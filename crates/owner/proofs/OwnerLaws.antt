@@ -22,15 +22,15 @@ use Rattle.definition.specs.Fold.{Entries, entry, total, folded_list, folded_bel
 use Rattle.definition.specs.Owner.{size, overlaid}
 use Rattle.definition.specs.Record.{record_length, layout}
 use Rattle.definition.specs.Search.{entries#, Row as Step, row_of_entry, rows, walk}
-use Rattle.definition.specs.Tree.{Forest, leaf, item, above, not_above, forest}
+use Rattle.definition.specs.Tree.{Forest, leaf, item, above, not_above, forest, root}
 use Rattle.definition.proofs.Cover.{Plain, plain, Unfolded, fold-plain}
 use Rattle.definition.proofs.Demand3.{refuses-40, refuses-41, one-owner, walked, computed}
 use Rattle.definition.proofs.Lists.{order, tested}
-use Rattle.definition.proofs.Walk.{walk-slack, walk-piece, walk-in, walk-later, walk-skip}
+use Rattle.definition.proofs.Walk.{walk-slack, walk-end, walk-piece, walk-in, walk-later, walk-skip}
 use Rattle.rows.specs.declared.Row.{Row}
 use Rattle.rows.specs.Rows.{statement_at, statements_from, row_in}
 use Rattle.layout.specs.Places.{entry_in, entries_in, rows_forest}
-use Rattle.record.proofs.LaidLaws.{layout_is}
+use Rattle.record.proofs.LaidLaws.{layout_is, listed-fields}
 use Rattle.layout.proofs.EntriesLaws.{size-stretch, Rows, rows-forest, linked-counted}
 use Rattle.layout.proofs.ShownLaws.{entries-size, marked-linked}
 use Rattle.record.specs.Laying.{Listed}
@@ -196,8 +196,8 @@ module _ {w : List Row} {from to position k first q : ℕ} (a : At w from to pos
 
 -- a byte that does not stand before row k, where so much is known of the row
 module _ {w : List Row} {from to position k first q : ℕ} (a : At w from to position k first q) (h : k < to)
-    {offset width below all : ℕ} (o : offset ≡ (row_in w k).place.offset) (d : width ≡ (row_in w k).place.width)
-    (b : below ≡ (row_in w k).below) (t : Measured (total (entry_in w k)) all) (r : offset ≤ q) where
+    {offset width at_end below all : ℕ} (o : offset ≡ (row_in w k).place.offset) (d : width ≡ (row_in w k).place.width)
+    (n : at_end ≡ (row_in w k).place.slack_at_end) (b : below ≡ (row_in w k).below) (t : Measured (total (entry_in w k)) all) (r : offset ≤ q) where
   -- a byte in an occurrence of the row
   module _ (l : q - offset < all) where
     inside-row : q < (row_in w k).place.offset + total (entry_in w k)
@@ -211,21 +211,33 @@ module _ {w : List Row} {from to position k first q : ℕ} (a : At w from to pos
     known-place : (q - (row_in w k).place.offset) % (row_in w k).place.width ≡ (q - offset) % width
     known-place = ap₂ (λ (x y : ℕ). (q - x) % y) (sym o) (sym d)
 
+    -- slack at the end of an occurrence
+    pub found-end :
+        width - at_end ≤ (q - offset) % width →
+        Some (Owner.Slack (k - from)) ≡ walk 0 0 0 (rows (list_in w from to)) position
+    found-end e =
+        sym
+        (at_row a h
+        ∙ walk-end (k - from) first (row_at w k) (table_rows w (suc k) (to - suc k)) q (omega (arith, o, r))
+        inside-row (omega (arith, e, d, n, known-place)))
+
     pub found-piece :
+        (q - offset) % width < width - at_end →
         below ≡ 0 →
         Some (Owner.Piece (k - from) (first + (offset + (q - offset) / width * width)) ((q - offset) % width))
         ≡ walk 0 0 0 (rows (list_in w from to)) position
-    found-piece z =
+    found-piece e z =
         sym
         (at_row a h
         ∙ walk-piece (k - from) first (row_at w k) (table_rows w (suc k) (to - suc k)) q (omega (arith, o, r))
-        inside-row (sym b ∙ z)
+        inside-row (omega (arith, e, d, n, known-place)) (sym b ∙ z)
         ∙ ap₂ (λ (x y : ℕ). Some (Owner.Piece (k - from) x y)) known_start known-place)
 
     pub go-in :
+        (q - offset) % width < width - at_end →
         (below ≡ 0 → ⊥) →
         At w from to position (k + 1) (first + (offset + (q - offset) / width * width)) ((q - offset) % width)
-    go-in z =
+    go-in l' z =
         let rest = table_rows w (suc k) (to - suc k) in
         let e : suc (k - from) ≡ suc k - from = omega (arith, a.low) in
         record {
@@ -235,7 +247,7 @@ module _ {w : List Row} {from to position k first q : ℕ} (a : At w from to pos
           same =
               rw (add-one k)
               (at_row a h
-              ∙ walk-in (k - from) first (row_at w k) rest q (omega (arith, o, r)) inside-row (omega (arith, z))
+              ∙ walk-in (k - from) first (row_at w k) rest q (omega (arith, o, r)) inside-row (omega (arith, l', d, n, known-place)) (omega (arith, z))
               ∙ ap₂ (λ (x y : ℕ). walk 0 (suc (k - from)) x rest y) known_start known-place
               ∙ ap (λ (n : ℕ). walk 0 n (first + (offset + (q - offset) / width * width)) rest
               ((q - offset) % width)) e);
@@ -249,7 +261,7 @@ module _ {w : List Row} {from to position k first q : ℕ} (a : At w from to pos
       let left = to - (suc k + below) in
       let next : k + (1 + below) ≡ suc k + below = omega arith in
       let e : to - suc k ≡ below + left = omega (arith, b) in
-      let n : suc (k - from) + below ≡ suc k + below - from = omega (arith, a.low) in
+      let m' : suc (k - from) + below ≡ suc k + below - from = omega (arith, a.low) in
       record {
         held = a.held;
         fits = a.fits;
@@ -261,11 +273,11 @@ module _ {w : List Row} {from to position k first q : ℕ} (a : At w from to pos
             (omega (arith, o, t.is))
             ∙ ap₂ (λ (x m : ℕ). walk x (suc (k - from)) first (table_rows w (suc k) m) q) (sym b) e
             ∙ walk-past w below (suc k) left (suc (k - from)) first q
-            ∙ ap (λ (x : ℕ). walk 0 x first (table_rows w (suc k + below) left) q) n);
+            ∙ ap (λ (x : ℕ). walk 0 x first (table_rows w (suc k + below) left) q) m');
         whole = a.whole;
       }
 
-pub ruleset walk_steps = (walk-starts, found-slack, found-piece, go-in, go_on, found_none)
+pub ruleset walk_steps = (walk-starts, found-slack, found-end, found-piece, go-in, go_on, found_none)
 
 -- ---------------------------------------------------------------- without REDEFINES every list is folded as it stands
 
@@ -314,25 +326,34 @@ listed-walkable {text} {w = w} {from} {to} l =
     let linked = marked-linked text w f from 0 l.tree.marks in
     record { fits = l.tree.fits; sized = l.tree.sized; counted = linked-counted text w f from 0 linked }
 
-module _ {text : List ℕ} {w : List Row} {from to length : ℕ} (l : Listed text (Ok (rows_forest w from to)) w from to length) where
+module _ {text : List ℕ} {w : List Row} {from to length : ℕ} (l : Listed text (Ok (rows_forest w 0 to)) w from to length) where
   -- the record's layout
   pub laid_out : layout text (rows_forest w from to) ≡ Ok (folded_all text (list_in w from to))
   unfolding and_then
   laid_out =
       layout_is text (rows_forest w from to)
-      ∙ ap (λ (a : Answer Entries). a >>= λ es. Ok (folded_all text es)) l.is
+      ∙ ap (λ (a : Answer Entries). a >>= λ es. Ok (folded_all text es)) (listed-fields l)
 
   module _ {b : Bool} (p : b ≡ overlaid (rows_forest w from to)) (q : ℕ) where
+    -- the root that was dropped does not matter
+    abbrev asked : Answer Owner
+    asked = owner_in q text (root (rows_forest w 0 to)) (rows_forest w from to) (list_in w from to)
+
+    rootless : owner_in q text None (rows_forest w from to) (list_in w from to) ≡ asked
+    unfolding owner_in
+    rootless = refl
+
     -- 40
-    pub answers-40 : b ≡ true → Err Refusal.Overlaid ≡ owner_in q text (rows_forest w from to) (list_in w from to)
-    answers-40 e = sym (refuses-40 text (rows_forest w from to) (list_in w from to) (sym p ∙ e) q)
+    pub answers-40 : b ≡ true → Err Refusal.Overlaid ≡ asked
+    answers-40 e = sym (refuses-40 text (rows_forest w from to) (list_in w from to) (sym p ∙ e) q) ∙ rootless
 
     module _ (e : b ≡ false) where
       -- 41
-      pub answers-41 : length ≤ q → Err Refusal.OutsideRecord ≡ owner_in q text (rows_forest w from to) (list_in w from to)
+      pub answers-41 : length ≤ q → Err Refusal.OutsideRecord ≡ asked
       answers-41 h =
           sym (refuses-41 text (rows_forest w from to) (folded_all text (list_in w from to)) laid_out (sym p ∙ e) q
           (list_in w from to) (omega (arith, l.long)))
+          ∙ rootless
 
       module _ (h : q < length) {o : Option Owner} (f : o ≡ walk 0 0 0 (rows (list_in w from to)) q) where
         below_length : q < record_length (folded_all text (list_in w from to))
@@ -353,7 +374,8 @@ module _ {text : List ℕ} {w : List Row} {from to length : ℕ} (l : Listed tex
             subst IsSome (sym named) refl
 
         -- and what the walk finds is that one
-        pub found : {x : Owner} → o ≡ Some x → Ok x ≡ owner_in q text (rows_forest w from to) (list_in w from to)
+        pub found : {x : Owner} → o ≡ Some x → Ok x ≡ asked
         found s =
             sym (computed text (rows_forest w from to) (folded_all text (list_in w from to)) laid_out (sym p
             ∙ e) q (list_in w from to) below_length (sym of-listing ∙ s))
+            ∙ rootless

@@ -16,7 +16,7 @@ use Rattle.layout.specs.Shown.{Sized}
 abbrev pub overlays : Statement → Bool
 overlays s = is_given s.clauses.redefines || is_given s.clauses.depending
 
--- row k as the walk reads it: its offset, width and count, and the number of rows below it
+-- row k as the walk reads it: its offset, width and count, the slack at its end, and the number of rows below it
 abbrev pub row_at : List Row → ℕ → Step
 row_at w k = row_of_entry (entry_in w k) (row_in w k).below
 
@@ -31,8 +31,8 @@ pub record Walkable (w : List Row) (from to : ℕ) : Type 0 where
   pub sized : Sized w from to
   pub counted : BelowCounted w from (rows_forest w from to)
 
--- the rows of a record hold its fields, and its length is theirs
+-- the rows of a record hold its statements, and its length is that of its fields
 abbrev pub Searchable : LaidRecord → Type 0
 Searchable a =
-    Listed a.text.now (Ok (rows_forest a.table.rows.all.now a.from a.table.rows.count))
+    Listed a.text.now (Ok (rows_forest a.table.rows.all.now 0 a.table.rows.count))
     a.table.rows.all.now a.from a.table.rows.count a.length

@@ -6,6 +6,7 @@ ghost use Rattle.std.specs.Prelude.{◌≡◌, ◌-◌, ◌<◌};
 ghost use Rattle.std.specs.List.{list_any, range_with_len};
 ghost use Rattle.definition.specs.Basic.{Ok};
 ghost use Rattle.definition.specs.Calls.{owner_in};
+ghost use Rattle.definition.specs.Tree.{root};
 ghost use Rattle.definition.specs.Owner.{overlaid};
 ghost use Rattle.definition.specs.Search.{rows as rows_of, walk};
 ghost use Rattle.rows.specs.Rows.{statement_at};
@@ -44,8 +45,9 @@ pub fn is_overlaid(rows: Rows, from: usize) -> bool
     some_overlay(rows, from)
 }
 
-/// The owner of the byte at a position of the record in the rows from `from` on: slack before a row's offset; else an
-/// occurrence of the row, or of a row below it; else the next row that is not below it; none behind them all.
+/// The owner of the byte at a position of the record in the rows from `from` on: slack before a row's offset, or at the
+/// end of an occurrence of it; else that occurrence, or what is found in a row below it; else the next row that is not
+/// below it; none behind them all.
 #[tactic(auto, using(crate::proofs::OwnerLaws::walk_steps))]
 pub fn walk_rows(rows: Rows, from: usize, position: usize) -> Option<Owner>
     requires { Walkable rows.all.now from rows.count }
@@ -67,6 +69,10 @@ pub fn walk_rows(rows: Rows, from: usize, position: usize) -> Option<Owner>
         if r < unions::row_total(rows, k) {
             first += offset + r / width * width;
             q = r % width;
+            let at_end = usize::from(row.place.slack_at_end);
+            if width.saturating_sub(at_end) <= q {
+                return Some(Owner::Slack { entry: k - from });
+            }
             if below == 0 {
                 return Some(Owner::Piece {
                     entry: k - from,
@@ -88,6 +94,7 @@ pub fn owner_of(laid: LaidRecord, position: usize) -> Result<Owner, Refusal>
     requires { Searchable laid }
     ensures { result
         ≡ owner_in position laid.entry.text.now
+        (root (rows_forest laid.entry.table.rows.all.now 0 laid.entry.table.rows.count))
         (rows_forest laid.entry.table.rows.all.now laid.entry.from laid.entry.table.rows.count)
         (list_in laid.entry.table.rows.all.now laid.entry.from laid.entry.table.rows.count) }
 {

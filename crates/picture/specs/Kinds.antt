@@ -1,6 +1,6 @@
 -- A picture's shape: the numbers that its kind and width and the last refusals depend on.
 -- Assumes nothing.
-use Rattle.std.specs.Prelude.{ℕ, ◌+◌, ◌-◌, ◌≤◌, max, ◌≡◌, Bool, false, ◌&&◌, ◌||◌, not, List, ltb, length, if◌then◌else◌, Option}
+use Rattle.std.specs.Prelude.{ℕ, ◌+◌, ◌-◌, ◌≤◌, max, ◌≡◌, Bool, false, ◌&&◌, ◌||◌, not, List, ltb, length, if◌then◌else◌, Option, None}
 use Rattle.definition.specs.declared.Usage.{Usage}
 use Rattle.definition.specs.declared.SignKind.{SignKind}
 use Rattle.definition.specs.declared.FieldKind.{FieldKind}
@@ -9,7 +9,7 @@ use Rattle.definition.specs.declared.Refusal.{Refusal}
 use Rattle.definition.specs.declared.TheConstants.{MOST_DIGITS, LONGEST_MASK}
 use Rattle.definition.specs.Basic.{Answer, Ok, ◌>>=◌, refuse_if}
 use Rattle.definition.specs.Picture.{tally, without, mask, fraction, all_digits, stored_digits, is_signed, is_edited}
-use Rattle.definition.specs.Picture.{pictured, is_display, resolve_sign, storage_width, numeric, symbols}
+use Rattle.definition.specs.Picture.{pictured, digits_of, is_display, resolve_sign, storage_width, numeric, symbols}
 use Rattle.picture.specs.declared.symbols.Tallies.{Tallies}
 use Rattle.picture.specs.declared.symbols.Half.{Half}
 use Rattle.picture.specs.declared.PicShape.{PicShape}
@@ -59,13 +59,16 @@ mixed_by s = ltb 0 s.text && (ltb 0 s.digits || s.edited)
 abbrev pub long_by : Usage → PicShape → Bool
 long_by usage s = not (ltb 0 s.text) && (ltb MOST_DIGITS s.digits || masked_by usage s && ltb LONGEST_MASK s.mask)
 
--- kind and width
+-- kind, digits and width
 abbrev pub kinded_by : Usage → Option SignKind → PicShape → Pictured
 kinded_by usage clause s =
     let sign = resolve_sign s.signed clause in
-    if ltb 0 s.text then pictured FieldKind.Text s.text
-    else if masked_by usage s then pictured (FieldKind.Edited (max 1 s.digits) s.scale s.signed) s.width
-    else pictured (numeric usage s.digits s.scale s.signed sign) (storage_width usage sign s.stored)
+    let edited = max 1 s.digits in
+    if ltb 0 s.text then pictured FieldKind.Text None s.text
+    else if masked_by usage s
+    then pictured (FieldKind.Edited edited s.scale s.signed) (digits_of edited s.scale s.signed) s.width
+    else pictured (numeric usage s.digits s.scale s.signed sign) (digits_of s.digits s.scale s.signed)
+    (storage_width usage sign s.stored)
 
 -- the last checks: 25, 26, 27
 abbrev pub checked : ℕ → Usage → PicShape → Half → Answer (Unit {0})

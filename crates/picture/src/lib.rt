@@ -1,4 +1,4 @@
-//! Pictures: kind and width of a picture with a usage and a sign, `parse_pic` of the Rust; in modules its symbols and
+//! Pictures: kind, digits and width of a picture with a usage and a sign, `parse_pic` of the Rust; in modules its symbols and
 //! their count, and the mask of an edited one. Leans on `text`.
 #![tactic(auto)]
 
@@ -11,7 +11,7 @@ ghost use Rattle.picture.specs.Kinds.{shape_of, masked_by, mixed_by, long_by, ch
 
 use crate::symbols::{Half, Tallies};
 use definition::{
-    FieldKind, LONGEST_MASK, MOST_DIGITS, NumRepr, Pictured, Refusal, SignKind, Usage,
+    Digits, FieldKind, LONGEST_MASK, MOST_DIGITS, NumRepr, Pictured, Refusal, SignKind, Usage,
 };
 
 pub mod mask;
@@ -167,7 +167,7 @@ impl PicShape {
         }
     }
 
-    /// Kind and width of a shape that passed the checks.
+    /// Kind, digits and width of a shape that passed the checks.
     fn pictured(self, usage: Usage, clause: Option<SignKind>) -> Pictured
         requires { Fit usage self }
         ensures { result ≡ kinded_by usage clause self }
@@ -175,28 +175,43 @@ impl PicShape {
         if 0 < self.text {
             return Pictured {
                 kind: FieldKind::Text,
+                digits: None,
                 width: self.text,
             };
         }
+        let digits = Digits {
+            precision: self.digits as u8,
+            scale: self.scale as u8,
+            signed: self.signed,
+        };
         if self.is_masked(usage) {
+            let precision = digits.precision.max(1);
             return Pictured {
                 kind: FieldKind::Edited {
-                    precision: self.digits.max(1) as u8,
-                    scale: self.scale as u8,
-                    signed: self.signed,
+                    precision,
+                    scale: digits.scale,
+                    signed: digits.signed,
                 },
+                digits: Some(Digits {
+                    precision,
+                    ..digits
+                }),
                 width: self.width,
             };
         }
         let sign = resolve_sign(self.signed, clause);
         Pictured {
             kind: self.numeric(usage, sign),
+            digits: Some(digits),
             width: self.storage_width(usage, sign),
         }
     }
 }
 
 /// The shape of a picture, or its first refusal of 22 to 27, at `at`.
+// Inlined, as `repeat_at`: what they answer needn't be stored then. Not so `count_symbols`: where its loop stands
+// twice, what it needs is called.
+#[inline(always)]
 #[tactic(auto, using(crate::proofs::Shapes::shape_steps))]
 pub fn read_shape(picture: &[u8], at: usize, usage: Usage) -> Result<PicShape, Refusal>
     ensures same { result ≡ shaped at usage picture.now }

@@ -74,6 +74,7 @@ fn repeat_in(inside: &[u8], at: usize) -> Result<(usize, usize), Refusal>
 
 /// How often a symbol stands, and how many bytes after it say so, by the text after it: once, and none, if no `(` is
 /// there; or why that cannot be read, as `repeat_in` has it.
+#[inline(always)]
 #[tactic(auto, using(crate::proofs::Repeating::repeat_steps))]
 pub fn repeat_at(rest: &[u8], at: usize) -> Result<(usize, usize), Refusal>
     ensures same { result ≡ repeat at rest.now }
@@ -222,14 +223,17 @@ impl Tallies {
     }
 }
 
-/// Whether a byte is a symbol by itself. Those from `*` to `0` all are: `*`, `+`, `,`, `-`, `.`, `/` and `0`.
+/// Whether a byte is a symbol by itself.
+// Neighbouring bytes have arms of their own: of two in one arm a range is made, and so all are one test of bits.
 fn is_symbol(b: u8) -> bool
     ensures { result ≡ symbol b }
 {
-    matches!(
-        b,
-        b'X' | b'A' | b'9' | b'P' | b'V' | b'S' | b'Z' | b'B' | b'$' | b'*'..=b'0'
-    )
+    match b {
+        b'X' | b'A' | b'9' | b'P' | b'V' | b'S' | b'Z' | b'$' => true,
+        b'B' | b'*' | b',' | b'.' | b'0' => true,
+        b'+' | b'-' | b'/' => true,
+        _ => false,
+    }
 }
 
 /// What is awaited of CR or DB, or that a byte was seen that is no symbol.

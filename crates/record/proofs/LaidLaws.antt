@@ -2,30 +2,27 @@
 -- Assumes nothing.
 use Prim.Native.Nat.{ℕ, suc, ◌+◌, ◌-◌, max, ◌≤◌, ◌<◌}
 use mathlib.Core.Path.{◌≡◌, refl, sym, ap, subst, ◌∙◌}
-use mathlib.Core.Bool.{false, ◌||◌}
+use mathlib.Core.Bool.{false}
 use mathlib.Core.List.{List, [], ◌∷◌}
 use mathlib.Core.Logic.{⊎_elim}
 use native.Mathlib.Omega.{arith}
-use lib.Dec.{ltb}
 use lib.ListN.{length, get_or}
 use Rattle.std.specs.Prelude.{Option}
 use Rattle.text.specs.Fingerprints.{name_fingerprint}
 use Rattle.definition.proofs.ParentLaws.{parents-forest}
-use borrow.Author.Tests.{ltb-false}
-use Rattle.std.proofs.lemmas.Bool.{or_parts}
 use Rattle.definition.specs.declared.Refusal.{Refusal}
 use Rattle.definition.specs.declared.Entry.{Entry}
 use Rattle.definition.specs.declared.TheConstants.{MOST_STATEMENTS, LARGEST}
 use Rattle.definition.specs.Basic.{Answer, Err, Ok, ◌>>=◌, and_then}
 use Rattle.definition.specs.declared.Statement.{Statement}
 use Rattle.definition.specs.Tree.{Forest, leaf, item, forest, fields, parents}
-use Rattle.definition.specs.Fold.{Entries, end, entry, times, total, entry_end, Place, place_of, fold_check, folded_all}
+use Rattle.definition.specs.Fold.{Entries, end, entry, total, entry_end, Place, place_of, fold_check, folded_all}
 use Rattle.definition.specs.Layout.{entry_of, too_large, advance, Laid, lay}
 use Rattle.definition.specs.Owner.{size}
 use Rattle.definition.proofs.Answers.{through, given-same}
 use Rattle.definition.proofs.Lists.{order}
 use Rattle.definition.specs.Calls.{kept_statements}
-use Rattle.definition.specs.Usages.{record_of, inherit_along}
+use Rattle.definition.specs.Usages.{inherited, inherit_along}
 use Rattle.definition.proofs.UsageLaws.{length-along, along-forest}
 use Rattle.rows.specs.declared.Row.{Row}
 use Rattle.rows.specs.Rows.{row_in, row_of_code, row_code, new_row, no_statement, statement_at, statements_from}
@@ -33,19 +30,19 @@ use Rattle.rows.proofs.RowLaws.{code-back, statements-by}
 use Rattle.statement.proofs.ReadingLaws.{Stored}
 use Rattle.definition.specs.Record.{record_length, ends_fit, unfolded, layout}
 use Rattle.layout.specs.Places.{put_places, entry_in, entries_in, rows_forest}
-use Rattle.layout.specs.Targets.{seen_from}
-use Rattle.layout.specs.Outcomes.{stopped, ready, lay_table, Room}
+use Rattle.layout.specs.Outcomes.{stopped, lay_table, Room}
 use Rattle.layout.specs.Children.{ChildrenEnd, BelowPut, uncounted}
-use Rattle.layout.proofs.EntriesLaws.{size-forest, size-stretch, counted_step}
+use Rattle.layout.proofs.EntriesLaws.{Held, size-forest, size-stretch, counted_step}
 use Rattle.layout.proofs.ListLaws.{bare-split, item-is}
-use Rattle.layout.proofs.LayLaws.{LaidRows, laid-rows, stopped-was}
+use Rattle.layout.specs.declared.LaidList.{LaidList}
+use Rattle.layout.proofs.LayLaws.{LaidRows, list-refused, HeldRows, held-rows}
 use Rattle.layout.proofs.RowLaws.{children-end, forest-split, forest-empty}
 use Rattle.layout.proofs.PlaceLaws.{length-places, known-places, statements-places, places-next}
 use Rattle.layout.specs.Shown.{list_in}
 use Rattle.layout.specs.Marks.{UnionsLinked}
 use Rattle.layout.proofs.KeptLaws.{forest-kept, list-kept, Ready, marked-tree}
 use Rattle.record.proofs.ParentLaws.{under-by, under_same}
-use Rattle.record.specs.Laying.{Under, Fielded, FieldsFrom, fields_of, laid_of, Listed}
+use Rattle.record.specs.Laying.{Under, Fielded, FieldsFrom, tree_of, laid_of, Listed}
 
 -- ---------------------------------------------------------------- no entry is too large
 
@@ -55,24 +52,21 @@ SizedAll end = Unit {0}
 SizedAll (entry e members later) = (total e ≤ LARGEST) × SizedAll members × SizedAll later
 
 total-within : (e : Entry) → too_large e ≡ false → total e ≤ LARGEST
-total-within e h =
-    let a = or_parts (ltb LARGEST (times e.occurs) || ltb LARGEST e.offset || ltb LARGEST (total e)) (ltb LARGEST (entry_end e)) h in
-    let b = or_parts (ltb LARGEST (times e.occurs) || ltb LARGEST e.offset) (ltb LARGEST (total e)) a.0 in
-    ltb-false LARGEST (total e) b.1
+total-within e h = grind arith
 
 bare-sized :
-    (text : List ℕ) (f : Forest) (depth : ℕ) (seen : List Place) (cursor reach : ℕ) {l : Laid} →
-    lay text depth seen cursor reach f ≡ Ok l →
+    (text : List ℕ) (f : Forest) (depth base : ℕ) (seen : List Place) (cursor reach : ℕ) {l : Laid} →
+    lay text depth base seen cursor reach f ≡ Ok l →
     SizedAll l.entries
 unfolding lay
-bare-sized text leaf depth seen cursor reach e = subst (λ (l : Laid). SizedAll l.entries) (given-same e) tt
-bare-sized text (item s kids later) depth seen cursor reach e =
-    through _ _ (sym (bare-split text depth seen cursor reach s kids later) ∙ e) λ x e₁ h₁.
+bare-sized text leaf depth base seen cursor reach e = subst (λ (l : Laid). SizedAll l.entries) (given-same e) tt
+bare-sized text (item s kids later) depth base seen cursor reach e =
+    through _ _ (sym (bare-split text depth base seen cursor reach s kids later) ∙ e) λ x e₁ h₁.
     through _ _ h₁ λ more e₂ h₂.
-    let i = item-is text depth seen cursor s kids e₁ in
-    let members = bare-sized text kids (suc depth) [] 0 0 i.inner-laid in
-    let rest = bare-sized text later depth (place_of x.own ∷ seen) (advance cursor x.own) (max reach (entry_end x.own)) e₂ in
-    let own : total x.own ≤ LARGEST = subst (λ (y : Entry). total y ≤ LARGEST) i.own (total-within (entry_of s i.contents i.offset i.slack) i.fits) in
+    let i = item-is text depth base seen cursor s kids e₁ in
+    let members = bare-sized text kids (suc depth) (base + i.offset) [] 0 0 i.inner-laid in
+    let rest = bare-sized text later depth base (place_of x.own ∷ seen) (advance cursor x.own) (max reach (entry_end x.own)) e₂ in
+    let own : total x.own ≤ LARGEST = subst (λ (y : Entry). total y ≤ LARGEST) i.own (total-within (entry_of s i.contents i.offset i.slack i.inner.width i.at_end) i.fits) in
     subst (λ (l : Laid). SizedAll l.entries) (given-same h₂) (own, subst SizedAll i.members members, rest)
 
 -- and no row that holds one
@@ -89,13 +83,15 @@ rows-sized w (item s kids later) k h m l u =
 
 -- ---------------------------------------------------------------- a list that was laid
 
-module _ (text : List ℕ) (w : List Row) (a b depth : ℕ) {width : ℕ} {c : Answer (Unit {0})} {w₁ : List Row} (h : a ≤ b) (fits : b ≤ length w) (n : LaidRows text w a b depth width c w₁) where
-  -- the statements are as they were
-  same-places : rows_forest w a b ≡ rows_forest (put_places text w a 0 n.laid.entries) a b
-  same-places = ap forest (sym (statements-places text n.laid.entries w a 0 a (b - a)))
+module _ (text : List ℕ) (w : List Row) (a b depth base : ℕ) {r : LaidList} {w₁ : List Row} (h : a ≤ b) (room : Room text w a b) (n : LaidRows text w a b depth base r w₁) where
+  holds : HeldRows text w a b depth base n.laid w₁
+  holds = held-rows text w a b depth base h room n
 
-  pub same-fields : rows_forest w a b ≡ rows_forest w₁ a b
-  same-fields = same-places ∙ ap (λ (x : List Row). rows_forest x a b) n.put
+  -- the statements are as they were
+  same-statements : (k : ℕ) → rows_forest w k b ≡ rows_forest w₁ k b
+  same-statements k =
+      ap forest (sym (statements-places text n.laid.entries w a 0 k (b - k)))
+      ∙ ap (λ (x : List Row). rows_forest x k b) n.put
 
   pub same-parent : (k : ℕ) → (row_in w₁ k).parent ≡ (row_in w k).parent
   same-parent k =
@@ -106,12 +102,12 @@ module _ (text : List ℕ) (w : List Row) (a b depth : ℕ) {width : ℕ} {c : A
   laid-ready =
       let f = rows_forest w a b in
       let es = n.laid.entries in
-      let sized : SizedAll (entries_in w₁ a (rows_forest w₁ a b)) = subst SizedAll (sym n.held.entries) (bare-sized text f depth [] 0 0 n.is) in
+      let sized : SizedAll (entries_in w₁ a (rows_forest w₁ a b)) = subst SizedAll (sym holds.held.entries) (bare-sized text f depth base [] 0 0 n.is) in
       let many₁ = size-stretch w₁ a b in
       record {
-        fits = subst (λ (x : List Row). b ≤ length x) n.put (omega (arith, length-places text es w a 0));
-        linked = n.held.linked;
-        nexts = subst (λ (x : List Row). (k : ℕ) → a ≤ k → k < b → row_code (row_in x k).place.next ≡ 0) n.put (λ k l u. ap row_code (places-next text es w a 0 (omega (arith, n.many)) k l (omega (arith, n.many))));
+        fits = subst (λ (x : List Row). b ≤ length x) n.put (omega (arith, length-places text es w a 0, room.fits));
+        linked = holds.held.linked;
+        nexts = subst (λ (x : List Row). (k : ℕ) → a ≤ k → k < b → row_code (row_in x k).place.next ≡ 0) n.put (λ k l u. ap row_code (places-next text es w a 0 (omega (arith, holds.many, room.fits)) k l (omega (arith, holds.many))));
         sized = record { totals = λ k l u. rows-sized w₁ (rows_forest w₁ a b) a sized k l (omega (arith, many₁)) };
       }
 
@@ -187,45 +183,50 @@ pub layout_is : (text : List ℕ) (f : Forest) → layout text f ≡ (unfolded t
 unfolding layout
 layout_is text f = refl
 
-module _ (text : List ℕ) (w : List Row) (a b : ℕ) where
-  -- the list is laid
-  pub list-laid :
-      {w₁ : List Row} {width : ℕ} {c : Answer (Unit {0})} → a ≤ b → Room text w a b → ready width c w₁ ≡ lay_table text w a b 0 → LaidRows text w a b 0 width c w₁
-  list-laid h room p = laid-rows text w a b 0 h room (sym p)
+module _ (text : List ℕ) (w : List Row) (a b : ℕ) (dropped : fields (rows_forest w 0 b) ≡ rows_forest w a b) where
+  -- the fields of the statements are those rows
+  laid-same : laid_of text (Ok (rows_forest w 0 b)) ≡ unfolded text (rows_forest w a b)
+  unfolding and_then
+  laid-same = ap (unfolded text) dropped
 
-  -- or refused
-  pub list-refused : {r : Refusal} → stopped r ≡ lay_table text w a b 0 → laid_of text (Ok (rows_forest w a b)) ≡ Err r
-  unfolding unfolded seen_from and_then
-  list-refused p =
-      ap (λ (y : Answer Laid). y >>= λ l. fold_check text [] l.entries >>= λ _. ends_fit (folded_all text l.entries) >>= λ _. Ok l.entries)
-      (stopped-was text w a 0 (Ok tt) (lay text 0 [] 0 0 (rows_forest w a b)) (sym p))
+  -- the list is refused
+  pub fields-refused : {r : Refusal} → stopped r ≡ lay_table text w a b 0 0 → laid_of text (Ok (rows_forest w 0 b)) ≡ Err r
+  unfolding unfolded and_then
+  fields-refused p =
+      laid-same
+      ∙ ap (λ (y : Answer Laid). y >>= λ l. fold_check text [] l.entries >>= λ _. ends_fit (folded_all text l.entries) >>= λ _. Ok l.entries)
+      (list-refused text w a b 0 0 (sym p))
 
-  module _ {width : ℕ} {c : Answer (Unit {0})} {w₁ : List Row} (n : LaidRows text w a b 0 width c w₁) where
+  module _ (h : a ≤ b) (room : Room text w a b) {r : LaidList} {w₁ : List Row} (n : LaidRows text w a b 0 0 r w₁) where
+    held_in : Held text w₁ a 0 (rows_forest w₁ a b) n.laid.entries
+    held_in = (held-rows text w a b 0 0 h room n).held
+
     -- the checks of the list, as the rows hold it
     record-split :
-        laid_of text (Ok (rows_forest w a b))
+        laid_of text (Ok (rows_forest w 0 b))
         ≡ (fold_check text [] (list_in w₁ a b) >>= λ _. ends_fit (folded_all text (list_in w₁ a b)) >>= λ _. Ok (list_in w₁ a b))
     unfolding unfolded and_then
     record-split =
-        ap (λ (x : Answer Laid). x >>= λ l. fold_check text [] l.entries >>= λ _. ends_fit (folded_all text l.entries) >>= λ _. Ok l.entries) n.is
-        ∙ ap (λ (es : Entries). fold_check text [] es >>= λ _. ends_fit (folded_all text es) >>= λ _. Ok es) (sym n.held.entries)
+        laid-same
+        ∙ ap (λ (x : Answer Laid). x >>= λ l. fold_check text [] l.entries >>= λ _. ends_fit (folded_all text l.entries) >>= λ _. Ok l.entries) n.is
+        ∙ ap (λ (es : Entries). fold_check text [] es >>= λ _. ends_fit (folded_all text es) >>= λ _. Ok es) (sym held_in.entries)
 
     module _ where
-      p : c ≡ fold_check text [] (list_in w₁ a b)
-      p = n.check ∙ ap (fold_check text []) (sym n.held.entries)
+      p : r.checked ≡ fold_check text [] (list_in w₁ a b)
+      p = n.check ∙ ap (fold_check text []) (sym held_in.entries)
 
-      checked : (x : Answer (Unit {0})) → c ≡ x → laid_of text (Ok (rows_forest w a b)) ≡ (x >>= λ _. ends_fit (folded_all text (list_in w₁ a b)) >>= λ _. Ok (list_in w₁ a b))
+      checked : (x : Answer (Unit {0})) → r.checked ≡ x → laid_of text (Ok (rows_forest w 0 b)) ≡ (x >>= λ _. ends_fit (folded_all text (list_in w₁ a b)) >>= λ _. Ok (list_in w₁ a b))
       checked x e =
           record-split
           ∙ ap (λ (y : Answer (Unit {0})). y >>= λ _. ends_fit (folded_all text (list_in w₁ a b)) >>= λ _. Ok (list_in w₁ a b)) (sym p ∙ e)
 
       -- 30
-      pub fold-refused : {r : Refusal} → c ≡ Err r → laid_of text (Ok (rows_forest w a b)) ≡ Err r
+      pub fold-refused : {q : Refusal} → r.checked ≡ Err q → laid_of text (Ok (rows_forest w 0 b)) ≡ Err q
       unfolding and_then
-      fold-refused {r} e = checked (Err r) e
+      fold-refused {q} e = checked (Err q) e
 
-      module _ (e : c ≡ Ok tt) {w₂ : List Row} (m : UnionsLinked w₁ a b w₂) {d : Answer (Unit {0})} (q : d ≡ ends_fit (folded_all text (list_in w₂ a b))) where
-        passed : (x : Answer (Unit {0})) → d ≡ x → laid_of text (Ok (rows_forest w a b)) ≡ (x >>= λ _. Ok (list_in w₂ a b))
+      module _ (e : r.checked ≡ Ok tt) {w₂ : List Row} (m : UnionsLinked w₁ a b w₂) {d : Answer (Unit {0})} (q : d ≡ ends_fit (folded_all text (list_in w₂ a b))) where
+        passed : (x : Answer (Unit {0})) → d ≡ x → laid_of text (Ok (rows_forest w 0 b)) ≡ (x >>= λ _. Ok (list_in w₂ a b))
         unfolding and_then
         passed x f =
             checked (Ok tt) e
@@ -233,40 +234,48 @@ module _ (text : List ℕ) (w : List Row) (a b : ℕ) where
             ∙ ap (λ (y : Answer (Unit {0})). y >>= λ _. Ok (list_in w₂ a b)) (sym q ∙ f)
 
         -- 29
-        pub end_refused : {r : Refusal} → d ≡ Err r → laid_of text (Ok (rows_forest w a b)) ≡ Err r
+        pub end_refused : {x : Refusal} → d ≡ Err x → laid_of text (Ok (rows_forest w 0 b)) ≡ Err x
         unfolding and_then
-        end_refused {r} f = passed (Err r) f
+        end_refused {x} f = passed (Err x) f
 
         -- the record is laid
         pub laid-listed :
             d ≡ Ok tt →
-            a ≤ b →
-            b ≤ length w →
             b ≤ MOST_STATEMENTS →
             Under w a a (rows_forest w a b) →
             {l : ℕ} →
             l ≡ record_length (folded_all text (list_in w₂ a b)) →
-            Listed text (Ok (rows_forest w a b)) w₂ a b l
+            Listed text (Ok (rows_forest w 0 b)) w₂ a b l
         unfolding and_then
-        laid-listed f h fits few under long =
-            let ready = laid-ready text w a b 0 h fits n in
-            let forests = same-fields text w a b 0 h fits n ∙ forest-kept m.kept a b in
+        laid-listed f few under long =
+            let ready = laid-ready text w a b 0 0 h room n in
+            let same : (k : ℕ) → rows_forest w k b ≡ rows_forest w₂ k b =
+            λ k. same-statements text w a b 0 0 h room n k ∙ forest-kept m.kept k b in
             record {
-              fields = ap Ok forests;
+              tree_is = ap Ok (same 0);
+              fields_are = ap fields (sym (same 0)) ∙ dropped ∙ same a;
               low = h;
-              under = subst (Under w₂ a a) forests (under_same w w₂ (λ k. sym (ap row_code (ap (λ (r : Row). r.parent) (m.kept.same k) ∙ same-parent text w a b 0 h fits n k))) (rows_forest w a b) a a under);
+              under = subst (Under w₂ a a) (same a) (under_same w w₂ (λ k. sym (ap row_code (ap (λ (r : Row). r.parent) (m.kept.same k) ∙ same-parent text w a b 0 0 h room n k))) (rows_forest w a b) a a under);
               is = passed (Ok tt) f;
               tree = marked-tree text a b h ready m;
               few = few;
               long = long;
             }
 
+-- the fields of a record that was laid, laid
+pub listed-fields :
+    {text : List ℕ} {read : Answer Forest} {w : List Row} {from to bytes : ℕ} →
+    Listed text read w from to bytes →
+    unfolded text (rows_forest w from to) ≡ Ok (list_in w from to)
+unfolding and_then
+listed-fields {text} l = ap (unfolded text) (sym l.fields_are) ∙ ap (laid_of text) (sym l.tree_is) ∙ l.is
+
 -- ---------------------------------------------------------------- the rows of a text
 
 -- the text is refused
-pub reading-refused : (text : List ℕ) {r : Refusal} → kept_statements text ≡ Err r → fields_of text ≡ Err r
-unfolding fields_of and_then
-reading-refused text e = ap (λ (x : Answer (List Statement)). x >>= λ ss. Ok (record_of ss)) e
+pub reading-refused : (text : List ℕ) {r : Refusal} → kept_statements text ≡ Err r → tree_of text ≡ Err r
+unfolding tree_of and_then
+reading-refused text e = ap (λ (x : Answer (List Statement)). x >>= λ ss. Ok (inherited (forest ss))) e
 
 -- its statements stand in n rows, which got the counts of the rows below them
 module _ {text : List ℕ} {w₀ : List Row} {n : ℕ} (s : Stored text w₀ n) {w : List Row} (b : BelowPut w₀ n w) where
@@ -289,11 +298,11 @@ module _ {text : List ℕ} {w₀ : List Row} {n : ℕ} (s : Stored text w₀ n) 
       (ap (statements_from w 0) (let e : n - 0 ≡ length held = omega (arith, many) in e)
       ∙ statements-by w held 0 (λ j l. ap (λ (r : Row). r.statement) (row-at j (omega (arith, many)))))
 
-  pub rows-read : fields_of text ≡ Ok (fields (rows_forest w 0 n))
-  unfolding fields_of and_then
+  pub rows-read : tree_of text ≡ Ok (rows_forest w 0 n)
+  unfolding tree_of and_then
   rows-read =
-      ap (λ (x : Answer (List Statement)). x >>= λ ss. Ok (record_of ss)) s.are
-      ∙ ap (λ (x : Forest). Ok (fields x)) (sym (along-forest s.kept) ∙ sym whole)
+      ap (λ (x : Answer (List Statement)). x >>= λ ss. Ok (inherited (forest ss))) s.are
+      ∙ ap Ok (sym (along-forest s.kept) ∙ sym whole)
 
   -- under their parents, and there is room to lay them
   pub rows-fielded : Fielded text w n

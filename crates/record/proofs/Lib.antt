@@ -1,3 +1,4 @@
 pub mod EntryLaws
 pub mod LaidLaws
 pub mod ParentLaws
+pub mod RootLaws

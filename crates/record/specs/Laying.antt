@@ -3,9 +3,9 @@
 use Rattle.std.specs.Prelude.{ℕ, suc, ◌+◌, ◌≤◌, ◌≡◌, List, length, take}
 use Rattle.definition.specs.declared.TheConstants.{MOST_STATEMENTS}
 use Rattle.definition.specs.Basic.{Answer, Ok, ◌>>=◌}
-use Rattle.definition.specs.Calls.{kept_statements, record_fields}
-use Rattle.definition.specs.Tree.{Forest, leaf, item, fields}
-use Rattle.definition.specs.Usages.{record_of}
+use Rattle.definition.specs.Calls.{kept_statements, record_tree}
+use Rattle.definition.specs.Tree.{Forest, leaf, item, forest, fields}
+use Rattle.definition.specs.Usages.{inherited}
 use Rattle.definition.specs.Owner.{size}
 use Rattle.rows.specs.declared.Row.{Row}
 use Rattle.rows.specs.Rows.{row_in, row_code}
@@ -34,11 +34,11 @@ pub record FieldsFrom (w : List Row) (n r : ℕ) : Type 0 where
   pub under : Under w 0 0 (rows_forest w 0 n) → Under w r r (rows_forest w r n)
   pub counted : BelowCounted w 0 (rows_forest w 0 n) → BelowCounted w r (rows_forest w r n)
 
--- the fields of the record that a text's statements make
-unfoldable pub fields_of : List ℕ → Answer Forest
-fields_of text = do
+-- the statements of a text, as a forest
+unfoldable pub tree_of : List ℕ → Answer Forest
+tree_of text = do
   ss ← kept_statements text
-  Ok (record_of ss)
+  Ok (inherited (forest ss))
 
 -- the first n rows, ready to be laid: each names its parent
 pub record Fielded (text : List ℕ) (w : List Row) (n : ℕ) : Type 0 where
@@ -46,19 +46,20 @@ pub record Fielded (text : List ℕ) (w : List Row) (n : ℕ) : Type 0 where
   pub few : n ≤ MOST_STATEMENTS
   pub room : Room text w 0 n
 
--- the fields of a text, where so much work memory is lent, stand in the first n rows, ready to be laid
+-- the statements of a text, where so much work memory is lent, stand in the first n rows, ready to be laid
 pub record Read (text : List ℕ) (work : ℕ) (w : List Row) (n : ℕ) : Type 0 where
-  pub are : record_fields text work ≡ Ok (fields (rows_forest w 0 n))
+  pub are : record_tree text work ≡ Ok (rows_forest w 0 n)
   pub ready : Fielded text w n
 
--- these fields laid, with no list folded
+-- the fields of these statements laid, with no list folded
 abbrev pub laid_of : List ℕ → Answer Forest → Answer Entries
-laid_of text read = read >>= λ f. unfolded text f
+laid_of text read = read >>= λ t. unfolded text (fields t)
 
--- the rows from `from` up to `to` hold the fields that were read, and their places; the parent of a field, the row and
--- 1, is `from`: none, or the root that was dropped
+-- the rows up to `to` hold the statements that were read, those from `from` on the fields, and their places; the parent
+-- of a field, the row and 1, is `from`: none, or the root that was dropped
 pub record Listed (text : List ℕ) (read : Answer Forest) (w : List Row) (from to bytes : ℕ) : Type 0 where
-  pub fields : read ≡ Ok (rows_forest w from to)
+  pub tree_is : read ≡ Ok (rows_forest w 0 to)
+  pub fields_are : fields (rows_forest w 0 to) ≡ rows_forest w from to
   pub is : laid_of text read ≡ Ok (list_in w from to)
   pub low : from ≤ to
   pub under : Under w from from (rows_forest w from to)
@@ -66,7 +67,7 @@ pub record Listed (text : List ℕ) (read : Answer Forest) (w : List Row) (from 
   pub few : to ≤ MOST_STATEMENTS
   pub long : bytes ≡ record_length (folded_all text (list_in w from to))
 
--- a record of the fields that were read, with its rows and its entries
+-- a record of the statements that were read, with its rows and its entries
 pub record LaidOut
     (text : List ℕ) (read : Answer Forest) (w : List Row) (t : List TableEntry) (from to long top : ℕ) : Type 0 where
   pub fits : to ≤ length w
@@ -74,11 +75,11 @@ pub record LaidOut
   pub entered : Entered text w from to t
   pub tops : top ≡ members# (folded_all text (list_in w from to))
 
--- a record that was laid out is one of the fields that are read from its text, where so much work memory is lent
+-- a record that was laid out is one of the statements that are read from its text, where so much work memory is lent
 pub record Laid (a : LaidRecord) : Type 0 where
   pub work : ℕ
   pub out :
-      LaidOut a.text.now (record_fields a.text.now work) a.table.rows.all.now a.table.items.now a.from
+      LaidOut a.text.now (record_tree a.text.now work) a.table.rows.all.now a.table.items.now a.from
       a.table.rows.count a.length a.top
 
 -- the same, as a call leaves the table: its first items are the entries
@@ -86,7 +87,7 @@ pub record LaidIn (text : List ℕ) (read : Answer Forest) (w : List Row) (t : L
   pub inside : a.count ≤ length t
   pub laid : LaidOut text read w (take a.count t) a.from a.to a.length a.top
 
--- and of the fields of a text
+-- and of the statements of a text
 pub record LaidBy (text : List ℕ) (w : List Row) (t : List TableEntry) (a : Record) : Type 0 where
   pub work : ℕ
-  pub by : LaidIn text (record_fields text work) w t a
+  pub by : LaidIn text (record_tree text work) w t a

@@ -2,10 +2,11 @@
 //! asked, and work memory cleared; of free text, or of what the reader sees of cards. `answers` and `family` have the
 //! questions.
 
-ghost use Rattle.std.specs.Prelude.{ℕ, List, ◌≡◌, ◌*◌, ◌^◌, ◌<◌, ◌≤◌, [], length};
+ghost use Rattle.std.specs.Prelude.{ℕ, Option, List, ◌≡◌, ◌*◌, ◌^◌, ◌<◌, ◌≤◌, [], length};
 ghost use Rattle.definition.specs.Basic.{Answer};
 ghost use Rattle.definition.specs.Calls.{left, asked, on_cards};
-ghost use Rattle.definition.specs.Tree.{Forest};
+ghost use Rattle.definition.specs.declared.Statement.{Statement};
+ghost use Rattle.definition.specs.Tree.{Forest, root};
 ghost use Rattle.definition.specs.Fold.{Entries};
 ghost use Rattle.statement.specs.TreeReading.{rows_needed};
 ghost use Rattle.layout.specs.Places.{rows_forest};
@@ -27,14 +28,16 @@ pub trait Question: Copy {
     /// What is answered.
     type Reply;
 
-    // The answer, where the output has so much room, from a text, its fields, and its entries before any list is folded.
-    ghost answers: { Self → ℕ → List ℕ → Forest → Entries → Answer (Given Self.Reply) };
+    // The answer, where the output has so much room, from a text, the root that was dropped, the fields, and their entries
+    // before any list is folded.
+    ghost answers: { Self → ℕ → List ℕ → Option Statement → Forest → Entries → Answer (Given Self.Reply) };
 
     /// The answer.
     fn answer(self, laid: LaidRecord, out: &mut [u8]) -> Result<Self::Reply, Refusal>
         requires { Laid laid }
         ensures { left result out.new []
             ≡ after_given (answers self (length out.old) laid.entry.text.now
+            (root (rows_forest laid.entry.table.rows.all.now 0 laid.entry.table.rows.count))
             (rows_forest laid.entry.table.rows.all.now laid.entry.from laid.entry.table.rows.count)
             (list_in laid.entry.table.rows.all.now laid.entry.from laid.entry.table.rows.count)) out.old [] };
 }
@@ -115,7 +118,7 @@ pub fn ask<Q: Question>(
     ensures { left result out.new []
         ≡ after_given (asked (Q.answers question (length out.old)) text.now work) out.old [] }
 {
-    let rows = tree::rows_needed(text);
+    let rows = tree::rows_enough(text);
     if rows <= SHORT_ROWS {
         return ask_in::<SHORT_ROWS, SHORT_ENTRIES, _>(question, text, work, out);
     }

@@ -5,16 +5,16 @@
 ghost use Rattle.std.specs.Prelude.{MatchResult, ◌≡◌, ◌≤◌, length, take};
 ghost use Rattle.definition.specs.declared.TheConstants.{MOST_STATEMENTS};
 ghost use Rattle.definition.specs.Basic.{Ok, Err};
-ghost use Rattle.definition.specs.Calls.{record_fields};
+ghost use Rattle.definition.specs.Calls.{record_tree};
 ghost use Rattle.statement.specs.TreeReading.{rows_needed};
-ghost use Rattle.definition.specs.Tree.{fields};
+ghost use Rattle.definition.specs.Tree.{fields, root};
 ghost use Rattle.layout.specs.Places.{rows_forest};
 ghost use Rattle.layout.specs.Children.{BelowCounted};
 ghost use Rattle.layout.specs.Outcomes.{Room};
 ghost use Rattle.fold.specs.Building.{Roomy};
 ghost use Rattle.record.specs.Laying.{Under, FieldsFrom, Fielded, Laid, LaidBy, LaidIn, laid_of, Read};
 
-use definition::{DEEPEST, Refusal};
+use definition::{DEEPEST, Refusal, Statement};
 use fold::entries;
 use fold::table::{Table, TableEntry};
 use layout::unions::MarkedRows;
@@ -31,7 +31,7 @@ pub mod asking;
 /// entry that speaks of a copybook's record starts so.
 pub fn read_text(text: &[u8], work: usize, rows: &mut [Row]) -> Result<usize, Refusal>
     requires { rows_needed text.now ≤ length rows.old }
-    ensures { MatchResult result (λ n. Read text.now work rows.new n) (λ r. record_fields text.now work ≡ Err r) }
+    ensures { MatchResult result (λ n. Read text.now work rows.new n) (λ r. record_tree text.now work ≡ Err r) }
 {
     text::entry_checks(text, work)?;
     let n = tree::read_rows(text, rows)?;
@@ -110,6 +110,18 @@ pub fn first_field(rows: Rows) -> usize
     if places::next_of(rows, 0) < n { 0 } else { 1 }
 }
 
+/// The root that was dropped before the fields from a row on, if any.
+pub fn root_of(rows: Rows, from: usize) -> Option<Statement>
+    requires { (from ≤ rows.count)
+        × (fields (rows_forest rows.all.now 0 rows.count) ≡ rows_forest rows.all.now from rows.count) }
+    ensures { result ≡ root (rows_forest rows.entry.all.now 0 rows.entry.count) }
+{
+    if from == 0 {
+        return None;
+    }
+    Some(rows.row(0).statement)
+}
+
 /// Lays out the fields in the rows from `from` up to `to`: their places, then 30, then 29 for an end in the folded
 /// list.
 pub fn lay_fields(
@@ -120,11 +132,12 @@ pub fn lay_fields(
     to: usize,
 ) -> Result<Record, Refusal>
     requires { (from ≤ to) × Room text.now rows.old from to × (to ≤ MOST_STATEMENTS) × Roomy entries.old to
-        × Under rows.old from from (rows_forest rows.old from to) }
-    ensures { MatchResult result (LaidIn text.now (Ok (rows_forest rows.old from to)) rows.new entries.new)
-        (λ r. laid_of text.now (Ok (rows_forest rows.old from to)) ≡ Err r) }
+        × Under rows.old from from (rows_forest rows.old from to)
+        × (fields (rows_forest rows.old 0 to) ≡ rows_forest rows.old from to) }
+    ensures { MatchResult result (LaidIn text.now (Ok (rows_forest rows.old 0 to)) rows.new entries.new)
+        (λ r. laid_of text.now (Ok (rows_forest rows.old 0 to)) ≡ Err r) }
 {
-    let list = layout::lay_list(text, rows, from, to, DEEPEST)?;
+    let list = layout::lay_list(text, rows, from, to, DEEPEST, 0)?;
     list.checked?;
     unions::link_unions(rows, from, to);
     let laid = Rows::new(rows, to);
@@ -134,11 +147,11 @@ pub fn lay_fields(
         rows: laid,
         items: &entries[..made.next as usize],
     };
-    table.ends_fit()?;
+    let length = table.fitting_length()?;
     Ok(Record {
         from,
         to,
-        length: table.length(),
+        length,
         count: made.next as usize,
         top: made.count as usize,
     })
@@ -153,8 +166,8 @@ pub fn lay_record(
     entries: &mut [TableEntry],
 ) -> Result<Record, Refusal>
     requires { Fielded text.now rows.old n × Roomy entries.old n }
-    ensures { MatchResult result (LaidIn text.now (Ok (fields (rows_forest rows.old 0 n))) rows.new entries.new)
-        (λ r. laid_of text.now (Ok (fields (rows_forest rows.old 0 n))) ≡ Err r) }
+    ensures { MatchResult result (LaidIn text.now (Ok (rows_forest rows.old 0 n)) rows.new entries.new)
+        (λ r. laid_of text.now (Ok (rows_forest rows.old 0 n)) ≡ Err r) }
 {
     let from = first_field(Rows::new(rows, n));
     lay_fields(text, rows, entries, from, n)

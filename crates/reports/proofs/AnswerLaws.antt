@@ -10,11 +10,11 @@ use Rattle.definition.specs.declared.Reason.{Reason}
 use Rattle.definition.specs.declared.Statement.{Statement}
 use Rattle.definition.specs.declared.Refusal.{Refusal}
 use Rattle.definition.specs.Basic.{Err, Answer, Ok, ◌>>=◌, and_then, or_refuse, is_given}
-use Rattle.definition.specs.Tree.{Forest, leaf, item}
+use Rattle.definition.specs.Tree.{Forest, leaf, item, fields, root}
 use Rattle.definition.specs.Record.{unfolded}
 use Rattle.definition.specs.Owner.{size}
 use Rattle.definition.specs.declared.Report.{Report}
-use Rattle.definition.specs.Calls.{record_fields, fitting, report}
+use Rattle.definition.specs.Calls.{record_tree, record_fields, fitting, report}
 use Rattle.definition.specs.Demand.{Among}
 use Rattle.definition.specs.Reasons.{Chain, chain, chains, chain_at, reasons_in, reasons_bytes}
 use Rattle.definition.proofs.Begins.{Rises, fields-begin}
@@ -30,6 +30,7 @@ use Rattle.std.specs.Option.{option_map}
 use Rattle.fold.specs.declared.table.TableEntry.{TableEntry}
 use Rattle.fold.specs.Entered.{own_of}
 use Rattle.record.specs.Laying.{Listed}
+use Rattle.record.proofs.LaidLaws.{listed-fields}
 use Rattle.reports.specs.Chained.{chain_of, Settled, ChainedTable}
 use Rattle.reports.proofs.ChainLaws.{seen_none, row_chains, Redefining, ListExplained, list-explained, settled_at}
 use Rattle.reports.proofs.ChainLaws.{chain-among}
@@ -41,7 +42,8 @@ use Rattle.reports.proofs.NumberLaws.{entered-numbered, own-begins, row_inside}
 module _ {text : List ℕ} {w : List Row} {t : List TableEntry} {from to : ℕ} (h : ChainedTable text w t from to) (number room : ℕ) where
   -- what is answered of it
   abbrev answer : Answer (List ℕ)
-  answer = report (Report.Reasons number) room text (rows_forest w from to) (list_in w from to)
+  answer =
+      report (Report.Reasons number) room text (root (rows_forest w 0 to)) (rows_forest w from to) (list_in w from to)
 
   -- 53
   pub past-listing : slice_get t number ≡ None → answer ≡ Err Refusal.NoSuchEntry
@@ -69,20 +71,20 @@ rows-redefine w (item s kids later) k r = (
 )
 
 module _ {text : List ℕ} {w : List Row} {from to long : ℕ} (work : ℕ)
-    (l : Listed text (record_fields text work) w from to long) where
+    (l : Listed text (record_tree text work) w from to long) where
   fields-are : record_fields text work ≡ Ok (rows_forest w from to)
-  fields-are = l.fields
+  unfolding record_fields and_then
+  fields-are = ap (λ (a : Answer Forest). a >>= λ t. Ok (fields t)) l.tree_is ∙ ap Ok l.fields_are
 
   laid-is : unfolded text (rows_forest w from to) ≡ Ok (list_in w from to)
-  unfolding and_then
-  laid-is = ap (λ (a : Answer Forest). a >>= λ f. unfolded text f) (sym fields-are) ∙ l.is
+  laid-is = listed-fields l
 
   many : from + size (rows_forest w from to) ≡ to
   many = omega (arith, size-stretch w from to, l.low)
 
   explains : ListExplained text w from from from [] (rows_forest w from to)
   explains =
-      list-explained text w from (rows_forest w from to) from 0 from []
+      list-explained text w from (rows_forest w from to) from 0 0 from []
       (marked-linked text w (rows_forest w from to) from 0 l.tree.marks)
       l.under
       (rows-redefine w (rows_forest w from to) from (rows-forest w from (to - from)))
@@ -113,7 +115,7 @@ module _ {text : List ℕ} {w : List Row} {from to long : ℕ} (work : ℕ)
       let f = rows_forest w from to in
       let tree = list_in w from to in
       let rise =
-      subst (Rises 0) (sym (chains-begin text f tree [] [] (went text f tree laid-is).rules))
+      subst (Rises 0) (sym (chains-begin text f tree 0 [] [] (went text f tree laid-is).rules))
       (fields-begin text work f fields-are) in
       let c = chain (row_in w k).statement.at (chain_of w from k) in
       chain-of text (chains text [] [] tree) 0 c rise

@@ -115,12 +115,12 @@ module _ (text : List ℕ) (w : List Row) where
               named = λ s. by_name s (same_name text s (row_in w k).statement.name) refl;
             }
 
-    module _ (s : Statement) (because : Because text s kids seen (entry_in w k))
+    module _ (base : ℕ) (s : Statement) (because : Because text base s kids seen (entry_in w k))
         (redefines : is_given s.clauses.redefines ≡ is_given (row_in w k).statement.clauses.redefines) where
       -- what the placing reason adds
       adds : bytes_added (placing text seen (entry_in w k)) + (row_in w k).place.slack ≡ (row_in w k).place.offset
       adds =
-          omega (arith, added-own text s kids seen (entry_in w k) because, added-slack (row_in w k).place.slack)
+          omega (arith, added-own text base s kids seen (entry_in w k) because, added-slack (row_in w k).place.slack)
 
       -- the rows that may place it, as the numbers name them
       over-row : (n : ℕ) → placing text seen (entry_in w k) ≡ or_first over (row_entry n) →
@@ -201,11 +201,11 @@ module _ (text : List ℕ) (w : List Row) where
       pub settled : AllSettled k f
 
     pub list-explained :
-        (f : Forest) (k last p : ℕ) (seen : List Entry) →
+        (f : Forest) (k base last p : ℕ) (seen : List Entry) →
         Linked text w k last f →
         Under w p k f →
         Redefining w k f →
-        Explains text seen f (entries_in w k f) →
+        Explains text base seen f (entries_in w k f) →
         Seen seen last →
         from ≤ k →
         last ≤ k →
@@ -213,20 +213,20 @@ module _ (text : List ℕ) (w : List Row) where
         k + size f ≤ 65535 →
         ListExplained k p seen f
     unfolding entries_in chains group_at chain_of
-    list-explained leaf k last p seen l u q x it h m n few = record { same = refl; settled = tt }
-    list-explained (item s kids later) k last p seen l u q x it h m n few =
+    list-explained leaf k base last p seen l u q x it h m n few = record { same = refl; settled = tt }
+    list-explained (item s kids later) k base last p seen l u q x it h m n few =
         let e = entry_in w k in
-        let own_is = is-own k last kids seen l.0 m (omega arith) it s x.1 q.0 in
+        let own_is = is-own k last kids seen l.0 m (omega arith) it base s x.1 q.0 in
         let here : own text seen e ++ outward_at w from p ≡ chain_of w from k =
         ap₂ (λ (a : List Reason) (b : ℕ). a ++ outward_at w from b) own_is (sym u.0) in
         let parent : row_code (row_in w k).parent ≤ k = omega (arith, u.0) in
         let outward : inside e ∷ (own text seen e ++ outward_at w from p) ≡ outward_at w from (suc k) =
         ap (λ (rs : List Reason). inside e ∷ rs) here ∙ sym (outward-step w from k h parent) in
         let inner =
-        list-explained kids (suc k) 0 (suc k) [] l.1 u.1 q.1 x.2 seen_none (omega arith) (omega arith)
+        list-explained kids (suc k) (base + e.offset) 0 (suc k) [] l.1 u.1 q.1 x.2 seen_none (omega arith) (omega arith)
         (omega arith) (omega arith) in
         let rest =
-        list-explained later (suc k + size kids) (suc k) p (e ∷ seen) l.2 u.2 q.2 x.3
+        list-explained later (suc k + size kids) base (suc k) p (e ∷ seen) l.2 u.2 q.2 x.3
         (seen_next k last kids seen l.0 m (omega arith) it) (omega arith) (omega arith) (omega arith)
         (omega arith) in
         record {
@@ -235,7 +235,7 @@ module _ (text : List ℕ) (w : List Row) where
               ((ap (λ (o : List Reason). chains text o [] (entries_in w (suc k) kids)) outward ∙ inner.same)
               i ++ rest.same i);
           settled = (
-            settled k last kids seen l.0 m (omega arith) it s x.1 q.0 p
+            settled k last kids seen l.0 m (omega arith) it base s x.1 q.0 p
                 u.0 n,
             inner.settled,
             rest.settled,

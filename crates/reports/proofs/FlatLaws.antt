@@ -8,25 +8,37 @@ use mathlib.Core.List.{List, [], ◌∷◌, ◌++◌, append_assoc, append-nil}
 use native.Mathlib.Omega.{arith}
 use lib.ListN.{length, get_or, set, replicate, length-set, length-replicate}
 use lib.Seq.{get_or-set_same, get_or-set_other}
+use Rattle.std.specs.Prelude.{Option, None, Some}
+use Rattle.definition.specs.declared.SignWords.{SignWords}
+use Rattle.definition.specs.declared.Statement.{Statement}
 use Rattle.definition.specs.declared.Entry.{Entry}
 use Rattle.definition.specs.Basic.{le4, le8}
 use Rattle.definition.specs.Fold.{Entries, end, entry, folded_all}
 use Rattle.definition.specs.Search.{entries#}
-use Rattle.definition.specs.Details.{Detail, detail, details_in, detail_bytes, details_bytes, entries_details, height}
+use Rattle.definition.specs.Details.{Detail, detail, details_in, detail_bytes, details_bytes, root_bytes, sign_words_byte, listing_details, height}
 use Rattle.definition.proofs.DetailLaws.{bytes-both, detail-length, details-length}
 use Rattle.layout.specs.Shown.{list_in}
 use Rattle.fold.specs.declared.table.TableEntry.{TableEntry}
 use Rattle.fold.specs.Entered.{Shown, flat_in, shown_all}
 use Rattle.fold.proofs.FlatLaws.{flat-length}
-use Rattle.reports.specs.Detailed.{standing_bytes, clause_places, flat_details, Within, Shallow, details_of}
+use Rattle.reports.specs.Detailed.{standing_bytes, clause_places, held_bytes, head_bytes, flat_details, Within, Shallow, details_of}
 use Rattle.reports.specs.Detailed.{RecordTabled}
 
 -- the parts of an entry's details, in the order in which they are put
-pub detail-parts : (x : Detail) → detail_bytes x ≡ standing_bytes x ++ le8 x.first ++ le4 x.own.slack ++ clause_places x.own
+pub detail-parts :
+    (x : Detail) →
+    detail_bytes x
+    ≡ standing_bytes x ++ le8 x.first ++ le4 x.own.slack ++ clause_places x.own ++ held_bytes x.own
 unfolding detail_bytes
 detail-parts x = refl
 
--- 47 bytes can be counted, and so can each of the parts
+-- 17 bytes of a head
+pub root-length : (root : Option Statement) → length (root_bytes root) ≡ 13
+root-length root = grind arith
+
+pub ruleset root_sizes = (root-length)
+
+-- 63 bytes can be counted, and so can each of the parts
 pub ruleset detail_sizes = (detail-length)
 
 -- ---------------------------------------------------------------- how deep
@@ -93,11 +105,21 @@ flat-list (entry e ms later) d starts after h =
     (flat-list later d inner.now after (omega (arith, length-set starts (d + 1) first, inner.long)))
 
 -- the first list starts at the record's start
-pub flat-details : (es : Entries) → height es ≤ 130 → flat_details (replicate 131 0) (flat_in 0 es) ≡ entries_details es
+pub flat-details : (es : Entries) → height es ≤ 130 → flat_details (replicate 131 0) (flat_in 0 es) ≡ details_bytes (details_in 0 0 es)
 unfolding flat_details
 flat-details es h =
     let f = flat-list es 0 (replicate 131 0) [] (omega (arith, length-replicate {A = ℕ} 131 0)) in
-    ap (flat_details (replicate 131 0)) (sym (append-nil (flat_in 0 es))) ∙ f.is ∙ append-nil (entries_details es)
+    ap (flat_details (replicate 131 0)) (sym (append-nil (flat_in 0 es))) ∙ f.is ∙ append-nil (details_bytes (details_in 0 0 es))
+
+-- a head before them
+headed :
+    (root : Option Statement) (es : Entries) {n : ℕ} {bs : List ℕ} →
+    n ≡ entries# es →
+    bs ≡ details_bytes (details_in 0 0 es) →
+    head_bytes root n ++ bs ≡ listing_details root es
+unfolding listing_details
+headed None es p q = cc (p, q)
+headed (Some s) es p q = cc (p, q)
 
 -- ---------------------------------------------------------------- the table of a record
 
@@ -117,12 +139,15 @@ module _ {text : List ℕ} {w : List Row} {t : List TableEntry} {from to : ℕ} 
         few = omega (arith, h.table.few, h.few);
       }
 
-  pub table_details : flat_details (replicate 131 0) (shown_all w t) ≡ details_of text w from to
-  table_details = ap (flat_details (replicate 131 0)) h.table.is ∙ flat-details es h.deep
-
   -- the table has as many entries as the listing
   table_count : length t ≡ entries# es
   table_count = sym (all_length w t) ∙ ap length h.table.is ∙ flat-length es 0
 
-  pub table_needs : 47 * length t ≡ length (details_of text w from to)
-  table_needs = omega (arith, table_count, details-length es)
+  module _ (root : Option Statement) where
+    pub table_details :
+        head_bytes root (length t) ++ flat_details (replicate 131 0) (shown_all w t) ≡ details_of root text w from to
+    table_details =
+        headed root es table_count (ap (flat_details (replicate 131 0)) h.table.is ∙ flat-details es h.deep)
+
+    pub table_needs : 17 + 63 * length t ≡ length (details_of root text w from to)
+    table_needs = omega (arith, table_count, details-length root es)

@@ -3,21 +3,21 @@
 -- Assumes nothing.
 use Rattle.rows.specs.declared.Row.{Row}
 use Prim.Native.Nat.{ℕ, zero, suc, ◌+◌, ◌*◌, ◌≤◌, ◌<◌}
-use mathlib.Core.Path.{◌≡◌, refl, sym, ap, subst, ◌∙◌}
+use mathlib.Core.Path.{◌≡◌, sym, ap, subst, ◌∙◌}
 use mathlib.Core.Logic.{⊎_elim}
-use mathlib.Core.List.{List, [], ◌∷◌, ◌++◌, append_assoc, append-nil}
+use mathlib.Core.List.{List, ◌∷◌, ◌++◌}
 use native.Mathlib.Omega.{arith}
-use lib.ListN.{length, get_or, set, replicate, length-set, length-append, length-replicate}
+use lib.ListN.{length, get_or, set, replicate, length-set, length-replicate}
 use lib.Seq.{get_or-set_same, get_or-set_other}
 use Rattle.definition.specs.Details.{detail_bytes}
 use Rattle.definition.proofs.DetailLaws.{detail-length}
 use Rattle.definition.proofs.Lists.{order}
-use Rattle.fold.specs.declared.listing.Sink.{Sink}
-use Rattle.fold.specs.Puts.{Puts}
-use Rattle.fold.proofs.PutLaws.{puts-none, ◌and◌}
+use Rattle.output.specs.declared.Sink.{Sink}
+use Rattle.output.specs.Puts.{Puts}
+use Rattle.output.proofs.PutLaws.{Left, left-all, left-none, left-on}
 use Rattle.fold.specs.declared.table.TableEntry.{TableEntry}
 use Rattle.fold.specs.declared.table.Mark.{Mark}
-use Rattle.fold.specs.Entered.{Shown, shown_of, shown_all}
+use Rattle.fold.specs.Entered.{shown_of, shown_all}
 use Rattle.fold.proofs.LoopLaws.{rest, none_left, rest-next}
 use Rattle.reports.specs.Detailed.{detail_in, flat_details, Within, farthest, FirstByte, Shallow}
 
@@ -50,10 +50,8 @@ pub record Detailing (w : List Row) (t : List TableEntry) (s : Sink) (starts : L
   pub deep : Within (rest w t k)
   pub long : length starts ≡ 131
   pub low : (i : ℕ) → get_or starts i 0 ≤ k * 4294967296
-  pub done : List ℕ
-  pub many : length done ≡ 47 * k
-  pub put : Puts s done s'
-  pub same : flat_details (replicate 131 0) (shown_all w t) ≡ done ++ flat_details starts (rest w t k)
+  pub at : s'.at ≡ s.at + 63 * k
+  pub left : Left s (flat_details (replicate 131 0) (shown_all w t)) (flat_details starts (rest w t k)) s'
 
 pub starts : (w : List Row) (t : List TableEntry) (s : Sink) → Within (shown_all w t) → Detailing w t s (replicate 131 0) 0 s
 starts w t s h =
@@ -61,22 +59,17 @@ starts w t s h =
       deep = h;
       long = length-replicate {A = ℕ} 131 0;
       low = λ i. omega (arith, low_zeros 131 i);
-      done = [];
-      many = refl;
-      put = puts-none s;
-      same = refl;
+      at = omega arith;
+      left = left-all s (flat_details (replicate 131 0) (shown_all w t));
     }
 
 module _ {w : List Row} {t : List TableEntry} {s : Sink} {lists : List ℕ} {k : ℕ} {s' : Sink} (inv : Detailing w t s lists k s') where
   pub ends : length t ≤ k → Puts s (flat_details (replicate 131 0) (shown_all w t)) s'
   unfolding flat_details
-  ends h =
-      let whole : flat_details (replicate 131 0) (shown_all w t) ≡ inv.done =
-      inv.same ∙ ap (λ (l : List Shown). inv.done ++ flat_details lists l) (none_left w t k h) ∙ append-nil inv.done in
-      subst (λ (bs : List ℕ). Puts s bs s') (sym whole) inv.put
+  ends h = left-none inv.left (ap (flat_details lists) (none_left w t k h))
 
-  pub place_small : Shallow w t → k < length t → s.at ≡ 0 → s'.at ≤ 4294967295
-  place_small all h z = omega (arith, inv.put.put.next, inv.many, all.few)
+  pub place_small : Shallow w t → k < length t → s.at ≤ 17 → s'.at ≤ 4294967295
+  place_small all h z = omega (arith, inv.at, all.few)
 
   module _ (all : Shallow w t) (d : TableEntry) (h : k < length t) where
     deep-next : ((get_or t k d).depth < 130) × Within (rest w t (k + 1))
@@ -106,12 +99,6 @@ module _ {w : List Row} {t : List TableEntry} {s : Sink} {lists : List ℕ} {k :
           long = length-set lists next first ∙ inv.long;
           low = low-set lists next first (k * 4294967296) ((k + 1) * 4294967296) inv.low (omega arith)
               (omega (arith, f.is, f.small, inv.low (get_or t k d).depth)) (omega (arith, inv.long, deep-next.0));
-          done = inv.done ++ bs;
-          many = omega (arith, length-append inv.done bs, inv.many, detail-length (detail_in first x));
-          put = inv.put and p;
-          same =
-              inv.same
-              ∙ ap (λ (l : List Shown). inv.done ++ flat_details lists l) (rest-next w t k d h)
-              ∙ ap (λ (l : List ℕ). inv.done ++ l) step
-              ∙ sym (append_assoc inv.done bs (flat_details (set lists next first) (rest w t (k + 1))));
+          at = omega (arith, p.put.next, inv.at, detail-length (detail_in first x));
+          left = left-on inv.left (ap (flat_details lists) (rest-next w t k d h) ∙ step) p;
         }

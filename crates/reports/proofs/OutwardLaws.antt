@@ -13,9 +13,9 @@ use Rattle.definition.specs.declared.Reason.{Reason}
 use Rattle.definition.specs.Reasons.{slack_of, reason_bytes, reasons_bytes}
 use Rattle.definition.proofs.Lists.{order}
 use Rattle.definition.specs.declared.Span.{Span}
-use Rattle.fold.specs.declared.listing.Sink.{Sink}
-use Rattle.fold.specs.Puts.{Puts}
-use Rattle.fold.proofs.PutLaws.{◌and◌}
+use Rattle.output.specs.declared.Sink.{Sink}
+use Rattle.output.specs.Puts.{Puts}
+use Rattle.output.proofs.PutLaws.{◌and◌}
 use Rattle.rows.specs.declared.Row.{Row}
 use Rattle.rows.specs.Rows.{row_code, row_in}
 use Rattle.reports.specs.declared.reasons.LaidRow.{LaidRow}

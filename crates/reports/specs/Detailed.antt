@@ -2,12 +2,16 @@
 -- Assumes nothing.
 use Rattle.rows.specs.declared.Row.{Row}
 use Rattle.std.specs.Prelude.{ℕ, ◌+◌, ◌≤◌, ◌<◌, ◌≡◌, List, [], ◌∷◌, ◌++◌, length, get_or, set}
+use Rattle.std.specs.Prelude.{Option}
+use Rattle.definition.specs.declared.Statement.{Statement}
 use Rattle.definition.specs.declared.Entry.{Entry}
 use Rattle.definition.specs.declared.TheConstants.{MOST_STATEMENTS}
 use Rattle.definition.specs.Basic.{le4}
 use Rattle.definition.specs.Fold.{folded_all}
 use Rattle.definition.specs.Listing.{flag, span_bytes}
-use Rattle.definition.specs.Details.{Detail, detail, detail_bytes, entries_details, height}
+use Rattle.definition.specs.Details.{root_bytes, digits_bytes, sign_words_byte, Detail, detail, detail_bytes, listing_details, height}
+use Rattle.definition.specs.Tree.{fields}
+use Rattle.layout.specs.Places.{rows_forest}
 use Rattle.record.specs.declared.LaidRecord.{LaidRecord}
 use Rattle.layout.specs.Shown.{list_in}
 use Rattle.fold.specs.declared.table.TableEntry.{TableEntry}
@@ -20,6 +24,14 @@ standing_bytes x = le4 x.own.at ++ (x.own.level ∷ x.depth ∷ flag x.own.folde
 
 abbrev pub clause_places : Entry → List ℕ
 clause_places e = span_bytes e.picture ++ span_bytes e.over ++ span_bytes e.depending
+
+abbrev pub held_bytes : Entry → List ℕ
+held_bytes e = le4 e.slack_at_end ++ digits_bytes e.digits ++ span_bytes e.usage ++ (sign_words_byte e.sign ∷ [])
+
+-- ---------------------------------------------------------------- the head
+
+abbrev pub head_bytes : Option Statement → ℕ → List ℕ
+head_bytes root many = root_bytes root ++ le4 many
 
 -- ---------------------------------------------------------------- entries one after the other
 
@@ -59,15 +71,20 @@ pub record Shallow (w : List Row) (t : List TableEntry) : Type 0 where
 
 -- ---------------------------------------------------------------- a record
 
--- the details of the folded list in the rows from `from` up to `to`
-abbrev pub details_of : List ℕ → List Row → ℕ → ℕ → List ℕ
-details_of text w from to = entries_details (folded_all text (list_in w from to))
+-- the details of the folded list in the rows from `from` up to `to`, and of a root
+abbrev pub details_of : Option Statement → List ℕ → List Row → ℕ → ℕ → List ℕ
+details_of root text w from to = listing_details root (folded_all text (list_in w from to))
 
 -- the table of a record, which was laid
 pub record RecordTabled (text : List ℕ) (w : List Row) (t : List TableEntry) (from to : ℕ) : Type 0 where
   pub few : to ≤ MOST_STATEMENTS
   pub table : Entered text w from to t
   pub deep : height (folded_all text (list_in w from to)) ≤ 130
+
+-- its fields are those of the statements in its rows
+pub record Dropped (w : List Row) (from to : ℕ) : Type 0 where
+  pub low : from ≤ to
+  pub fields_are : fields (rows_forest w 0 to) ≡ rows_forest w from to
 
 -- such a record, with its text
 abbrev pub Detailable : LaidRecord → Type 0

@@ -4,16 +4,16 @@
 ghost use Rattle.std.specs.Prelude.{◌≡◌, [], ◌+◌, ◌≤◌, ◌<◌, length, MatchOption};
 ghost use Rattle.definition.specs.Calls.{after_writing, left, report};
 ghost use Rattle.definition.specs.declared.Report.{Report};
+ghost use Rattle.definition.specs.Tree.{root};
 ghost use Rattle.layout.specs.Places.{rows_forest};
 ghost use Rattle.layout.specs.Shown.{list_in};
 ghost use Rattle.definition.specs.Reasons.{reason_kind, reason_name, adds as adds_of, reason_bytes, reasons_bytes};
-ghost use Rattle.fold.specs.Puts.{Puts};
+ghost use Rattle.output.specs.Puts.{Puts};
 ghost use Rattle.rows.specs.Rows.{row_in, row_code};
 ghost use Rattle.reports.specs.Chained.{placing_at, own_at, group_at, chain_of, Settled, Explainable};
 
 use definition::{Reason, Refusal, Span};
-use fold::listing;
-use fold::listing::{Sink, Written};
+use output::{Sink, Written};
 use record::LaidRecord;
 use rows::Rows;
 
@@ -152,6 +152,7 @@ pub fn write_reasons(laid: LaidRecord, number: usize, out: &mut [u8]) -> Result<
     ensures { left result out.new []
         ≡ after_writing
         (report (Report.Reasons number) (length out.old) laid.entry.text.now
+        (root (rows_forest laid.entry.table.rows.all.now 0 laid.entry.table.rows.count))
         (rows_forest laid.entry.table.rows.all.now laid.entry.from laid.entry.table.rows.count)
         (list_in laid.entry.table.rows.all.now laid.entry.from laid.entry.table.rows.count))
         out.old [] }
@@ -162,5 +163,5 @@ pub fn write_reasons(laid: LaidRecord, number: usize, out: &mut [u8]) -> Result<
         from: laid.from,
         row: item.row as usize,
     };
-    listing::write(row, out)
+    output::write(row, out)
 }

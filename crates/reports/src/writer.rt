@@ -6,7 +6,7 @@ ghost use Rattle.reports.specs.Listed.{listing_of, Listable};
 
 use definition::Refusal;
 use fold::listing;
-use fold::listing::{Sink, Written};
+use output::{Sink, Written};
 use record::LaidRecord;
 
 // The listing of a record that was laid out.
@@ -21,7 +21,7 @@ impl<'a> Written for Listing<'a> {
 
     fn put(self, sink: &mut Sink) {
         let variable = self.laid.table.varies();
-        sink.head(self.laid.length, variable, self.laid.top);
+        listing::put_head(sink, self.laid.length, variable, self.laid.top);
         self.laid.table.put(sink);
     }
 
@@ -41,5 +41,5 @@ pub fn write_listing(laid: LaidRecord, out: &mut [u8]) -> Result<usize, Refusal>
         (listing_of laid.entry.text.now laid.entry.table.rows.all.now laid.entry.from laid.entry.table.rows.count))
         out.old [] }
 {
-    listing::write(Listing { laid }, out)
+    output::write(Listing { laid }, out)
 }

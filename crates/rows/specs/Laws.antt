@@ -8,7 +8,8 @@ use Rattle.definition.specs.declared.ItemUsage.{ItemUsage}
 use Rattle.definition.specs.declared.SignWords.{SignWords}
 use Rattle.definition.specs.Listing.{flag, sign_byte, storage_byte}
 use Rattle.rows.specs.Kinds.{flag_at, sign_at, storage_at}
-use Rattle.rows.specs.Usages.{usage_byte, usage_at, item_usage_byte, item_usage_at, some_sign, sign_code, sign_words_at}
+use Rattle.rows.specs.Usages.{usage_byte, usage_at, item_usage_byte, item_usage_at, some_sign, sign_words_at}
+use Rattle.definition.specs.Details.{sign_words_byte}
 
 pub flag-back : (b : Bool) → flag_at (flag b) ≡ b
 flag-back true = refl
@@ -37,12 +38,12 @@ usage-back (ItemUsage.Picture Usage.Comp) = refl
 usage-back ItemUsage.Comp1 = refl
 usage-back ItemUsage.Comp2 = refl
 
-some_sign-back : (leading separate : Bool) → sign_words_at (sign_code (some_sign leading separate)) ≡ some_sign leading separate
+some_sign-back : (leading separate : Bool) → sign_words_at (sign_words_byte (some_sign leading separate)) ≡ some_sign leading separate
 some_sign-back true true = refl
 some_sign-back true false = refl
 some_sign-back false true = refl
 some_sign-back false false = refl
 
-pub sign-words-back : (s : Option SignWords) → sign_words_at (sign_code s) ≡ s
+pub sign-words-back : (s : Option SignWords) → sign_words_at (sign_words_byte s) ≡ s
 sign-words-back None = refl
 sign-words-back (Some s) = some_sign-back s.leading s.separate

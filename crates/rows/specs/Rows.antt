@@ -4,7 +4,7 @@ use Rattle.std.specs.Prelude.{ℕ, zero, suc, ◌-◌, List, [], ◌∷◌, eqb,
 use Rattle.definition.specs.declared.FieldKind.{FieldKind}
 use Rattle.definition.specs.declared.Statement.{Statement}
 use Rattle.definition.specs.Basic.{absent}
-use Rattle.definition.specs.Statement.{outermost, clauses_of}
+use Rattle.definition.specs.Statement.{clauses_of}
 use Rattle.text.specs.Fingerprints.{name_fingerprint}
 use Rattle.rows.specs.declared.Place.{Place}
 use Rattle.rows.specs.declared.Row.{Row}
@@ -24,7 +24,7 @@ row_code (Some k) = suc k
 
 abbrev pub no_statement : Statement
 no_statement =
-    record { level = 0; at = 0; name = absent; clauses = clauses_of absent None None false None absent absent; usage = outermost }
+    record { level = 0; at = 0; name = absent; clauses = clauses_of absent None None false None absent absent; usage = None }
 
 abbrev pub no_place : Place
 no_place =
@@ -32,8 +32,10 @@ no_place =
       offset = 0;
       width = 0;
       slack = 0;
+      slack_at_end = 0;
       kind = FieldKind.Text;
-      before = 0;
+      digits = None;
+      gap = 0;
       base = None;
       plain = None;
       target = None;
@@ -55,6 +57,10 @@ blank = fresh no_statement None 0
 -- row k
 abbrev pub row_in : List Row → ℕ → Row
 row_in w k = get_or w k blank
+
+-- the end of the siblings before row k: the row after the latest of them, or 0 where there is none
+abbrev pub before_in : List Row → ℕ → ℕ
+before_in w k = k - (row_in w k).place.gap
 
 -- the statement in row k
 abbrev pub statement_at : List Row → ℕ → Statement

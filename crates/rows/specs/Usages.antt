@@ -32,15 +32,7 @@ clause_at at n = if eqb n 0 then None else Some (at (n - 1))
 abbrev pub some_sign : Bool → Bool → Option SignWords
 some_sign leading separate = Some (record { leading = leading; separate = separate })
 
--- what is said of the sign as a number, and back
-abbrev pub sign_code : Option SignWords → ℕ
-sign_code None = 0
-sign_code (Some s) =
-    elim s.leading [
-      | true ↦ elim s.separate [ true ↦ 4 | false ↦ 2 ]
-      | false ↦ elim s.separate [ true ↦ 3 | false ↦ 1 ]
-    ]
-
+-- what is said of the sign, from its number
 abbrev pub sign_words_at : ℕ → Option SignWords
 sign_words_at n =
     if eqb n 1 then some_sign false false

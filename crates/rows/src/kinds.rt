@@ -4,7 +4,8 @@ ghost use Rattle.std.specs.Prelude.{ℕ, ◌≡◌};
 ghost use Rattle.definition.specs.Listing.{flag, sign_byte, storage_byte, kind_byte};
 ghost use Rattle.rows.specs.Kinds.{flag_at, sign_at, storage_at, numbers_of};
 ghost use Rattle.rows.specs.Usages.{usage_byte, usage_at, item_usage_byte, item_usage_at, clause_at};
-ghost use Rattle.rows.specs.Usages.{sign_code, sign_words_at};
+ghost use Rattle.definition.specs.Details.{sign_words_byte};
+ghost use Rattle.rows.specs.Usages.{sign_words_at};
 ghost use Rattle.rows.specs.Laws.{flag-back, sign-back, storage-back, picture-usage-back, usage-back, sign-words-back};
 
 use definition::{FieldKind, ItemUsage, NumRepr, SignKind, SignWords, Usage};
@@ -152,22 +153,14 @@ impl Coded for ItemUsage {
 // What is said of the sign, or that nothing is: 0, and every number over 4.
 // A number over 4 says nothing of a sign, where `clause_at` takes each number but 0 for something said.
 impl Coded for Option<SignWords> {
-    ghost code = { sign_code };
+    ghost code = { sign_words_byte };
 
     ghost at = { sign_words_at };
 
     ghost back = { sign-words-back };
 
     fn code(self) -> u8 {
-        match self {
-            None => 0,
-            Some(s) => match (s.leading, s.separate) {
-                (false, false) => 1,
-                (true, false) => 2,
-                (false, true) => 3,
-                (true, true) => 4,
-            },
-        }
+        self.map_or(0, |s| 1 + s.leading.code() + 2 * s.separate.code())
     }
 
     fn at(n: u8) -> Self {

@@ -4,9 +4,9 @@
 
 ghost use Rattle.std.specs.Prelude.{◌≡◌, ◌≤◌, ◌<◌, length};
 ghost use Rattle.definition.specs.Calls.{cleared};
-ghost use Rattle.rows.specs.Rows.{new_row, row_code, row_in};
+ghost use Rattle.rows.specs.Rows.{new_row, row_code, row_in, before_in};
 
-use definition::{Clauses, FieldKind, ItemUsage, Span, Statement, Usage};
+use definition::{Clauses, Digits, FieldKind, Span, Statement};
 use text::names;
 
 pub mod kinds;
@@ -27,10 +27,14 @@ pub struct Place {
     pub width: u32,
     /// How many slack bytes stand directly before it.
     pub slack: u32,
+    /// How many stand at the end of each of its occurrences, which the width counts.
+    pub slack_at_end: u8,
     /// What it holds.
     pub kind: FieldKind,
-    /// The end of the siblings before it: the row after the latest of them, or 0 where there is none.
-    pub before: u16,
+    /// The digits of a number.
+    pub digits: Option<Digits>,
+    /// How many rows stand below the sibling before it; where there is none, how many rows stand before it.
+    pub gap: u16,
     /// The base that it redefines, if any.
     pub base: Option<u16>,
     /// The latest sibling before it without REDEFINES, if any: it may place the row.
@@ -47,8 +51,10 @@ impl Place {
         offset: 0,
         width: 0,
         slack: 0,
+        slack_at_end: 0,
         kind: FieldKind::Text,
-        before: 0,
+        digits: None,
+        gap: 0,
         base: None,
         plain: None,
         target: None,
@@ -72,7 +78,7 @@ pub struct Row {
     pub place: Place,
 }
 
-const _: () = prove!(size_of::<Row>() == 104);
+const _: () = prove!(size_of::<Row>() == 112);
 
 impl Row {
     /// A row that was not filled.
@@ -90,7 +96,7 @@ impl Row {
                 depending: Span::ABSENT,
                 redefines: Span::ABSENT,
             },
-            usage: ItemUsage::Picture(Usage::Display),
+            usage: None,
         },
         parent: None,
         fingerprint: 0,
@@ -148,5 +154,13 @@ impl<'a> Rows<'a> {
         ensures { result.now ≡ row_in self.entry.all.now k }
     {
         &self.all[k]
+    }
+
+    /// The end of the siblings before row k.
+    pub fn siblings_end(self, k: usize) -> usize
+        requires { k < self.count }
+        ensures { (result ≡ before_in self.entry.all.now k) × (result ≤ k) }
+    {
+        k.saturating_sub(usize::from(self.row(k).place.gap))
     }
 }

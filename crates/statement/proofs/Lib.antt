@@ -1,4 +1,3 @@
-pub mod EndLaws
 pub mod LevelLaws
 pub mod PeriodLaws
 pub mod ReadingLaws

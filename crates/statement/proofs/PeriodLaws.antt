@@ -67,9 +67,9 @@ module _ (n : ℕ) (ts : List Token) (h : sentences# ts ≤ suc n) where
   unfolding sentences
   with-word w = on-first# w n (sentences ts) h
 
-  with-stop : sentences# (Stop ∷ ts) ≤ suc (suc n)
+  with-stop : (p : ℕ) → sentences# (Stop p ∷ ts) ≤ suc (suc n)
   unfolding sentences
-  with-stop = omega arith
+  with-stop p = omega arith
 
   with-open : (q : LiteralState) (k : ByteKind) → sentences# (unless_open q k ts) ≤ suc n
   unfolding sentences
@@ -84,19 +84,19 @@ module _ (n : ℕ) (ts : List Token) (h : sentences# ts ≤ suc n) where
 
 completed# : (n : ℕ) (ts : List Token) → sentences# ts ≤ suc n → (m : Mode) (p : ℕ) (k : ByteKind) → sentences# (completed m p k ++ ts) ≤ suc (n + stop# k)
 completed# n ts h Dropped p k = omega arith
-completed# n ts h Fresh p Period = omega (arith, with-stop n ts h)
+completed# n ts h Fresh p Period = omega (arith, with-stop n ts h p)
 completed# n ts h Fresh p Newline = omega arith
 completed# n ts h Fresh p Blank = omega arith
 completed# n ts h Fresh p Cut = omega arith
 completed# n ts h Fresh p Star = omega arith
 completed# n ts h Fresh p Other = omega arith
-completed# n ts h Between p Period = omega (arith, with-stop n ts h)
+completed# n ts h Between p Period = omega (arith, with-stop n ts h p)
 completed# n ts h Between p Newline = omega arith
 completed# n ts h Between p Blank = omega arith
 completed# n ts h Between p Cut = omega arith
 completed# n ts h Between p Star = omega arith
 completed# n ts h Between p Other = omega arith
-completed# n ts h (Within s) p Period = omega (arith, with-word (suc n) (Stop ∷ ts) (with-stop n ts h) (span s (p - s)))
+completed# n ts h (Within s) p Period = omega (arith, with-word (suc n) (Stop p ∷ ts) (with-stop n ts h p) (span s (p - s)))
 completed# n ts h (Within s) p Newline = omega (arith, with-word n ts h (span s (p - s)))
 completed# n ts h (Within s) p Blank = omega (arith, with-word n ts h (span s (p - s)))
 completed# n ts h (Within s) p Cut = omega (arith, with-word n ts h (span s (p - s)))

@@ -2,8 +2,7 @@
 -- opening a level says of them.
 -- Assumes nothing.
 use Rattle.std.specs.Prelude.{ℕ, zero, suc, ◌-◌, ◌≤◌, ◌<◌, ◌≡◌, List, [], ◌∷◌, length, get_or, Option, None, Some}
-use Rattle.definition.specs.declared.ItemUsage.{ItemUsage}
-use Rattle.definition.specs.Statement.{outermost}
+use Rattle.definition.specs.declared.NamedUsage.{NamedUsage}
 use Rattle.definition.specs.Tree.{Open, opened, still_open, innermost}
 use Rattle.definition.proofs.ParentLaws.{Fit}
 use Rattle.rows.specs.declared.Row.{Row}
@@ -11,7 +10,7 @@ use Rattle.rows.specs.Rows.{row_in, row_code}
 use Rattle.statement.specs.declared.tree.OpenLevels.{OpenLevels}
 
 -- the usage that holds for row k, and the row that it stands under
-abbrev pub usage_in : List Row → ℕ → ItemUsage
+abbrev pub usage_in : List Row → ℕ → Option NamedUsage
 usage_in w k = (row_in w k).statement.usage
 
 abbrev pub parent_in : List Row → ℕ → ℕ
@@ -33,8 +32,8 @@ abbrev pub stack_of : List Row → OpenLevels → List Open
 stack_of w o = top_down w o.levels o.count (row_code o.row)
 
 -- the usage that holds around a statement under that row, or under none
-abbrev pub usage_around : List Row → Option ℕ → ItemUsage
-usage_around w None = outermost
+abbrev pub usage_around : List Row → Option ℕ → Option NamedUsage
+usage_around w None = None
 usage_around w (Some k) = usage_in w k
 
 -- no statement is open

@@ -6,14 +6,13 @@ use Rattle.definition.specs.declared.ByteKind.TheVariants.{Newline}
 use Rattle.definition.specs.declared.Clauses.{Clauses}
 use Rattle.definition.specs.declared.ParseState.{ParseState}
 use Rattle.definition.specs.declared.Refusal.{Refusal}
-use Rattle.definition.specs.declared.Span.{Span}
 use Rattle.definition.specs.declared.Statement.{Statement}
 use Rattle.definition.specs.declared.Token.{Token}
 use Rattle.definition.specs.Basic.{Answer, Err, Ok}
 use Rattle.definition.specs.Statement.{no_clauses, clauses, named, statement}
 use Rattle.definition.specs.Words.{unless_open, first_open, sentences, first_words, after_stop}
 use Rattle.text.specs.declared.tokens.Cursor.{Cursor}
-use Rattle.text.specs.Tokens.{tokens_at}
+use Rattle.text.specs.Tokens.{tokens_at, words_from, Ends}
 use Rattle.statement.specs.Places.{SpanInside, Fits}
 use Rattle.statement.specs.declared.StatementRead.{StatementRead}
 
@@ -26,16 +25,6 @@ pub record StatementFits (text : List ℕ) (s : Statement) : Type 0 where
   pub clauses : Fits text s.clauses
 
 -- ---------------------------------------------------------------- the words of a statement
-
--- the words of the statement that goes on there
-abbrev pub words_from : List ℕ → Cursor → List Span
-words_from text from = first_words (tokens_at text from)
-
--- the statement that goes on at `from` ends before `next`
-pub record Ends (text : List ℕ) (from next : Cursor) : Type 0 where
-  pub up : from.at ≤ next.at
-  pub within : next.at ≤ length text
-  pub rest : after_stop (tokens_at text from) ≡ tokens_at text next
 
 -- the clauses of the words from a place on, and where they end
 pub record ClausesDone (text : List ℕ) (at : ℕ) (from : Cursor) (c : Clauses) (next : Cursor) : Type 0 where

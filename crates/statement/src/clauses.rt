@@ -6,7 +6,7 @@ ghost use Rattle.definition.specs.Statement.{go, begin as begin_of, on_clause, o
 ghost use Rattle.definition.specs.Statement.{on_sign, clause_step, separately as separately_of, step as step_of};
 ghost use Rattle.statement.specs.Steps.{led, kept_on};
 
-use definition::{Clauses, Keyword, Missing, ParseState, SignWords, Span};
+use definition::{Clauses, Keyword, Missing, NamedUsage, ParseState, SignWords, Span};
 use text::keywords;
 
 /// What a statement says before its first clause.
@@ -20,9 +20,9 @@ pub const NO_CLAUSES: Clauses = Clauses {
     redefines: Span::ABSENT,
 };
 
-/// Where a clause begins: what is expected next.
-fn begin(k: Option<Keyword>, c: &mut Clauses) -> ParseState
-    ensures { go result c.new ≡ begin_of k c.old }
+/// Where the word at `w` begins a clause: what is expected next.
+fn begin(w: Span, k: Option<Keyword>, c: &mut Clauses) -> ParseState
+    ensures { go result c.new ≡ begin_of w k c.old }
 {
     match k {
         Some(Keyword::Picture) => {
@@ -36,7 +36,7 @@ fn begin(k: Option<Keyword>, c: &mut Clauses) -> ParseState
         Some(Keyword::Occurs) => ParseState::ACount,
         Some(Keyword::Usage) => ParseState::UsageIs,
         Some(Keyword::Names(usage)) => {
-            c.usage = Some(usage);
+            c.usage = Some(NamedUsage { usage, word: w });
             ParseState::Clause
         }
         Some(Keyword::Sign) => {
@@ -55,31 +55,31 @@ fn begin(k: Option<Keyword>, c: &mut Clauses) -> ParseState
     }
 }
 
-/// A word where a clause may begin.
-fn on_clause(word: &[u8], c: &mut Clauses) -> ParseState
-    ensures { go result c.new ≡ on_clause (uppers word.now) c.old }
+/// A word, that stands at `w`, where a clause may begin.
+fn on_clause(w: Span, word: &[u8], c: &mut Clauses) -> ParseState
+    ensures { go result c.new ≡ on_clause w (uppers word.now) c.old }
 {
-    begin(keywords::keyword_of(word), c)
+    begin(w, keywords::keyword_of(word), c)
 }
 
 /// A word where DEPENDING or a clause may stand.
-fn on_depending(word: &[u8], c: &mut Clauses) -> ParseState
-    ensures { go result c.new ≡ on_depending (uppers word.now) c.old }
+fn on_depending(w: Span, word: &[u8], c: &mut Clauses) -> ParseState
+    ensures { go result c.new ≡ on_depending w (uppers word.now) c.old }
 {
     if text::same_key(word, b"DEPENDING") {
         return ParseState::OnName;
     }
-    on_clause(word, c)
+    on_clause(w, word, c)
 }
 
 /// A word where TIMES, DEPENDING or a clause may stand.
-fn on_times(word: &[u8], c: &mut Clauses) -> ParseState
-    ensures { go result c.new ≡ on_times (uppers word.now) c.old }
+fn on_times(w: Span, word: &[u8], c: &mut Clauses) -> ParseState
+    ensures { go result c.new ≡ on_times w (uppers word.now) c.old }
 {
     if text::same_key(word, b"TIMES") {
         return ParseState::DependingOn;
     }
-    on_depending(word, c)
+    on_depending(w, word, c)
 }
 
 /// The word of SIGN: LEADING or not.
@@ -115,12 +115,12 @@ fn clause_step(e: ParseState, w: Span, word: &[u8], c: &mut Clauses) -> Result<P
             ParseState::To
         }
         ParseState::To if text::same_key(word, b"TO") => ParseState::Bound,
-        ParseState::To | ParseState::Times => on_times(word, c),
+        ParseState::To | ParseState::Times => on_times(w, word, c),
         ParseState::Bound => {
             c.occurs = Some(text::count_of(word).ok_or(Missing::Bound)?);
             ParseState::Times
         }
-        ParseState::DependingOn => on_depending(word, c),
+        ParseState::DependingOn => on_depending(w, word, c),
         ParseState::OnName if text::same_key(word, b"ON") => ParseState::AName,
         ParseState::OnName | ParseState::AName => {
             c.depending = w;
@@ -132,7 +132,7 @@ fn clause_step(e: ParseState, w: Span, word: &[u8], c: &mut Clauses) -> Result<P
         ParseState::Side if text::same_key(word, b"LEFT") || text::same_key(word, b"RIGHT") => {
             ParseState::Clause
         }
-        ParseState::Clause | ParseState::UsageIs | ParseState::Side => on_clause(word, c),
+        ParseState::Clause | ParseState::UsageIs | ParseState::Side => on_clause(w, word, c),
         ParseState::Nothing => ParseState::Nothing,
     };
     Ok(next)

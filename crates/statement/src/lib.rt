@@ -6,10 +6,10 @@ ghost use Rattle.std.specs.Prelude.{◌≡◌, ◌∷◌, ◌+◌, ◌≤◌, �
 ghost use Rattle.definition.specs.declared.TheConstants.{MOST_BYTES};
 ghost use Rattle.definition.specs.Statement.{finish as finish_of, statement_of};
 ghost use Rattle.definition.specs.declared.Token.TheVariants.{Word};
-ghost use Rattle.text.specs.Tokens.{tokens_at};
-ghost use Rattle.statement.specs.Reading.{ClausesAre, Ends, NamedAre, FirstStatement};
+ghost use Rattle.text.specs.Tokens.{tokens_at, Ends};
+ghost use Rattle.statement.specs.Reading.{ClausesAre, NamedAre, FirstStatement};
 
-use definition::{Clauses, ItemUsage, Missing, ParseState, Refusal, Span, Statement, Usage};
+use definition::{Clauses, Missing, ParseState, Refusal, Span, Statement};
 use text::tokens::{Cursor, Next};
 use text::words;
 
@@ -51,7 +51,7 @@ pub fn read_clauses(text: &[u8], at: u16, cursor: &mut Cursor) -> Result<Clauses
 }
 
 /// Moves a reader behind the statement that goes on there.
-#[tactic(auto, using(crate::proofs::EndLaws::end_steps))]
+#[tactic(auto, using(text::proofs::EndLaws::end_steps))]
 fn skip_statement(text: &[u8], cursor: &mut Cursor)
     requires { (cursor.old.at ≤ length text.now) × (length text.now ≤ MOST_BYTES) }
     ensures { Ends text.now cursor.old cursor.new }
@@ -68,7 +68,7 @@ fn statement_of(level: u8, at: u16, name: Span, c: Clauses) -> Statement
         at,
         name,
         clauses: c,
-        usage: c.usage.unwrap_or(ItemUsage::Picture(Usage::Display)),
+        usage: c.usage,
     }
 }
 

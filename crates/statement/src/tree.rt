@@ -11,10 +11,10 @@ ghost use Rattle.statement.specs.Levels.{outer_row, usage_around, NoneOpen, Nest
 ghost use Rattle.statement.specs.TreeReading.{Added, periods, rows_needed, StatementsAre, RowsOf};
 
 use crate::StatementRead;
-use definition::{ItemUsage, MOST_BYTES, MOST_STATEMENTS, Refusal, Statement, Usage};
+use definition::{MOST_BYTES, MOST_STATEMENTS, NamedUsage, Refusal, Statement};
 use rows::{Row, Rows};
-use text::tokens;
 use text::tokens::Cursor;
+use text::words;
 
 // ---------------------------------------------------------------- open levels
 
@@ -26,16 +26,12 @@ fn outer_row(rows: Rows, row: Option<u16>) -> Option<u16>
     rows.row(usize::from(row?)).parent
 }
 
-/// The usage that holds around a statement under that row, or under none.
-// For `map_or` the closure would need a contract of its own.
-fn usage_around(rows: Rows, row: Option<u16>) -> ItemUsage
+/// The usage that holds around a statement under that row; none is named around one under no row.
+fn usage_around(rows: Rows, row: Option<u16>) -> Option<NamedUsage>
     requires { row_code row ≤ rows.count }
     ensures { result ≡ usage_around rows.entry.all.now row }
 {
-    match row {
-        Some(k) => rows.row(usize::from(k)).statement.usage,
-        None => ItemUsage::Picture(Usage::Display),
-    }
+    rows.row(usize::from(row?)).statement.usage
 }
 
 /// The levels that are open, the innermost last, and how many; and the row of the innermost, if any. The rows of the
@@ -91,11 +87,11 @@ impl OpenLevels {
 // ---------------------------------------------------------------- rows
 
 /// A statement with the usage that holds for it, where `outer` holds around it.
-fn inheriting(outer: ItemUsage, s: Statement) -> Statement
+fn inheriting(outer: Option<NamedUsage>, s: Statement) -> Statement
     ensures { result ≡ inheriting_of outer s }
 {
     Statement {
-        usage: s.clauses.usage.unwrap_or(outer),
+        usage: s.clauses.usage.or(outer),
         ..s
     }
 }
@@ -128,11 +124,25 @@ fn periods(text: &[u8]) -> u16
 
 /// How many rows a text needs at most: each of its statements but the last ends in a period, and 800 are kept.
 #[tactic(auto, unfolding(crate::specs::TreeReading::rows_needed))]
-pub fn rows_needed(text: &[u8]) -> usize
+fn rows_needed(text: &[u8]) -> usize
     ensures { (result ≡ rows_needed text.now) × (result ≤ MOST_STATEMENTS) }
 {
     let read = &text[..text.len().min(MOST_BYTES)];
     usize::from(periods(read)).min(MOST_STATEMENTS - 1) + 1
+}
+
+// In a text of more bytes the periods aren't counted: it has rows for all statements that are kept.
+const COUNTED: usize = 16384;
+
+/// How many rows are enough for a text.
+#[tactic(auto, unfolding(crate::specs::TreeReading::rows_needed))]
+pub fn rows_enough(text: &[u8]) -> usize
+    ensures { (rows_needed text.now ≤ result) × (result ≤ MOST_STATEMENTS) }
+{
+    if COUNTED < text.len() {
+        return MOST_STATEMENTS;
+    }
+    rows_needed(text)
 }
 
 /// The statements of a text as rows, from row 0 on, whether a literal is left open or not: how many, and
@@ -174,7 +184,7 @@ pub fn read_rows(text: &[u8], rows: &mut [Row]) -> Result<usize, Refusal>
             Ok(n)
         }
         Err(refusal) => {
-            tokens::open_check(text)?;
+            words::open_check(text)?;
             Err(refusal)
         }
     }

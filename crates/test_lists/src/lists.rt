@@ -3,20 +3,20 @@
 //! picture.
 
 ghost use Rattle.std.specs.Prelude.{◌≡◌, ◌≤◌, length, IfOk};
-ghost use Rattle.test_lists.specs.Counting.{Onward, Counted};
+ghost use Rattle.replay.specs.Counting.{Onward, Counted};
 
 use crate::record_cases::owners::Counts;
 use crate::record_cases::{extracts, keys, owners};
-use crate::replay::case::{Case, Differs};
-use crate::replay::cases::Cases;
-use crate::replay::lent::Lent;
-use crate::replay::lists::read_list;
-use crate::replay::tally::Tally;
 use crate::report_cases;
 use crate::report_cases::Kind;
 use crate::text_cases::pictures::Source;
 use crate::text_cases::{pictures, readings};
 use definition::LEAST_WORK;
+use replay::case::{Case, Differs};
+use replay::cases::Cases;
+use replay::lent::Lent;
+use replay::lists::read_list;
+use replay::tally::Tally;
 use std::io;
 use std::rt::Files;
 
@@ -149,7 +149,7 @@ pub(crate) struct Lists<'a, R> {
 impl<'a, R: Files + Print> Lists<'a, R> {
     /// Reads a list and replays it, after the cases of others. What a file holds has no word in a contract: as many
     /// cases are counted as what was read has, which is at most what there is room for.
-    #[tactic(auto, using(crate::proofs::TallyLaws::tally_steps))]
+    #[tactic(auto, using(replay::proofs::TallyLaws::tally_steps))]
     pub(crate) fn replay(&mut self, list: List, counted: &mut Tally) -> io::Result<()>
         ensures onward { Onward counted.old counted.new }
         ensures all { IfOk result (λ _. (read : _)

@@ -12,7 +12,6 @@ use lists::{CaseHead, List, Lists, Question};
 use std::io;
 
 pub mod record_cases;
-pub mod replay;
 pub mod report_cases;
 pub mod text_cases;
 

@@ -9,7 +9,7 @@ pub mod owners;
 
 ghost use Rattle.std.specs.Prelude.{◌≡◌};
 
-use crate::replay::case::{Case, Differs};
+use replay::case::{Case, Differs};
 
 /// Takes a number, and as many numbers behind it, which have to fit into the room.
 fn take_all<'a, T: Copy + TryFrom<u64>>(

@@ -8,12 +8,12 @@
 //! pattern: work memory must be zero afterwards, and the pattern must stand wherever nothing was to be written.
 
 ghost use Rattle.std.specs.Prelude.{◌≡◌, eqb, if◌then◌else◌, IsOk, IsTrue};
-ghost use Rattle.test_lists.specs.Words.{ahead, is_end};
+ghost use Rattle.replay.specs.Words.{ahead, is_end};
 ghost use Rattle.test_lists.specs.declared.report_cases.Form.TheVariants.{Cards, Free};
 
-use crate::replay::case::{Case, Differs, only};
-use crate::replay::lent::{Lent, TEXT_ROOM, is_untouched, patterned, replay_call};
 use definition::{Refusal, Report};
+use replay::case::{Case, Differs, only};
+use replay::lent::{Lent, TEXT_ROOM, is_untouched, patterned, replay_call};
 
 /// The most room that an output is given: more than any report needs.
 const ROOM: usize = 80000;

@@ -5,13 +5,12 @@ use Prim.Native.Nat.{ℕ}
 use mathlib.Core.Path.{◌≡◌, refl, sym, ap, ap₂}
 use mathlib.Core.Bool.{Bool, true, false, ◌&&◌}
 use mathlib.Core.List.{List, [], ◌∷◌}
-use native.Mathlib.Omega.{arith}
 use lib.Dec.{eqb}
 use borrow.Author.Tests.{eqb-true, eqb-false, eq-eqb, ne_eqb}
 use Rattle.definition.specs.declared.Span.{Span}
 use Rattle.definition.specs.Basic.{same, uppers}
 use Rattle.definition.specs.Fold.{name_of, same_name}
-use Rattle.definition.proofs.WordLaws.{never, same-equal}
+use Rattle.definition.proofs.WordLaws.{same-equal}
 use Rattle.text.specs.Fingerprints.{fingerprint_of, name_fingerprint}
 
 -- ---------------------------------------------------------------- the same bytes

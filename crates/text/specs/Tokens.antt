@@ -11,7 +11,7 @@ use Rattle.definition.specs.declared.Span.{Span}
 use Rattle.definition.specs.declared.Token.{Token}
 use Rattle.definition.specs.Basic.{span, part, Answer, Ok, Err}
 use Rattle.definition.specs.Unquoted.{closed}
-use Rattle.definition.specs.Words.{up_to, after_byte, after_word, unless_open, tokens}
+use Rattle.definition.specs.Words.{up_to, after_byte, after_word, unless_open, tokens, first_words, after_stop}
 use Rattle.text.specs.declared.tokens.Ahead.{Ahead}
 use Rattle.text.specs.declared.tokens.Next.{Next}
 use Rattle.text.specs.declared.tokens.Cursor.{Cursor}
@@ -90,14 +90,14 @@ pub record AheadWord (text : List ℕ) (at : ℕ) (fresh : Bool) (i : ℕ) : Typ
       closed q ≡ true →
       tokens_from text q (between fresh) at ≡ tokens_from text (after_byte q i (get_or text i 0)) (Within i) (i + 1)
 
--- the end of a statement before `next`,
+-- the period that ends a statement, directly before `next`,
 pub record AheadStop (text : List ℕ) (at : ℕ) (fresh : Bool) (next : ℕ) : Type 0 where
   pub up : at < next
   pub within : next ≤ length text
   pub rest :
       (q : LiteralState) →
       closed q ≡ true →
-      tokens_from text q (between fresh) at ≡ Token.Stop ∷ tokens_from text (Before 0) Between next
+      tokens_from text q (between fresh) at ≡ Token.Stop (next - 1) ∷ tokens_from text (Before 0) Between next
 
 -- or the end of the text
 pub record AheadEnd (text : List ℕ) (at : ℕ) (fresh : Bool) (i : ℕ) : Type 0 where
@@ -145,9 +145,9 @@ pub record FirstWord (all : List Token) (text : List ℕ) (at : ℕ) (w : Span) 
   pub fits : w.start + w.len ≤ length text
   pub nonempty : 0 < w.len
 
--- the first of the tokens from a place on ends a statement
+-- the first of the tokens from a place on is the period that ends a statement, directly before `next`
 pub record FirstStop (all : List Token) (text : List ℕ) (at : ℕ) (next : Cursor) : Type 0 where
-  pub all_are : all ≡ Token.Stop ∷ tokens_at text next
+  pub all_are : all ≡ Token.Stop (next.at - 1) ∷ tokens_at text next
   pub up : at < next.at
   pub within : next.at ≤ length text
 
@@ -186,3 +186,15 @@ token_of (Ahead.End at) next = Next.End
 -- 50 at the opening mark of a literal that is open where the tokens end
 abbrev pub open_check : Cursor → Answer (Unit {0})
 open_check s = elim s.literals [ Before n ↦ Ok tt | Value ↦ Ok tt | Literal mark at ↦ Err (Refusal.UnclosedLiteral at) ]
+
+-- ---------------------------------------------------------------- statements
+
+-- the words of the statement that goes on there
+abbrev pub words_from : List ℕ → Cursor → List Span
+words_from text from = first_words (tokens_at text from)
+
+-- the statement that goes on at `from` ends before `next`
+pub record Ends (text : List ℕ) (from next : Cursor) : Type 0 where
+  pub up : from.at ≤ next.at
+  pub within : next.at ≤ length text
+  pub rest : after_stop (tokens_at text from) ≡ tokens_at text next

@@ -72,5 +72,9 @@ fn meaning_of(word: &[u8], spellings: &[(&[u8], Keyword)]) -> Option<Keyword>
 pub fn keyword_of(word: &[u8]) -> Option<Keyword>
     ensures { result ≡ keyword_of (uppers word.now) }
 {
+    // Most clauses are pictures, so that this spelling is asked for before the table is gone through.
+    if crate::same_key(word, b"PIC") {
+        return Some(Keyword::Picture);
+    }
     meaning_of(word, &SPELLINGS)
 }

@@ -50,14 +50,15 @@ pub fn same_spellings(text: &[u8], a: Span, b: Span) -> bool
 
 // ---------------------------------------------------------------- fingerprints
 
-/// The byte k places before a word's last, in upper case, or 0 where there is none.
+/// Five bits of the byte k places before a word's last, in upper case, or 0 where there is none.
+// A letter's capital has the same five, so that nothing is left to do for it when this is compiled.
 fn byte_back(w: &[u8], k: usize) -> u8
     ensures { result ≡ byte_back (uppers w.now) k }
 {
     if w.len() <= k {
         return 0;
     }
-    crate::upper(w[w.len() - 1 - k])
+    crate::upper(w[w.len() - 1 - k]) % 32
 }
 
 /// The fingerprint of a word, case aside.

@@ -5,7 +5,6 @@
 
 ghost use Rattle.std.specs.Prelude.{◌≡◌, ◌≤◌, ◌<◌, length, get_or, drop, not};
 ghost use Rattle.definition.specs.Basic.{white};
-ghost use Rattle.definition.specs.Calls.{literal_check};
 ghost use Rattle.definition.specs.declared.TheConstants.{MOST_BYTES};
 ghost use Rattle.definition.specs.Words.{cut_here, ends, byte_kind, is_value, after_word, after_byte};
 ghost use Rattle.definition.proofs.WordLaws.{kind_at, seen_at, stays_within};
@@ -352,7 +351,6 @@ fn look(text: &[u8], s: Cursor) -> Ahead
 }
 
 /// What stands ahead of a reader, which then stands behind it: of a word, at its end. A text may have any length here.
-#[inline(always)]
 pub fn pass_token(text: &[u8], s: &mut Cursor) -> Ahead
     requires { s.old.at ≤ length text.now }
     ensures { First (tokens_at text.now s.old) text.now s.old.at (token_of result s.new) s.new }
@@ -368,7 +366,6 @@ pub fn pass_token(text: &[u8], s: &mut Cursor) -> Ahead
 
 /// The first token from where a reader stands, which then stands behind it; after the last one, where the text has
 /// ended or the line of a literal has.
-#[inline(always)]
 pub fn next_token(text: &[u8], s: &mut Cursor) -> Next
     requires { (s.old.at ≤ length text.now) × (length text.now ≤ MOST_BYTES) }
     ensures { First (tokens_at text.now s.old) text.now s.old.at result s.new }
@@ -378,17 +375,4 @@ pub fn next_token(text: &[u8], s: &mut Cursor) -> Next
         Ahead::Stop(_) => Next::Stop,
         Ahead::End(_) => Next::End,
     }
-}
-
-// ---------------------------------------------------------------- refusal 50
-
-/// 50 at the opening mark, if a literal is open where the tokens of a text end: they do at the first literal that its
-/// line does not close.
-pub fn open_check(text: &[u8]) -> Result<(), Refusal>
-    requires { length text.now ≤ MOST_BYTES }
-    ensures { result ≡ literal_check text.now }
-{
-    let mut s = Cursor::at_start();
-    while let Next::Word(_) | Next::Stop = next_token(text, &mut s) {}
-    s.left_open()
 }

@@ -1,11 +1,13 @@
-//! A word reader: it holds the copybook text and where it stands in it.
+//! A word reader, which holds a text and where it stands in it; and refusal 50, for which all words are read.
 
 ghost use Rattle.std.specs.Prelude.{◌≡◌, ◌≤◌, length};
+ghost use Rattle.definition.specs.Calls.{literal_check};
 ghost use Rattle.definition.specs.declared.TheConstants.{MOST_BYTES};
 ghost use Rattle.text.specs.Tokens.{tokens_at, First};
 
 use crate::tokens;
 use crate::tokens::{Cursor, Next};
+use definition::Refusal;
 
 /// A text, and where a reader stands in it.
 #[derive(Clone, Copy)]
@@ -25,7 +27,6 @@ impl<'a> WordReader<'a> {
     }
 
     /// The first token before the reader, which then stands behind it.
-    #[inline(always)]
     pub fn next_token(&mut self) -> Next
         requires { (self.old.cursor.at ≤ length self.old.text.now) × (length self.old.text.now ≤ MOST_BYTES) }
         ensures { First (tokens_at self.old.text.now self.old.cursor) self.old.text.now self.old.cursor.at result
@@ -44,4 +45,16 @@ pub fn word_at(text: &[u8], cursor: &mut Cursor) -> Next
     let next = reader.next_token();
     *cursor = reader.cursor;
     next
+}
+
+/// 50 at the opening mark, if a literal is open where the tokens of a text end: they do at the first literal that its
+/// line does not close.
+// Not by `next_token`: called by `word_at` alone, it is compiled into that one with all that it needs.
+pub fn open_check(text: &[u8]) -> Result<(), Refusal>
+    requires { length text.now ≤ MOST_BYTES }
+    ensures { result ≡ literal_check text.now }
+{
+    let mut cursor = Cursor::at_start();
+    while let Next::Word(_) | Next::Stop = word_at(text, &mut cursor) {}
+    cursor.left_open()
 }

@@ -11,6 +11,7 @@ use lib.Dec.{ltb}
 use lib.ListN.{length, take, drop}
 use lib.Seq.{take-append_seam, drop-append_seam}
 use borrow.Author.Tests.{le-ltb, ltb-true}
+use Rattle.std.specs.Prelude.{None}
 use Rattle.definition.specs.declared.Owner.{Owner}
 use Rattle.definition.specs.declared.Refusal.{Refusal}
 use Rattle.definition.specs.declared.TheConstants.{LEAST_WORK}
@@ -19,13 +20,13 @@ use Rattle.definition.specs.Cards.{view, view_in}
 use Rattle.definition.specs.declared.Form.{Form}
 use Rattle.definition.specs.declared.Report.{Report}
 use Rattle.definition.specs.Record.{unfolded, layout}
-use Rattle.definition.specs.Calls.{After, left, entry_checks, kept_statements, record_fields, entries, fitting, report}
-use Rattle.definition.specs.Calls.{asked, owner_in, indicator_check, card_checks, on_cards, called, written}
+use Rattle.definition.specs.Calls.{After, left, entry_checks, kept_statements, record_tree, record_fields, entries, fitting}
+use Rattle.definition.specs.Calls.{report, asked, owner_in, indicator_check, card_checks, on_cards, called, written}
 use Rattle.definition.specs.Calls.{output_after, layout_call}
 use Rattle.definition.specs.Fold.{Entries}
 use Rattle.definition.specs.Listing.{listing}
-use Rattle.definition.specs.Tree.{Forest}
-use Rattle.definition.specs.Usages.{record_of}
+use Rattle.definition.specs.Tree.{Forest, forest, fields}
+use Rattle.definition.specs.Usages.{inherited}
 use Rattle.definition.specs.Demand.{owner_on}
 use Rattle.definition.proofs.Answers.{give-next, through, given-same}
 use Rattle.definition.proofs.CallsLaws.{called-as, asked-of}
@@ -65,13 +66,16 @@ called-enough call other Form.Cards text n m h room =
 -- and the same fields are read
 enough :
     (text : List ℕ) (n m : ℕ) (f : Forest) → record_fields text n ≡ Ok f → LEAST_WORK ≤ m → record_fields text m ≡ Ok f
-unfolding record_fields
+unfolding record_fields record_tree
 enough text n m f h room =
-    through _ _ h λ _ e q.
+    through _ _ h λ t h₁ q.
+    through _ _ h₁ λ _ e h₂.
     ap
-    (λ (a : Answer (Unit {0})). a >>= λ _. (kept_statements text >>= λ ss. Ok (record_of ss)))
+    (λ (a : Answer (Unit {0})).
+    (a >>= λ _. (kept_statements text >>= λ ss. Ok (inherited (forest ss)))) >>= λ t. Ok (fields t))
     (checked text n m e room)
-    ∙ give-next tt _
+    ∙ ap (λ (a : Answer Forest). a >>= λ t. Ok (fields t)) (give-next tt _ ∙ h₂)
+    ∙ give-next t _
     ∙ q
 
 -- every call answers with the owner in those fields
@@ -86,12 +90,13 @@ module _
     (tree : Entries)
     (unfolds : unfolded (view_in form text) f ≡ Ok tree)
   where
-    owns : (q : ℕ) {a : Answer Owner} → owner_in q (view_in form text) f tree ≡ a → Owns form text q a
+    owns : (q : ℕ) {a : Answer Owner} → owner_in q (view_in form text) None f tree ≡ a → Owns form text q a
+    unfolding owner_in
     owns q e work r work' room h =
         let m = length work in
         ap (λ (x : After Owner). x.answer) h
         ∙ called-enough (λ t. entries t n) (λ t. asked (owner_in q) t m) form text n m accepted room
-        ∙ asked-of (owner_in q) (view_in form text) m f tree (enough (view_in form text) n m f read room) unfolds
+        ∙ asked-of (owner_in q) (view_in form text) m f tree (enough (view_in form text) n m f read room) unfolds (λ _. refl)
         ∙ e
 
 -- ---------------------------------------------------------------- the demand
@@ -108,15 +113,15 @@ module _
     (read : called form (λ t. entries t (length work)) text (length work) ≡ Ok es)
   where
     is-accepted : Accepted form text work es
-    unfolding layout
+    unfolding layout owner_in
     is-accepted =
         let k = demand3 form text (length work) es read in
         let seen = view_in form text in
         let n = length work in
         through _ _ k.laid_out λ tree unfolds _.
-        let asks : (q : ℕ) → owner_on form text n q ≡ owner_in q seen k.of tree =
+        let asks : (q : ℕ) → owner_on form text n q ≡ owner_in q seen None k.of tree =
         λ q. called-as (λ t. entries t n) (λ t. asked (owner_in q) t n) form text n read
-        ∙ asked-of (owner_in q) seen n k.of tree k.read unfolds in
+        ∙ asked-of (owner_in q) seen n k.of tree k.read unfolds (λ _. refl) in
         record {
           kept = k;
           names = λ free q l.
@@ -185,7 +190,7 @@ called-then Form.Cards call f text n = go (card_checks text n)
 listed :
     (text : List ℕ) (n room : ℕ) →
     asked (report Report.Listing room) text n ≡ (entries text n >>= λ es. fitting room (listing es))
-unfolding asked report entries layout and_then
+unfolding asked report entries record_fields layout and_then
 listed text n room = grind arith
 
 -- every call for the layout listing

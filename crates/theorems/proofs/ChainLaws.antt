@@ -40,18 +40,18 @@ unfolding reasons_bytes
 first-bytes = refl
 
 module _ (text : List ℕ) where
-  module _ (s : Statement) (kids : Forest) (seen : List Entry) (e : Entry) where
+  module _ (base : ℕ) (s : Statement) (kids : Forest) (seen : List Entry) (e : Entry) where
     after-bytes : (t : Entry) (n : ℕ) → reasons_bytes (Reason.After t.name n ∷ []) ≡ after t.name n
     unfolding reasons_bytes
     after-bytes t n = refl
 
     in-turn :
-        ((seen ≡ []) × Turn text s kids seen e Reason.First)
-        ⊎ ((t : Entry) × Latest plain seen t × Turn text s kids seen e (Reason.After t.name (t.offset + reserved t))) →
-        InTurn text (item_of s kids seen e) (reasons_bytes (own_of text seen e))
+        ((seen ≡ []) × Turn text base s kids seen e Reason.First)
+        ⊎ ((t : Entry) × Latest plain seen t × Turn text base s kids seen e (Reason.After t.name (t.offset + reserved t))) →
+        InTurn text (item_of s kids base seen e) (reasons_bytes (own_of text seen e))
     in-turn h =
         ⊎_elim
-        (λ (f : (seen ≡ []) × Turn text s kids seen e Reason.First).
+        (λ (f : (seen ≡ []) × Turn text base s kids seen e Reason.First).
         record {
           reached = 0;
           places = first;
@@ -60,7 +60,7 @@ module _ (text : List ℕ) where
           stands = f.1.stands;
           fewest = f.1.fewest;
         })
-        (λ (l : (t : Entry) × Latest plain seen t × Turn text s kids seen e (Reason.After t.name (t.offset + reserved t))).
+        (λ (l : (t : Entry) × Latest plain seen t × Turn text base s kids seen e (Reason.After t.name (t.offset + reserved t))).
         let t = l.0 in
         let n = t.offset + reserved t in
         record {
@@ -73,7 +73,7 @@ module _ (text : List ℕ) where
         })
         h
 
-    own-bytes : Because text s kids seen e → Own text (item_of s kids seen e) (reasons_bytes (own_of text seen e))
+    own-bytes : Because text base s kids seen e → Own text (item_of s kids base seen e) (reasons_bytes (own_of text seen e))
     unfolding reasons_bytes
     own-bytes b =
         record {
@@ -102,24 +102,24 @@ module _ (text : List ℕ) where
       }
 
   tells :
-      (f : Forest) (es : Entries) (groups : List Item) (outward : List Reason) (seen : List Entry) →
-      Explains text seen f es →
+      (f : Forest) (es : Entries) (base : ℕ) (groups : List Item) (outward : List Reason) (seen : List Entry) →
+      Explains text base seen f es →
       Outward text groups (reasons_bytes outward) →
       (c : Reasons) →
       Among c (chains text outward seen es) →
-      Told (items groups seen f es) c
+      Told (items groups base seen f es) c
   unfolding chains reasons_bytes
-  tells leaf end groups outward seen x o c a = absurd a
-  tells (item s kids later) (entry e members others) groups outward seen x o c a =
-      let i = item_of s kids seen e in
+  tells leaf end base groups outward seen x o c a = absurd a
+  tells (item s kids later) (entry e members others) base groups outward seen x o c a =
+      let i = item_of s kids base seen e in
       let mine = own_of text seen e in
-      let has = own-bytes s kids seen e x.1 in
+      let has = own-bytes base s kids seen e x.1 in
       let reasons = mine ++ outward in
       let both = bytes-append mine outward in
       let below = chains text (inside_of e ∷ reasons) [] members in
       let after-it = chains text outward (e ∷ seen) others in
-      let inner = items (i ∷ groups) [] kids members in
-      let more = items groups (e ∷ seen) later others in
+      let inner = items (i ∷ groups) (base + e.offset) [] kids members in
+      let more = items groups base (e ∷ seen) later others in
       let out : Outward text (i ∷ groups) (reasons_bytes (inside_of e ∷ reasons)) =
       (reasons_bytes mine, reasons_bytes outward, ap (λ (l : List ℕ). inside e.name ++ l) both, has, o) in
       ⊎_elim
@@ -136,14 +136,14 @@ module _ (text : List ℕ) where
       ⊎_elim
       (λ (l : Among c below).
       wider inner ((i ∷ groups) ∷ (inner ++ more)) c (λ p h. inr (among-left p inner more h))
-      (tells kids members (i ∷ groups) (inside_of e ∷ reasons) [] x.2 out c l))
+      (tells kids members (base + e.offset) (i ∷ groups) (inside_of e ∷ reasons) [] x.2 out c l))
       (λ (l : Among c after-it).
       wider more ((i ∷ groups) ∷ (inner ++ more)) c (λ p h. inr (among-right p inner more h))
-      (tells later others groups outward (e ∷ seen) x.3 o c l))
+      (tells later others base groups outward (e ∷ seen) x.3 o c l))
       (among-append c below after-it m))
       a
-  tells leaf (entry e members others) groups outward seen x o c a = elim x [ ]
-  tells (item s kids later) end groups outward seen x o c a = elim x [ ]
+  tells leaf (entry e members others) base groups outward seen x o c a = elim x [ ]
+  tells (item s kids later) end base groups outward seen x o c a = elim x [ ]
 
 -- ---------------------------------------------------------------- one item
 
@@ -157,19 +157,19 @@ begin-append [] qs = refl
 begin-append (p ∷ ps) qs = ap (λ (l : List ℕ). begins p ∷ l) (begin-append ps qs)
 
 items-begin :
-    (text : List ℕ) (f : Forest) (es : Entries) (groups : List Item) (seen : List Entry) →
-    Explains text seen f es →
-    all_begin (items groups seen f es) ≡ beginnings f
-items-begin text leaf end groups seen x = refl
-items-begin text (item s kids later) (entry e members others) groups seen x =
-    let i = item_of s kids seen e in
+    (text : List ℕ) (f : Forest) (es : Entries) (base : ℕ) (groups : List Item) (seen : List Entry) →
+    Explains text base seen f es →
+    all_begin (items groups base seen f es) ≡ beginnings f
+items-begin text leaf end base groups seen x = refl
+items-begin text (item s kids later) (entry e members others) base groups seen x =
+    let i = item_of s kids base seen e in
     cc (
-      begin-append (items (i ∷ groups) [] kids members) (items groups (e ∷ seen) later others),
-      items-begin text kids members (i ∷ groups) [] x.2,
-      items-begin text later others groups (e ∷ seen) x.3,
+      begin-append (items (i ∷ groups) (base + e.offset) [] kids members) (items groups base (e ∷ seen) later others),
+      items-begin text kids members (base + e.offset) (i ∷ groups) [] x.2,
+      items-begin text later others base groups (e ∷ seen) x.3,
     )
-items-begin text leaf (entry e members others) groups seen x = elim x [ ]
-items-begin text (item s kids later) end groups seen x = elim x [ ]
+items-begin text leaf (entry e members others) base groups seen x = elim x [ ]
+items-begin text (item s kids later) end base groups seen x = elim x [ ]
 
 among-from : (ps : List (List Item)) (n : ℕ) (p : List Item) → Rises n (all_begin ps) → Among p ps → n ≤ begins p
 among-from [] n p r a = absurd a
@@ -206,12 +206,12 @@ chained form text work es h =
       read = x.read;
       laid_out = x.laid_out;
       one-item = λ p q.
-          one-item (items [] [] x.of x.tree) 0 p q
-          (subst (Rises 0) (sym (items-begin _ x.of x.tree [] [] x.reasoned.rules))
+          one-item (items [] 0 [] x.of x.tree) 0 p q
+          (subst (Rises 0) (sym (items-begin _ x.of x.tree 0 [] [] x.reasoned.rules))
           (fields-begin (view_in form text) work x.of x.read));
       answered = λ n e q.
           let a = x.reasoned.answered n e q in
-          let t = tells _ x.of x.tree [] [] [] x.reasoned.rules refl a.0 a.1 in
+          let t = tells _ x.of x.tree 0 [] [] [] x.reasoned.rules refl a.0 a.1 in
           record {
             which = t.which;
             groups = t.groups;

@@ -16,11 +16,11 @@ use Rattle.definition.specs.declared.Statement.{Statement}
 use Rattle.definition.specs.Basic.{is_given, Ok}
 use Rattle.definition.specs.Tree.{Forest, leaf, item, above, not_above, forest, higher, fields, Open, opened, still_open}
 use Rattle.definition.specs.Usages.{inheriting, around, inherit_along, record_of}
-use Rattle.definition.specs.Layout.{elementary}
+use Rattle.definition.specs.Storage.{elementary}
 use Rattle.definition.specs.Owner.{overlaid}
 use Rattle.definition.specs.Calls.{record_fields}
 use Rattle.definition.specs.Demand.{Among}
-use Rattle.definition.proofs.Answers.{through, given-same}
+use Rattle.definition.proofs.CallsLaws.{through-fields}
 use Rattle.definition.proofs.Lists.{by_cases}
 use Rattle.definition.proofs.TreeLaws.{forest-none, forest-cons}
 use Rattle.definition.proofs.UsageLaws.{along-forest}
@@ -181,11 +181,9 @@ fields-are : (ss : List Statement) → record_of ss ≡ forest (without_root (in
 fields-are ss = ap fields (sym (along-forest ss)) ∙ fields-forest (inherit_along [] 0 ss)
 
 pub fields_of : (text : List ℕ) (work : ℕ) (f : Forest) → record_fields text work ≡ Ok f → FieldsOf text f
-unfolding record_fields
 fields_of text work f h =
-    through _ _ h λ _ _ h₁.
-    through _ _ h₁ λ ss kept q.
-    let is : f ≡ forest (without_root (inherit_along [] 0 ss)) = sym (given-same q) ∙ fields-are ss in
+    through-fields text work f h λ ss kept q.
+    let is : f ≡ forest (without_root (inherit_along [] 0 ss)) = sym q ∙ fields-are ss in
     let same = root-along ss in
     record {
       statements = ss;
@@ -202,4 +200,5 @@ fields_of text work f h =
 
 pub aligned_by_sync :
     (text : List ℕ) (s : Statement) (c : Pictured) → elementary text s ≡ Ok c → AlignedBySync text s c
-aligned_by_sync text s c h = record { only = λ a. grind arith; each = λ y b. grind arith }
+aligned_by_sync text s c h =
+    record { only = λ a. grind arith; each = λ y n b. grind arith; no-group = λ t kids later. refl }

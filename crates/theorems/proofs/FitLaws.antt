@@ -1,57 +1,45 @@
 -- Four bytes hold each number of an accepted copybook's listing: places lie in a text of at most 65,535 bytes, there are
 -- at most 800 statements, and 29 refuses what is larger than `LARGEST`.
 -- Assumes nothing.
-use Prim.Native.Nat.{ℕ, zero, suc, ◌+◌, ◌*◌, ◌≤◌, ◌<◌, max}
+use Prim.Native.Nat.{ℕ, suc, ◌+◌, ◌*◌, ◌≤◌, ◌<◌, max}
 use mathlib.Core.Path.{◌≡◌, refl, sym, ◌∙◌, ap, subst}
 use mathlib.Core.Bool.{Bool, true, false}
-use mathlib.Core.List.{List, [], ◌∷◌, ◌++◌}
+use mathlib.Core.List.{List, [], ◌∷◌}
 use native.Mathlib.Omega.{arith}
 use lib.Dec.{ltb, leb}
-use lib.ListN.{length, length-append}
-use Rattle.std.proofs.lemmas.List.{length-replicate}
-use Rattle.std.specs.Prelude.{Option, None, Some, replicate, if◌then◌else◌}
+use lib.ListN.{length}
+use Rattle.std.specs.Prelude.{Option, None, Some, if◌then◌else◌}
 use Rattle.definition.specs.declared.Span.{Span}
-use Rattle.definition.specs.declared.ByteKind.{ByteKind}
-use Rattle.definition.specs.declared.ByteKind.TheVariants.{Newline}
-use Rattle.definition.specs.declared.Mode.{Mode}
-use Rattle.definition.specs.declared.Mode.TheVariants.{Fresh, Between, Dropped, Within}
-use Rattle.definition.specs.declared.LiteralState.{LiteralState}
-use Rattle.definition.specs.declared.LiteralState.TheVariants.{Before}
 use Rattle.definition.specs.declared.Token.{Token}
 use Rattle.definition.specs.declared.Token.TheVariants.{Word, Stop, Open}
-use Rattle.definition.specs.declared.Usage.{Usage}
-use Rattle.definition.specs.declared.ItemUsage.{ItemUsage}
-use Rattle.definition.specs.declared.SignKind.{SignKind}
+use Rattle.definition.specs.declared.NamedUsage.{NamedUsage}
 use Rattle.definition.specs.declared.FieldKind.{FieldKind}
 use Rattle.definition.specs.declared.Pictured.{Pictured}
 use Rattle.definition.specs.declared.Statement.{Statement}
 use Rattle.definition.specs.declared.Entry.{Entry}
 use Rattle.definition.specs.declared.Refusal.{Refusal}
-use Rattle.definition.specs.declared.TheConstants.{MOST_STATEMENTS, MOST_SYMBOLS, LARGEST}
-use Rattle.definition.specs.Basic.{part, is_given, upper, Answer, Ok, ◌>>=◌, refuse_if}
-use Rattle.definition.specs.Words.{byte_kind, next, completed, completed_end, seen, said_next, unless_open, tokens}
+use Rattle.definition.specs.declared.TheConstants.{MOST_STATEMENTS, LARGEST}
+use Rattle.definition.specs.Basic.{is_given, Answer, Ok, ◌>>=◌, refuse_if}
 use Rattle.definition.specs.Words.{tokens_of, on_first, sentences, statement_words}
-use Rattle.definition.specs.Statement.{sign_of, statements, outermost}
+use Rattle.definition.specs.Statement.{statements}
 use Rattle.definition.specs.Tree.{Forest, leaf, item, above, not_above, forest, fields}
 use Rattle.definition.specs.Usages.{inheriting, inherit, inherited}
-use Rattle.definition.specs.Picture.{expand, is_text, stored_digits, too_long, is_masked, mask, without, storage_width, kinded}
-use Rattle.definition.specs.Picture.{symbols, picture, trim}
 use Rattle.definition.specs.Fold.{Entries, end, entry, append, times, total, entry_end, Place, place_of, find, has_member}
 use Rattle.definition.specs.Fold.{rebased, redefiners, widest, union, union_members, with_redefiners, has_base, folded_list}
 use Rattle.definition.specs.Fold.{folded_below, folded_all}
-use Rattle.definition.specs.Layout.{under_usage, content, slack_from, entry_of, too_large, advance, Laid, lay}
+use Rattle.definition.specs.Layout.{content, slack_from, entry_of, too_large, advance, Laid, lay}
 use Rattle.definition.specs.Record.{record_length, ends_fit, unfolded, layout}
 use Rattle.definition.specs.Listing.{listing}
 use Rattle.definition.specs.Owner.{size}
 use Rattle.definition.specs.Demand.{EachSpan}
 use Rattle.definition.specs.Cards.{view_in}
 use Rattle.definition.specs.declared.Form.{Form}
-use Rattle.definition.specs.Calls.{kept_statements, record_fields, entries, called}
+use Rattle.definition.specs.Calls.{kept_statements, record_tree, record_fields, entries, called}
 use Rattle.definition.proofs.Answers.{through, given-same, not-refused}
 use Rattle.definition.proofs.CallsLaws.{passes, called-as}
 use Rattle.definition.proofs.Lists.{by_cases}
-use Rattle.definition.proofs.Cover.{item-laid}
-use Rattle.definition.proofs.PictureLaws.{tally-le, without-length}
+use Rattle.definition.proofs.OrderLaws.{Along, along-low, tokens-along}
+use Rattle.definition.proofs.Cover.{entry_laid, item-laid}
 use Rattle.definition.proofs.SpanLaws.{Sentences, statements-spans, record-spans, layout-spans, ForestSpans}
 use Rattle.theorems.specs.ReadBack.{read_listing, listed}
 use Rattle.theorems.proofs.ReadBackLaws.{Small, SmallPlace, SmallCount, list#, OnlyGroups, Fits, reads_back}
@@ -66,39 +54,16 @@ module _ (n : ℕ) where
   abbrev AllIn : List Token → Type 0
   AllIn [] = Unit {0}
   AllIn (Word w ∷ ts) = In w × AllIn ts
-  AllIn (Stop ∷ ts) = AllIn ts
-  AllIn (Open p ∷ ts) = AllIn ts
+  AllIn (Stop p ∷ ts) = AllIn ts
+  AllIn (Open p ∷ ts) = Unit {0}
 
-  -- a word that goes on at p began before
-  abbrev SoFar : ℕ → Mode → Type 0
-  SoFar p Fresh = Unit {0}
-  SoFar p Between = Unit {0}
-  SoFar p Dropped = Unit {0}
-  SoFar p (Within s) = s ≤ p
-
-  so_far : (m : Mode) (k : ByteKind) (p : ℕ) → SoFar p m → SoFar (p + 1) (next m p k)
-  so_far m k p x = grind arith
-
-  completed-in : (m : Mode) (k : ByteKind) (p : ℕ) (ts : List Token) → p ≤ n → SoFar p m → AllIn ts → AllIn (completed m p k ++ ts)
-  completed-in m k p ts l x a = grind arith
-
-  open-in : (q : LiteralState) (k : ByteKind) (ts : List Token) → AllIn ts → AllIn (unless_open q k ts)
-  open-in q k ts a = grind arith
-
-  end-in : (m : Mode) (q : LiteralState) (p : ℕ) → p ≤ n → SoFar p m → AllIn (completed_end m p ++ unless_open q Newline [])
-  end-in m q p l x = grind (arith, open-in q Newline [] tt)
-
-  tokens-in :
-      (bs text : List ℕ) (q : LiteralState) (m : Mode) (p : ℕ) →
-      p + length bs ≤ n →
-      SoFar p m →
-      AllIn (tokens text q m p bs)
-  unfolding tokens
-  tokens-in [] text q m p l x = end-in m q p (omega arith) x
-  tokens-in (b ∷ bs) text q m p l x =
-      let k = seen q (byte_kind b bs) in
-      let ih = tokens-in bs text (said_next text q m p b k) (next m p k) (p + 1) (omega arith) (so_far m k p x) in
-      completed-in m k p _ (omega arith) x (open-in q k _ ih)
+  all-in : (text : List ℕ) (m : ℕ) (ts : List Token) → length text ≤ n → Along text m ts → AllIn ts
+  all-in text m [] l a = tt
+  all-in text m (Word w ∷ ts) l a =
+      let e = along-low text (w.start + w.len) ts a.3 in
+      ((omega arith, omega arith), all-in text (w.start + w.len) ts l a.3)
+  all-in text m (Stop p ∷ ts) l a = all-in text (p + 1) ts l a.2
+  all-in text m (Open p ∷ ts) l a = tt
 
   first-in : (w : Span) (wss : List (List Span)) → In w → Sentences In wss → Sentences In (on_first w wss)
   first-in w wss e a = grind arith
@@ -106,13 +71,13 @@ module _ (n : ℕ) where
   sentences-in : (ts : List Token) → AllIn ts → Sentences In (sentences ts)
   unfolding sentences
   sentences-in [] a = tt
-  sentences-in (Stop ∷ ts) a = (tt, sentences-in ts a)
+  sentences-in (Stop p ∷ ts) a = (tt, sentences-in ts a)
   sentences-in (Word w ∷ ts) a = first-in w (sentences ts) a.0 (sentences-in ts a.1)
   sentences-in (Open p ∷ ts) a = tt
 
   words-in : (text : List ℕ) → length text ≤ n → Sentences In (statement_words text)
   unfolding statement_words
-  words-in text l = sentences-in (tokens_of text) (tokens-in text text (Before 0) Fresh 0 (omega (arith, l)) tt)
+  words-in text l = sentences-in (tokens_of text) (all-in text 0 (tokens_of text) l (tokens-along text))
 
 -- ---------------------------------------------------------------- statements
 
@@ -154,7 +119,7 @@ unfolding forest
 size-forest [] = refl
 size-forest (s ∷ ss) = omega (arith, size-both s.level (forest ss), size-forest ss)
 
-size-inherit : (f : Forest) (outer : ItemUsage) → size (inherit outer f) ≡ size f
+size-inherit : (f : Forest) (outer : Option NamedUsage) → size (inherit outer f) ≡ size f
 unfolding inherit
 size-inherit leaf outer = refl
 size-inherit (item s kids later) outer = omega (arith, size-inherit kids (inheriting outer s).usage, size-inherit later outer)
@@ -169,100 +134,26 @@ pub record ReadFields (text : List ℕ) (f : Forest) : Type 0 where
   pub places : ForestSpans (In 65535) f
 
 pub read-fields : (text : List ℕ) (work : ℕ) (f : Forest) → record_fields text work ≡ Ok f → ReadFields text f
-unfolding record_fields kept_statements
+unfolding record_fields record_tree kept_statements
 read-fields text work f h =
-    through _ _ h λ _ checks h₁.
+    through _ _ h λ t h₀ q.
+    through _ _ h₀ λ _ checks h₁.
     through _ _ h₁ λ ss kept h₂.
     through _ _ kept λ _ _ h₃.
     let short : length text ≤ 65535 = (passes text work refl checks).short in
     let few = few-statements (statement_words text) text 0 ss (omega arith) h₃ in
     let spans = statements-spans (In 65535) (omega arith, omega arith) (statement_words text) text 0 (words-in 65535 text short) h₃ in
-    subst (ReadFields text) (given-same h₂)
+    subst (ReadFields text) (ap fields (given-same h₂) ∙ given-same q)
     (record {
       few = omega (
         arith,
         few,
         size-forest ss,
-        size-inherit (forest ss) outermost,
+        size-inherit (forest ss) None,
         size-fields (inherited (forest ss)),
       );
       places = record-spans (In 65535) ss spans;
     })
-
--- ---------------------------------------------------------------- widths
-
-expand-small :
-    (bs : List ℕ) (at n skip : ℕ) (l : List ℕ) →
-    n ≤ MOST_SYMBOLS →
-    expand at n skip bs ≡ Ok l →
-    n + length l ≤ MOST_SYMBOLS
-unfolding expand
-expand-small [] at n skip l k h = omega (arith, ap (λ (m : List ℕ). length m) (given-same h))
-expand-small (b ∷ bs) at n (suc skip) l k h = expand-small bs at n skip l k h
-expand-small (b ∷ bs) at n zero l k h =
-    through _ _ h λ (r : ℕ × ℕ) e₁ h₁.
-    through _ _ h₁ λ _ e₂ h₂.
-    through _ _ h₂ λ more e₃ h₃.
-    let small : n + r.0 ≤ MOST_SYMBOLS = grind (arith, not-refused (ltb MOST_SYMBOLS (n + r.0)) (Refusal.TooManySymbols at) e₂) in
-    omega (
-      arith,
-      expand-small bs at (n + r.0) r.1 more small e₃,
-      ap (λ (m : List ℕ). length m) (given-same h₃),
-      length-append (replicate r.0 (upper b)) more,
-      length-replicate r.0 (upper b),
-    )
-
-if-small : (b : Bool) (x y : Pictured) (m : ℕ) → (b ≡ true → x.width ≤ m) → (b ≡ false → y.width ≤ m) → (if b then x else y).width ≤ m
-if-small true x y m f g = f refl
-if-small false x y m f g = g refl
-
-stored-few :
-    (usage : Usage) (l : List ℕ) → is_text l ≡ false → too_long usage l ≡ false → stored_digits l ≤ 31
-stored-few usage l t h = grind arith
-
-storage-small : (usage : Usage) (sign : SignKind) (d : ℕ) → d ≤ 31 → storage_width usage sign d ≤ 65535
-storage-small Usage.Display sign d h = grind arith
-storage-small Usage.Comp3 sign d h = omega arith
-storage-small Usage.Comp sign d h = grind arith
-
-mask-small : (l : List ℕ) → length (without "P" (mask l)) ≤ length l
-mask-small l = omega (arith, without-length "P" (mask l), without-length "SV" l)
-
-kinded-small :
-    (usage : Usage) (sign : Option SignKind) (l : List ℕ) →
-    length l ≤ 65535 →
-    too_long usage l ≡ false →
-    (kinded usage sign l).width ≤ 65535
-unfolding kinded
-kinded-small usage sign l n h =
-    if-small (is_text l) _ _ 65535 (λ _. omega (arith, tally-le "XA" l))
-    (λ t.
-    if-small (is_masked usage l) _ _ 65535 (λ _. omega (arith, mask-small l))
-    (λ _. storage-small usage _ (stored_digits l) (stored-few usage l t h)))
-
-picture-small :
-    (at : ℕ) (usage : Usage) (sign : Option SignKind) (bs : List ℕ) (c : Pictured) →
-    picture at usage sign bs ≡ Ok c →
-    c.width ≤ 65535
-unfolding picture symbols
-picture-small at usage sign bs c h =
-    through _ _ h λ l read h₁.
-    through _ _ read λ m e₁ r₁.
-    through _ _ r₁ λ _ _ r₂.
-    through _ _ r₂ λ _ _ r₃.
-    through _ _ r₃ λ _ e₄ r₄.
-    let same : m ≡ l = given-same r₄ in
-    let short : length m ≤ 65535 = omega (arith, expand-small (trim bs) at 0 0 m (omega arith) e₁) in
-    let long = not-refused (too_long usage m) (Refusal.TooLong at) e₄ in
-    subst (λ (x : Pictured). x.width ≤ 65535) (given-same h₁)
-    (kinded-small usage sign l (subst (λ (x : List ℕ). length x ≤ 65535) same short)
-    (subst (λ (x : List ℕ). too_long usage x ≡ false) same long))
-
-usage-small : (text : List ℕ) (s : Statement) (u : ItemUsage) (c : Pictured) → under_usage text s u ≡ Ok c → c.width ≤ 65535
-usage-small text s (ItemUsage.Picture usage) c h =
-    through _ _ h λ _ _ h₁. picture-small s.at usage (sign_of s.clauses.sign) (part text s.clauses.picture) c h₁
-usage-small text s ItemUsage.Comp1 c h = through _ _ h λ _ _ h₁. omega (arith, ap (λ (x : Pictured). x.width) (given-same h₁))
-usage-small text s ItemUsage.Comp2 c h = through _ _ h λ _ _ h₁. omega (arith, ap (λ (x : Pictured). x.width) (given-same h₁))
 
 -- ---------------------------------------------------------------- entries before folding
 
@@ -292,36 +183,27 @@ Good n end = Unit {0}
 Good n (entry e ms later) = Own e ms × (list# ms ≤ n) × Good n ms × Good n later
 
 module _ (text : List ℕ) where
-  content-own :
-      (s : Statement) (kids : Forest) (w : ℕ) (c : Pictured) →
-      content text s kids w ≡ Ok c →
-      w ≤ LARGEST →
-      c.width ≤ LARGEST
-  content-own s (item t kids later) w c h l = omega (arith, ap (λ (x : Pictured). x.width) (given-same h), l)
-  content-own s leaf w c h l = omega (arith, usage-small text s s.usage c h)
-
   -- only an item with children lays members
   content-members :
-      (s : Statement) (kids : Forest) (w : ℕ) (c : Pictured) (es : Entries) →
-      content text s kids w ≡ Ok c →
+      (s : Statement) (kids : Forest) (c : Pictured) (es : Entries) →
+      content text s kids ≡ Ok c →
       (kids ≡ leaf → es ≡ end) →
       Members c.kind es
-  content-members s (item t kids later) w c es h n =
+  content-members s (item t kids later) c es h n =
       subst (λ (x : Pictured). Members x.kind es) (given-same h) tt
-  content-members s leaf w c es h n = subst (Members c.kind) (sym (n refl)) (members-none c.kind)
+  content-members s leaf c es h n = subst (Members c.kind) (sym (n refl)) (members-none c.kind)
 
-  laid-leaf : (depth : ℕ) (l : Laid) → lay text depth [] 0 0 leaf ≡ Ok l → l.entries ≡ end
+  laid-leaf : (depth base : ℕ) (l : Laid) → lay text depth base [] 0 0 leaf ≡ Ok l → l.entries ≡ end
   unfolding lay
-  laid-leaf depth l h = ap (λ (x : Laid). x.entries) (sym (given-same h))
+  laid-leaf depth base l h = ap (λ (x : Laid). x.entries) (sym (given-same h))
 
   entry-own :
-      (s : Statement) (c : Pictured) (offset slack : ℕ) (ms : Entries) →
-      too_large (entry_of s c offset slack) ≡ false →
-      c.width ≤ LARGEST →
+      (s : Statement) (c : Pictured) (offset slack inner at_end : ℕ) (ms : Entries) →
+      too_large (entry_of s c offset slack inner at_end) ≡ false →
       Members c.kind ms →
-      Own (entry_of s c offset slack) ms
-  entry-own s c offset slack ms h w m =
-      record { offset = grind arith; width = w; count = grind arith; all = grind arith; only = m }
+      Own (entry_of s c offset slack inner at_end) ms
+  entry-own s c offset slack inner at_end ms h m =
+      record { offset = grind arith; width = grind arith; count = grind arith; all = grind arith; only = m }
 
   record Lays (n : ℕ) (f : Forest) (l : Laid) : Type 0 where
     good : Good n l.entries
@@ -329,25 +211,25 @@ module _ (text : List ℕ) where
     wide : l.width ≤ LARGEST
 
   lays :
-      (f : Forest) (n depth : ℕ) (seen : List Place) (cursor reach : ℕ) (l : Laid) →
+      (f : Forest) (n depth base : ℕ) (seen : List Place) (cursor reach : ℕ) (l : Laid) →
       size f ≤ n →
       reach ≤ LARGEST →
-      lay text depth seen cursor reach f ≡ Ok l →
+      lay text depth base seen cursor reach f ≡ Ok l →
       Lays n f l
   unfolding lay
-  lays leaf n depth seen cursor reach l z r h =
+  lays leaf n depth base seen cursor reach l z r h =
       subst (Lays n leaf) (given-same h) (record { good = tt; few = omega arith; wide = r })
-  lays (item s kids later) n depth seen cursor reach l z r h =
-      let i = item-laid text depth seen cursor reach s kids later l h in
-      let e = entry_of s i.has i.offset (slack_from cursor s i.offset) in
-      let inner = lays kids n (suc depth) [] 0 0 i.inner (omega arith) (omega arith) i.inner-laid in
-      let wide = content-own s kids i.inner.width i.has i.contains inner.wide in
+  lays (item s kids later) n depth base seen cursor reach l z r h =
+      let i = item-laid text depth base seen cursor reach s kids later l h in
+      let e = entry_laid text s kids cursor i.has i.offset i.inner in
+      let inner = lays kids n (suc depth) (base + i.offset) [] 0 0 i.inner (omega arith) (omega arith) i.inner-laid in
       let none : kids ≡ leaf → i.inner.entries ≡ end =
-      λ k. laid-leaf (suc depth) i.inner (subst (λ (f : Forest). lay text (suc depth) [] 0 0 f ≡ Ok i.inner) k i.inner-laid) in
-      let own = entry-own s i.has i.offset (slack_from cursor s i.offset) i.inner.entries i.small wide
-      (content-members s kids i.inner.width i.has i.inner.entries i.contains none) in
+      λ k. laid-leaf (suc depth) (base + i.offset) i.inner
+      (subst (λ (f : Forest). lay text (suc depth) (base + i.offset) [] 0 0 f ≡ Ok i.inner) k i.inner-laid) in
+      let own = entry-own s i.has i.offset (slack_from cursor s i.offset) i.inner.width e.slack_at_end i.inner.entries
+      i.small (content-members s kids i.has i.inner.entries i.contains none) in
       let ends : entry_end e ≤ LARGEST = grind (arith, i.small) in
-      let rest = lays later n depth (place_of e ∷ seen) (advance cursor e) (max reach (entry_end e)) i.rest (omega arith)
+      let rest = lays later n depth base (place_of e ∷ seen) (advance cursor e) (max reach (entry_end e)) i.rest (omega arith)
       (omega (arith, r, ends)) i.later-laid in
       subst (Lays n (item s kids later)) (sym i.result)
       (record {
@@ -587,7 +469,7 @@ layout-fits text f es r h =
     through _ _ h₁ λ _ _ h₂.
     through _ _ h₂ λ _ e₃ h₃.
     let same : folded_all text l.entries ≡ es = ap (folded_all text) (given-same h₃) ∙ given-same q in
-    let laid = lays text f 800 0 [] 0 0 l r.few (omega arith) e₁ in
+    let laid = lays text f 800 0 0 [] 0 0 l r.few (omega arith) e₁ in
     let few : list# (folded_below text l.entries) ≤ 800 = omega (arith, below-few text l.entries, laid.few, r.few) in
     let good = folded-good text (folded_below text l.entries) 800 [] (below-level text 800 l.entries laid.good) few in
     let long = ends-small text (folded_all text l.entries) e₃ in

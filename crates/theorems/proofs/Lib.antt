@@ -9,6 +9,7 @@ pub mod Numbers
 pub mod QuoteLaws
 pub mod StandingLaws
 pub mod ReadBackLaws
+pub mod RestartedLaws
 pub mod SubsetLaws
 pub mod UngroupedLaws
 pub mod WordsLaws

@@ -20,14 +20,15 @@ use Rattle.definition.specs.declared.Statement.{Statement}
 use Rattle.definition.specs.declared.Entry.{Entry}
 use Rattle.definition.specs.declared.TheConstants.{MOST_SYMBOLS}
 use Rattle.definition.specs.Basic.{part, Ok, and_then}
-use Rattle.definition.specs.Statement.{sign_of}
+use Rattle.definition.specs.Statement.{sign_of, usage_of}
 use Rattle.definition.specs.Tree.{Forest, leaf, item}
 use Rattle.definition.specs.Picture.{repeat, expand, legal, is_text, mixed, too_long, is_masked, is_embedded, mask, numeric, kinded, symbols, picture, trim}
 use Rattle.definition.specs.Fold.{Entries, end, entry, Place, place_of, redefiners, with_redefiners, folded_list}
 use Rattle.definition.specs.Fold.{folded_below}
-use Rattle.definition.specs.Layout.{Laid, under_usage, content, lay}
+use Rattle.definition.specs.Storage.{under_usage}
+use Rattle.definition.specs.Layout.{Laid, content, lay}
 use Rattle.definition.specs.Record.{layout}
-use Rattle.definition.specs.Calls.{first_wide, text_checks, entry_checks, record_fields, entries, picture_mask}
+use Rattle.definition.specs.Calls.{first_wide, text_checks, entry_checks, record_tree, record_fields, entries, picture_mask}
 use Rattle.definition.proofs.Answers.{through, given-same, not-refused}
 use Rattle.definition.proofs.Cover.{item-laid, laid-out}
 use Rattle.theorems.specs.Keys.{Masked}
@@ -203,23 +204,23 @@ module _ (text : List ℕ) (checked : text_checks text ≡ Ok tt) where
       subst (λ (x : Pictured). HasMask text s.clauses.picture x.kind) (given-same h₁) ([], refl)
 
   content-mask :
-      (s : Statement) (kids : Forest) (w : ℕ) {c : Pictured} →
-      content text s kids w ≡ Ok c →
+      (s : Statement) (kids : Forest) {c : Pictured} →
+      content text s kids ≡ Ok c →
       HasMask text s.clauses.picture c.kind
-  content-mask s (item t kids later) w h =
+  content-mask s (item t kids later) h =
       subst (λ (x : Pictured). HasMask text s.clauses.picture x.kind) (given-same h) ([], refl)
-  content-mask s leaf w h = usage-mask s s.usage h
+  content-mask s leaf h = usage-mask s (usage_of s.usage) h
 
   laid-masks :
-      (f : Forest) (depth : ℕ) (seen : List Place) (cursor reach : ℕ) (l : Laid) →
-      lay text depth seen cursor reach f ≡ Ok l →
+      (f : Forest) (depth base : ℕ) (seen : List Place) (cursor reach : ℕ) (l : Laid) →
+      lay text depth base seen cursor reach f ≡ Ok l →
       EachMask l.entries
   unfolding lay
-  laid-masks leaf depth seen cursor reach l h = subst (λ (x : Laid). EachMask x.entries) (given-same h) tt
-  laid-masks (item s kids later) depth seen cursor reach l h =
-      let r = item-laid text depth seen cursor reach s kids later l h in
+  laid-masks leaf depth base seen cursor reach l h = subst (λ (x : Laid). EachMask x.entries) (given-same h) tt
+  laid-masks (item s kids later) depth base seen cursor reach l h =
+      let r = item-laid text depth base seen cursor reach s kids later l h in
       subst (λ (x : Laid). EachMask x.entries) (sym r.result)
-      (content-mask s kids r.inner.width r.contains, laid-masks later depth _ _ _ r.rest r.later-laid)
+      (content-mask s kids r.contains, laid-masks later depth base _ _ _ r.rest r.later-laid)
 
   below-masks : (es : Entries) → EachMask es → EachMask (folded_below text es)
   unfolding folded_below
@@ -250,7 +251,7 @@ module _ (text : List ℕ) (checked : text_checks text ≡ Ok tt) where
   layout-masks f es h =
       through _ _ h λ tree laid q.
       let r = laid-out text f tree laid in
-      let top = subst EachMask r.is (laid-masks f 0 [] 0 0 r.list r.list-laid) in
+      let top = subst EachMask r.is (laid-masks f 0 0 [] 0 0 r.list r.list-laid) in
       subst EachMask (given-same q) (folded-masks (folded_below text tree) [] (below-masks tree top))
 
 checks-of : (text : List ℕ) (work : ℕ) → entry_checks text work ≡ Ok tt → text_checks text ≡ Ok tt
@@ -262,9 +263,10 @@ pub record Masks (text : List ℕ) (es : Entries) : Type 0 where
   pub each : EachMask text checked es
 
 pub masks : (text : List ℕ) (work : ℕ) (es : Entries) → entries text work ≡ Ok es → Masks text es
-unfolding entries record_fields
+unfolding entries record_fields record_tree
 masks text work es h =
     through _ _ h λ f read laid.
-    through _ _ read λ _ checks _.
+    through _ _ read λ t read_tree _.
+    through _ _ read_tree λ _ checks _.
     let c = checks-of text work checks in
     record { checked = c; each = layout-masks text c f es laid }

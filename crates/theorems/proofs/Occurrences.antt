@@ -2,9 +2,9 @@
 -- around an elementary entry on, for each choice of occurrence numbers below the counts, are its piece; each piece is
 -- one of these; there are as many as the counts multiply to.
 -- Assumes nothing.
-use Prim.Native.Nat.{ℕ, zero, suc, ◌+◌, ◌*◌, ◌-◌, ◌≤◌, ◌<◌}
+use Prim.Native.Nat.{ℕ, zero, suc, ◌+◌, ◌*◌, ◌-◌, ◌≤◌, ◌<◌, max}
 use mathlib.Core.Path.{◌≡◌, refl, sym, ◌∙◌, ap, subst}
-use mathlib.Core.Bool.{Bool}
+use mathlib.Core.Bool.{true, ◌&&◌, not}
 use mathlib.Core.List.{List, [], ◌∷◌, ◌++◌}
 use mathlib.Core.Logic.{◌⊎◌, inl, inr, ⊎_elim}
 use native.Mathlib.Omega.{arith}
@@ -12,19 +12,22 @@ use native.Mathlib.Nat.{zero-mul, suc-mul}
 use Rattle.definition.specs.declared.Owner.{Owner}
 use Rattle.definition.specs.declared.Statement.{Statement}
 use Rattle.definition.specs.declared.Entry.{Entry}
-use Rattle.definition.specs.Basic.{Answer, Ok}
+use Rattle.definition.specs.Basic.{is_given, Answer, Ok}
 use Rattle.definition.specs.Tree.{Forest, leaf, item}
 use Rattle.definition.specs.Fold.{Entries, end, entry, times, total}
 use Rattle.definition.specs.Layout.{entry_of}
 use Rattle.definition.specs.Record.{record_length}
-use Rattle.definition.specs.Owner.{Holder, occurrence, slack, is_aligned, pieces}
+use Rattle.definition.specs.Storage.{storage, is_aligned, place_alignment, alignment, repeats, width_alignment}
+use Rattle.definition.specs.Owner.{Holder, occurrence, slack, pieces}
 use Rattle.definition.specs.Placed.{content_of}
 use Rattle.definition.specs.Search.{entries#}
-use Rattle.definition.specs.Demand.{Fewest, Starts, aligned, Tells, Spot, spot, gap, each, single, spots_of, Among}
+use Rattle.definition.specs.Demand.{Fewest, Tells, Spot, spot, gap, each, single, spots_of, Among}
 use Rattle.definition.specs.Demand.{naming, Demand}
-use Rattle.theorems.specs.Occurrences.{Within, Occurs, Slackened, pieces#, here#, counts}
+use Rattle.theorems.specs.Occurrences.{Within, Occurs, AlignedTo, Largest, Slackened, Ended, pieces#, here#, counts}
+use Rattle.std.proofs.lemmas.Bool.{and_parts}
 use Rattle.definition.proofs.Answers.{given-same}
-use Rattle.definition.proofs.Lists.{by_cases}
+use Rattle.definition.proofs.Lists.{by_cases, order}
+use Rattle.definition.proofs.Slack.{leaf-wide}
 use Rattle.definition.proofs.Pieces.{among-append, among-left, among-right, laid-before}
 
 -- ---------------------------------------------------------------- occurrences
@@ -52,10 +55,10 @@ module _ (width : ℕ) (one : ℕ → List Spot) (y : Spot) where
       (among-append y (one first) (each n (first + width) width one) a)
 
 -- what is told of an entry and of those after it
-module _ (k base reached : ℕ) (e : Entry) (members later : Entries) (y : Spot) where
+module _ (k base : ℕ) (e : Entry) (members later : Entries) (y : Spot) where
   -- one occurrence of the entry
   abbrev one_of : ℕ → List Spot
-  one_of first = single k e.width members first (spots_of (suc k) first 0 members)
+  one_of first = single k e members first (spots_of (suc k) first members)
 
   -- which it is, and that it is that
   abbrev InOne : Type 0
@@ -63,14 +66,14 @@ module _ (k base reached : ℕ) (e : Entry) (members later : Entries) (y : Spot)
 
   -- is its slack, one of its occurrences, or what is told of the later ones
   split-told :
-      Among y (spots_of k base reached (entry e members later)) →
-      Among y (gap k (base + reached) (e.offset - reached))
-      ⊎ (InOne ⊎ Among y (spots_of (suc k + entries# members) base (e.offset + total e) later))
+      Among y (spots_of k base (entry e members later)) →
+      Among y (gap k (base + (e.offset - e.slack)) e.slack)
+      ⊎ (InOne ⊎ Among y (spots_of (suc k + entries# members) base later))
   unfolding spots_of
   split-told a =
-      let before = gap k (base + reached) (e.offset - reached) in
+      let before = gap k (base + (e.offset - e.slack)) e.slack in
       let own = each (times e.occurs) (base + e.offset) e.width one_of in
-      let rest = spots_of (suc k + entries# members) base (e.offset + total e) later in
+      let rest = spots_of (suc k + entries# members) base later in
       ⊎_elim
       (λ (m : Among y (before ++ own)).
       ⊎_elim
@@ -81,80 +84,88 @@ module _ (k base reached : ℕ) (e : Entry) (members later : Entries) (y : Spot)
       (among-append y (before ++ own) rest a)
 
   -- and the last two are told
-  told-one : InOne → Among y (spots_of k base reached (entry e members later))
+  told-one : InOne → Among y (spots_of k base (entry e members later))
   unfolding spots_of
   told-one r =
-      let before = gap k (base + reached) (e.offset - reached) in
+      let before = gap k (base + (e.offset - e.slack)) e.slack in
       let own = each (times e.occurs) (base + e.offset) e.width one_of in
-      among-left y (before ++ own) (spots_of (suc k + entries# members) base (e.offset + total e) later)
+      among-left y (before ++ own) (spots_of (suc k + entries# members) base later)
       (among-right y before own (each_in e.width one_of y (times e.occurs) (base + e.offset) r.0 r.1 r.2))
 
   told-later :
-      Among y (spots_of (suc k + entries# members) base (e.offset + total e) later) →
-      Among y (spots_of k base reached (entry e members later))
+      Among y (spots_of (suc k + entries# members) base later) →
+      Among y (spots_of k base (entry e members later))
   unfolding spots_of
   told-later m =
-      let before = gap k (base + reached) (e.offset - reached) in
+      let before = gap k (base + (e.offset - e.slack)) e.slack in
       let own = each (times e.occurs) (base + e.offset) e.width one_of in
-      among-right y (before ++ own) (spots_of (suc k + entries# members) base (e.offset + total e) later) m
-
-single-in :
-    (k width : ℕ) (members : Entries) (start : ℕ) (y : Spot) (inner : List Spot) {P : Type 0} →
-    (P → Among y inner) →
-    Within k width members start y P →
-    Among y (single k width members start inner)
-single-in k width members start y inner f w = grind arith
-
-single-out :
-    (k width : ℕ) (members : Entries) (start : ℕ) (y : Spot) (inner : List Spot) {P : Type 0} →
-    (Among y inner → P) →
-    Among y (single k width members start inner) →
-    Within k width members start y P
-single-out k width members start y inner f a = grind arith
+      among-right y (before ++ own) (spots_of (suc k + entries# members) base later) m
 
 gap-slack : (k first n m : ℕ) (b w : ℕ) {A : Type 0} → Among (spot (occurrence m) b w) (gap k first n) → A
 gap-slack k first n m b w a = grind arith
+
+single-in :
+    (k : ℕ) (e : Entry) (members : Entries) (start : ℕ) (y : Spot) (inner : List Spot) {P : Type 0} →
+    (P → Among y inner) →
+    Within k e.width members start y P →
+    Among y (single k e members start inner)
+single-in k e members start y inner f w =
+    grind (arith, among-left y inner (gap k (start + (e.width - e.slack_at_end)) e.slack_at_end))
+
+single-out :
+    (k : ℕ) (e : Entry) (members : Entries) (start n first width : ℕ) (inner : List Spot) {P : Type 0} →
+    (Among (spot (occurrence n) first width) inner → P) →
+    Among (spot (occurrence n) first width) (single k e members start inner) →
+    Within k e.width members start (spot (occurrence n) first width) P
+single-out k e end start n first width inner f a = grind arith
+single-out k e (entry m ms later) start n first width inner f a =
+    let behind = start + (e.width - e.slack_at_end) in
+    let z = spot (occurrence n) first width in
+    ⊎_elim
+    (λ (b : Among z inner). f b)
+    (λ (b : Among z (gap k behind e.slack_at_end)). gap-slack k behind e.slack_at_end n first width b)
+    (among-append z inner (gap k behind e.slack_at_end) a)
 
 module _ (n first width : ℕ) where
   abbrev y : Spot
   y = spot (occurrence n) first width
 
-  pub occurs-told : (es : Entries) (k base reached : ℕ) → Occurs k base es y → Among y (spots_of k base reached es)
+  pub occurs-told : (es : Entries) (k base : ℕ) → Occurs k base es y → Among y (spots_of k base es)
   unfolding Occurs spots_of
-  occurs-told end k base reached o = absurd o
-  occurs-told (entry e members later) k base reached o =
+  occurs-told end k base o = absurd o
+  occurs-told (entry e members later) k base o =
       let from : ℕ → ℕ = λ i. base + e.offset + i * e.width in
       ⊎_elim
       (λ (r :
       (i : ℕ)
       × (i < times e.occurs)
       × Within k e.width members (from i) y (Occurs (suc k) (from i) members y)).
-      told-one k base reached e members later y (
+      told-one k base e members later y (
         r.0,
         r.1,
-        single-in k e.width members (from r.0) y _ (occurs-told members (suc k) (from r.0) 0) r.2,
+        single-in k e members (from r.0) y _ (occurs-told members (suc k) (from r.0)) r.2,
       ))
       (λ (r : Occurs (suc k + entries# members) base later y).
-      told-later k base reached e members later y (occurs-told later _ base (e.offset + total e) r))
+      told-later k base e members later y (occurs-told later _ base r))
       o
 
-  pub told-occurs : (es : Entries) (k base reached : ℕ) → Among y (spots_of k base reached es) → Occurs k base es y
+  pub told-occurs : (es : Entries) (k base : ℕ) → Among y (spots_of k base es) → Occurs k base es y
   unfolding Occurs spots_of
-  told-occurs end k base reached a = absurd a
-  told-occurs (entry e members later) k base reached a =
+  told-occurs end k base a = absurd a
+  told-occurs (entry e members later) k base a =
       ⊎_elim
-      (λ (g : Among y (gap k (base + reached) (e.offset - reached))). gap-slack k _ _ n first width g)
+      (λ (g : Among y (gap k (base + (e.offset - e.slack)) e.slack)). gap-slack k _ _ n first width g)
       (λ (m :
-      InOne k base reached e members later y
-      ⊎ Among y (spots_of (suc k + entries# members) base (e.offset + total e) later)).
+      InOne k base e members later y
+      ⊎ Among y (spots_of (suc k + entries# members) base later)).
       ⊎_elim
-      (λ (r : InOne k base reached e members later y).
+      (λ (r : InOne k base e members later y).
       let c = base + e.offset + r.0 * e.width in
-      inl (r.0, r.1, single-out k e.width members c y _ (told-occurs members (suc k) c 0) r.2))
-      (λ (l : Among y (spots_of (suc k + entries# members) base (e.offset + total e) later)).
-      inr (told-occurs later _ base (e.offset + total e) l))
+      inl (r.0, r.1, single-out k e members c n first width _ (told-occurs members (suc k) c) r.2))
+      (λ (l : Among y (spots_of (suc k + entries# members) base later)).
+      inr (told-occurs later _ base l))
       m)
-      (split-told k base reached e members later y a)
+      (split-told k base e members later y a)
 
 -- ---------------------------------------------------------------- owners
 
@@ -167,7 +178,7 @@ module _ {text : List ℕ} {owner : ℕ → Answer Owner} {f : Forest} {es : Ent
       owner (first + place) ≡ Ok (Owner.Piece k first place)
   occurrence-owned k first width place o l =
       let y = spot (occurrence k) first width in
-      let listed = occurs-told k first width es 0 0 0 o in
+      let listed = occurs-told k first width es 0 0 o in
       let ends = laid-before (pieces text f) 0 y (subst (Among y) (sym d.in_order) listed) in
       let below : first + place < record_length es = omega (arith, ends, d.covered) in
       let one = d.one-owner (first + place) below in
@@ -190,12 +201,75 @@ module _ {text : List ℕ} {owner : ℕ → Answer Owner} {f : Forest} {es : Ent
       by-holder :
           (h : Holder) (b w : ℕ) →
           naming h b q ≡ Owner.Piece k first place →
-          Among (spot h b w) (spots_of 0 0 0 es) →
+          Among (spot h b w) (spots_of 0 0 es) →
           b ≤ q →
           q < b + w →
           (width : ℕ) × Occurs 0 0 es (spot (occurrence k) first width) × (place < width) × (q ≡ first + place)
-      by-holder (occurrence j) b w n a s t = (w, grind (arith, told-occurs j b w es 0 0 0 a), grind arith, grind arith)
+      by-holder (occurrence j) b w n a s t = (w, grind (arith, told-occurs j b w es 0 0 a), grind arith, grind arith)
       by-holder (slack j) b w n a s t = absurd (cc)
+
+-- ---------------------------------------------------------------- the largest alignment
+
+module _ (text : List ℕ) where
+  place-held :
+      (s : Statement) (kids : Forest) →
+      (place_alignment text s kids ≡ 1)
+      ⊎ ((is_aligned text s kids ≡ true) × ((storage text s).width ≡ place_alignment text s kids))
+  place-held s kids = by_cases (is_aligned text s kids) (λ y. inr (y, rw y)) (λ y. inl (rw y))
+
+  -- of two numbers that are 1 or have this, the larger is
+  larger : (P : ℕ → Type 0) (a b : ℕ) → (a ≡ 1) ⊎ P a → (b ≡ 1) ⊎ P b → (max a b ≡ 1) ⊎ P (max a b)
+  larger P a b x y =
+      ⊎_elim
+      (λ (l : a < b). subst (λ (n : ℕ). (n ≡ 1) ⊎ P n) (omega arith) y)
+      (λ (l : b ≤ a). subst (λ (n : ℕ). (n ≡ 1) ⊎ P n) (omega arith) x)
+      (order a b)
+
+  -- the alignment of a list is 1, or that of an item in it,
+  alignment-held : (f : Forest) → (alignment text f ≡ 1) ⊎ AlignedTo text (alignment text f) f
+  unfolding alignment
+  alignment-held leaf = inl refl
+  alignment-held (item s kids later) =
+      let P : ℕ → Type 0 = λ m. AlignedTo text m (item s kids later) in
+      larger P (place_alignment text s kids) (max (alignment text kids) (alignment text later))
+      (⊎_elim
+      (λ (z : place_alignment text s kids ≡ 1). inl z)
+      (λ (z : (is_aligned text s kids ≡ true) × ((storage text s).width ≡ place_alignment text s kids)). inr (inl z))
+      (place-held s kids))
+      (larger P (alignment text kids) (alignment text later)
+      (⊎_elim
+      (λ (z : alignment text kids ≡ 1). inl z)
+      (λ (z : AlignedTo text (alignment text kids) kids). inr (inr (inl z)))
+      (alignment-held kids))
+      (⊎_elim
+      (λ (z : alignment text later ≡ 1). inl z)
+      (λ (z : AlignedTo text (alignment text later) later). inr (inr (inr z)))
+      (alignment-held later)))
+
+  -- and none in it is larger
+  alignment-most : (f : Forest) (w : ℕ) → AlignedTo text w f → w ≤ alignment text f
+  unfolding alignment
+  alignment-most leaf w a = absurd a
+  alignment-most (item s kids later) w a =
+      let inner = alignment-most kids w in
+      let others = alignment-most later w in
+      ⊎_elim
+      (λ (b : (is_aligned text s kids ≡ true) × ((storage text s).width ≡ w)).
+      let own : place_alignment text s kids ≡ (storage text s).width = rw b.0 in
+      omega (arith, own, b.1))
+      (λ (b : AlignedTo text w kids ⊎ AlignedTo text w later).
+      ⊎_elim
+      (λ (c : AlignedTo text w kids). omega (arith, inner c))
+      (λ (c : AlignedTo text w later). omega (arith, others c))
+      b)
+      a
+
+  pub alignment-largest : (f : Forest) → 1 < alignment text f → Largest text (alignment text f) f
+  alignment-largest f l =
+      ⊎_elim
+      (λ (z : alignment text f ≡ 1). absurd (omega arith))
+      (λ (z : AlignedTo text (alignment text f) f). record { one = z; most = alignment-most f })
+      (alignment-held f)
 
 -- ---------------------------------------------------------------- slack
 
@@ -206,65 +280,117 @@ module _ (n first width : ℕ) where
   abbrev z : Spot
   z = spot (slack n) first width
 
+  -- behind the members of a group
+  abbrev Behind : ℕ → Entry → Entries → ℕ → Type 0
+  Behind k e end c = ⊥
+  Behind k e (entry m ms later) c = Among z (gap k (c + (e.width - e.slack_at_end)) e.slack_at_end)
+
   single-slack :
-      (k w : ℕ) (members : Entries) (c : ℕ) (inner : List Spot) →
-      Among z (single k w members c inner) →
-      Among z inner
-  single-slack k w members c inner a = grind arith
+      (k : ℕ) (e : Entry) (members : Entries) (c : ℕ) (inner : List Spot) →
+      Among z (single k e members c inner) →
+      Among z inner ⊎ Behind k e members c
+  single-slack k e end c inner a = grind arith
+  single-slack k e (entry m ms later) c inner a =
+      among-append z inner (gap k (c + (e.width - e.slack_at_end)) e.slack_at_end) a
 
   module _ (text : List ℕ) where
-    by-aligned :
-        (s : Statement) (kids : Forest) (members : Entries) (e : Entry) (base reached : ℕ) →
-        e ≡ entry_of s (content_of text s kids (record_length members)) e.offset (e.offset - reached) →
-        Starts (aligned text s kids) e.width reached e.offset →
-        first ≡ base + reached →
-        width ≡ e.offset - reached →
-        0 < width →
+    before-aligned :
+        (s : Statement) (kids : Forest) (members : Entries) (e : Entry) (k base reached : ℕ) →
+        e ≡ entry_of s (content_of text s kids) e.offset e.slack (record_length members) e.slack_at_end →
+        e.offset ≡ reached + e.slack →
+        Fewest (place_alignment text s kids) (base + reached) e.slack →
+        Fewest (width_alignment text s kids) ((content_of text s kids).width + record_length members) e.slack_at_end →
+        Tells text (base + e.offset) 0 kids members →
+        z ≡ spot (slack k) (base + (e.offset - e.slack)) e.slack →
+        0 < e.slack →
         Slackened text first width
-    by-aligned s (item t kids later) members e base reached same st f w l = absurd (omega (arith, st, w, l))
-    by-aligned s leaf members e base reached same st f w l =
-        by_cases (is_aligned text s)
+    unfolding record_length
+    before-aligned s (item u more later) members e k base reached told-so at fewest ends t q l =
+        absurd (omega (arith, fewest.small))
+    before-aligned s leaf (entry m ms others) e k base reached told-so at fewest ends t q l = absurd t
+    before-aligned s leaf end e k base reached told-so at fewest ends t q l =
+        let starts : first ≡ base + reached = ap (λ (x : Spot). x.first) q ∙ omega (arith, at) in
+        let wide : width ≡ e.slack = ap (λ (x : Spot). x.width) q in
+        let none : e.slack_at_end ≡ 0 = omega (arith, ends.small, leaf-wide text s) in
+        by_cases (is_aligned text s leaf)
         (λ y.
-        let fewest' = subst (λ (b : Bool). Starts b e.width reached e.offset) y st in
-        let exact : fewest'.0 ≡ width = omega (arith, fewest'.1, w) in
+        let own : place_alignment text s leaf ≡ (storage text s).width = rw y in
         record {
           statement = s;
           slackened = e;
           base = base;
           reached = reached;
           is_one = y;
-          told-so = same;
-          from = f;
-          up_to = omega (arith, f, w, fewest'.1);
-          fewest = subst (Fewest e.width reached) exact fewest'.2;
+          told-so =
+              told-so
+              ∙ (λ i. entry_of s (storage text s) e.offset (sym wide i) 0 (none i));
+          from = starts;
+          up_to = omega (arith, starts, wide, at);
+          fewest =
+              subst (λ (x : ℕ). Fewest (storage text s).width x width) (sym starts)
+              (subst (λ (x : ℕ). Fewest (storage text s).width (base + reached) x) (sym wide)
+              (subst (λ (x : ℕ). Fewest x (base + reached) e.slack) own fewest));
         })
-        (λ y. absurd (omega (arith, subst (λ (b : Bool). Starts b e.width reached e.offset) y st, w, l)))
+        (λ y. let own : place_alignment text s leaf ≡ 1 = rw y in absurd (omega (arith, fewest.small, own)))
+
+    at-end :
+        (s : Statement) (kids : Forest) (members : Entries) (e : Entry) (k c : ℕ) →
+        e ≡ entry_of s (content_of text s kids) e.offset e.slack (record_length members) e.slack_at_end →
+        Fewest (width_alignment text s kids) ((content_of text s kids).width + record_length members) e.slack_at_end →
+        Behind k e members c →
+        Ended text first width
+    at-end s kids end e k c told-so fewest b = absurd b
+    at-end s kids (entry m ms later) e k c told-so fewest b =
+        let long = (content_of text s kids).width + record_length (entry m ms later) in
+        let at = gap_at k (c + (e.width - e.slack_at_end)) e.slack_at_end z b in
+        let wide : width ≡ e.slack_at_end = ap (λ (x : Spot). x.width) at.0 in
+        let whole : e.width ≡ long + e.slack_at_end = ap (λ (x : Entry). x.width) told-so in
+        by_cases (repeats s.clauses.occurs && not (is_given s.clauses.depending))
+        (λ y.
+        let both = and_parts (repeats s.clauses.occurs) (not (is_given s.clauses.depending)) y in
+        let own : width_alignment text s kids ≡ alignment text kids = rw y in
+        let fewest' = subst (λ (x : ℕ). Fewest x long e.slack_at_end) own fewest in
+        record {
+          statement = s;
+          list = kids;
+          start = c;
+          long = long;
+          has-occurs = both.0;
+          no-depending = grind arith;
+          largest = alignment-largest text kids (omega (arith, fewest'.small, at.1));
+          from = ap (λ (x : Spot). x.first) at.0 ∙ omega (arith, whole);
+          fewest = subst (λ (x : ℕ). Fewest (alignment text kids) long x) (sym wide) fewest';
+        })
+        (λ y. let own : width_alignment text s kids ≡ 1 = rw y in absurd (omega (arith, fewest.small, own, at.1)))
 
     pub slack-stands :
         (f : Forest) (es : Entries) (k base reached : ℕ) →
-        Tells text reached f es →
-        Among z (spots_of k base reached es) →
-        Slackened text first width
+        Tells text base reached f es →
+        Among z (spots_of k base es) →
+        Slackened text first width ⊎ Ended text first width
     unfolding spots_of
     slack-stands leaf end k base reached t a = absurd a
     slack-stands (item s kids later) (entry e members others) k base reached t a =
         ⊎_elim
-        (λ (g : Among z (gap k (base + reached) (e.offset - reached))).
-        let at = gap_at k (base + reached) (e.offset - reached) z g in
-        let wide = ap (λ (x : Spot). x.width) at.0 in
-        by-aligned s kids members e base reached t.0 t.1 (ap (λ (x : Spot). x.first) at.0) wide
-        (omega (arith, wide, at.1)))
+        (λ (g : Among z (gap k (base + (e.offset - e.slack)) e.slack)).
+        let at = gap_at k (base + (e.offset - e.slack)) e.slack z g in
+        let here : base + e.offset + 0 * e.width ≡ base + e.offset = omega arith in
+        inl (before-aligned s kids members e k base reached t.0 t.1 t.2 t.3
+        (subst (λ (x : ℕ). Tells text x 0 kids members) here (t.4 0 (omega arith))) at.0 at.1))
         (λ (m :
-        InOne k base reached e members others z
-        ⊎ Among z (spots_of (suc k + entries# members) base (e.offset + total e) others)).
+        InOne k base e members others z
+        ⊎ Among z (spots_of (suc k + entries# members) base others)).
         ⊎_elim
-        (λ (r : InOne k base reached e members others z).
-        slack-stands kids members (suc k) (base + e.offset + r.0 * e.width) 0 t.2
-        (single-slack k e.width members _ _ r.2))
-        (λ (l : Among z (spots_of (suc k + entries# members) base (e.offset + total e) others)).
-        slack-stands later others _ base (e.offset + total e) t.3 l)
+        (λ (r : InOne k base e members others z).
+        let c = base + e.offset + r.0 * e.width in
+        ⊎_elim
+        (λ (o : Among z (spots_of (suc k) c members)). slack-stands kids members (suc k) c 0 (t.4 r.0 (omega (arith, r.1))) o)
+        (λ (o : Behind k e members c). inr (at-end s kids members e k c t.0 t.3 o))
+        (single-slack k e members c _ r.2))
+        (λ (l : Among z (spots_of (suc k + entries# members) base others)).
+        slack-stands later others _ base (e.offset + total e) t.5 l)
         m)
-        (split-told k base reached e members others z a)
+        (split-told k base e members others z a)
     slack-stands leaf (entry e members others) k base reached t a = absurd t
     slack-stands (item s kids later) end k base reached t a = absurd t
 
@@ -293,26 +419,30 @@ module _ (n : ℕ) where
   pieces#-gap k first g = grind arith
 
   pieces#-single :
-      (k w : ℕ) (members : Entries) (b : ℕ) (inner : List Spot) (m : ℕ) →
+      (k : ℕ) (e : Entry) (members : Entries) (b : ℕ) (inner : List Spot) (m : ℕ) →
       pieces# n inner ≡ m →
-      pieces# n (single k w members b inner) ≡ here# n k members m
-  pieces#-single k w members b inner m h = grind arith
+      pieces# n (single k e members b inner) ≡ here# n k members m
+  pieces#-single k e end b inner m h = grind arith
+  pieces#-single k e (entry t ms later) b inner m h =
+      let behind = b + (e.width - e.slack_at_end) in
+      omega (arith, pieces#-append inner (gap k behind e.slack_at_end), pieces#-gap k behind e.slack_at_end)
 
   -- there are as many pieces of an entry as the counts multiply to
-  pub counted : (es : Entries) (k base reached : ℕ) → pieces# n (spots_of k base reached es) ≡ counts n k es
+  pub counted : (es : Entries) (k base : ℕ) → pieces# n (spots_of k base es) ≡ counts n k es
   unfolding spots_of counts
-  counted end k base reached = refl
-  counted (entry e members later) k base reached =
-      let before = gap k (base + reached) (e.offset - reached) in
-      let own =
-      each (times e.occurs) (base + e.offset) e.width (λ c. single k e.width members c (spots_of (suc k) c 0 members)) in
-      let rest = spots_of (suc k + entries# members) base (e.offset + total e) later in
+  counted end k base = refl
+  counted (entry e members later) k base =
+      let before = gap k (base + (e.offset - e.slack)) e.slack in
+      let one : ℕ → List Spot = λ c. single k e members c (spots_of (suc k) c members) in
+      let own = each (times e.occurs) (base + e.offset) e.width one in
+      let rest = spots_of (suc k + entries# members) base later in
       let ih = counted members (suc k) in
       omega (
         arith,
         pieces#-append (before ++ own) rest,
         pieces#-append before own,
-        pieces#-gap k (base + reached) (e.offset - reached),
-        pieces#-each (times e.occurs) (base + e.offset) e.width (here# n k members (counts n (suc k) members)) (λ c. single k e.width members c (spots_of (suc k) c 0 members)) (λ b. pieces#-single k e.width members b (spots_of (suc k) b 0 members) (counts n (suc k) members) (ih b 0)),
-        counted later (suc k + entries# members) base (e.offset + total e),
+        pieces#-gap k (base + (e.offset - e.slack)) e.slack,
+        pieces#-each (times e.occurs) (base + e.offset) e.width (here# n k members (counts n (suc k) members)) one
+            (λ b. pieces#-single k e members b (spots_of (suc k) b members) (counts n (suc k) members) (ih b)),
+        counted later (suc k + entries# members) base,
       )

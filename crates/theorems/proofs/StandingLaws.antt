@@ -8,7 +8,10 @@ use mathlib.Core.Logic.{◌⊎◌, inl, inr, ⊎_elim}
 use native.Mathlib.Omega.{arith}
 use native.Mathlib.Nat.{zero-mul}
 use lib.ListN.{length, length-append}
-use Rattle.std.specs.Prelude.{Some, if◌then◌else◌}
+use Rattle.std.specs.Prelude.{Option, None, Some, if◌then◌else◌}
+use Rattle.definition.specs.declared.Digits.{Digits}
+use Rattle.definition.specs.declared.SignWords.{SignWords}
+use Rattle.definition.specs.declared.Statement.{Statement}
 use Rattle.definition.specs.declared.Entry.{Entry}
 use Rattle.definition.specs.declared.Owner.{Owner}
 use Rattle.definition.specs.Basic.{Answer}
@@ -18,10 +21,11 @@ use Rattle.definition.specs.Owner.{occurrence}
 use Rattle.definition.specs.Search.{entries#}
 use Rattle.definition.specs.Listing.{flag}
 use Rattle.definition.specs.Demand.{Spot, spot, Demand}
-use Rattle.definition.specs.Details.{detail, details_in, detail_bytes, details_bytes, entries_details}
+use Rattle.definition.specs.Details.{detail, details_in, digits_bytes, sign_words_byte, detail_bytes, details_bytes, listing_details}
 use Rattle.definition.proofs.DetailLaws.{bytes-both}
 use Rattle.theorems.specs.Occurrences.{Within, Occurs}
-use Rattle.theorems.specs.Standing.{Standing, standing, below#, offsets, first_byte, row, all_rows, nth, AtLeastOnce, FirstOwned}
+use Rattle.theorems.specs.Standing.{Standing, standing, below#, offsets, first_byte, of_digits, of_sign, row, head, all_rows}
+use Rattle.theorems.specs.Standing.{nth, AtLeastOnce, FirstOwned}
 use Rattle.theorems.proofs.Occurrences.{occurrence-owned}
 
 -- ---------------------------------------------------------------- details
@@ -38,6 +42,13 @@ flag-is : (b : Bool) → flag b ≡ (if b then 1 else 0)
 flag-is true = refl
 flag-is false = refl
 
+digits-are : (d : Option Digits) → digits_bytes d ≡ of_digits d
+digits-are None = refl
+digits-are (Some d) = cc (flag-is d.signed)
+
+sign-is : (w : Option SignWords) → sign_words_byte w ≡ of_sign w
+sign-is w = grind arith
+
 row-is :
     (e : Entry) (members : Entries) (around : List Entry) (depth start : ℕ) →
     length around ≡ depth →
@@ -48,7 +59,7 @@ unfolding detail_bytes
 row-is e members around depth start d s =
     let first : start + e.offset ≡ e.offset + offsets around = omega (arith, s) in
     let mark = flag-is e.folded in
-    rw (first, below-is members, mark, ← d)
+    rw (first, below-is members, mark, digits-are e.digits, sign-is e.sign, ← d)
 
 details-rows :
     (es : Entries) (around : List Entry) (depth start : ℕ) →
@@ -67,8 +78,11 @@ details-rows (entry e members later) around depth start d s =
       details-rows later around depth start d s,
     )
 
-pub details_stand : (es : Entries) → entries_details es ≡ all_rows (standing [] es)
-details_stand es = details-rows es [] 0 0 refl refl
+pub details_stand :
+    (root : Option Statement) (es : Entries) → listing_details root es ≡ head root es ++ all_rows (standing [] es)
+unfolding listing_details
+details_stand None es = cc (below-is es, details-rows es [] 0 0 refl refl)
+details_stand (Some s) es = cc (below-is es, details-rows es [] 0 0 refl refl)
 
 -- ---------------------------------------------------------------- owners
 

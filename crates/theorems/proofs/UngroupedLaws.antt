@@ -2,7 +2,7 @@
 -- entries that it had while neither DISPLAY nor those words named a usage and none was inherited. Word by word, both
 -- readings say the same but for a DISPLAY that is named; a layout never asks for that.
 -- Assumes nothing.
-use Prim.Native.Nat.{ℕ, suc, max}
+use Prim.Native.Nat.{ℕ, suc, ◌+◌, max}
 use Prim.Native.String.{String}
 use mathlib.Core.Path.{◌≡◌, refl, sym, ap, subst, ◌∙◌}
 use mathlib.Core.Bool.{Bool, true, false, ◌&&◌, ◌||◌, not}
@@ -14,6 +14,8 @@ use Rattle.std.proofs.lemmas.Bool.{and_parts, or_parts}
 use Rattle.definition.specs.declared.Span.{Span}
 use Rattle.definition.specs.declared.Usage.{Usage}
 use Rattle.definition.specs.declared.ItemUsage.{ItemUsage}
+use Rattle.definition.specs.declared.NamedUsage.{NamedUsage}
+use Rattle.definition.specs.declared.Entry.{Entry}
 use Rattle.definition.specs.declared.Clauses.{Clauses}
 use Rattle.definition.specs.declared.Keyword.{Keyword}
 use Rattle.definition.specs.declared.ParseState.{ParseState}
@@ -26,7 +28,7 @@ use Rattle.definition.specs.declared.Statement.{Statement}
 use Rattle.definition.specs.declared.Refusal.{Refusal}
 use Rattle.definition.specs.declared.TheConstants.{MOST_STATEMENTS}
 use Rattle.std.specs.Prelude.{if◌then◌else◌}
-use Rattle.definition.specs.Basic.{bytes, same, uppers, part, digits, number, count}
+use Rattle.definition.specs.Basic.{bytes, absent, is_given, fewest, same, uppers, part, digits, number, count}
 use Rattle.definition.specs.Basic.{Answer, Err, Ok, ◌>>=◌, and_then, refuse_if, or_refuse}
 use Rattle.definition.specs.Words.{statement_words}
 use Rattle.definition.specs.Statement.{key, Spelling, spellings, meaning, keyword_of, clauses_of, no_clauses}
@@ -34,31 +36,39 @@ use Rattle.definition.specs.Statement.{with_picture, with_usage, with_sign, with
 use Rattle.definition.specs.Statement.{Step, go, missing, sign_words, begin}
 use Rattle.definition.specs.Statement.{on_clause, on_depending, on_times, on_sign, clause_step, separated}
 use Rattle.definition.specs.Statement.{step}
-use Rattle.definition.specs.Statement.{finish, clauses, usage_of, outermost, statement_of, named, statement}
+use Rattle.definition.specs.Statement.{finish, clauses, held, usage_of, named_usage, statement_of, named, statement}
 use Rattle.definition.specs.Statement.{statements}
 use Rattle.definition.specs.Tree.{Forest, leaf, item, above, not_above, forest, fields}
 use Rattle.definition.specs.Usages.{inheriting, inherit, inherited, record_of}
-use Rattle.definition.specs.Fold.{entry, Place, place_of, entry_end, fold_check, folded_all}
-use Rattle.definition.specs.Layout.{shallow, under_usage, content, start, slack_from, entry_of, too_large, advance}
+use Rattle.definition.specs.Picture.{is_alignable}
+use Rattle.definition.specs.Storage.{elementary, or_none, place_alignment, alignment, width_alignment, repeats}
+use Rattle.definition.specs.Fold.{Entries, end, entry, append, Place, place_of, find, has_member, redefiners, widest, union_members}
+use Rattle.definition.specs.Fold.{entry_end, with_redefiners, fold_check, folded_list, folded_below}
+use Rattle.definition.specs.Layout.{shallow, content, start, slack_from, entry_of, too_large, advance}
 use Rattle.definition.specs.Layout.{Laid, lay}
-use Rattle.definition.specs.Record.{ends_fit, unfolded, layout}
-use Rattle.definition.specs.Calls.{kept_statements, record_fields, entries}
+use Rattle.definition.specs.Record.{record_length, variable, ends_fit, unfolded, layout}
+use Rattle.definition.specs.Listing.{members#, entry_bytes, entries_bytes, listing}
+use Rattle.definition.specs.Calls.{kept_statements, record_tree, record_fields, entries}
 use Rattle.theorems.specs.Ungrouped.{is_one_of, new_words, as_seen, clauses_alone, named_alone, statement_alone}
-use Rattle.theorems.specs.Ungrouped.{statements_alone, entries_alone, is_other, lasts, lasting, is_skipped}
+use Rattle.theorems.specs.Ungrouped.{statements_alone, entries_alone, listed, unworded, but_words, other, is_named, lasts, lasting, is_skipped}
 use Rattle.theorems.specs.Ungrouped.{lasting_in, lasting_all, names_usage, is_plain, plain_groups, plain_read}
 use Rattle.theorems.specs.Ungrouped.{plain_usages}
 use Rattle.definition.proofs.Lists.{by_cases}
 use Rattle.definition.proofs.WordLaws.{never, same-equal}
+use Rattle.definition.proofs.LayoutLaws.{lay_item}
 
 -- ---------------------------------------------------------------- clauses without DISPLAY
 
-abbrev undisplay : Option ItemUsage → Option ItemUsage
+abbrev if_other : NamedUsage → ItemUsage → Option NamedUsage
+if_other u (ItemUsage.Picture Usage.Display) = None
+if_other u (ItemUsage.Picture Usage.Comp3) = Some u
+if_other u (ItemUsage.Picture Usage.Comp) = Some u
+if_other u ItemUsage.Comp1 = Some u
+if_other u ItemUsage.Comp2 = Some u
+
+abbrev undisplay : Option NamedUsage → Option NamedUsage
 undisplay None = None
-undisplay (Some (ItemUsage.Picture Usage.Display)) = None
-undisplay (Some (ItemUsage.Picture Usage.Comp3)) = Some (ItemUsage.Picture Usage.Comp3)
-undisplay (Some (ItemUsage.Picture Usage.Comp)) = Some (ItemUsage.Picture Usage.Comp)
-undisplay (Some ItemUsage.Comp1) = Some ItemUsage.Comp1
-undisplay (Some ItemUsage.Comp2) = Some ItemUsage.Comp2
+undisplay (Some u) = if_other u u.usage
 
 abbrev forget : Clauses → Clauses
 forget c =
@@ -69,7 +79,7 @@ forget_step (Ok (e, c)) = go e (forget c)
 forget_step (Err m) = Err m
 
 -- what is not another usage is none without DISPLAY
-none_other : (u : Option ItemUsage) → is_other u ≡ false → undisplay u ≡ None
+none_other : (u : Option NamedUsage) → is_named other u ≡ false → undisplay u ≡ None
 none_other u h = grind arith
 
 -- one of two is true, and the other is not
@@ -117,8 +127,8 @@ module _ (u : List ℕ) (h : is_one_of new_words u ≡ false) where
 -- ---------------------------------------------------------------- one word
 
 module _ (c : Clauses) where
-  begin-forget : (k : Option Keyword) → is_old k ≡ true → begin k (forget c) ≡ forget_step (begin k c)
-  begin-forget k n = grind arith
+  begin-forget : (w : Span) (k : Option Keyword) → is_old k ≡ true → begin w k (forget c) ≡ forget_step (begin w k c)
+  begin-forget w k n = grind arith
 
   counted-forget : (m : Missing) (e : ParseState) (o : Option ℕ) → counted m e (forget c) o ≡ forget_step (counted m e c o)
   counted-forget n e o = grind arith
@@ -131,34 +141,34 @@ module _ (c : Clauses) where
       (if b then x' else y') ≡ forget_step (if b then x else y)
   either b x y p q = grind arith
 
-  module _ (u : List ℕ) (h : is_one_of new_words u ≡ false) where
-    on-clause : on_clause u (forget c) ≡ forget_step (on_clause u c)
-    on-clause = begin-forget (keyword_of u) (keyword-old u h)
+  module _ (u : List ℕ) (h : is_one_of new_words u ≡ false) (w : Span) where
+    on-clause : on_clause w u (forget c) ≡ forget_step (on_clause w u c)
+    on-clause = begin-forget w (keyword_of u) (keyword-old u h)
 
-    on-depending : on_depending u (forget c) ≡ forget_step (on_depending u c)
-    on-depending = either (key "DEPENDING" u) (go OnName c) (on_clause u c) refl on-clause
+    on-depending : on_depending w u (forget c) ≡ forget_step (on_depending w u c)
+    on-depending = either (key "DEPENDING" u) (go OnName c) (on_clause w u c) refl on-clause
 
-    on-times : on_times u (forget c) ≡ forget_step (on_times u c)
-    on-times = either (key "TIMES" u) (go DependingOn c) (on_depending u c) refl on-depending
+    on-times : on_times w u (forget c) ≡ forget_step (on_times w u c)
+    on-times = either (key "TIMES" u) (go DependingOn c) (on_depending w u c) refl on-depending
 
-    clause-step-forget : (e : ParseState) (w : Span) → clause_step e w u (forget c) ≡ forget_step (clause_step e w u c)
+    clause-step-forget : (e : ParseState) → clause_step e w u (forget c) ≡ forget_step (clause_step e w u c)
     unfolding clause_step
-    clause-step-forget Clause w = on-clause
-    clause-step-forget IsPicture w = either (key "IS" u) (go APicture c) (go Clause (with_picture w c)) refl refl
-    clause-step-forget APicture w = refl
-    clause-step-forget Target w = refl
-    clause-step-forget ACount w = counted-forget Missing.Count To (count u)
-    clause-step-forget To w = either (key "TO" u) (go Bound c) (on_times u c) refl on-times
-    clause-step-forget Bound w = counted-forget Missing.Bound Times (count u)
-    clause-step-forget Times w = on-times
-    clause-step-forget DependingOn w = on-depending
-    clause-step-forget OnName w = either (key "ON" u) (go AName c) (go Clause (with_depending w c)) refl refl
-    clause-step-forget AName w = refl
-    clause-step-forget UsageIs w = either (key "IS" u) (go Clause c) (on_clause u c) refl on-clause
-    clause-step-forget SignIs w = either (key "IS" u) (go SignWord c) (on_sign u c) refl refl
-    clause-step-forget SignWord w = refl
-    clause-step-forget Side w = either (key "LEFT" u || key "RIGHT" u) (go Clause c) (on_clause u c) refl on-clause
-    clause-step-forget Nothing w = refl
+    clause-step-forget Clause = on-clause
+    clause-step-forget IsPicture = either (key "IS" u) (go APicture c) (go Clause (with_picture w c)) refl refl
+    clause-step-forget APicture = refl
+    clause-step-forget Target = refl
+    clause-step-forget ACount = counted-forget Missing.Count To (count u)
+    clause-step-forget To = either (key "TO" u) (go Bound c) (on_times w u c) refl on-times
+    clause-step-forget Bound = counted-forget Missing.Bound Times (count u)
+    clause-step-forget Times = on-times
+    clause-step-forget DependingOn = on-depending
+    clause-step-forget OnName = either (key "ON" u) (go AName c) (go Clause (with_depending w c)) refl refl
+    clause-step-forget AName = refl
+    clause-step-forget UsageIs = either (key "IS" u) (go Clause c) (on_clause w u c) refl on-clause
+    clause-step-forget SignIs = either (key "IS" u) (go SignWord c) (on_sign u c) refl refl
+    clause-step-forget SignWord = refl
+    clause-step-forget Side = either (key "LEFT" u || key "RIGHT" u) (go Clause c) (on_clause w u c) refl on-clause
+    clause-step-forget Nothing = refl
 
 separated-forget : (u : List ℕ) (s : Step) → separated u (forget_step s) ≡ forget_step (separated u s)
 separated-forget u s = grind arith
@@ -222,11 +232,13 @@ module _ {u : List ℕ} (q : Silent u) where
   no-separate (Ok (e, c)) = rw no.1.1.1.1.1.1.1.1.0
   no-separate (Err m) = refl
 
-  silent-clause : (e : ParseState) (w : Span) (c : Clauses) → clause_step e w u c ≡ silently e w c (begin (keyword_of u) c)
+  silent-clause :
+      (e : ParseState) (w : Span) (c : Clauses) →
+      clause_step e w u c ≡ silently e w c (begin w (keyword_of u) c)
   unfolding clause_step
   silent-clause e w c = grind (arith, q.no-count, no)
 
-  silent-step : (e : ParseState) (w : Span) (c : Clauses) → step e w u c ≡ silently e w c (begin (keyword_of u) c)
+  silent-step : (e : ParseState) (w : Span) (c : Clauses) → step e w u c ≡ silently e w c (begin w (keyword_of u) c)
   unfolding step
   silent-step e w c = no-separate (clause_step e w u c) ∙ silent-clause e w c
 
@@ -242,11 +254,11 @@ empty-step e w c = silent-step (record { no-onward = refl; no-count = refl }) e 
 
 module _ (c : Clauses) where
   -- a usage that is named leaves what it was without DISPLAY
-  abbrev Leaves : ItemUsage → Type 0
+  abbrev Leaves : NamedUsage → Type 0
   Leaves v = lasts c.usage (Some v) ≡ true → go Clause (forget c) ≡ go Clause (forget (with_usage v c))
 
   silently-forget :
-      (v : ItemUsage) →
+      (v : NamedUsage) →
       Leaves v →
       (e : ParseState) (w : Span) →
       Lasts c (silently e w c (go Clause (with_usage v c))) →
@@ -264,35 +276,35 @@ module _ (c : Clauses) where
       (u : List ℕ) (v : ItemUsage) →
       is_one_of onward u ≡ false →
       count u ≡ None →
-      begin (keyword_of u) c ≡ go Clause (with_usage v c) →
-      Leaves v →
+      ((w : Span) → begin w (keyword_of u) c ≡ go Clause (with_usage (named_usage v w) c)) →
+      ((w : Span) → Leaves (named_usage v w)) →
       Forgets u
   names-forget u v o n b left e w h =
-      let there : step e w u c ≡ silently e w c (go Clause (with_usage v c)) =
-      silent-step (record { no-onward = o; no-count = n }) e w c ∙ ap (silently e w c) b in
+      let there : step e w u c ≡ silently e w c (go Clause (with_usage (named_usage v w) c)) =
+      silent-step (record { no-onward = o; no-count = n }) e w c ∙ ap (silently e w c) (b w) in
       empty-step e w (forget c)
-      ∙ silently-forget v left e w (subst (Lasts c) there h)
+      ∙ silently-forget (named_usage v w) (left w) e w (subst (Lasts c) there h)
       ∙ ap forget_step (sym there)
 
   -- DISPLAY names what is none without it; a float is not named
-  display-leaves : Leaves (ItemUsage.Picture Usage.Display)
-  display-leaves h =
+  display-leaves : (w : Span) → Leaves (named_usage (ItemUsage.Picture Usage.Display) w)
+  display-leaves w h =
       ap
-      (λ (u : Option ItemUsage).
+      (λ (u : Option NamedUsage).
       go Clause (clauses_of c.picture u c.sign c.sync c.occurs c.depending c.redefines))
       (none_other c.usage (grind arith))
 
   new-forget : Each Forgets new_words
   unfolding keyword_of same number digits
   new-forget = (
-    names-forget (bytes "DISPLAY") (ItemUsage.Picture Usage.Display) refl refl refl display-leaves,
+    names-forget (bytes "DISPLAY") (ItemUsage.Picture Usage.Display) refl refl (λ w. refl) display-leaves,
     (
-      names-forget (bytes "COMP-1") ItemUsage.Comp1 refl refl refl (λ h. never h),
+      names-forget (bytes "COMP-1") ItemUsage.Comp1 refl refl (λ w. refl) (λ w h. never h),
       (
-        names-forget (bytes "COMPUTATIONAL-1") ItemUsage.Comp1 refl refl refl (λ h. never h),
+        names-forget (bytes "COMPUTATIONAL-1") ItemUsage.Comp1 refl refl (λ w. refl) (λ w h. never h),
         (
-          names-forget (bytes "COMP-2") ItemUsage.Comp2 refl refl refl (λ h. never h),
-          (names-forget (bytes "COMPUTATIONAL-2") ItemUsage.Comp2 refl refl refl (λ h. never h), tt),
+          names-forget (bytes "COMP-2") ItemUsage.Comp2 refl refl (λ w. refl) (λ w h. never h),
+          (names-forget (bytes "COMPUTATIONAL-2") ItemUsage.Comp2 refl refl (λ w. refl) (λ w h. never h), tt),
         ),
       ),
     ),
@@ -303,7 +315,7 @@ module _ (c : Clauses) where
       is_one_of new_words u ≡ false →
       step e w u (forget c) ≡ forget_step (step e w u c)
   unfolding step
-  step_other e w u p = ap (separated u) (clause-step-forget c u p e w) ∙ separated-forget u (clause_step e w u c)
+  step_other e w u p = ap (separated u) (clause-step-forget c u p w e) ∙ separated-forget u (clause_step e w u c)
 
   step-forget :
       (e : ParseState) (w : Span) (u : List ℕ) →
@@ -317,7 +329,7 @@ module _ (c : Clauses) where
 -- ---------------------------------------------------------------- a statement
 
 -- an answer, with what it gives changed
-abbrev mapped : {A B : Type 0} → (A → B) → Answer A → Answer B
+abbrev pub mapped : {A B : Type 0} → (A → B) → Answer A → Answer B
 mapped f a = a >>= λ x. Ok (f x)
 
 abbrev forget_statement : Statement → Statement
@@ -464,9 +476,9 @@ fields_map g f = grind arith
 
 -- where no group names a usage, each statement has its own
 abbrev alone : Statement → Statement
-alone s = inheriting outermost s
+alone s = inheriting None s
 
-none_named : (u : Option ItemUsage) → not (names_usage u) ≡ true → usage_of outermost u ≡ outermost
+none_named : (u : Option NamedUsage) → not (names_usage u) ≡ true → held None u ≡ None
 none_named u h = grind arith
 
 plain-within : (s : Statement) (kids : Forest) → is_plain s kids ≡ true → inherit (alone s).usage kids ≡ inherited kids
@@ -478,76 +490,204 @@ unfolding inherit plain_groups
 inherited-plain leaf h = refl
 inherited-plain (item s kids later) h = grind (arith, plain-within s kids, inherited-plain kids, inherited-plain later)
 
--- ---------------------------------------------------------------- the layout
+-- a line of a `do` that both have, and one whose value one of them changes
+same-line :
+    {A B C : Type 0} (h : B → C) (a : Answer A) (f : A → Answer C) (g : A → Answer B) →
+    ((x : A) → f x ≡ mapped h (g x)) →
+    (a >>= f) ≡ mapped h (a >>= g)
+unfolding and_then
+same-line h (Ok x) f g e = e x
+same-line h (Err r) f g e = refl
 
-usage-forget : (u : Option ItemUsage) → usage_of outermost (undisplay u) ≡ usage_of outermost u
+changed-line :
+    {A D B C : Type 0} (h : B → C) (u : A → D) (a : Answer A) (f : D → Answer C) (g : A → Answer B) →
+    ((x : A) → f (u x) ≡ mapped h (g x)) →
+    (mapped u a >>= f) ≡ mapped h (a >>= g)
+unfolding and_then
+changed-line h u (Ok x) f g e = e x
+changed-line h u (Err r) f g e = refl
+
+-- ---------------------------------------------------------------- without the words of usages
+
+-- a statement that names nothing, and has the usage that holds for it, by no word
+abbrev bare : Statement → Statement
+bare s =
+    let c = s.clauses in
+    record {
+      level = s.level;
+      at = s.at;
+      name = s.name;
+      clauses = clauses_of c.picture None c.sign c.sync c.occurs c.depending c.redefines;
+      usage = Some (named_usage (usage_of s.usage) absent);
+    }
+
+abbrev bares : Forest → Forest
+bares f = map_forest bare f
+
+-- DISPLAY holds where none is named, so that both readings have the same statements
+usage-forget : (u : Option NamedUsage) → usage_of (undisplay u) ≡ usage_of (held None u)
 usage-forget u = grind arith
 
+bares-forget : (f : Forest) → bares (map_forest forget_statement f) ≡ bares (map_forest alone f)
+bares-forget leaf = refl
+bares-forget (item s kids later) =
+    let c = s.clauses in
+    λ i. item (record {
+      level = s.level;
+      at = s.at;
+      name = s.name;
+      clauses = clauses_of c.picture None c.sign c.sync c.occurs c.depending c.redefines;
+      usage = Some (named_usage (usage-forget c.usage i) absent);
+    }) (bares-forget kids i) (bares-forget later i)
+
 module _ (text : List ℕ) where
-  under-forget :
-      (s : Statement) (u : ItemUsage) →
-      under_usage text (forget_statement s) u ≡ under_usage text (alone s) u
-  under-forget s u = grind arith
+  -- a layout does not ask for words
+  elementary-bare : (s : Statement) → elementary text (bare s) ≡ elementary text s
+  elementary-bare s = grind arith
 
-  content-forget :
-      (s : Statement) (kids : Forest) (width : ℕ) →
-      content text (forget_statement s) (map_forest forget_statement kids) width
-      ≡ content text (alone s) (map_forest alone kids) width
-  content-forget s leaf width =
-      under-forget s (usage_of outermost (undisplay s.clauses.usage))
-      ∙ ap (under_usage text (alone s)) (usage-forget s.clauses.usage)
-  content-forget s (item t kids later) width = refl
+  content-bare : (s : Statement) (kids : Forest) → content text (bare s) (bares kids) ≡ content text s kids
+  content-bare s leaf = elementary-bare s
+  content-bare s (item t kids later) = refl
 
-  shallow-forget :
-      (depth : ℕ) (f : Forest) → shallow depth (map_forest forget_statement f) ≡ shallow depth (map_forest alone f)
-  shallow-forget depth leaf = refl
-  shallow-forget depth (item s kids later) = refl
-
-  -- an item laid, by what it takes of the lists below and after it
-  abbrev laid_item :
-      List Place →
-      ℕ →
-      ℕ →
-      Statement →
-      Answer (Unit {0}) →
-      Answer Laid →
-      (ℕ → Answer Pictured) →
-      (List Place → ℕ → ℕ → Answer Laid) →
-      Answer Laid
-  laid_item seen cursor reach s deep below own after = do
-    _ ← deep
-    inner ← below
-    _ ← fold_check text [] inner.entries
-    c ← own inner.width
-    offset ← start text s c seen cursor
-    let e = entry_of s c offset (slack_from cursor s offset)
-    _ ← refuse_if (too_large e) (Refusal.TooLarge s.at)
-    l ← after (place_of e ∷ seen) (advance cursor e) (max reach (entry_end e))
-    Ok (record { entries = entry e inner.entries l.entries; width = l.width })
-
-  lay-forget :
-      (f : Forest) (depth : ℕ) (seen : List Place) (cursor reach : ℕ) →
-      lay text depth seen cursor reach (map_forest forget_statement f)
-      ≡ lay text depth seen cursor reach (map_forest alone f)
-  unfolding lay
-  lay-forget leaf depth seen cursor reach = refl
-  lay-forget (item s kids later) depth seen cursor reach =
-      λ i. laid_item seen cursor reach s
-      (shallow-forget (suc depth) kids i)
-      (lay-forget kids (suc depth) [] 0 0 i)
-      (λ width. content-forget s kids width i)
-      (λ seen' cursor' reach'. lay-forget later depth seen' cursor' reach' i)
-
-  layout-forget : (f : Forest) → layout text (map_forest forget_statement f) ≡ layout text (map_forest alone f)
-  unfolding layout unfolded
-  layout-forget f =
+  aligned-bare :
+      (s : Statement) (kids : Forest) →
+      place_alignment text (bare s) (bares kids) ≡ place_alignment text s kids
+  aligned-bare s leaf =
       ap
-      (λ (a : Answer Laid). (do
-        l ← a
-        _ ← fold_check text [] l.entries
-        _ ← ends_fit (folded_all text l.entries)
-        Ok l.entries) >>= λ es. Ok (folded_all text es))
-      (lay-forget f 0 [] 0 0)
+      (λ (a : Answer Pictured). let c = or_none a in
+      if s.clauses.sync && not (is_given s.clauses.redefines) && is_alignable c.kind then c.width else 1)
+      (elementary-bare s)
+  aligned-bare s (item t kids later) = refl
+
+  alignment-bare : (f : Forest) → alignment text (bares f) ≡ alignment text f
+  unfolding alignment
+  alignment-bare leaf = refl
+  alignment-bare (item s kids later) =
+      λ i. max (aligned-bare s kids i) (max (alignment-bare kids i) (alignment-bare later i))
+
+  shallow-bare : (depth : ℕ) (f : Forest) → shallow depth (bares f) ≡ shallow depth f
+  shallow-bare depth leaf = refl
+  shallow-bare depth (item s kids later) = refl
+
+  -- nor does a fold
+  member-unworded : (w : Span) (es : Entries) → has_member text w (unworded es) ≡ has_member text w es
+  unfolding has_member
+  member-unworded w end = refl
+  member-unworded w (entry e members later) = grind (arith, member-unworded w later)
+
+  append-unworded : (a b : Entries) → append (unworded a) (unworded b) ≡ unworded (append a b)
+  unfolding append
+  append-unworded end b = refl
+  append-unworded (entry e members later) b = cc (append-unworded later b)
+
+  widest-unworded : (es : Entries) → widest (unworded es) ≡ widest es
+  unfolding widest
+  widest-unworded end = refl
+  widest-unworded (entry e members later) = cc (widest-unworded later)
+
+  redefiners-unworded :
+      (base : Place) (es : Entries) →
+      redefiners text base (unworded es) ≡ unworded (redefiners text base es)
+  unfolding redefiners
+  redefiners-unworded base end = refl
+  redefiners-unworded base (entry e members later) = grind (arith, redefiners-unworded base later)
+
+  check-unworded : (es : Entries) (bases : List Place) → fold_check text bases (unworded es) ≡ fold_check text bases es
+  unfolding fold_check and_then
+  check-unworded end bases = refl
+  check-unworded (entry e members later) bases =
+      grind (arith, check-unworded later bases, check-unworded later (place_of e ∷ bases))
+
+  with-unworded :
+      (e : Entry) (members rs later : Entries) →
+      with_redefiners text (record e { usage = absent }) (unworded members) (unworded rs) (unworded later)
+      ≡ unworded (with_redefiners text e members rs later)
+  with-unworded e members end later = refl
+  with-unworded e members (entry r ms rs) later =
+      let both = union_members text e members (entry r ms rs) in
+      let same : union_members text (record e { usage = absent }) (unworded members) (unworded (entry r ms rs))
+      ≡ unworded both =
+      grind (arith, member-unworded e.name members, append-unworded members (entry r ms rs)) in
+      cc (same, widest-unworded both)
+
+  folded-unworded :
+      (es : Entries) (bases : List Place) →
+      folded_list text bases (unworded es) ≡ unworded (folded_list text bases es)
+  unfolding folded_list
+  folded-unworded end bases = refl
+  folded-unworded (entry e members later) bases =
+      grind (
+        arith,
+        folded-unworded later bases,
+        folded-unworded later (place_of e ∷ bases),
+        redefiners-unworded (place_of e) later,
+        with-unworded e members (redefiners text (place_of e) later) (folded_list text (place_of e ∷ bases) later),
+      )
+
+  below-unworded : (es : Entries) → folded_below text (unworded es) ≡ unworded (folded_below text es)
+  unfolding folded_below
+  below-unworded end = refl
+  below-unworded (entry e members later) =
+      cc (below-unworded members, folded-unworded (folded_below text members) [], below-unworded later)
+
+  fit-unworded : (es : Entries) → ends_fit (unworded es) ≡ ends_fit es
+  unfolding ends_fit and_then
+  fit-unworded end = refl
+  fit-unworded (entry e members later) = grind (arith, fit-unworded later)
+
+  -- so a list laid
+  abbrev unworded_list : Laid → Laid
+  unworded_list l = record { entries = unworded l.entries; width = l.width }
+
+  item-unworded :
+      (seen : List Place) (cursor reach : ℕ) (s : Statement) (own : Answer Pictured) (begins : Answer ℕ)
+      (deep : Answer (Unit {0})) (below : ℕ → Answer Laid) (multiple : ℕ) (after : List Place → ℕ → ℕ → Answer Laid) →
+      lay_item text seen cursor reach (bare s) own begins deep (λ o. mapped unworded_list (below o)) multiple
+      (λ seen' cursor' reach'. mapped unworded_list (after seen' cursor' reach'))
+      ≡ mapped unworded_list (lay_item text seen cursor reach s own begins deep below multiple after)
+  unfolding and_then
+  item-unworded seen cursor reach s own begins deep below multiple after =
+      let u = unworded_list in
+      same-line u own _ _ λ c.
+      same-line u begins _ _ λ offset.
+      same-line u deep _ _ λ _.
+      changed-line u u (below offset) _ _ λ inner.
+      let slack_at_end = fewest multiple (c.width + inner.width) in
+      let e = entry_of s c offset (slack_from cursor s offset) inner.width slack_at_end in
+      ap
+      (λ (a : Answer (Unit {0})). a >>= λ _.
+      refuse_if (too_large e) (Refusal.TooLarge s.at) >>= λ _.
+      mapped u (after (place_of e ∷ seen) (advance cursor e) (max reach (entry_end e))) >>= λ l.
+      Ok (record { entries = entry (record e { usage = absent }) (unworded inner.entries) l.entries; width = l.width }))
+      (check-unworded inner.entries [])
+      ∙ (same-line u (fold_check text [] inner.entries) _ _ λ _.
+      same-line u (refuse_if (too_large e) (Refusal.TooLarge s.at)) _ _ λ _.
+      changed-line u u (after (place_of e ∷ seen) (advance cursor e) (max reach (entry_end e))) _ _ λ l. refl)
+
+  lay-unworded :
+      (f : Forest) (depth base : ℕ) (seen : List Place) (cursor reach : ℕ) →
+      lay text depth base seen cursor reach (bares f) ≡ mapped unworded_list (lay text depth base seen cursor reach f)
+  unfolding lay and_then
+  lay-unworded leaf depth base seen cursor reach = refl
+  lay-unworded (item s kids later) depth base seen cursor reach =
+      (λ i. lay_item text seen cursor reach (bare s)
+      (content-bare s kids i)
+      (if is_given s.clauses.redefines then or_refuse (Refusal.NoTarget s.at) (find text s.clauses.redefines seen)
+      else Ok (cursor + fewest (aligned-bare s kids i) (base + cursor)))
+      (shallow-bare (suc depth) kids i)
+      (λ offset. lay-unworded kids (suc depth) (base + offset) [] 0 0 i)
+      (if repeats s.clauses.occurs && not (is_given s.clauses.depending) then alignment-bare kids i else 1)
+      (λ seen' cursor' reach'. lay-unworded later depth base seen' cursor' reach' i))
+      ∙ item-unworded seen cursor reach s (content text s kids) (start text s kids seen base cursor)
+      (shallow (suc depth) kids)
+      (λ offset. lay text (suc depth) (base + offset) [] 0 0 kids) (width_alignment text s kids)
+      (λ seen' cursor' reach'. lay text depth base seen' cursor' reach' later)
+
+  layout-unworded : (f : Forest) → layout text (bares f) ≡ mapped unworded (layout text f)
+  unfolding layout unfolded and_then
+  layout-unworded f =
+      let l = lay-unworded f 0 0 [] 0 0 in
+      grind (arith, l, check-unworded, fit-unworded, folded-unworded, below-unworded)
 
 -- ---------------------------------------------------------------- the entries
 
@@ -555,19 +695,66 @@ module _ (text : List ℕ) where
 record-forget :
     (text : List ℕ) (ss : List Statement) →
     plain_groups (forest ss) ≡ true →
-    layout text (fields (forest (map forget_statement ss))) ≡ layout text (record_of ss)
+    mapped unworded (layout text (fields (forest (map forget_statement ss)))) ≡ mapped unworded
+    (layout text (record_of ss))
 record-forget text ss h =
     let f = forest ss in
-    ap (λ (x : Forest). layout text (fields x)) (forest-forget ss)
-    ∙ ap (layout text) (fields_map forget_statement f)
-    ∙ layout-forget text (fields f)
-    ∙ ap (layout text) (sym (fields_map alone f))
-    ∙ ap (λ (x : Forest). layout text (fields x)) (sym (inherited-plain f h))
+    ap (λ (x : Forest). mapped unworded (layout text x))
+    (ap fields (forest-forget ss) ∙ fields_map forget_statement f)
+    ∙ sym (layout-unworded text (map_forest forget_statement (fields f)))
+    ∙ ap (layout text) (bares-forget (fields f))
+    ∙ layout-unworded text (map_forest alone (fields f))
+    ∙ ap (λ (x : Forest). mapped unworded (layout text x))
+    (sym (fields_map alone f) ∙ ap fields (sym (inherited-plain f h)))
 
 -- a copybook with no usage on a group, no DISPLAY after another usage word and no word that names a float has the
--- entries that it had
-pub same_entries : (text : List ℕ) (work : ℕ) → plain_usages text ≡ true → entries_alone text work ≡ entries text work
-unfolding entries_alone entries record_fields kept_statements and_then
+-- entries that it had, but for the words of usages
+pub same_entries :
+    (text : List ℕ) (work : ℕ) →
+    plain_usages text ≡ true →
+    mapped unworded (entries_alone text work) ≡ mapped unworded (entries text work)
+unfolding entries_alone entries record_fields record_tree kept_statements and_then
 same_entries text work h =
     let both = and_parts (lasting_all text (statement_words text)) (plain_read (kept_statements text)) h in
     grind (arith, statements-forget text (statement_words text) 0 both.0, record-forget text)
+
+-- ---------------------------------------------------------------- the listing
+
+length-unworded : (es : Entries) → record_length (unworded es) ≡ record_length es
+unfolding record_length
+length-unworded end = refl
+length-unworded (entry e members later) = cc (length-unworded later)
+
+variable-unworded : (es : Entries) → variable (unworded es) ≡ variable es
+unfolding variable
+variable-unworded end = refl
+variable-unworded (entry e members later) = cc (variable-unworded members, variable-unworded later)
+
+members-unworded : (es : Entries) → members# (unworded es) ≡ members# es
+members-unworded end = refl
+members-unworded (entry e members later) = cc (members-unworded later)
+
+bytes-unworded : (es : Entries) → entries_bytes (unworded es) ≡ entries_bytes es
+unfolding entries_bytes entry_bytes
+bytes-unworded end = refl
+bytes-unworded (entry e members later) =
+    cc (members-unworded members, bytes-unworded members, bytes-unworded later)
+
+listing-unworded : (es : Entries) → listing (unworded es) ≡ listing es
+unfolding listing
+listing-unworded es = cc (length-unworded es, variable-unworded es, members-unworded es, bytes-unworded es)
+
+listed-unworded : (a : Answer Entries) → listed (but_words a) ≡ listed a
+unfolding and_then
+listed-unworded (Ok es) = ap Ok (listing-unworded es)
+listed-unworded (Err r) = refl
+
+-- so it has the listing that it had
+pub same-listing :
+    (text : List ℕ) (work : ℕ) →
+    plain_usages text ≡ true →
+    listed (entries_alone text work) ≡ listed (entries text work)
+same-listing text work h =
+    sym (listed-unworded (entries_alone text work))
+    ∙ ap listed (same_entries text work h)
+    ∙ listed-unworded (entries text work)

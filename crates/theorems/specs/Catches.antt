@@ -1,7 +1,7 @@
 -- The catches: traps of the rules by name, the worked example, and the examples and limits of each request, as one table:
 -- antt computes the definition at each row.
 -- Assumes nothing.
-use Rattle.std.specs.Prelude.{ℕ, zero, suc, ◌+◌, ◌*◌, ◌-◌, Bool, true, false, ◌&&◌, List, [], ◌∷◌, ◌++◌, eqb, ltb, length, if◌then◌else◌}
+use Rattle.std.specs.Prelude.{ℕ, zero, suc, ◌+◌, ◌*◌, ◌-◌, ◌/◌, Bool, true, false, ◌&&◌, List, [], ◌∷◌, ◌++◌, eqb, ltb, length, if◌then◌else◌}
 use Prim.Native.Char.{code}
 use Prim.Native.String.{String, [] as ε, ◌∷◌ as ◌∷ᶜ◌}
 use Rattle.std.specs.Prelude.{Option, None, Some}
@@ -20,14 +20,16 @@ use Rattle.definition.specs.Tree.{Forest, leaf, item}
 use Rattle.definition.specs.Fold.{Entries, end, entry, Place, search_back}
 use Rattle.definition.specs.Record.{record_length, variable}
 use Rattle.definition.specs.Listing.{flag, span_bytes, kind_byte, details}
+use Rattle.definition.specs.Details.{digits_bytes, sign_words_byte}
 use Rattle.definition.specs.declared.TheConstants.{LEAST_WORK}
 use Rattle.definition.specs.declared.Form.{Form}
 use Rattle.definition.specs.Refusals.{refusal_number, refusal_position, refusal_needed}
 use Rattle.definition.specs.declared.Report.{Report}
 use Rattle.definition.specs.Calls.{entries, Question, asked, report, picture_answer, picture_mask, owner_in}
-use Rattle.definition.specs.Calls.{record_fields, extract_in, indicator_check, called}
+use Rattle.definition.specs.Calls.{record_fields, words_in, extract_in, indicator_check, called}
 use Rattle.definition.specs.Key.{key_of_texts}
 use Rattle.theorems.specs.Ungrouped.{plain_usages}
+use Rattle.theorems.specs.Restarted.{plain_slack}
 
 -- ---------------------------------------------------------------- answers in numbers
 
@@ -57,6 +59,14 @@ same_columns [] [] = true
 same_columns [] (d ∷ ds) = false
 same_columns (c ∷ cs) [] = false
 same_columns (c ∷ cs) (d ∷ ds) = same c d && same_columns cs ds
+
+-- what the details say of an entry's clauses: the slack at its end, its digits, those after the point and whether they
+-- are signed, the place of the usage word, and SIGN
+abbrev pub clause_facts : Entries → List (List ℕ)
+clause_facts end = []
+clause_facts (entry e members later) =
+    (e.slack_at_end ∷ digits_bytes e.digits ++ e.usage.start ∷ e.usage.len ∷ sign_words_byte e.sign ∷ [])
+    ∷ (clause_facts members ++ clause_facts later)
 
 -- an owner in numbers
 abbrev pub owner_shown : Owner → List ℕ
@@ -119,8 +129,14 @@ pub data Catch : Type 0 where
   no_room : String → ℕ → ℕ → Catch
   -- a copybook, and the bytes of its details
   detailed : String → List ℕ → Catch
+  -- a copybook, and what the details say of the clauses of its entries, in the order of the listing
+  said : String → List (List ℕ) → Catch
   -- a copybook, the length of the lent output, and the needed length of the details' refusal 31
   no_details : String → ℕ → ℕ → Catch
+  -- a copybook, and of each statement its end and then each word's start and length
+  worded : String → List (List ℕ) → Catch
+  -- a copybook, the length of the lent output, and the words' refusal: number, position, needed length
+  not_worded : String → ℕ → ℕ → ℕ → ℕ → Catch
   -- a picture with a usage and a sign, its width, and what it holds
   pictured : String → Usage → Option SignKind → ℕ → FieldKind → Catch
   -- a picture, and its widths: under DISPLAY with no sign and with each of the four, under COMP-3, under COMP
@@ -157,6 +173,18 @@ pub data Catch : Type 0 where
   indicators : String → Catch
   -- a copybook, and whether it is one that group usages, DISPLAY and floats leave as it was
   as_before : String → Bool → Catch
+  -- and whether it is one that aligning from the record's start leaves so
+  slack_as_before : String → Bool → Catch
+
+-- numbers of four bytes
+abbrev numbers : List ℕ → List ℕ
+numbers [] = []
+numbers (n ∷ ns) = le4 n ++ numbers ns
+
+-- the words' bytes: of each statement how many words, and then its numbers
+abbrev words_written : List (List ℕ) → List ℕ
+words_written [] = []
+words_written (ns ∷ nss) = le4 (length ns / 2) ++ numbers ns ++ words_written nss
 
 -- a call for a copybook, and what is asked of one, with as much work memory lent as it asks for
 abbrev calls : {A : Type 0} → Form → (List ℕ → Answer A) → List ℕ → Answer A
@@ -195,8 +223,14 @@ right_in form (listed text room l) = gives (same l) (asks form (report Report.Li
 right_in form (no_room text room needed) =
     refuses 31 0 needed (asks form (report Report.Listing room) (bytes text))
 right_in form (detailed text l) = gives (same l) (asks form (report Report.Details (length l)) (bytes text))
+right_in form (said text l) =
+    gives (λ es. same_columns (clause_facts es) l) (calls form (λ t. entries t LEAST_WORK) (bytes text))
 right_in form (no_details text room needed) =
     refuses 31 0 needed (asks form (report Report.Details room) (bytes text))
+right_in form (worded text nss) =
+    let l = words_written nss in gives (same l) (calls form (λ t. words_in t LEAST_WORK (length l)) (bytes text))
+right_in form (not_worded text room n p needed) =
+    refuses n p needed (calls form (λ t. words_in t LEAST_WORK room) (bytes text))
 right_in form (pictured text u s width kind) =
     gives (λ p. same (column 0 p.width p.kind) (column 0 width kind)) (picture_answer u s (bytes text))
 right_in form (widths text ws) = same (widths_of (bytes text) every_sign) ws
@@ -229,6 +263,7 @@ right_in form (ending text cs) =
     && has_columns Form.Cards (bytes text ++ bytes "\r\n") cs
 right_in form (indicators ok) = indicated ok 128
 right_in form (as_before text plain) = eqb (flag (plain_usages (bytes text))) (flag plain)
+right_in form (slack_as_before text plain) = eqb (flag (plain_slack (bytes text))) (flag plain)
 
 abbrev pub right : Catch → Bool
 right row = right_in Form.FreeText row
@@ -261,7 +296,8 @@ card_fish =
     (joined "000200* 05 NO PIC X.\n000300/\n000400D 05 NO PIC X.\n\n0005\r\n"
     "000600     05 TAG PIC X(5).\n       05 SIRE PIC 9(4)\n           COMP SYNC. 05 WT OCCURS 3 PIC 9(3)V9.")
 
--- a group that stands twice, with slack in each, after a byte; then an item that stands 0 times after its slack
+-- a group that stands twice after a byte, with slack in each and at each end; then an item that stands 0 times after
+-- its slack
 abbrev pub tank : String
 tank =
     joined "05 A PIC X. 05 G OCCURS 2. 10 B PIC X. 10 C PIC 9(5) COMP SYNC. 05 D PIC X. "
@@ -270,6 +306,28 @@ tank =
 -- counts in a record of COMP: two aligned items, one of them in a group
 abbrev pub counts : String
 counts = "01 R COMP. 05 A PIC X. 05 B PIC 9(5) SYNC. 05 G. 10 C PIC X. 10 D PIC 9(4) SYNC."
+
+-- an aligned item and a byte that stand three times, each time with slack at the end, and an item after them
+abbrev pub padded3 : String
+padded3 = "05 G OCCURS 3. 10 A PIC 9(4) COMP SYNC. 10 B PIC X. 05 C PIC X."
+
+-- a group with OCCURS in another, each with slack at its end
+abbrev pub in_padded : String
+in_padded = "01 R. 05 G OCCURS 2. 10 H OCCURS 2. 15 A PIC 9(4) COMP SYNC. 15 B PIC X. 10 C COMP-1 SYNC. 10 D PIC X."
+
+-- an aligned item above 32 bits, in groups with OCCURS 0
+abbrev pub far_aligned : String
+far_aligned =
+    joined "05 P PIC X OCCURS 2147483647. 05 G OCCURS 0. 10 P PIC X OCCURS 2147483640. "
+    "10 H OCCURS 0. 15 P PIC X(4). 15 B COMP-2 SYNC."
+
+-- groups in groups down to depth 64
+abbrev pub deep_groups : String
+deep_groups =
+    joined "1 A PIC X. 1 A. 2 A. 3 A. 4 A. 5 A. 6 A. 7 A. 8 A. 9 A. 10 A. 11 A. 12 A. 13 A. 14 A. 15 A. 16 A. 17 A. "
+    (joined "18 A. 19 A. 20 A. 21 A. 22 A. 23 A. 24 A. 25 A. 26 A. 27 A. 28 A. 29 A. 30 A. 31 A. 32 A. 33 A. 34 A. "
+    (joined "35 A. 36 A. 37 A. 38 A. 39 A. 40 A. 41 A. 42 A. 43 A. 44 A. 45 A. 46 A. 47 A. 48 A. 49 A. 50 A. 51 A. "
+    "52 A. 53 A. 54 A. 55 A. 56 A. 57 A. 58 A. 59 A. 60 A. 61 A. 62 A. 63 A. 64 A. "))
 
 -- two aligned floats after odd places
 abbrev pub floats : String
@@ -290,18 +348,41 @@ sixteen =
     joined "5 A PIC X. 5 B PIC X. 5 C PIC X. 5 D PIC X. 5 E PIC X. 5 F PIC X. 5 G PIC X. 5 H PIC X. "
     "5 I PIC X. 5 J PIC X. 5 K PIC X. 5 L PIC X. 5 M PIC X. 5 N PIC X. 5 O PIC X. 5 P. 10 Q PIC X."
 
--- the details of FISH's three entries: slack stands before the second
+-- the details of FISH: its root is dropped, and slack stands before the second of its three entries
 abbrev pub fish_details : List ℕ
 fish_details =
-    hex "09000000 05 00 00 00000000 0000000000000000 00000000 14000000 04000000 00000000 00000000 00000000 00000000"
+    hex "00000000 01 03000000 04000000 03000000"
+    ++ hex "09000000 05 00 00 00000000 0000000000000000 00000000 14000000 04000000 00000000 00000000 00000000 00000000"
+    ++ hex "00000000 00 00 00 00000000 00000000 00"
     ++ hex "1a000000 05 00 00 00000000 0600000000000000 01000000 26000000 04000000 00000000 00000000 00000000 00000000"
+    ++ hex "00000000 04 00 00 2b000000 04000000 00"
     ++ hex "36000000 05 00 00 00000000 0800000000000000 00000000 49000000 06000000 00000000 00000000 00000000 00000000"
+    ++ hex "00000000 04 01 00 00000000 00000000 00"
 
--- an entry's details: position, level, depth, made by folding, entries below, first byte, slack, and the three places
+-- a head of details: the dropped root's position, its level and the place of its name, and how many entries there are
+abbrev pub head : ℕ → ℕ → Span → ℕ → List ℕ
+head at level name n = le4 at ++ (level ∷ span_bytes name) ++ le4 n
+
+-- no root was dropped
+abbrev pub rootless : ℕ → List ℕ
+rootless n = head 0 0 absent n
+
+-- an entry's details, but for the last 16: position, level, depth, made by folding, entries below, first byte, slack,
+-- and the three places
 abbrev pub facts : ℕ → ℕ → ℕ → Bool → ℕ → ℕ → ℕ → Span → Span → Span → List ℕ
 facts at level depth folded below first slack picture over depending =
     le4 at ++ (level ∷ depth ∷ flag folded ∷ le4 below) ++ le8 first ++ le4 slack ++ span_bytes picture
     ++ span_bytes over ++ span_bytes depending
+
+-- the last 16: the slack at the end; the digits, those after the point, and whether they are signed; the place of the
+-- usage word; SIGN
+abbrev pub more : ℕ → ℕ → ℕ → Bool → Span → ℕ → List ℕ
+more slack_at_end digits scale signed usage sign =
+    le4 slack_at_end ++ (digits ∷ scale ∷ flag signed ∷ span_bytes usage) ++ (sign ∷ [])
+
+-- there is none of these
+abbrev pub no_more : List ℕ
+no_more = more 0 0 0 false absent 0
 
 -- a group laid over an item, with an aligned item in it, and an item after both: A, folded with B, has entries 0 and 1
 abbrev pub overlay : String
@@ -450,9 +531,110 @@ table =
     ∷ turned_down "05 A PIC X. 05 B PIC X. 05 C PIC X. 05 D PIC X. 05 E REDEFINES F PIC X." 28 48
     ∷ searched "05 A REDEFINES A PIC X." (0 ∷ [])
     ∷ searched "05 G. 10 A PIC X. 10 B PIC X. 05 C REDEFINES A PIC X." (1 ∷ [])
-    -- a group is not aligned because a member is SYNC
-    ∷ accepted "05 A PIC X. 05 G. 10 B PIC 9(4) COMP SYNC." 3 false
-    (column 0 1 Text ∷ column 1 2 Group ∷ column 0 2 (Binary false) ∷ [])
+    -- a group is not aligned because a member is SYNC; the slack before the member is in the group
+    ∷ accepted "05 A PIC X. 05 G. 10 B PIC 9(4) COMP SYNC." 4 false
+    (column 0 1 Text ∷ column 1 3 Group ∷ column 1 2 (Binary false) ∷ [])
+    -- slack is chosen from the place in the record: none where the list alone would need it; an offset counts from the
+    -- list, in a group laid over an item too
+    ∷ accepted "05 A PIC X. 05 G. 10 B PIC X. 10 C PIC 9(4) COMP SYNC." 4 false
+    (column 0 1 Text ∷ column 1 3 Group ∷ column 0 1 Text ∷ column 1 2 (Binary false) ∷ [])
+    ∷ owned "05 A PIC X. 05 G. 10 B PIC 9(4) COMP SYNC." 1 (Owner.Slack 2)
+    ∷ reasoned "05 A PIC X. 05 G. 10 B PIC 9(4) COMP SYNC." 2
+    (why 1 0 0 0 ++ why 3 0 0 1 ++ why 5 15 1 0 ++ why 2 3 1 1)
+    ∷ detailed "05 A PIC X. 05 G. 10 B PIC 9(4) COMP SYNC."
+    (rootless 3
+    ++ facts 0 5 0 false 0 0 0 (span 9 1) absent absent ++ no_more
+    ++ facts 12 5 0 false 1 1 0 absent absent absent ++ no_more
+    ++ facts 18 10 1 false 0 2 1 (span 27 4) absent absent ++ more 0 4 0 false (span 32 4) 0)
+    ∷ accepted "05 X PIC X. 05 A PIC X(4). 05 G REDEFINES A. 10 B PIC 9(4) COMP SYNC." 5 false
+    (column 0 1 Text ∷ column 1 4 Group ∷ column 0 4 Text ∷ column 0 3 Group ∷ column 1 2 (Binary false) ∷ [])
+    ∷ accepted far_aligned 2147483647 false
+    (column 0 1 Text ∷ column 2147483647 2147483640 Group ∷ column 0 1 Text ∷ column 2147483640 24 Group ∷
+    column 0 4 Text ∷ column 9 8 (Float 64) ∷ [])
+    -- a group with OCCURS that holds an aligned item has slack at its end, which the owner names by the group; the next
+    -- item follows it, and it is no reason of its own
+    ∷ accepted padded3 13 false
+    (column 0 4 Group ∷ column 0 2 (Binary false) ∷ column 2 1 Text ∷ column 12 1 Text ∷ [])
+    ∷ owned padded3 2 (Owner.Piece 2 2 0)
+    ∷ owned padded3 3 (Owner.Slack 0)
+    ∷ owned padded3 4 (Owner.Piece 1 4 0)
+    ∷ owned padded3 11 (Owner.Slack 0)
+    ∷ owned padded3 12 (Owner.Piece 3 12 0)
+    ∷ reasoned padded3 3 (why 2 3 1 12)
+    ∷ extracts padded3 (5 ∷ 1 ∷ []) 11 4 (2 ∷ 1 ∷ 4 ∷ 0 ∷ [])
+    ∷ extracts padded3 (5 ∷ 1 ∷ []) 12 4 (1 ∷ 5 ∷ 4 ∷ 0 ∷ [])
+    ∷ keyed "C" (pair padded3 "05 A PIC X(12). 05 C PIC X.") 12 1
+    -- OCCURS 1 and OCCURS 0 are OCCURS; without it, or on a dropped root, there is no slack at the end
+    ∷ accepted "01 R. 05 G OCCURS 1. 10 A PIC 9(4) COMP SYNC. 10 B PIC X." 4 false
+    (column 0 4 Group ∷ column 0 2 (Binary false) ∷ column 2 1 Text ∷ [])
+    ∷ owned "01 R. 05 G OCCURS 1. 10 A PIC 9(4) COMP SYNC. 10 B PIC X." 3 (Owner.Slack 0)
+    ∷ accepted "01 R. 05 G OCCURS 0. 10 A PIC 9(4) COMP SYNC. 10 B PIC X." 0 false
+    (column 0 4 Group ∷ column 0 2 (Binary false) ∷ column 2 1 Text ∷ [])
+    ∷ accepted "05 G. 10 A PIC 9(4) COMP SYNC. 10 B PIC X. 05 C PIC X." 4 false
+    (column 0 3 Group ∷ column 0 2 (Binary false) ∷ column 2 1 Text ∷ column 3 1 Text ∷ [])
+    ∷ accepted "01 R OCCURS 2. 05 A PIC 9(4) COMP SYNC. 05 B PIC X." 3 false
+    (column 0 2 (Binary false) ∷ column 2 1 Text ∷ [])
+    -- the largest alignment counts, at any depth, of floats and binary items alike
+    ∷ accepted "01 R. 05 G OCCURS 2. 10 A COMP-2 SYNC. 10 B PIC 9(4) COMP SYNC." 32 false
+    (column 0 16 Group ∷ column 0 8 (Float 64) ∷ column 8 2 (Binary false) ∷ [])
+    ∷ accepted "01 R. 05 G OCCURS 2. 10 A PIC 9(4) COMP SYNC. 10 B COMP-1 SYNC. 10 C PIC X." 24 false
+    (column 0 12 Group ∷ column 0 2 (Binary false) ∷ column 4 4 (Float 32) ∷ column 8 1 Text ∷ [])
+    ∷ accepted "01 R. 05 G OCCURS 2. 10 H. 15 A PIC 9(5) COMP SYNC. 15 B PIC X. 10 C PIC X." 16 false
+    (column 0 8 Group ∷ column 0 5 Group ∷ column 0 4 (Binary false) ∷ column 4 1 Text ∷ column 5 1 Text ∷ [])
+    ∷ owned "01 R. 05 G OCCURS 2. 10 H. 15 A PIC 9(5) COMP SYNC. 15 B PIC X. 10 C PIC X." 15 (Owner.Slack 0)
+    ∷ accepted in_padded 32 false
+    (column 0 16 Group ∷ column 0 4 Group ∷ column 0 2 (Binary false) ∷ column 2 1 Text ∷ column 8 4 (Float 32) ∷
+    column 12 1 Text ∷ [])
+    ∷ owned in_padded 3 (Owner.Slack 1)
+    ∷ owned in_padded 13 (Owner.Slack 0)
+    ∷ owned in_padded 23 (Owner.Slack 1)
+    ∷ owned in_padded 28 (Owner.Piece 5 28 0)
+    ∷ owned in_padded 31 (Owner.Slack 0)
+    -- no slack at the end where no item is aligned: a redefiner is not, and an item in a redefining group is
+    ∷ accepted "01 R. 05 G OCCURS 2. 10 A PIC 9(4) COMP. 10 B PIC X SYNC." 6 false
+    (column 0 3 Group ∷ column 0 2 (Binary false) ∷ column 2 1 Text ∷ [])
+    ∷ accepted "01 R. 05 G OCCURS 2. 10 A PIC X(3). 10 B REDEFINES A PIC 9(4) COMP SYNC." 6 false
+    (column 0 3 Group ∷ column 0 3 Group ∷ column 0 3 Text ∷ column 0 2 (Binary false) ∷ [])
+    ∷ accepted "01 R. 05 G OCCURS 2. 10 A PIC X(3). 10 B REDEFINES A. 15 C PIC 9(4) COMP SYNC." 8 false
+    (column 0 4 Group ∷ column 0 3 Group ∷ column 0 3 Text ∷ column 0 2 Group ∷ column 0 2 (Binary false) ∷ [])
+    -- a group with OCCURS and REDEFINES has it too; one with DEPENDING ON has none, and the group around it has
+    ∷ accepted "05 A PIC X(9). 05 G REDEFINES A OCCURS 2. 10 B PIC 9(4) COMP SYNC. 10 C PIC X." 9 false
+    (column 0 9 Group ∷ column 0 9 Text ∷ column 0 4 Group ∷ column 0 2 (Binary false) ∷ column 2 1 Text ∷ [])
+    ∷ accepted "01 R. 05 G OCCURS 1 TO 3 DEPENDING ON N. 10 A PIC 9(4) COMP SYNC. 10 B PIC X." 0 true
+    (column 0 3 Group ∷ column 0 2 (Binary false) ∷ column 2 1 Text ∷ [])
+    ∷ accepted "01 R. 05 G OCCURS 2. 10 H OCCURS 3 DEPENDING N. 15 A PIC 9(4) COMP SYNC. 15 B PIC X. 10 C PIC X." 4 true
+    (column 0 2 Group ∷ column 0 3 Group ∷ column 0 2 (Binary false) ∷ column 2 1 Text ∷ column 0 1 Text ∷ [])
+    -- 28 of a group comes before what its list is refused for, 20 included; that of an elementary item after what its
+    -- picture is refused for
+    ∷ turned_down "01 R. 05 G REDEFINES Z. 10 A PIC Q." 28 6
+    ∷ turned_down "05 A PIC X. 05 G REDEFINES A. 10 A PIC Q." 25 30
+    ∷ turned_down "01 R. 05 G REDEFINES Z. 10 A REDEFINES Y PIC X." 28 6
+    ∷ turned_down "05 A REDEFINES Z PIC Q." 25 0
+    ∷ turned_down (joined deep_groups "65 A. 66 A PIC X.") 20 392
+    ∷ turned_down (joined deep_groups "65 A REDEFINES Z. 66 A PIC X.") 28 386
+    -- 29 by the slack at the end alone, at OCCURS 0 too
+    ∷ accepted "01 R. 05 G. 10 A PIC 9(4) COMP SYNC. 10 B PIC X OCCURS 2147483645." 2147483647 false
+    (column 0 2147483647 Group ∷ column 0 2 (Binary false) ∷ column 2 1 Text ∷ [])
+    ∷ turned_down "01 R. 05 G OCCURS 1. 10 A PIC 9(4) COMP SYNC. 10 B PIC X OCCURS 2147483645." 29 6
+    ∷ turned_down "01 R. 05 G OCCURS 0. 10 A PIC 9(4) COMP SYNC. 10 B PIC X OCCURS 2147483645." 29 6
+    ∷ accepted "01 R. 05 G OCCURS 0. 10 A PIC 9(4) COMP SYNC. 10 B PIC X OCCURS 2147483644." 0 false
+    (column 0 2147483646 Group ∷ column 0 2 (Binary false) ∷ column 2 1 Text ∷ [])
+    -- the copybooks that stay as they were: SYNC among the record's fields alone, no refusal inside a group whose
+    -- target is missing; one inside a group that has its target, and one of an elementary item, change nothing
+    ∷ slack_as_before fish true
+    ∷ slack_as_before "X. 05 G. 10 A PIC 9 COMP SYNC." true
+    ∷ slack_as_before "05 A PIC X. 05 G. 10 B PIC X. 05 C PIC 9 COMP SYNC OCCURS 2. 05 D PIC X." true
+    ∷ slack_as_before "05 A PIC X. 05 G. 10 B PIC 9 COMP SYNC." false
+    ∷ slack_as_before "01 R. 05 G OCCURS 2. 10 A PIC X SYNC." false
+    ∷ slack_as_before "01 R. 05 G. 10 H SYNC. 15 A PIC X." false
+    ∷ slack_as_before "01 R. 05 G REDEFINES Z. 10 A PIC X." true
+    ∷ slack_as_before "01 R. 05 G REDEFINES Z. 10 A PIC Q." false
+    ∷ slack_as_before "01 R. 05 G REDEFINES Z. 10 A REDEFINES Y PIC X." false
+    ∷ slack_as_before "01 R. 05 H. 10 G REDEFINES Z. 15 A PIC Q." false
+    ∷ slack_as_before "05 A PIC X. 05 G REDEFINES a. 10 B PIC Q." true
+    ∷ slack_as_before "05 A REDEFINES Z PIC Q." true
+    ∷ slack_as_before (joined deep_groups "65 A. 66 A PIC X.") true
+    ∷ slack_as_before (joined deep_groups "65 A REDEFINES Z. 66 A PIC X.") false
     -- the worked example
     ∷ accepted fish 20 false
     (column 0 5 Text ∷ column 6 2 (Binary false) ∷ column 8 4 (Decimal 4 1 NumRepr.Display SignKind.Unsigned) ∷ [])
@@ -464,48 +646,93 @@ table =
     ∷ owned fish 19 (Owner.Piece 2 16 3)
     ∷ not_owned fish 20 41
     -- owners
+    ∷ owned tank 8 (Owner.Slack 1)
     ∷ owned tank 9 (Owner.Piece 2 9 0)
-    ∷ owned tank 12 (Owner.Slack 3)
-    ∷ owned tank 14 (Owner.Piece 3 13 1)
+    ∷ owned tank 11 (Owner.Slack 3)
+    ∷ owned tank 12 (Owner.Piece 3 12 0)
+    ∷ owned tank 14 (Owner.Piece 3 12 2)
+    ∷ owned tank 16 (Owner.Slack 1)
     ∷ owned tank 19 (Owner.Slack 5)
     ∷ owned tank 20 (Owner.Piece 6 20 0)
     ∷ not_owned "05 A PIC X. 05 B REDEFINES A PIC X." 0 40
     ∷ owned "01 R OCCURS 1 TO 2 DEPENDING ON A. 05 A PIC X." 0 (Owner.Piece 0 0 0)
     ∷ not_owned "" 0 41
     -- details
-    ∷ detailed "" []
+    ∷ detailed "" (rootless 0)
+    ∷ no_details "" 16 17
     ∷ detailed fish fish_details
-    ∷ no_details fish 140 141
+    ∷ no_details fish 205 206
     ∷ detailed tank
-    (facts 0 5 0 false 0 0 0 (span 9 1) absent absent
-    ++ facts 12 5 0 false 2 1 0 absent absent absent
-    ++ facts 27 10 1 false 0 1 0 (span 36 1) absent absent
-    ++ facts 39 10 1 false 0 5 3 (span 48 4) absent absent
-    ++ facts 64 5 0 false 0 17 0 (span 73 1) absent absent
-    ++ facts 76 5 0 false 0 20 2 (span 94 4) absent absent
-    ++ facts 110 5 0 false 0 20 0 (span 119 1) absent absent)
+    (rootless 7
+    ++ facts 0 5 0 false 0 0 0 (span 9 1) absent absent ++ no_more
+    ++ facts 12 5 0 false 2 1 0 absent absent absent ++ more 1 0 0 false absent 0
+    ++ facts 27 10 1 false 0 1 0 (span 36 1) absent absent ++ no_more
+    ++ facts 39 10 1 false 0 4 2 (span 48 4) absent absent ++ more 0 5 0 false (span 53 4) 0
+    ++ facts 64 5 0 false 0 17 0 (span 73 1) absent absent ++ no_more
+    ++ facts 76 5 0 false 0 20 2 (span 94 4) absent absent ++ more 0 9 0 false (span 99 4) 0
+    ++ facts 110 5 0 false 0 20 0 (span 119 1) absent absent ++ no_more)
     -- a fold: the group has no slack, its base has
     ∷ detailed "05 P PIC X. 05 A PIC 9(4) COMP SYNC. 05 B REDEFINES a PIC X(5). 05 C PIC X."
-    (facts 0 5 0 false 0 0 0 (span 9 1) absent absent
-    ++ facts 12 5 0 true 2 2 0 absent absent absent
-    ++ facts 12 5 1 false 0 2 1 (span 21 4) absent absent
-    ++ facts 37 5 1 false 0 2 0 (span 58 4) (span 52 1) absent
-    ++ facts 64 5 0 false 0 4 0 (span 73 1) absent absent)
+    (rootless 5
+    ++ facts 0 5 0 false 0 0 0 (span 9 1) absent absent ++ no_more
+    ++ facts 12 5 0 true 2 2 0 absent absent absent ++ no_more
+    ++ facts 12 5 1 false 0 2 1 (span 21 4) absent absent ++ more 0 4 0 false (span 26 4) 0
+    ++ facts 37 5 1 false 0 2 0 (span 58 4) (span 52 1) absent ++ no_more
+    ++ facts 64 5 0 false 0 4 0 (span 73 1) absent absent ++ no_more)
     -- a group with a member of its own name, redefined
     ∷ detailed "05 G. 10 G PIC X. 10 H PIC X. 05 R REDEFINES G. 10 T PIC X."
-    (facts 0 5 0 true 4 0 0 absent absent absent
-    ++ facts 6 10 1 false 0 0 0 (span 15 1) absent absent
-    ++ facts 18 10 1 false 0 1 0 (span 27 1) absent absent
-    ++ facts 30 5 1 false 1 0 0 absent (span 45 1) absent
-    ++ facts 48 10 2 false 0 0 0 (span 57 1) absent absent)
+    (rootless 5
+    ++ facts 0 5 0 true 4 0 0 absent absent absent ++ no_more
+    ++ facts 6 10 1 false 0 0 0 (span 15 1) absent absent ++ no_more
+    ++ facts 18 10 1 false 0 1 0 (span 27 1) absent absent ++ no_more
+    ++ facts 30 5 1 false 1 0 0 absent (span 45 1) absent ++ no_more
+    ++ facts 48 10 2 false 0 0 0 (span 57 1) absent absent ++ no_more)
     -- first bytes above 32 bits
     ∷ detailed faraway
-    (facts 0 5 0 false 0 0 0 (span 9 4) absent absent
-    ++ facts 33 5 0 false 4 2000000000 0 absent absent absent
-    ++ facts 48 10 1 false 0 2000000000 0 (span 57 4) absent absent
-    ++ facts 81 10 1 false 2 4000000000 0 absent absent (span 113 1)
-    ++ facts 116 15 2 false 0 4000000000 0 (span 125 4) absent absent
-    ++ facts 149 15 2 false 0 6000000000 0 (span 158 1) absent absent)
+    (rootless 6
+    ++ facts 0 5 0 false 0 0 0 (span 9 4) absent absent ++ no_more
+    ++ facts 33 5 0 false 4 2000000000 0 absent absent absent ++ no_more
+    ++ facts 48 10 1 false 0 2000000000 0 (span 57 4) absent absent ++ no_more
+    ++ facts 81 10 1 false 2 4000000000 0 absent absent (span 113 1) ++ no_more
+    ++ facts 116 15 2 false 0 4000000000 0 (span 125 4) absent absent ++ no_more
+    ++ facts 149 15 2 false 0 6000000000 0 (span 158 1) absent absent ++ no_more)
+    -- the dropped root: one without a name, one that begins later, one of two and one without children, which stay
+    ∷ detailed "01. 05 A PIC X." (head 0 1 absent 1 ++ facts 4 5 0 false 0 0 0 (span 13 1) absent absent ++ no_more)
+    ∷ detailed "  +3 REC COMP. 7 A PIC 9."
+    (head 2 3 (span 5 3) 1 ++ facts 15 7 0 false 0 0 0 (span 23 1) absent absent ++ more 0 1 0 false (span 9 4) 0)
+    ∷ detailed "01 A PIC X. 01 B PIC X."
+    (rootless 2
+    ++ facts 0 1 0 false 0 0 0 (span 9 1) absent absent ++ no_more
+    ++ facts 12 1 0 false 0 1 0 (span 21 1) absent absent ++ no_more)
+    ∷ detailed "01 A PIC X." (rootless 1 ++ facts 0 1 0 false 0 0 0 (span 9 1) absent absent ++ no_more)
+    -- digits of numbers, P included; edited ones have at least 1; texts, groups and floats have none
+    ∷ said "05 A PIC 99P. 05 B PIC S9(5)V99 COMP-3. 05 C PIC 9(10) COMP. 05 D PIC S9. 05 E PIC S9 COMP."
+    ((0 ∷ 3 ∷ 1 ∷ 0 ∷ 0 ∷ 0 ∷ 0 ∷ []) ∷ (0 ∷ 7 ∷ 2 ∷ 1 ∷ 32 ∷ 6 ∷ 0 ∷ []) ∷ (0 ∷ 10 ∷ 0 ∷ 0 ∷ 55 ∷ 4 ∷ 0 ∷ []) ∷
+    (0 ∷ 1 ∷ 0 ∷ 1 ∷ 0 ∷ 0 ∷ 0 ∷ []) ∷ (0 ∷ 1 ∷ 0 ∷ 1 ∷ 86 ∷ 4 ∷ 0 ∷ []) ∷ [])
+    ∷ said "05 A PIC ZZ9.99. 05 B PIC -ZP. 05 C PIC B. 05 D PIC V. 05 E PIC X(9). 05 F. 10 G COMP-1."
+    ((0 ∷ 5 ∷ 2 ∷ 0 ∷ 0 ∷ 0 ∷ 0 ∷ []) ∷ (0 ∷ 2 ∷ 1 ∷ 1 ∷ 0 ∷ 0 ∷ 0 ∷ []) ∷ (0 ∷ 1 ∷ 0 ∷ 0 ∷ 0 ∷ 0 ∷ 0 ∷ []) ∷
+    (0 ∷ 0 ∷ 0 ∷ 0 ∷ 0 ∷ 0 ∷ 0 ∷ []) ∷ (0 ∷ 0 ∷ 0 ∷ 0 ∷ 0 ∷ 0 ∷ 0 ∷ []) ∷ (0 ∷ 0 ∷ 0 ∷ 0 ∷ 0 ∷ 0 ∷ 0 ∷ []) ∷
+    (0 ∷ 0 ∷ 0 ∷ 0 ∷ 81 ∷ 6 ∷ 0 ∷ []) ∷ [])
+    -- the usage word that holds: the last of its own; that of the nearest group that names one, a text's too; DISPLAY
+    -- is such a word, USAGE is not; where none is named there is none
+    ∷ said "01 R COMP-5. 05 A PIC 9. 05 B PIC 9 COMP usage is binary. 05 G. 10 C DISPLAY PIC X. 10 D PIC X."
+    ((0 ∷ 1 ∷ 0 ∷ 0 ∷ 5 ∷ 6 ∷ 0 ∷ []) ∷ (0 ∷ 1 ∷ 0 ∷ 0 ∷ 50 ∷ 6 ∷ 0 ∷ []) ∷ (0 ∷ 0 ∷ 0 ∷ 0 ∷ 5 ∷ 6 ∷ 0 ∷ []) ∷
+    (0 ∷ 0 ∷ 0 ∷ 0 ∷ 69 ∷ 7 ∷ 0 ∷ []) ∷ (0 ∷ 0 ∷ 0 ∷ 0 ∷ 5 ∷ 6 ∷ 0 ∷ []) ∷ [])
+    ∷ said "05 G COMP. 10 H COMP-3. 15 A PIC 9. 10 B PIC 9. 05 C PIC 9 VALUE COMP."
+    ((0 ∷ 0 ∷ 0 ∷ 0 ∷ 5 ∷ 4 ∷ 0 ∷ []) ∷ (0 ∷ 0 ∷ 0 ∷ 0 ∷ 16 ∷ 6 ∷ 0 ∷ []) ∷ (0 ∷ 1 ∷ 0 ∷ 0 ∷ 16 ∷ 6 ∷ 0 ∷ []) ∷
+    (0 ∷ 1 ∷ 0 ∷ 0 ∷ 5 ∷ 4 ∷ 0 ∷ []) ∷ (0 ∷ 1 ∷ 0 ∷ 0 ∷ 0 ∷ 0 ∷ 0 ∷ []) ∷ [])
+    -- what SIGN keeps: TRAILING, neither word, LEADING, and the same with SEPARATE, which needs a SIGN; of the last
+    -- SIGN, and not inherited; a picture without a sign has the clause too
+    ∷ said "05 A PIC 9 SIGN TRAILING. 05 B PIC 9 SIGN IS. 05 C PIC 9 SIGN LEADING."
+    ((0 ∷ 1 ∷ 0 ∷ 0 ∷ 0 ∷ 0 ∷ 1 ∷ []) ∷ (0 ∷ 1 ∷ 0 ∷ 0 ∷ 0 ∷ 0 ∷ 1 ∷ []) ∷ (0 ∷ 1 ∷ 0 ∷ 0 ∷ 0 ∷ 0 ∷ 2 ∷ []) ∷ [])
+    ∷ said "05 A PIC S9 SIGN TRAILING SEPARATE. 05 B PIC S9 SIGN LEADING SEPARATE. 05 C PIC S9 SEPARATE."
+    ((0 ∷ 1 ∷ 0 ∷ 1 ∷ 0 ∷ 0 ∷ 3 ∷ []) ∷ (0 ∷ 1 ∷ 0 ∷ 1 ∷ 0 ∷ 0 ∷ 4 ∷ []) ∷ (0 ∷ 1 ∷ 0 ∷ 1 ∷ 0 ∷ 0 ∷ 0 ∷ []) ∷ [])
+    ∷ said "05 A PIC S9 SIGN LEADING SEPARATE SIGN TRAILING. 05 G SIGN LEADING. 10 B PIC S9."
+    ((0 ∷ 1 ∷ 0 ∷ 1 ∷ 0 ∷ 0 ∷ 1 ∷ []) ∷ (0 ∷ 0 ∷ 0 ∷ 0 ∷ 0 ∷ 0 ∷ 2 ∷ []) ∷ (0 ∷ 1 ∷ 0 ∷ 1 ∷ 0 ∷ 0 ∷ 0 ∷ []) ∷ [])
+    -- the slack at the end, of a base in a fold too; a group made by folding has none of all these
+    ∷ said "05 G OCCURS 2 COMP SIGN LEADING. 10 A PIC 9 SYNC. 10 B PIC X. 05 C REDEFINES G PIC X."
+    ((0 ∷ 0 ∷ 0 ∷ 0 ∷ 0 ∷ 0 ∷ 0 ∷ []) ∷ (1 ∷ 0 ∷ 0 ∷ 0 ∷ 14 ∷ 4 ∷ 2 ∷ []) ∷ (0 ∷ 1 ∷ 0 ∷ 0 ∷ 14 ∷ 4 ∷ 0 ∷ []) ∷
+    (0 ∷ 0 ∷ 0 ∷ 0 ∷ 14 ∷ 4 ∷ 0 ∷ []) ∷ (0 ∷ 0 ∷ 0 ∷ 0 ∷ 0 ∷ 0 ∷ 0 ∷ []) ∷ [])
     -- the reasons of FISH's three entries, byte by byte; 53 past them, before 31; 31 where they have no room
     ∷ reasoned fish 0 (hex "01 00000000 00000000 00000000")
     ∷ reasoned fish 1 (hex "02 0c000000 03000000 05000000  03 00000000 00000000 01000000")
@@ -686,7 +913,8 @@ table =
     (hex "00 08000000 00 01000000 07 03000000 01000000 00000000 08000000"
     ++ hex "00 00000000 00000000 00000000 00000000 00000000 40")
     ∷ no_room "05 A COMP-2." 48 49
-    ∷ detailed "05 A COMP-2." (facts 0 5 0 false 0 0 0 absent absent absent)
+    ∷ detailed "05 A COMP-2."
+    (rootless 1 ++ facts 0 5 0 false 0 0 0 absent absent absent ++ more 0 0 0 false (span 5 6) 0)
     -- SYNC before and after the usage, at odd offsets: slack, its owner and its reason; without SYNC none
     ∷ accepted floats 25 false
     (column 0 1 Text ∷ column 4 4 (Float 32) ∷ column 8 1 Text ∷ column 16 8 (Float 64) ∷ column 24 1 Text ∷ [])
@@ -697,7 +925,9 @@ table =
     ∷ owned floats 16 (Owner.Piece 3 16 0)
     ∷ reasoned floats 3 (hex "02 21000000 01000000 09000000  03 00000000 00000000 07000000")
     ∷ detailed "05 A PIC X. 05 B COMP-1 SYNC."
-    (facts 0 5 0 false 0 0 0 (span 9 1) absent absent ++ facts 12 5 0 false 0 4 3 absent absent absent)
+    (rootless 2
+    ++ facts 0 5 0 false 0 0 0 (span 9 1) absent absent ++ no_more
+    ++ facts 12 5 0 false 0 4 3 absent absent absent ++ more 0 0 0 false (span 17 6) 0)
     ∷ accepted "05 A PIC X. 05 B COMP-1. 05 C COMP-2." 13 false
     (column 0 1 Text ∷ column 1 4 (Float 32) ∷ column 5 8 (Float 64) ∷ [])
     -- 4 after 4 has none, 8 after 4 has
@@ -707,8 +937,8 @@ table =
     ∷ accepted "01 R COMP-1 SYNC. 05 X PIC X DISPLAY. 05 A. 05 G. 10 B. 10 C COMP-2. 05 H COMP. 10 D PIC 9(4)." 19 false
     (column 0 1 Text ∷ column 1 4 (Float 32) ∷ column 5 12 Group ∷ column 0 4 (Float 32) ∷ column 4 8 (Float 64) ∷
     column 17 2 Group ∷ column 0 2 (Binary false) ∷ [])
-    ∷ accepted "05 X PIC X. 05 G COMP-2. 10 A PIC X COMP. 10 B SYNC. 05 C PIC X." 18 false
-    (column 0 1 Text ∷ column 1 16 Group ∷ column 0 1 Text ∷ column 8 8 (Float 64) ∷ column 17 1 Text ∷ [])
+    ∷ accepted "05 X PIC X. 05 G COMP-2. 10 A PIC X COMP. 10 B SYNC. 05 C PIC X." 17 false
+    (column 0 1 Text ∷ column 1 15 Group ∷ column 0 1 Text ∷ column 7 8 (Float 64) ∷ column 16 1 Text ∷ [])
     ∷ owned "01 R COMP-1. 05 X PIC X DISPLAY. 05 A SYNC." 3 (Owner.Slack 1)
     -- a group is a group, whatever usage it has and whatever its picture
     ∷ accepted "05 X COMP-2. 05 G COMP-1 PIC X. 10 A." 12 false
@@ -811,13 +1041,16 @@ table =
     ∷ not_keyed "K" (pair "05 K PIC ZVZ." "05 K PIC ZZ.") 57 0
     ∷ keyed "K" (pair "05 K PIC ZZ9 COMP." "05 K PIC 9 COMP.") 0 2
     -- cards: `000010 01 REC` is level 1, and as free text level 10 with the name 01; places are those in the card text
-    ∷ cards (detailed "000010 01 REC PIC X." (facts 7 1 0 false 0 0 0 (span 18 1) absent absent))
-    ∷ detailed "000010 01 REC PIC X." (facts 0 10 0 false 0 0 0 (span 18 1) absent absent)
+    ∷ cards (detailed "000010 01 REC PIC X."
+    (rootless 1 ++ facts 7 1 0 false 0 0 0 (span 18 1) absent absent ++ no_more))
+    ∷ detailed "000010 01 REC PIC X." (rootless 1 ++ facts 0 10 0 false 0 0 0 (span 18 1) absent absent ++ no_more)
+    ∷ cards (detailed "000010 01 REC\n000020 COMP. 05 A PIC 9."
+    (head 7 1 (span 10 3) 1 ++ facts 27 5 0 false 0 0 0 (span 36 1) absent absent ++ more 0 1 0 false (span 21 4) 0))
     ∷ cards (listed "000010 01 R. 05 TAG\n000020* no\n000030 PIC X." 48
     (hex "00 01000000 00 01000000 01 10000000 03000000 00000000 01000000"
     ++ hex "00 00000000 00000000 00000000 00000000 00000000"))
     ∷ cards (no_room "000010 05 TAG PIC X." 47 48)
-    ∷ cards (no_details "000010 05 TAG PIC X." 46 47)
+    ∷ cards (no_details "000010 05 TAG PIC X." 79 80)
     ∷ cards (accepted card_fish 20 false
     (column 0 5 Text ∷ column 6 2 (Binary false) ∷ column 8 4 (Decimal 4 1 NumRepr.Display SignKind.Unsigned) ∷ []))
     ∷ cards (owned card_fish 5 (Owner.Slack 1))
@@ -909,4 +1142,27 @@ table =
     -- and 60 for a budget of 0
     ∷ not_extracted fish (5 ∷ 3 ∷ 9 ∷ []) 19 0 60
     ∷ not_extracted "" [] 0 0 60
+    -- words: those of each statement, with the place of its period or, without one, the length of the text
+    ∷ worded "" []
+    ∷ worded "01 A. 05 B PIC X." ((4 ∷ 0 ∷ 2 ∷ 3 ∷ 1 ∷ []) ∷ (16 ∷ 6 ∷ 2 ∷ 9 ∷ 1 ∷ 11 ∷ 3 ∷ 15 ∷ 1 ∷ []) ∷ [])
+    ∷ worded "05 A PIC 9.9 " ((13 ∷ 0 ∷ 2 ∷ 3 ∷ 1 ∷ 5 ∷ 3 ∷ 9 ∷ 3 ∷ []) ∷ [])
+    ∷ worded "05 A\n* x.\n. *> 05 B." ((10 ∷ 0 ∷ 2 ∷ 3 ∷ 1 ∷ []) ∷ [])
+    -- empty statements have none, level 88 has its own,
+    ∷ worded ". . 05 A. ." ((8 ∷ 4 ∷ 2 ∷ 7 ∷ 1 ∷ []) ∷ [])
+    ∷ worded "88 B VALUE 'a. b'. 05 A."
+    ((17 ∷ 0 ∷ 2 ∷ 3 ∷ 1 ∷ 5 ∷ 5 ∷ 11 ∷ 3 ∷ 15 ∷ 2 ∷ []) ∷ (23 ∷ 19 ∷ 2 ∷ 22 ∷ 1 ∷ []) ∷ [])
+    -- and so has what is refused for what it says
+    ∷ turned_down "X PIC. 05 A PIC XX9." 10 0
+    ∷ worded "X PIC. 05 A PIC XX9."
+    ((5 ∷ 0 ∷ 1 ∷ 2 ∷ 3 ∷ []) ∷ (19 ∷ 7 ∷ 2 ∷ 10 ∷ 1 ∷ 12 ∷ 3 ∷ 16 ∷ 3 ∷ []) ∷ [])
+    -- on cards those that the reader sees: not a comment's, and no period behind column 72
+    ∷ cards (worded "000100 05 A.\n000200*05 B.\n000300 05 C"
+    ((11 ∷ 7 ∷ 2 ∷ 10 ∷ 1 ∷ []) ∷ (37 ∷ 33 ∷ 2 ∷ 36 ∷ 1 ∷ []) ∷ []))
+    ∷ cards (worded "000100 05 A                                                             ." ((73 ∷ 7 ∷ 2 ∷ 10 ∷ 1 ∷ []) ∷ []))
+    -- 2, then 51, then 50, then 31
+    ∷ not_worded "05 A VALUE 'a \u{80}" 0 2 14 0
+    ∷ cards (not_worded "000100 05 A VALUE 'a\n000200- b'." 0 51 27 0)
+    ∷ cards (not_worded "000100 05 A VALUE 'a\n000200  b'." 0 50 18 0)
+    ∷ not_worded "05 A VALUE 'a" 0 50 11 0
+    ∷ not_worded "05 A. 06 B" 47 31 0 48
     ∷ []

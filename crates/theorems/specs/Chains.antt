@@ -13,7 +13,8 @@ use Rattle.definition.specs.Cards.{view_in}
 use Rattle.definition.specs.declared.Form.{Form}
 use Rattle.definition.specs.declared.Report.{Report}
 use Rattle.definition.specs.Calls.{record_fields, asked, fitting, report, called}
-use Rattle.definition.specs.Demand.{Starts, aligned, Among}
+use Rattle.definition.specs.Storage.{place_alignment}
+use Rattle.definition.specs.Demand.{Fewest, Among}
 use Rattle.definition.specs.Explained.{Latest}
 use Rattle.definition.specs.Reasons.{flat, numbered}
 
@@ -45,24 +46,28 @@ inside name = thirteen 5 name.start name.len 0
 
 -- ---------------------------------------------------------------- items
 
--- an item of the copybook: its statement, the statements below it, its earlier siblings, the latest first, and its own
--- entry, before folding
+-- an item of the copybook: its statement, the statements below it, the byte of the record at which its list starts, its
+-- earlier siblings, the latest first, and its own entry, before folding
 pub record Item : Type 0 where
   pub statement : Statement
   pub kids : Forest
+  pub list-at : ℕ
   pub earlier : List Entry
   pub own : Entry
 
--- the items of a list and of those below it, each with the groups around it, the innermost first
-abbrev pub item_of : Statement → Forest → List Entry → Entry → Item
-item_of s kids earlier e = record { statement = s; kids = kids; earlier = earlier; own = e }
+-- the items of a list that starts at that byte and of those below it, each with the groups around it, the innermost
+-- first; the list of a group starts where its first occurrence does
+abbrev pub item_of : Statement → Forest → ℕ → List Entry → Entry → Item
+item_of s kids list-at earlier e =
+    record { statement = s; kids = kids; list-at = list-at; earlier = earlier; own = e }
 
-abbrev pub items : List Item → List Entry → Forest → Entries → List (List Item)
-items groups earlier leaf es = []
-items groups earlier (item s kids later) end = []
-items groups earlier (item s kids later) (entry e members others) =
-    let i = item_of s kids earlier e in
-    (i ∷ groups) ∷ (items (i ∷ groups) [] kids members ++ items groups (e ∷ earlier) later others)
+abbrev pub items : List Item → ℕ → List Entry → Forest → Entries → List (List Item)
+items groups list-at earlier leaf es = []
+items groups list-at earlier (item s kids later) end = []
+items groups list-at earlier (item s kids later) (entry e members others) =
+    let i = item_of s kids list-at earlier e in
+    (i ∷ groups)
+    ∷ (items (i ∷ groups) (list-at + e.offset) [] kids members ++ items groups list-at (e ∷ earlier) later others)
 
 -- where the statement of the first of these begins
 abbrev pub begins : List Item → ℕ
@@ -88,15 +93,15 @@ Placing earlier bs reached =
     × (bs ≡ after t.name reached)
     × (reached ≡ t.offset + reserved t))
 
--- then kind 3, where there is slack: the fewest bytes that align an elementary SYNC binary or float item, and with them
--- the item stands where it does; no other item has any
+-- then kind 3, where there is slack: the fewest bytes that bring the place in the record of an elementary SYNC binary or
+-- float item to a multiple of its width, and with them the item stands where it does; no other item has any
 pub record InTurn (text : List ℕ) (i : Item) (bs : List ℕ) : Type 0 where
   pub reached : ℕ
   pub places : List ℕ
   pub placed-by : Placing i.earlier places reached
   pub bytes-are : bs ≡ places ++ slack i.own.slack
   pub stands : i.own.offset ≡ reached + i.own.slack
-  pub fewest : Starts (aligned text i.statement i.kids) i.own.width reached i.own.offset
+  pub fewest : Fewest (place_alignment text i.statement i.kids) (i.list-at + reached) i.own.slack
 
 pub record Own (text : List ℕ) (i : Item) (bs : List ℕ) : Type 0 where
   pub with-redefines : is_given i.statement.clauses.redefines ≡ true → LaidOver text i bs
@@ -128,7 +133,7 @@ pub record Answered (form : Form) (text : List ℕ) (work : ℕ) (f : Forest) (t
   where
     pub which : Item
     pub groups : List Item
-    pub stands : Among (which ∷ groups) (items [] [] f tree)
+    pub stands : Among (which ∷ groups) (items [] 0 [] f tree)
     pub begins-there : which.statement.at ≡ e.at
     pub bytes : List ℕ
     pub chain : Chain (view_in form text) (which ∷ groups) bytes
@@ -143,8 +148,8 @@ pub record Chained (form : Form) (text : List ℕ) (work : ℕ) (es : Entries) :
   -- no two statements begin at the same byte
   pub one-item :
       (p q : List Item) →
-      Among p (items [] [] of tree) →
-      Among q (items [] [] of tree) →
+      Among p (items [] 0 [] of tree) →
+      Among q (items [] 0 [] of tree) →
       begins p ≡ begins q →
       p ≡ q
   pub answered : (n : ℕ) (e : Entry) → numbered n (flat es) ≡ Some e → Answered form text work of tree n e

@@ -6,10 +6,11 @@ use Rattle.definition.specs.declared.FieldKind.{FieldKind}
 use Rattle.definition.specs.declared.Clauses.{Clauses}
 use Rattle.definition.specs.declared.Pictured.{Pictured}
 use Rattle.definition.specs.declared.Statement.{Statement}
-use Rattle.definition.specs.Basic.{Ok}
-use Rattle.definition.specs.Tree.{Forest, forest}
+use Rattle.definition.specs.Basic.{is_given, Ok}
+use Rattle.definition.specs.Tree.{Forest, leaf, item, forest}
 use Rattle.definition.specs.Usages.{inherit_along}
-use Rattle.definition.specs.Owner.{is_aligned, overlaid}
+use Rattle.definition.specs.Storage.{is_aligned}
+use Rattle.definition.specs.Owner.{overlaid}
 use Rattle.definition.specs.Calls.{kept_statements}
 use Rattle.definition.specs.Demand.{Among}
 
@@ -51,7 +52,14 @@ BinaryOrFloat (FieldKind.Edited precision scale signed) = ⊥
 BinaryOrFloat FieldKind.Group = ⊥
 BinaryOrFloat (FieldKind.Float bits) = Unit {0}
 
--- an elementary item is aligned if and only if it has SYNC and is binary or a float
+-- an elementary item is aligned if and only if it has SYNC and no REDEFINES and is binary or a float; a group never
 pub record AlignedBySync (text : List ℕ) (s : Statement) (c : Pictured) : Type 0 where
-  pub only : is_aligned text s ≡ true → (s.clauses.sync ≡ true) × BinaryOrFloat c.kind
-  pub each : s.clauses.sync ≡ true → BinaryOrFloat c.kind → is_aligned text s ≡ true
+  pub only :
+      is_aligned text s leaf ≡ true →
+      (s.clauses.sync ≡ true) × (is_given s.clauses.redefines ≡ false) × BinaryOrFloat c.kind
+  pub each :
+      s.clauses.sync ≡ true →
+      is_given s.clauses.redefines ≡ false →
+      BinaryOrFloat c.kind →
+      is_aligned text s leaf ≡ true
+  pub no-group : (t : Statement) (kids later : Forest) → is_aligned text s (item t kids later) ≡ false

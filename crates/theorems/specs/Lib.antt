@@ -7,6 +7,7 @@ pub mod Fields
 pub mod Numbers
 pub mod Premises
 pub mod ReadBack
+pub mod Restarted
 pub mod Sentences
 pub mod Standing
 pub mod Subsets

@@ -1,12 +1,15 @@
 -- What `Demand` comes to, occurrence by occurrence: which occurrences the entries say that there are, where slack may
 -- stand, and how many pieces an entry has.
 -- Assumes nothing.
-use Rattle.std.specs.Prelude.{ℕ, suc, ◌+◌, ◌*◌, ◌-◌, ◌<◌, ◌≡◌, true, List, [], ◌∷◌, ◌⊎◌, eqb, if◌then◌else◌}
+use Rattle.std.specs.Prelude.{ℕ, suc, ◌+◌, ◌*◌, ◌≤◌, ◌<◌, ◌≡◌, true, false, List, [], ◌∷◌, ◌⊎◌, eqb, if◌then◌else◌}
 use Rattle.definition.specs.declared.Statement.{Statement}
 use Rattle.definition.specs.declared.Entry.{Entry}
+use Rattle.definition.specs.Basic.{is_given}
+use Rattle.definition.specs.Tree.{Forest, leaf, item}
+use Rattle.definition.specs.Storage.{storage, is_aligned, alignment, repeats}
 use Rattle.definition.specs.Fold.{Entries, end, entry, times}
 use Rattle.definition.specs.Layout.{entry_of}
-use Rattle.definition.specs.Owner.{Holder, occurrence, slack, storage, is_aligned}
+use Rattle.definition.specs.Owner.{Holder, occurrence, slack}
 use Rattle.definition.specs.Search.{entries#}
 use Rattle.definition.specs.Demand.{Fewest, Spot, spot}
 
@@ -25,19 +28,44 @@ Occurs k base (entry e members later) y =
     (Occurs (suc k) (base + e.offset + i * e.width) members y))
     ⊎ Occurs (suc k + entries# members) base later y
 
--- slack stands directly before the place of an entry of its list, which is that of an elementary SYNC binary or float
--- item, and is the fewest bytes that align it: the list starts at the byte `base`, and its earlier items end `reached`
+-- an item of a list, at any depth, is aligned, and is so wide
+abbrev pub AlignedTo : List ℕ → ℕ → Forest → Type 0
+AlignedTo text m leaf = ⊥
+AlignedTo text m (item s kids later) =
+    ((is_aligned text s kids ≡ true) × ((storage text s).width ≡ m)) ⊎ AlignedTo text m kids ⊎ AlignedTo text m later
+
+-- m is the largest alignment in a list
+pub record Largest (text : List ℕ) (m : ℕ) (f : Forest) : Type 0 where
+  pub one : AlignedTo text m f
+  pub most : (w : ℕ) → AlignedTo text w f → w ≤ m
+
+-- slack stands directly before the place of an aligned entry of its list, and is the fewest bytes that bring its place
+-- in the record to a multiple of its width: the list starts at the byte `base`, and its earlier items end `reached`
 -- bytes after that
 pub record Slackened (text : List ℕ) (first width : ℕ) : Type 0 where
   pub statement : Statement
   pub slackened : Entry
   pub base : ℕ
   pub reached : ℕ
-  pub is_one : is_aligned text statement ≡ true
-  pub told-so : slackened ≡ entry_of statement (storage text statement) slackened.offset (slackened.offset - reached)
+  pub is_one : is_aligned text statement leaf ≡ true
+  pub told-so : slackened ≡ entry_of statement (storage text statement) slackened.offset width 0 0
   pub from : first ≡ base + reached
   pub up_to : first + width ≡ base + slackened.offset
-  pub fewest : Fewest slackened.width reached width
+  pub fewest : Fewest (storage text statement).width first width
+
+-- or it stands at the end of an occurrence of a group with OCCURS and without DEPENDING ON that holds an aligned item,
+-- and is the fewest bytes that bring its width to a multiple of the largest alignment in it: the occurrence starts at
+-- the byte `start`, and its list is so long
+pub record Ended (text : List ℕ) (first width : ℕ) : Type 0 where
+  pub statement : Statement
+  pub list : Forest
+  pub start : ℕ
+  pub long : ℕ
+  pub has-occurs : repeats statement.clauses.occurs ≡ true
+  pub no-depending : is_given statement.clauses.depending ≡ false
+  pub largest : Largest text (alignment text list) list
+  pub from : first ≡ start + long
+  pub fewest : Fewest (alignment text list) long width
 
 -- the pieces of the entry of number n
 abbrev pub is_of : ℕ → Holder → ℕ

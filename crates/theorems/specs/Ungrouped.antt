@@ -1,6 +1,7 @@
 -- The entries as they were while neither DISPLAY nor the words of floats named a usage and each statement had its own
--- usage alone, as in the Rust; and the test on a copybook under which they are those of `Calls` (`UngroupedLaws`, of
--- the proofs, says so): no group names a usage, no DISPLAY stands after another usage word, and no word names a float.
+-- usage alone, as in the Rust; and the test on a copybook under which they are those of `Calls`, the places of usage
+-- words aside (`UngroupedLaws`, of the proofs, says so): no group names a usage, no DISPLAY stands after another usage
+-- word, and no word names a float.
 -- Assumes nothing.
 use Rattle.std.specs.Prelude.{ℕ, suc, Bool, true, false, ◌&&◌, ◌||◌, not, List, [], ◌∷◌, eqb, leb, if◌then◌else◌}
 use Prim.Native.String.{String}
@@ -8,6 +9,7 @@ use Rattle.std.specs.Prelude.{Option, None, Some}
 use Rattle.definition.specs.declared.Span.{Span}
 use Rattle.definition.specs.declared.Usage.{Usage}
 use Rattle.definition.specs.declared.ItemUsage.{ItemUsage}
+use Rattle.definition.specs.declared.NamedUsage.{NamedUsage}
 use Rattle.definition.specs.declared.Clauses.{Clauses}
 use Rattle.definition.specs.declared.ParseState.{ParseState}
 use Rattle.definition.specs.declared.ParseState.TheVariants.{Clause}
@@ -19,8 +21,9 @@ use Rattle.definition.specs.Basic.{refuse_if, or_refuse}
 use Rattle.definition.specs.Words.{statement_words}
 use Rattle.definition.specs.Statement.{key, no_clauses, missing, step, finish, statement_of}
 use Rattle.definition.specs.Tree.{Forest, leaf, item, forest, fields}
-use Rattle.definition.specs.Fold.{Entries}
+use Rattle.definition.specs.Fold.{Entries, end, entry}
 use Rattle.definition.specs.Record.{layout}
+use Rattle.definition.specs.Listing.{listing}
 use Rattle.definition.specs.Calls.{entry_checks, literal_check, kept_statements}
 
 -- ---------------------------------------------------------------- the reading as it was
@@ -82,27 +85,42 @@ entries_alone text work = do
   ss ← statements_alone text 0 (statement_words text)
   layout text (fields (forest ss))
 
+-- their listing, which shows no usage word
+abbrev pub listed : Answer Entries → Answer (List ℕ)
+listed a = a >>= λ es. Ok (listing es)
+
+-- entries without the words that name their usages: DISPLAY was no such word
+abbrev pub unworded : Entries → Entries
+unworded end = end
+unworded (entry e members later) = entry (record e { usage = absent }) (unworded members) (unworded later)
+
+abbrev pub but_words : Answer Entries → Answer Entries
+but_words a = a >>= λ es. Ok (unworded es)
+
 -- ---------------------------------------------------------------- the test
 
--- a usage other than DISPLAY is named
-abbrev pub is_other : Option ItemUsage → Bool
-is_other None = false
-is_other (Some (ItemUsage.Picture Usage.Display)) = false
-is_other (Some (ItemUsage.Picture Usage.Comp3)) = true
-is_other (Some (ItemUsage.Picture Usage.Comp)) = true
-is_other (Some ItemUsage.Comp1) = true
-is_other (Some ItemUsage.Comp2) = true
+-- a usage other than DISPLAY
+abbrev pub other : ItemUsage → Bool
+other (ItemUsage.Picture Usage.Display) = false
+other (ItemUsage.Picture Usage.Comp3) = true
+other (ItemUsage.Picture Usage.Comp) = true
+other ItemUsage.Comp1 = true
+other ItemUsage.Comp2 = true
 
--- a float is named
-abbrev pub is_float : Option ItemUsage → Bool
-is_float None = false
-is_float (Some (ItemUsage.Picture u)) = false
-is_float (Some ItemUsage.Comp1) = true
-is_float (Some ItemUsage.Comp2) = true
+-- a float
+abbrev pub float : ItemUsage → Bool
+float (ItemUsage.Picture u) = false
+float ItemUsage.Comp1 = true
+float ItemUsage.Comp2 = true
+
+-- such a usage is named
+abbrev pub is_named : (ItemUsage → Bool) → Option NamedUsage → Bool
+is_named such None = false
+is_named such (Some u) = such u.usage
 
 -- after a usage another is said, or none: no float is named, and no other usage than DISPLAY is taken back
-abbrev pub lasts : Option ItemUsage → Option ItemUsage → Bool
-lasts u v = not (is_float v) && (not (is_other u) || is_other v)
+abbrev pub lasts : Option NamedUsage → Option NamedUsage → Bool
+lasts u v = not (is_named float v) && (not (is_named other u) || is_named other v)
 
 -- so word by word: DISPLAY and the words of floats may say more where a clause may begin
 unfoldable pub lasting : List ℕ → ParseState → Clauses → List Span → Bool
@@ -129,7 +147,7 @@ lasting_all text [] = true
 lasting_all text (ws ∷ wss) = lasting_in text ws && lasting_all text wss
 
 -- a usage is named
-abbrev pub names_usage : Option ItemUsage → Bool
+abbrev pub names_usage : Option NamedUsage → Bool
 names_usage None = false
 names_usage (Some u) = true
 

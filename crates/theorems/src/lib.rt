@@ -3,7 +3,7 @@
 #![tactic(auto)]
 
 ghost use Rattle.std.specs.Prelude.{ℕ, suc, ◌+◌, ◌-◌, ◌*◌, ◌%◌, ◌≤◌, ◌<◌, ◌≡◌, true, false, List, [], ◌∷◌, ◌++◌};
-ghost use Rattle.std.specs.Prelude.{length, map, Some, T};
+ghost use Rattle.std.specs.Prelude.{length, map, Option, Some, T, ◌⊎◌};
 ghost use Rattle.definition.specs.declared.Span.{Span};
 ghost use Rattle.definition.specs.declared.Token.{Token};
 ghost use Rattle.definition.specs.declared.Owner.{Owner};
@@ -11,25 +11,28 @@ ghost use Rattle.definition.specs.declared.Extract.{Extract};
 ghost use Rattle.definition.specs.declared.Refusal.{Refusal};
 ghost use Rattle.definition.specs.declared.Pictured.{Pictured};
 ghost use Rattle.definition.specs.declared.Statement.{Statement};
-ghost use Rattle.definition.specs.Basic.{part, Answer, Ok, Err, fewest};
-ghost use Rattle.definition.specs.Words.{statement_words};
+ghost use Rattle.definition.specs.Basic.{part, Answer, Ok, Err, is_given, fewest, sum};
+ghost use Rattle.definition.specs.Words.{statement_words, periods, tokens_of};
 ghost use Rattle.definition.specs.Unquoted.{bare_words, plain_text};
 ghost use Rattle.definition.specs.Tree.{Forest, forest, parents, parents_in};
 ghost use Rattle.definition.specs.Usages.{inherit_along, inherited};
-ghost use Rattle.definition.specs.Fold.{Entries, same_name, Place, search_back};
+ghost use Rattle.definition.specs.Fold.{Entries, times, same_name, Place, search_back};
 ghost use Rattle.theorems.specs.Distance.{NoneNamed, StopsAtTheName};
 ghost use Rattle.definition.specs.Record.{record_length, unfolded, layout};
-ghost use Rattle.definition.specs.Owner.{occurrence, slack, pieces, owner_of, overlaid};
+ghost use Rattle.definition.specs.Layout.{lay};
+ghost use Rattle.definition.specs.Owner.{occurrence, slack, extent, once, laid, pieces, owner_of, overlaid};
 ghost use Rattle.definition.specs.Search.{entries#, seek, rows, walk};
-ghost use Rattle.definition.specs.Details.{details_in, entries_details, FirstBytes, Following, height};
+ghost use Rattle.definition.specs.Details.{details_in, listing_details, FirstBytes, Following, height};
 ghost use Rattle.definition.specs.Listing.{members#, listing};
+ghost use Rattle.definition.specs.Wording.{wording};
 ghost use Rattle.definition.specs.Cards.{view, view_in};
 ghost use Rattle.definition.specs.declared.Form.{Form};
-ghost use Rattle.definition.specs.Layout.{elementary};
+ghost use Rattle.definition.specs.Storage.{elementary};
 ghost use Rattle.definition.specs.Calls.{entries, record_fields, called, Question, asked, extract_in, left, layout_call};
 ghost use Rattle.definition.specs.Calls.{entry_checks, literal_check, indicator_check};
 ghost use Rattle.theorems.specs.Keys.{KeyAnswers};
-ghost use Rattle.theorems.specs.Ungrouped.{entries_alone, lasting_all, plain_usages};
+ghost use Rattle.theorems.specs.Ungrouped.{entries_alone, listed as listed_alone, but_words, lasting_all, plain_usages};
+ghost use Rattle.theorems.specs.Restarted.{entries_restarted, plain_slack};
 ghost use Rattle.definition.specs.Demand.{Fewest, Tells, spot, spots_of, Among, Demand, Kept};
 ghost use Rattle.definition.specs.Explained.{Explained};
 ghost use Rattle.definition.specs.Extracted.{Extracted};
@@ -39,12 +42,12 @@ ghost use Rattle.theorems.specs.Numbers.{RefusalNumbers, KindNumbers, Limits};
 ghost use Rattle.theorems.specs.Fields.{FieldsOf, AlignedBySync};
 ghost use Rattle.theorems.specs.Premises.{all_right, premises};
 ghost use Rattle.theorems.specs.Answered.{Answered};
-ghost use Rattle.theorems.specs.Sentences.{OfStatements, OneByOne};
+ghost use Rattle.theorems.specs.Sentences.{OfStatements, StatementsInOrder, OneByOne};
 ghost use Rattle.theorems.specs.CardLines.{lines, join, visible, first_other_of, refused_at};
-ghost use Rattle.theorems.specs.Standing.{standing, all_rows, FirstOwned};
+ghost use Rattle.theorems.specs.Standing.{standing, head, all_rows, FirstOwned};
 ghost use Rattle.theorems.specs.ReadBack.{read_listing, listed};
 ghost use Rattle.theorems.specs.Catches.{all, table, fish_listing};
-ghost use Rattle.theorems.specs.Occurrences.{Occurs, Slackened, pieces#, counts};
+ghost use Rattle.theorems.specs.Occurrences.{Occurs, Slackened, Ended, pieces#, counts};
 
 // ---------------------------------------------------------------- the bytes of the record
 
@@ -84,21 +87,39 @@ pub fn what_is_owned_occurs()
 /// There are as many pieces of an entry as the counts of it and of the groups around it multiply to.
 #[tactic(auto, using(crate::proofs::Occurrences::counted))]
 pub fn counts_multiply()
-    ensures { (n : ℕ) (es : Entries) → pieces# n (spots_of 0 0 0 es) ≡ counts n 0 es }
+    ensures { (n : ℕ) (es : Entries) → pieces# n (spots_of 0 0 es) ≡ counts n 0 es }
 {}
 
-/// Slack stands only directly before an elementary SYNC binary or float item, and is the fewest bytes that align it.
-#[tactic(auto, using(crate::proofs::Named::slack_stands))]
-pub fn slack_aligns_an_item()
-    ensures { (text : List ℕ) (f : Forest) (es : Entries) (n first width : ℕ) → Tells text 0 f es →
-        Among (spot (slack n) first width) (spots_of 0 0 0 es) → Slackened text first width }
+/// Slack stands only directly before an elementary SYNC binary or float item, and is the fewest bytes that align it in
+/// the record; or at the end of an occurrence of a group with OCCURS and without DEPENDING ON that holds such an item,
+/// and is the fewest bytes that bring its width to a multiple of the largest alignment in it.
+pub fn slack_aligns_an_item_or_an_end()
+    ensures { (text : List ℕ) (f : Forest) (es : Entries) (n first width : ℕ) → Tells text 0 0 f es →
+        Among (spot (slack n) first width) (spots_of 0 0 es) → Slackened text first width ⊎ Ended text first width }
 {}
 
-/// What aligns a place to a width is below the width and the smallest number that brings the place to a multiple of
-/// it; and no other number is.
+/// Each occurrence of an item without DEPENDING ON, laid at its own place, is laid as the first one is: the width of a
+/// group with OCCURS is a multiple of the largest alignment in it.
+#[tactic(auto, using(crate::proofs::Named::occurrence_alike))]
+pub fn occurrences_are_laid_alike()
+    ensures { (text : List ℕ) (k place : ℕ) (s : Statement) (kids : Forest) (i : ℕ) →
+        is_given s.clauses.depending ≡ false → i < times s.clauses.occurs →
+        let one = once text k s kids (λ p. laid text (suc k) p kids) in
+        one (place + i * extent (one place)) ≡ one place }
+{}
+
+/// Of a list's place in the record only the remainder by 8 matters.
+#[tactic(auto, using(crate::proofs::Named::lay_remainder))]
+pub fn only_the_remainder_by_8_matters()
+    ensures { (text : List ℕ) (f : Forest) (depth base : ℕ) (seen : List Place) (cursor reach : ℕ) →
+        lay text depth base seen cursor reach f ≡ lay text depth (base % 8) seen cursor reach f }
+{}
+
+/// What aligns a place is below the alignment and the smallest number that brings the place to a multiple of it; and no
+/// other number is.
 pub fn alignment_takes_the_fewest_bytes()
-    ensures least { (width place : ℕ) → 0 < width → Fewest width place (fewest width place) }
-    ensures only { (width place n : ℕ) → 0 < width → Fewest width place n → n ≡ fewest width place }
+    ensures least { (alignment place : ℕ) → 0 < alignment → Fewest alignment place (fewest alignment place) }
+    ensures only { (alignment place n : ℕ) → 0 < alignment → Fewest alignment place n → n ≡ fewest alignment place }
 {}
 
 /// The owner of a byte is found among the entries of the listing, with no piece laid, and by a walk from row to row.
@@ -141,11 +162,12 @@ pub fn first_bytes_add_up()
     ensures { (es : Entries) → FirstBytes [] (details_in 0 0 es) }
 {}
 
-/// The details of an entry are its row, byte by byte: its level, how many groups are around it, and as its first byte
-/// the sum of its offset and theirs, among the rest.
+/// The details are a head, which has the dropped root, and then of each entry its row, byte by byte: its level, how many
+/// groups are around it, and as its first byte the sum of its offset and theirs, among the rest.
 #[tactic(auto, using(crate::proofs::StandingLaws::details_stand))]
 pub fn details_tell_where_entries_stand()
-    ensures { (es : Entries) → entries_details es ≡ all_rows (standing [] es) }
+    ensures { (root : Option Statement) (es : Entries) →
+        listing_details root es ≡ head root es ++ all_rows (standing [] es) }
 {}
 
 /// Where the owner rule holds and an elementary entry and each group around it stand at least once, the first byte that
@@ -167,10 +189,10 @@ pub fn lists_nest_at_most_130_deep()
     ensures { (text : List ℕ) (f : Forest) (es : Entries) → layout text f ≡ Ok es → height es ≤ 130 }
 {}
 
-/// The details have 47 bytes for each entry of the listing.
+/// The details have a head of 17 bytes, and 63 for each entry of the listing.
 #[tactic(auto, using(crate::proofs::Named::details_length))]
-pub fn details_have_47_bytes_an_entry()
-    ensures { (es : Entries) → length (entries_details es) ≡ 47 * entries# es }
+pub fn details_have_63_bytes_an_entry()
+    ensures { (root : Option Statement) (es : Entries) → length (listing_details root es) ≡ 17 + 63 * entries# es }
 {}
 
 // ---------------------------------------------------------------- the listing
@@ -228,7 +250,7 @@ pub fn one_root_is_dropped()
     ensures { (text : List ℕ) (work : ℕ) (f : Forest) → record_fields text work ≡ Ok f → FieldsOf text f }
 {}
 
-/// An elementary item is aligned if and only if it has SYNC and is binary or a float.
+/// An elementary item is aligned if and only if it has SYNC and no REDEFINES and is binary or a float; a group never is.
 #[tactic(auto, using(crate::proofs::FieldLaws::aligned_by_sync))]
 pub fn sync_aligns_binary_and_floats()
     ensures { (text : List ℕ) (s : Statement) (c : Pictured) → elementary text s ≡ Ok c → AlignedBySync text s c }
@@ -249,10 +271,21 @@ pub fn usages_come_down_while_reading()
 // ---------------------------------------------------------------- as the Rust module has it
 
 /// A copybook in which no group names a usage, no DISPLAY stands after another usage word and no word names a float has
-/// the entries that it had while each statement had its own usage alone.
-#[tactic(auto, using(crate::proofs::UngroupedLaws::same_entries))]
+/// the listing that it had while each statement had its own usage alone, and its entries but for the places of usage
+/// words.
+#[tactic(auto, using(crate::proofs::Named::same_usages))]
 pub fn plain_usages_have_the_entries_that_they_had()
-    ensures { (text : List ℕ) (work : ℕ) → plain_usages text ≡ true → entries_alone text work ≡ entries text work }
+    ensures listing { (text : List ℕ) (work : ℕ) → plain_usages text ≡ true →
+        listed_alone (entries_alone text work) ≡ listed_alone (entries text work) }
+    ensures entries { (text : List ℕ) (work : ℕ) → plain_usages text ≡ true →
+        but_words (entries_alone text work) ≡ but_words (entries text work) }
+{}
+
+/// A copybook with no SYNC below the fields of its record, and no refusal inside a group whose target is missing, has the
+/// entries that it had while alignment restarted in each list and no group had slack at its end.
+#[tactic(auto, using(crate::proofs::Named::same_slack))]
+pub fn plain_slack_has_the_entries_that_it_had()
+    ensures { (text : List ℕ) (work : ℕ) → plain_slack text ≡ true → entries_restarted text work ≡ entries text work }
 {}
 
 /// A text in which no literal holds a period that would end a statement, or `*>`, and none is left open, has the words
@@ -270,6 +303,19 @@ pub fn plain_texts_have_the_words_that_they_had()
 pub fn words_stand_in_the_text()
     ensures { (form : Form) (text : List ℕ) →
         OfStatements (λ w. part (view_in form text) w ≡ part text w) (statement_words (view_in form text)) }
+{}
+
+/// The words of statements stand in order in the text that the reader sees, none over another and each unbroken by
+/// white space; a statement's words stand before the period that ends it, and behind that of the one before.
+#[tactic(auto, using(crate::proofs::WordsLaws::words_in_order))]
+pub fn words_stand_in_order()
+    ensures { (text : List ℕ) → StatementsInOrder text 0 (statement_words text) (periods (tokens_of text)) }
+{}
+
+/// What is answered of the words has at most 8 bytes for each byte of the text, and 8 more.
+#[tactic(auto, using(definition::proofs::WordingLaws::words_most))]
+pub fn words_take_at_most_8_bytes_a_byte()
+    ensures { (text : List ℕ) → length (wording text) ≤ 8 * length text + 8 }
 {}
 
 /// A reader may go statement by statement: the statements of some tokens are the one that the first word begins, or an

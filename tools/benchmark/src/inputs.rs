@@ -177,3 +177,8 @@ pub fn on_cards(text: &str) -> String {
     }
     codes.iter().zip(1..).map(|(code, number)| format!("{:06} {code}\n", number * 10)).collect()
 }
+
+/// What is read of such cards, as free text of the same places: blanks for the sequence numbers.
+pub fn seen_of(cards: &str) -> String {
+    cards.lines().map(|card| format!("{:6}{}\n", "", &card[6..])).collect()
+}

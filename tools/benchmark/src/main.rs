@@ -208,11 +208,11 @@ fn cards() {
     println!("|---|---|---|---|---|---|");
     for size in SIZES {
         let shape = &SHAPES[0];
-        let text = inputs::on_cards(&shape.text(size)).into_bytes();
-        let seen = Form::Cards.view(&text).into_owned();
+        let cards = inputs::on_cards(&shape.text(size));
+        let (text, seen) = (cards.as_bytes(), inputs::seen_of(&cards));
         let (mut a, mut b) = (Buffers::new(), Buffers::new());
         let [cards, free] =
-            best([&mut || listed(Form::Cards, &text, &mut a), &mut || listed(Form::Free, &seen, &mut b)]);
+            best([&mut || listed(Form::Cards, text, &mut a), &mut || listed(Form::Free, seen.as_bytes(), &mut b)]);
         assert_eq!(a.out, b.out);
         print!("| {} | {size} | {} | {cards:.2} |", shape.name, text.len());
         println!(" {free:.2} | {:.2} |", cards / free);

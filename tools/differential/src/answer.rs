@@ -109,9 +109,21 @@ impl Writer<'_> {
         self.details.extend(four(0));
         self.details.extend(first.to_le_bytes());
         self.details.extend(four(shape.slack));
+        let own = |span| eight(if shape.union { Span::default() } else { span });
         for span in [s.picture, s.redefines, s.depending] {
-            self.details.extend(eight(if shape.union { Span::default() } else { span }));
+            self.details.extend(own(span));
         }
+        self.details.extend(four(shape.slack_at_end));
+        self.details.extend(if shape.union { [0; 3] } else { shape.digits });
+        self.details.extend(own(s.word));
+        self.details.push(if shape.union { 0 } else { s.clause });
+    }
+
+    /// What stands before the details of entries: the dropped root, and how many entries there are.
+    fn head(&self, reading: &Reading) -> Vec<u8> {
+        let root = reading.dropped.then(|| &self.statements[0]);
+        let root = root.map(|s| [&four(s.at)[..], &[s.level as u8], &eight(s.name)].concat());
+        [root.unwrap_or(vec![0; 13]), four(self.details.len() / DETAIL).to_vec()].concat()
     }
 
     fn entries(&mut self, fields: &[Field], shapes: &[Shape], depth: u8, start: u64) -> Result<(), String> {
@@ -123,7 +135,7 @@ impl Writer<'_> {
 }
 
 /// The bytes of an entry's details, and the place in them of the number of entries below.
-const DETAIL: usize = 47;
+const DETAIL: usize = 63;
 const BELOW: usize = 7;
 
 /// What the product should write of an accepted copybook, and the Rust's layout.
@@ -141,7 +153,8 @@ fn listing(text: &[u8], reading: &Reading, shapes: &[Shape], layout: Layout) -> 
     w.out.push(u8::from(layout.variable));
     w.out.extend(four(layout.fields.len()));
     w.entries(&layout.fields, shapes, 0, 0)?;
-    Ok(Listing { bytes: w.out, details: w.details, masks: w.masks, layout })
+    let details = [w.head(reading), w.details].concat();
+    Ok(Listing { bytes: w.out, details, masks: w.masks, layout })
 }
 
 /// What the product should say of a copybook: a listing; or a refusal, with what the Rust says; or one that is added,
@@ -222,15 +235,18 @@ pub fn picture(text: &[u8], usage: usize, sign: usize) -> Result<Pictured, Strin
         }
     }
     if reading::has_scale(text) {
-        return Ok(read.map_or_else(Pictured::Added, |(width, _)| Pictured::Width(width as u64)));
+        return Ok(read.map_or_else(Pictured::Added, |item| Pictured::Width(item.width as u64)));
     }
     match (read, asked(text, |t| copybook::parse_pic(t, USAGES[usage], SIGNS[sign]))) {
         (Err(r), Original::Gave(Err(e))) if r.0 == e.number() => Ok(Pictured::Refused(r, e)),
-        (Ok((width, _)), Original::Gave(Ok((kind, w)))) if width == w as u128 => {
+        (Ok(item), Original::Gave(Ok((kind, w)))) if item.width == w as u128 => {
             let numbers = numbers::picture(&kind, w).ok_or("the Rust has a kind that pictures do not have")?;
             Ok(Pictured::Numbers(numbers, kind))
         }
-        (read, Original::Gave(gave)) => Err(format!("the reading has {read:?} where the Rust has {gave:?}")),
+        (read, Original::Gave(gave)) => {
+            let read = read.map(|item| item.width);
+            Err(format!("the reading has {read:?} where the Rust has {gave:?}"))
+        }
         (_, _) => Err("the Rust panics".into()),
     }
 }

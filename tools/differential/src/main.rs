@@ -13,7 +13,9 @@
 //! counted, but number and position are checked. So is a copybook in which a literal after VALUE holds a period that
 //! would end a statement, or `*>`: there the Rust has no answer, and `tools/compare quoted` compares every byte. So is
 //! one in which a group names a usage, DISPLAY stands after another usage word, or COMP-1 or COMP-2 names a float: its
-//! refusal and its owners are checked, and `tools/compare usages` and `floats` compare every byte. So is an input with
+//! refusal and its owners are checked, and `tools/compare usages` and `floats` compare every byte. So is one in which an
+//! item below the fields of the record has SYNC, or something is refused inside a group whose target is missing: its
+//! refusal and its owners are checked, and `tools/compare aligned` compares every byte. So is an input with
 //! P in a picture, which holds a byte in the Rust and none here: its refusals, the widths of pictures and the owners of
 //! copybooks are checked, and `tools/compare pictures` compares all else. The Rust has no byte owner: owners are
 //! compared, for some copybooks, with the bytes laid one by one by the reading. The masks of the edited pictures of a

@@ -50,10 +50,13 @@ pub struct Statement {
     pub level: u64,
     pub name: Span,
     pub picture: Span,
-    /// The usage that it names, and the one that holds for it.
+    /// The usage that it names with the word that says so, and the one that holds for it.
     pub named: Option<Usage>,
+    pub word: Span,
     pub usage: Usage,
     pub sign: Option<Sign>,
+    /// What details have of SIGN: 0 without it, else 1, 1 more for LEADING and 2 more for SEPARATE.
+    pub clause: u8,
     pub sync: bool,
     pub occurs: Option<u128>,
     pub depending: Span,
@@ -62,13 +65,16 @@ pub struct Statement {
 }
 
 /// An entry of the folded listing, as far as the text says it: the statement behind it, whether it is the group that
-/// stands for a base and its redefiners, whether its REDEFINES is kept, the slack before it, and its members.
+/// stands for a base and its redefiners, whether its REDEFINES is kept, the slack before it and at the end of its
+/// occurrences, its digits, those after the point and 1 for a sign, and its members.
 #[derive(Clone, Debug)]
 pub struct Shape {
     pub statement: usize,
     pub union: bool,
     pub redefines: bool,
     pub slack: usize,
+    pub slack_at_end: usize,
+    pub digits: [u8; 3],
     pub members: Vec<Shape>,
 }
 
@@ -79,7 +85,8 @@ pub struct Reading {
     pub dropped: bool,
     /// Why the Rust has no answer, as far as the words say: a literal holds `*>` or a period that would end a
     /// statement, or is left open; or a statement names a float, or takes another usage back by DISPLAY; or a group
-    /// names a usage.
+    /// names a usage; or an item below the fields has SYNC, or something is refused inside a group whose target is
+    /// missing.
     pub no_answer: Option<&'static str>,
     /// The folded top list, or why there is none. The last check, 29 for a top-level end, needs the widths of folds,
     /// and is made on the Rust's answer (`answer::copybook`).
@@ -235,8 +242,10 @@ fn statement(text: &[u8], words: &[Span], lost: &mut Option<&'static str>) -> An
         name: word(1),
         picture: Span::default(),
         named: None,
+        word: Span::default(),
         usage: Usage::Display,
         sign: None,
+        clause: 0,
         sync: false,
         occurs: None,
         depending: Span::default(),
@@ -246,6 +255,8 @@ fn statement(text: &[u8], words: &[Span], lost: &mut Option<&'static str>) -> An
     let mut i = 2;
     while i < words.len() {
         let key = String::from_utf8_lossy(&upper[i]).into_owned();
+        let (named, this) = (s.named, words[i]);
+        s.named = None;
         i += 1;
         match key.as_str() {
             "PIC" | "PICTURE" => {
@@ -277,7 +288,7 @@ fn statement(text: &[u8], words: &[Span], lost: &mut Option<&'static str>) -> An
             }
             "USAGE" => i += usize::from(is(i, "IS")),
             "DISPLAY" => {
-                if s.named.is_some_and(|u| u != Usage::Display) {
+                if named.is_some_and(|u| u != Usage::Display) {
                     *lost = lost.or(Some(USAGES));
                 }
                 s.named = Some(Usage::Display);
@@ -293,6 +304,7 @@ fn statement(text: &[u8], words: &[Span], lost: &mut Option<&'static str>) -> An
             "SIGN" => {
                 i += usize::from(is(i, "IS"));
                 let separate = (i..words.len()).any(|j| is(j, "SEPARATE"));
+                s.clause = 1 + u8::from(is(i, "LEADING")) + 2 * u8::from(separate);
                 s.sign = Some(match (separate, is(i, "LEADING")) {
                     (true, true) => Sign::Leading,
                     (true, false) => Sign::Trailing,
@@ -304,8 +316,15 @@ fn statement(text: &[u8], words: &[Span], lost: &mut Option<&'static str>) -> An
                 s.sync = true;
                 i += usize::from(is(i, "LEFT") || is(i, "RIGHT"));
             }
-            "VALUE" | "VALUES" => break,
+            "VALUE" | "VALUES" => {
+                s.named = named;
+                break;
+            }
             _ => {}
+        }
+        match s.named {
+            Some(_) => s.word = this,
+            None => s.named = named,
         }
     }
     Ok(Some(s))
@@ -391,27 +410,40 @@ pub fn has_scale(picture: &[u8]) -> bool {
     picture.to_ascii_uppercase().contains(&b'P')
 }
 
-/// Width of a picture, and whether it is binary; or the number of its refusal. P holds no byte of a width; the digits
-/// and the mask that 27 limits count it.
-pub fn picture(picture: &[u8], usage: Usage, sign: Option<Sign>) -> Result<(u128, bool), u32> {
+/// What an elementary item is: its width, whether SYNC aligns it, and its digits as details have them.
+pub struct Elementary {
+    pub width: u128,
+    pub aligned: bool,
+    pub digits: [u8; 3],
+}
+
+/// What a picture is; or the number of its refusal. P holds no byte of a width; the digits and the mask that 27 limits
+/// count it.
+pub fn picture(picture: &[u8], usage: Usage, sign: Option<Sign>) -> Result<Elementary, u32> {
     let symbols: Vec<u8> = runs(picture, Some(65_535))?.into_iter().flat_map(|(b, n)| vec![b; n as usize]).collect();
     let (mut text, mut digits, mut scaled, mut mask) = (0u128, 0u128, 0u128, 0u128);
     let (mut signed, mut edited) = (false, false);
+    let (mut fraction, mut behind) = (0u128, false);
     let mut floats = [0u128; 3];
     let mut i = 0;
     while i < symbols.len() {
         let next = symbols.get(i + 1).copied();
         match symbols[i] {
             b'X' | b'A' => text += 1,
-            b'9' => digits += 1,
+            b'9' => {
+                digits += 1;
+                fraction += u128::from(behind);
+            }
             b'P' => scaled += 1,
             b'Z' | b'*' => {
                 digits += 1;
+                fraction += u128::from(behind);
                 edited = true;
             }
             b'S' => signed = true,
-            b'V' => {}
-            b'.' | b',' | b'/' | b'B' | b'0' => edited = true,
+            b'V' => behind = true,
+            b'.' => (edited, behind) = (true, true),
+            b',' | b'/' | b'B' | b'0' => edited = true,
             b'$' | b'+' | b'-' => {
                 edited = true;
                 signed |= symbols[i] != b'$';
@@ -434,16 +466,19 @@ pub fn picture(picture: &[u8], usage: Usage, sign: Option<Sign>) -> Result<(u128
     }
     digits += floats.iter().map(|&n| n.saturating_sub(1)).sum::<u128>();
     if text > 0 {
-        return if digits + scaled > 0 || edited { Err(26) } else { Ok((text, false)) };
+        let plain = Elementary { width: text, aligned: false, digits: [0; 3] };
+        return if digits + scaled > 0 || edited { Err(26) } else { Ok(plain) };
     }
     let masked = edited && usage == Usage::Display;
     if digits + scaled > MOST_DIGITS || masked && mask > LONGEST_MASK {
         return Err(27);
     }
+    let all = (digits + scaled).max(u128::from(masked));
+    let told = [all as u8, (fraction + scaled) as u8, u8::from(signed)];
     if masked {
-        return Ok((mask - scaled, false));
+        return Ok(Elementary { width: mask - scaled, aligned: false, digits: told });
     }
-    Ok(match usage {
+    let (width, aligned) = match usage {
         Usage::Display => {
             let separate = signed && matches!(sign, Some(Sign::Leading | Sign::Trailing));
             (digits + u128::from(separate), false)
@@ -460,16 +495,18 @@ pub fn picture(picture: &[u8], usage: Usage, sign: Option<Sign>) -> Result<(u128
             true,
         ),
         Usage::Comp1 | Usage::Comp2 => unreachable!("a float has no picture"),
-    })
+    };
+    Ok(Elementary { width, aligned, digits: told })
 }
 
-/// Width of an item without members, and whether SYNC aligns it; or the number of its refusal.
-fn elementary(text: &[u8], s: &Statement) -> Result<(u128, bool), u32> {
+/// What an item without members is; or the number of its refusal.
+fn elementary(text: &[u8], s: &Statement) -> Result<Elementary, u32> {
     let pictured = s.picture.len > 0;
+    let float = |width| Elementary { width, aligned: true, digits: [0; 3] };
     match s.usage {
         Usage::Comp1 | Usage::Comp2 if pictured => Err(52),
-        Usage::Comp1 => Ok((4, true)),
-        Usage::Comp2 => Ok((8, true)),
+        Usage::Comp1 => Ok(float(4)),
+        Usage::Comp2 => Ok(float(8)),
         _ if !pictured => Err(21),
         usage => picture(s.picture.of(text), usage, s.sign),
     }
@@ -496,6 +533,11 @@ impl Item {
     }
 }
 
+/// The fewest bytes from a place to a multiple.
+fn fewest(place: u128, multiple: u128) -> u128 {
+    (multiple - place % multiple) % multiple
+}
+
 struct Laying<'a> {
     text: &'a [u8],
     kept: &'a [Statement],
@@ -510,8 +552,24 @@ impl Laying<'_> {
         }
     }
 
-    /// The items of a list, not folded, and how wide it is.
-    fn list(&self, list: &[usize], depth: usize) -> Answer<(Vec<Item>, u128)> {
+    /// What the place of an item in the record is a multiple of.
+    fn alignment(&self, k: usize) -> u128 {
+        let s = &self.kept[k];
+        let may_align = s.sync && s.below.is_empty() && s.redefines.len == 0;
+        match elementary(self.text, s) {
+            Ok(item) if may_align && item.aligned => item.width,
+            _ => 1,
+        }
+    }
+
+    /// The largest alignment in a list, at any depth.
+    fn largest_alignment(&self, list: &[usize]) -> u128 {
+        let of = |&k: &usize| self.alignment(k).max(self.largest_alignment(&self.kept[k].below));
+        list.iter().map(of).max().unwrap_or(1)
+    }
+
+    /// The items of a list, not folded, and how wide it is. It starts at that byte of the record.
+    fn list(&self, list: &[usize], depth: usize, base: u128) -> Answer<(Vec<Item>, u128)> {
         if depth > DEEPEST {
             return Err(Refused(20, self.kept[list[0]].at));
         }
@@ -519,29 +577,34 @@ impl Laying<'_> {
         let (mut cursor, mut reach) = (0u128, 0u128);
         for &k in list {
             let s = &self.kept[k];
-            let (members, width, aligned) = if s.below.is_empty() {
-                let (width, aligned) = elementary(self.text, s).map_err(|n| Refused(n, s.at))?;
-                (Vec::new(), width, aligned)
-            } else {
-                let (inner, width) = self.list(&s.below, depth + 1)?;
-                let folded = self.fold(inner)?;
-                (folded.into_iter().map(|i| i.shape).collect(), width, false)
+            let plain = Elementary { width: 0, aligned: false, digits: [0; 3] };
+            let item = match s.below.is_empty() {
+                true => elementary(self.text, s).map_err(|n| Refused(n, s.at))?,
+                false => plain,
             };
             let redefines = s.redefines.len > 0;
             let offset = if redefines {
                 let target = s.redefines.of(self.text);
                 let earlier = items.iter().rev().find(|i| self.name(i.shape.statement).eq_ignore_ascii_case(target));
                 earlier.ok_or(Refused(28, s.at))?.offset
-            } else if s.sync && aligned {
-                cursor.div_ceil(width) * width
             } else {
-                cursor
+                cursor + fewest(base + cursor, self.alignment(k))
             };
             let slack = if redefines { 0 } else { (offset - cursor) as usize };
-            let shape = Shape { statement: k, union: false, redefines, slack, members };
+            let (mut members, mut width, mut at_end) = (Vec::new(), item.width, 0);
+            if !s.below.is_empty() {
+                let (inner, inside) = self.list(&s.below, depth + 1, base + offset)?;
+                members = self.fold(inner)?.into_iter().map(|i| i.shape).collect();
+                if s.occurs.is_some() && s.depending.len == 0 {
+                    at_end = fewest(inside, self.largest_alignment(&s.below));
+                }
+                width = inside + at_end;
+            }
+            let (digits, slack_at_end) = (item.digits, at_end as usize);
+            let shape = Shape { statement: k, union: false, redefines, slack, slack_at_end, digits, members };
             let item = Item { shape, offset, width, times: s.occurs.unwrap_or(1), depending: s.depending.len > 0 };
             let end = offset + item.reserved();
-            if [item.times, offset, item.width * item.times, end].iter().any(|&n| n > LARGEST) {
+            if [item.times, offset, width, width * item.times, end].iter().any(|&n| n > LARGEST) {
                 return Err(Refused(29, s.at));
             }
             if !redefines {
@@ -551,6 +614,29 @@ impl Laying<'_> {
             items.push(item);
         }
         Ok((items, reach))
+    }
+
+    /// Whether alignment leaves the Rust an answer: no item below the fields has SYNC, and nothing is refused inside a
+    /// group whose target is missing.
+    fn plain_slack(&self, fields: &[usize]) -> bool {
+        fields.iter().all(|&k| self.unsynced(&self.kept[k].below)) && self.none_lost(fields, 0)
+    }
+
+    fn unsynced(&self, list: &[usize]) -> bool {
+        list.iter().all(|&k| !self.kept[k].sync && self.unsynced(&self.kept[k].below))
+    }
+
+    fn none_lost(&self, list: &[usize], depth: usize) -> bool {
+        list.iter().enumerate().all(|(i, &k)| {
+            let s = &self.kept[k];
+            let target = s.redefines.of(self.text);
+            let is_found = || list[..i].iter().any(|&earlier| self.name(earlier).eq_ignore_ascii_case(target));
+            let is_laid = || {
+                let laid = self.list(&s.below, depth + 1, 0);
+                s.below.is_empty() || laid.and_then(|(items, _)| self.fold(items)).is_ok()
+            };
+            (s.redefines.len == 0 || is_found() || is_laid()) && self.none_lost(&s.below, depth + 1)
+        })
     }
 
     /// Each base with its redefiners as one group.
@@ -581,7 +667,7 @@ impl Laying<'_> {
                 let first = Shape { union: false, redefines: false, ..base.shape.clone() };
                 base.shape.members = vec![first];
             }
-            (base.shape.union, base.shape.slack) = (true, 0);
+            (base.shape.union, base.shape.slack, base.shape.slack_at_end) = (true, 0, 0);
             base.shape.members.push(item.shape);
         }
         Ok(out)
@@ -610,7 +696,8 @@ pub fn read(text: &[u8]) -> Reading {
     let no_answer = no_answer.or(on_group.then_some(USAGES));
     let dropped = fields.first().is_some_and(|&k| k > 0);
     let laying = Laying { text, kept: &kept };
-    let folded = laying.list(&fields, 0).and_then(|(items, _)| laying.fold(items));
+    let no_answer = no_answer.or((!laying.plain_slack(&fields)).then_some(ALIGNMENT));
+    let folded = laying.list(&fields, 0, 0).and_then(|(items, _)| laying.fold(items));
     let top = folded.map(|items| items.into_iter().map(|i| i.shape).collect());
     Reading { statements: kept, fields, dropped, no_answer, top }
 }
@@ -632,6 +719,7 @@ const LITERALS: &str = "has no answer: literals";
 const USAGES: &str = "has no answer: usages";
 const FLOATS: &str = "has no answer: floats";
 const SCALES: &str = "has no answer: P";
+const ALIGNMENT: &str = "has no answer: alignment";
 
 impl Reading {
     /// Why the Rust has no answer: its words, or an elementary item whose picture has a P.
@@ -651,34 +739,38 @@ impl Reading {
     /// to lay.
     pub fn laid(&self, text: &[u8]) -> Option<Vec<Laid>> {
         let mut out = Vec::new();
-        self.lay(text, &self.fields, &mut out)?;
+        self.lay(text, &self.fields, 0, &mut out)?;
         Some(out)
     }
 
-    /// Lays a list from place 0, and answers the place after it. Without REDEFINES no list is folded, so entries are
-    /// numbered as statements.
-    fn lay(&self, text: &[u8], list: &[usize], out: &mut Vec<Laid>) -> Option<u128> {
-        let mut place = 0;
+    /// Lays a list from a place of the record, and answers the place after it. Without REDEFINES no list is folded, so
+    /// entries are numbered as statements.
+    fn lay(&self, text: &[u8], list: &[usize], from: u128, out: &mut Vec<Laid>) -> Option<u128> {
+        let laying = Laying { text, kept: &self.statements };
+        let mut place = from;
         for &k in list {
             let s = &self.statements[k];
             let entry = k - usize::from(self.dropped);
-            let item = s.below.is_empty().then(|| elementary(text, s).expect("an accepted item"));
-            if let Some((width, true)) = item {
-                let slack = if s.sync { (width - place % width) % width } else { 0 };
-                out.push(Laid { slack: true, entry, len: slack });
-                place += slack;
-            }
+            let slack = |len, out: &mut Vec<Laid>| {
+                out.push(Laid { slack: true, entry, len });
+                len
+            };
+            place += slack(fewest(place, laying.alignment(k)), out);
             for _ in 0..s.occurs.unwrap_or(1) {
                 if out.len() > MOST_LAID {
                     return None;
                 }
-                place += match item {
-                    Some((width, _)) => {
-                        out.push(Laid { slack: false, entry, len: width });
-                        width
-                    }
-                    None => self.lay(text, &s.below, out)?,
-                };
+                if s.below.is_empty() {
+                    let len = elementary(text, s).expect("an accepted item").width;
+                    out.push(Laid { slack: false, entry, len });
+                    place += len;
+                    continue;
+                }
+                let start = place;
+                place = self.lay(text, &s.below, start, out)?;
+                if s.occurs.is_some() {
+                    place += slack(fewest(place - start, laying.largest_alignment(&s.below)), out);
+                }
             }
         }
         Some(place)

@@ -1,10 +1,12 @@
 use borrow.Author.Rules.{rules}
-use Prim.Native.Nat.{ℕ, suc, ◌+◌, ◌-◌, max, ◌≤◌, ◌<◌}
+use Prim.Native.Nat.{ℕ, suc, ◌+◌, ◌-◌, ◌%◌, max, ◌≤◌, ◌<◌}
 use mathlib.Core.Path.{◌≡◌, refl, sym, ap, subst, ◌∙◌}
-use mathlib.Core.List.{List, []}
+use mathlib.Core.List.{List}
 use native.Mathlib.Numerals.{add-one}
 use native.Mathlib.Omega.{arith}
+use lib.Dec.{ltb}
 use lib.ListN.{length}
+use Rattle.std.specs.Prelude.{None, if◌then◌else◌}
 use Rattle.std.specs.Ordering.{ord_max, nat_cmp}
 use Rattle.std.specs.Result.{result_and}
 use Rattle.std.proofs.lemmas.Bool.Decides.{nat_tests}
@@ -13,24 +15,32 @@ use Rattle.definition.specs.declared.Pictured.{Pictured}
 use Rattle.definition.specs.declared.Refusal.{Refusal}
 use Rattle.definition.specs.declared.Statement.{Statement}
 use Rattle.definition.specs.declared.TheConstants.{LARGEST}
-use Rattle.definition.specs.Tree.{leaf}
+use Rattle.definition.specs.Tree.{Forest}
 use Rattle.definition.specs.Picture.{pictured}
+use Rattle.definition.specs.Storage.{elementary}
 use Rattle.definition.specs.Layout.{content}
 use Rattle.definition.specs.Basic.{Answer, Err, Ok, ◌>>=◌, and_then}
 use Rattle.definition.proofs.Answers.{handed_on}
+use Rattle.definition.proofs.Lists.{tested}
 use Rattle.rows.specs.declared.Row.{Row}
 use Rattle.rows.specs.Rows.{statement_at, row_in, row_code}
 use Rattle.layout.specs.Children.{ChildrenEnd, Numbered}
-use Rattle.layout.proofs.EntriesLaws.{counted_step, counted-numbered}
-use Rattle.layout.proofs.FingerprintLaws.{fingerprinted-less}
+use Rattle.layout.specs.Places.{rows_forest}
+use Rattle.layout.specs.Targets.{seen_at}
+use Rattle.layout.specs.Bare.{place_multiple, starts}
+use Rattle.layout.specs.Checks.{check_row}
+use Rattle.layout.specs.declared.Beginning.{Beginning}
 use Rattle.layout.specs.declared.LaidItem.{LaidItem}
 use Rattle.layout.specs.declared.LaidList.{LaidList}
-use Rattle.layout.specs.Checks.{check_row}
-use Rattle.layout.specs.Outcomes.{Outcome, stopped, ready, lay_table, halted, lay_item}
-use Rattle.layout.specs.Outcomes.{place_row, item_of, list_of, Room}
-use Rattle.layout.proofs.LayLaws.{list-stop, list-step, list-none, item-within, item_room, leaf-stop}
-use Rattle.layout.proofs.LayLaws.{placed-low, leaf-place, leaf-narrow, LaidRows, laid-rows, laid-fingerprinted, too-deep}
-use Rattle.layout.proofs.LayLaws.{inner-stop, fold-stop, group-place}
+use Rattle.layout.specs.Outcomes.{Outcome, stopped, ready, lay_table, lay_inner, halted, placing, lay_item, Begun}
+use Rattle.layout.specs.Outcomes.{place_row, Room}
+use Rattle.layout.proofs.ContentLaws.{content-bounded}
+use Rattle.layout.proofs.EntriesLaws.{counted_step, counted-numbered}
+use Rattle.layout.proofs.FingerprintLaws.{fingerprinted-less}
+use Rattle.layout.proofs.LayLaws.{list-stop, list-step, list-none, item-within, item_room, placed-low, place-small}
+use Rattle.layout.proofs.LayLaws.{inner-none, inner-deep, inner-list-stop, inner-fold-stop, inner-given, InnerRows, inner-rows}
+use Rattle.layout.proofs.LayLaws.{list-small, inner-long, content-group, content-leaf, content-stop, start-stop, inner-stop}
+use Rattle.layout.proofs.LayLaws.{item-place}
 use Rattle.layout.proofs.+layout.Invariants.{Laying}
 use Rattle.layout.proofs.+layout.Goals as goal
 use Rattle.layout.proofs.+layout.Goals.{lay_item-In_ok-inner}
@@ -47,62 +57,67 @@ both (Ok x) b = refl
 
 -- ---------------------------------------------------------------- the list
 
-module _ {t : List ℕ} {w₀ w : List Row} {from to depth i last cursor reach : ℕ} {checked : Answer (Unit {0})} (inv : Laying t w₀ w from to depth i last cursor reach checked) where
-  numbered : i < to → {v : List Row} {count : ℕ} → (v ≡ w) × (count ≡ to) → Numbered v i count
-  numbered h e = rw (e.0, e.1) (counted-numbered w i to inv.room.fits h inv.room.counted)
+module _
+    {t : List ℕ} {w₀ w : List Row} {from to depth base i last cursor reach largest : ℕ} {checked : Answer (Unit {0})}
+    (inv : Laying t w₀ w from to depth base i last cursor reach largest checked)
+  where
+    numbered : i < to → {v : List Row} {count : ℕ} → (v ≡ w) × (count ≡ to) → Numbered v i count
+    numbered h e = rw (e.0, e.1) (counted-numbered w i to inv.room.fits h inv.room.counted)
 
-  -- the next item's cursor
-  cursor-low :
-      cursor ≤ LARGEST →
-      {a : Answer LaidItem} {x : LaidItem} (j : ℕ) (w' : List Row) →
-      item_of a w' ≡ lay_item t w i j depth last cursor →
-      a ≡ Ok x →
-      x.cursor ≤ LARGEST
-  cursor-low h j w' p q =
-      item-within t w i j depth last cursor h (sym p ∙ ap (λ (y : Answer LaidItem). item_of y w') q)
+    module _ {b : ℕ} (pb : b ≡ base) where
+      -- the list's own place
+      here : {o : Outcome LaidItem} (j : ℕ) → o ≡ lay_item t w i j depth b last cursor → lay_item t w i j depth base last cursor ≡ o
+      here j p = sym (p ∙ ap (λ (n : ℕ). lay_item t w i j depth n last cursor) pb)
 
-  going_on :
-      {a : Answer LaidItem} {x : LaidItem} {r j later moved : ℕ} {w' : List Row} →
-      ChildrenEnd w i to j →
-      item_of a w' ≡ lay_item t w i j depth last cursor →
-      a ≡ Ok x →
-      length w' ≡ length w →
-      (later ≡ i + 1) × (moved ≡ x.cursor) →
-      r ≡ max reach x.end →
-      {d : Answer (Unit {0})} →
-      d ≡ (checked >>= λ _. check_row w' i) →
-      Laying t w₀ w' from to depth j later moved r d
-  going_on {x = x} {j = j} {w' = w'} h p q l n m k =
-      let laid = sym p ∙ ap (λ (y : Answer LaidItem). item_of y w') q in
-      rw (n.0, n.1)
-      (record {
-        same_length = l ∙ inv.same_length;
-        room = item_room t w i to j depth last cursor h laid l inv.room;
-        back = omega (arith, h.low);
-        rest = rw (add-one i, m, k) (inv.rest ∙ list-step t w i to j depth last cursor reach checked h inv.room.fits inv.back laid);
-      })
+      -- the next item's cursor
+      cursor-low :
+          cursor ≤ LARGEST →
+          (x : LaidItem) (j : ℕ) (w' : List Row) →
+          placing x.cursor x.end x.alignment w' ≡ lay_item t w i j depth b last cursor →
+          x.cursor ≤ LARGEST
+      cursor-low h x j w' p = item-within t w i j depth base last cursor h (here j p)
 
-  -- the base of the item that was placed is an earlier row
-  base-here :
-      {a : Answer LaidItem} {x : LaidItem} {j : ℕ} (w' : List Row) →
-      ChildrenEnd w i to j →
-      item_of a w' ≡ lay_item t w i j depth last cursor →
-      a ≡ Ok x →
-      row_code (row_in w' i).place.base ≤ i
-  base-here {j = j} w' h p q =
-      placed-low t w i to j depth last cursor reach checked h inv.room.fits inv.back (sym p ∙ ap (λ (y : Answer LaidItem). item_of y w') q)
+      going_on :
+          (x : LaidItem) {r a j later moved : ℕ} {w' : List Row} →
+          ChildrenEnd w i to j →
+          placing x.cursor x.end x.alignment w' ≡ lay_item t w i j depth b last cursor →
+          length w' ≡ length w →
+          (later ≡ i + 1) × (moved ≡ x.cursor) →
+          r ≡ max reach x.end →
+          a ≡ max largest x.alignment →
+          {d : Answer (Unit {0})} →
+          d ≡ (checked >>= λ _. check_row w' i) →
+          Laying t w₀ w' from to depth base j later moved r a d
+      going_on x {j = j} {w' = w'} h p l n m z k =
+          let laid = here j p in
+          rw (n.0, n.1)
+          (record {
+            same_length = l ∙ inv.same_length;
+            room = item_room t w i to j depth base last cursor h laid l inv.room;
+            back = omega (arith, h.low);
+            some = omega (arith, inv.some, z);
+            rest = rw (add-one i, m, z, k) (inv.rest ∙ list-step t w i to j depth base last cursor reach largest checked h inv.room.fits inv.back laid);
+          })
 
-  stopping :
-      {a : Answer LaidItem} {r : Refusal} {j : ℕ} (w' : List Row) →
-      ChildrenEnd w i to j →
-      item_of a w' ≡ lay_item t w i j depth last cursor →
-      a ≡ Err r →
-      stopped r ≡ lay_table t w₀ from to depth
-  stopping {j = j} w' h p q =
-      sym (inv.rest ∙ list-stop t w i to j depth last cursor reach checked h (sym p ∙ ap (λ (y : Answer LaidItem). item_of y w') q))
+      -- the base of the item that was placed is an earlier row
+      base-here :
+          (x : LaidItem) {j : ℕ} (w' : List Row) →
+          ChildrenEnd w i to j →
+          placing x.cursor x.end x.alignment w' ≡ lay_item t w i j depth b last cursor →
+          row_code (row_in w' i).place.base ≤ i
+      base-here x {j} w' h p =
+          placed-low t w i to j depth base last cursor reach largest checked h inv.room.fits inv.back (here j p)
 
-  ending : to ≤ i → ready reach checked w ≡ lay_table t w₀ from to depth
-  ending h = sym (inv.rest ∙ list-none t w i to depth last cursor reach checked h)
+      stopping :
+          {r : Refusal} {j : ℕ} →
+          ChildrenEnd w i to j →
+          halted r ≡ lay_item t w i j depth b last cursor →
+          stopped r ≡ lay_table t w₀ from to depth base
+      stopping {j = j} h p =
+          sym (inv.rest ∙ list-stop t w i to j depth base last cursor reach largest checked h (here j p))
+
+    ending : to ≤ i → ready reach largest checked w ≡ lay_table t w₀ from to depth base
+    ending h = sym (inv.rest ∙ list-none t w i to depth base last cursor reach largest checked inv.some h)
 
 -- the rows below an item
 room-part : {t : List ℕ} {w : List Row} {i to j : ℕ} → Room t w i to → ChildrenEnd w i to j → Room t w (i + 1) j
@@ -114,161 +129,215 @@ room-part {w = w} {i = i} {to = to} {j = j} r h =
       counted = rw (add-one i) (counted_step w i to j h r.counted).1;
     }
 
--- ---------------------------------------------------------------- the item
+-- ---------------------------------------------------------------- the list below an item
 
-module _ (t : List ℕ) (w : List Row) (i j left last cursor : ℕ) where
-  deep : i + 1 < j → left ≡ 0 → {n : ℕ} → n ≡ (row_in w (i + 1)).statement.at → halted (Refusal.TooDeep n) ≡ lay_item t w i j (64 - left) last cursor
-  deep h z e =
-      ap (λ (x : ℕ). halted (Refusal.TooDeep x)) (e ∙ ap (λ (x : ℕ). (row_in w x).statement.at) (add-one i))
-      ∙ too-deep t w i j (64 - left) last cursor (omega arith) (omega arith)
+-- one deeper, where depth is left
+deeper : (left : ℕ) → (left ≡ 0 → ⊥) → left ≤ 64 → 64 - (left - 1) ≡ suc (64 - left)
+deeper left z f = omega arith
 
-  module _ (h : i + 1 < j) (z : left ≡ 0 → ⊥) (f : left ≤ 64) where
-    -- the call's list is the inner list
-    called : {o : Outcome LaidList} → o ≡ lay_table t w (i + 1) j (64 - (left - 1)) → lay_table t w (suc i) j (suc (64 - left)) ≡ o
-    called e =
-        let d : suc (64 - left) ≡ 64 - (left - 1) = omega arith in
-        sym (e ∙ ap (λ (x : ℕ). lay_table t w x j (64 - (left - 1))) (add-one i) ∙ ap (lay_table t w (suc i) j) (sym d))
+pub lay_inner-returns-then-to-from : goal.lay_inner-returns-then-to-from
+lay_inner-returns-then-to-from t c =
+    let a = c.args in inner-none a.text.now a.rows.now a.from a.to (64 - a.depth_left) a.base c.if-to-from.true
 
-    inner-list :
-        {a : Answer LaidList} {x : LaidList} {w₁ : List Row} →
-        Room t w (i + 1) j →
-        list_of a w₁ ≡ lay_table t w (i + 1) j (64 - (left - 1)) →
-        a ≡ Ok x →
-        LaidRows t w (suc i) j (suc (64 - left)) x.width x.checked w₁
-    inner-list {w₁ = w₁} r p q =
-        laid-rows t w (suc i) j (suc (64 - left)) (omega arith) (subst (λ (x : ℕ). Room t w x j) (add-one i) r)
-        (called p ∙ ap (λ (y : Answer LaidList). list_of y w₁) q)
-
-    inner-halts : {a : Answer LaidList} {r : Refusal} (w₁ : List Row) → list_of a w₁ ≡ lay_table t w (i + 1) j (64 - (left - 1)) → a ≡ Err r → halted r ≡ lay_item t w i j (64 - left) last cursor
-    inner-halts w₁ p q = inner-stop t w i j (64 - left) last cursor (omega arith) (omega arith) (called p ∙ ap (λ (y : Answer LaidList). list_of y w₁) q)
-
-    module _ {width : ℕ} {c : Answer (Unit {0})} {w₁ : List Row} (n : LaidRows t w (suc i) j (suc (64 - left)) width c w₁) where
-      fold-halts : {r : Refusal} → c ≡ Err r → halted r ≡ lay_item t w i j (64 - left) last cursor
-      fold-halts = fold-stop t w i j (64 - left) last cursor (omega arith) (omega arith) n
-
-      grouped :
-          {u : Unit {0}} →
-          c ≡ Ok u →
-          last ≤ i →
-          {o : Outcome LaidItem} →
-          o ≡ place_row t w₁ i last cursor (pictured FieldKind.Group width) →
-          o ≡ lay_item t w i j (64 - left) last cursor
-      grouped q l e = e ∙ group-place t w i j (64 - left) last cursor (omega arith) (omega arith) n q l
-
-  module _ (h : j ≤ i + 1) {s : Statement} (ps : s ≡ statement_at w i) where
-    leaf-halts : {a : Answer Pictured} {r : Refusal} → a ≡ content t s leaf 0 → a ≡ Err r → halted r ≡ lay_item t w i j (64 - left) last cursor
-    leaf-halts p q = leaf-stop t w i j (64 - left) last cursor (omega arith) (sym q ∙ p ∙ ap (λ (x : Statement). content t x leaf 0) ps)
-
-    leafed :
-        {a : Answer Pictured} {c : Pictured} →
-        a ≡ content t s leaf 0 →
-        a ≡ Ok c →
-        {o : Outcome LaidItem} →
-        o ≡ place_row t w i last cursor c →
-        o ≡ lay_item t w i j (64 - left) last cursor
-    leafed p q e = e ∙ leaf-place t w i j (64 - left) last cursor (omega arith) (sym q ∙ p ∙ ap (λ (x : Statement). content t x leaf 0) ps)
-
--- an elementary item is narrow
-narrow : (t : List ℕ) (s : Statement) {a : Answer Pictured} {c : Pictured} → a ≡ content t s leaf 0 → a ≡ Ok c → c.width ≤ LARGEST
-narrow t s p q = leaf-narrow t s (sym q ∙ p)
-
--- ---------------------------------------------------------------- the goals of `lay_item`
-
-pub lay_item-returns-then-depth_left-eq0 : goal.lay_item-returns-then-depth_left-eq0
-lay_item-returns-then-depth_left-eq0 t c =
+pub lay_inner-returns-then-depth_left-eq0 : goal.lay_inner-returns-then-depth_left-eq0
+lay_inner-returns-then-depth_left-eq0 t c =
     let a = c.args in
-    deep a.text.now a.rows.now a.i a.j a.depth_left a.next.last a.next.cursor c.if-first-j.true c.if-depth_left-eq0.true
-    c.from-position.ensures
+    ap (λ (n : ℕ). stopped (Refusal.TooDeep n)) c.from-position.ensures
+    ∙ inner-deep a.text.now a.rows.now a.from a.to (64 - a.depth_left) a.base c.if-to-from.false
+    (omega (arith, c.if-depth_left-eq0.true))
 
--- the inner list, where it is known to be ready
-inner : (t : ℕ) (c : lay_item-In_ok-inner t) → LaidRows c.args.text.now c.args.rows.now (suc c.args.i) c.args.j (suc (64 - c.args.depth_left)) c.in_ok-inner.inner.width c.in_ok-inner.inner.checked c.lay_list.new.rows
-inner t c =
-    let a = c.args in
-    inner-list a.text.now a.rows.now a.i a.j a.depth_left a.next.last a.next.cursor c.if-first-j.true c.if-depth_left-eq0.false c.requires.2 c.requires.1 c.lay_list.ensures c.in_ok-inner.was
-
-pub lay_item-returns-in_err-inner : goal.lay_item-returns-in_err-inner
-lay_item-returns-in_err-inner t c =
+pub lay_inner-returns-in_err-inner : goal.lay_inner-returns-in_err-inner
+lay_inner-returns-in_err-inner t c =
     let a = c.args in
     rw (handed_on _ c.from_residual.ensures.1)
-    (inner-halts a.text.now a.rows.now a.i a.j a.depth_left a.next.last a.next.cursor c.if-first-j.true c.if-depth_left-eq0.false
-    c.requires.2 c.lay_list.new.rows c.lay_list.ensures c.in_err-inner.was)
+    (inner-list-stop a.text.now a.rows.now a.from a.to (64 - a.depth_left) a.base c.if-to-from.false (omega (arith, c.if-depth_left-eq0.false, c.requires.1))
+    (c.in_err-inner.ensures ∙ ap (λ (d : ℕ). lay_table a.text.now a.rows.now a.from a.to d a.base) (deeper a.depth_left c.if-depth_left-eq0.false c.requires.1)))
 
-pub lay_item-returns-in_err-inner-2 : goal.lay_item-returns-in_err-inner-2
-lay_item-returns-in_err-inner-2 t c =
+pub lay_inner-returns-in_err-inner-2 : goal.lay_inner-returns-in_err-inner-2
+lay_inner-returns-in_err-inner-2 t c =
     let a = c.args in
     rw (handed_on _ c.from_residual-in_err-inner-2.ensures.1)
-    (fold-halts a.text.now a.rows.now a.i a.j a.depth_left a.next.last a.next.cursor c.if-first-j.true c.if-depth_left-eq0.false
-    c.requires.2 (inner t (goal.at.lay_item-returns-in_err-inner-2 t c).In_ok-inner) c.in_err-inner-2.was)
+    (inner-fold-stop a.text.now a.rows.now a.from a.to (64 - a.depth_left) a.base c.if-to-from.false (omega (arith, c.if-depth_left-eq0.false, c.requires.1))
+    c.in_ok-inner.inner c.lay_list.new.rows
+    (c.in_ok-inner.ensures ∙ ap (λ (d : ℕ). lay_table a.text.now a.rows.now a.from a.to d a.base) (deeper a.depth_left c.if-depth_left-eq0.false c.requires.1))
+    c.in_err-inner-2.was)
 
-pub lay_item-place_item-requires : goal.lay_item-place_item-requires
-lay_item-place_item-requires t c =
-    let n = inner t (goal.at.lay_item-place_item-requires t c).In_ok-inner in
-    (search rules, search rules, n.narrow, laid-fingerprinted n (fingerprinted-less c.requires.1.fingerprinted (omega (arith, c.requires.0))), omega (arith, c.requires.0, c.requires.1.few))
-
-pub lay_item-returns-then-first-j : goal.lay_item-returns-then-first-j
-lay_item-returns-then-first-j t c =
+pub lay_inner-returns : goal.lay_inner-returns
+lay_inner-returns t c =
     let a = c.args in
-    grouped a.text.now a.rows.now a.i a.j a.depth_left a.next.last a.next.cursor c.if-first-j.true c.if-depth_left-eq0.false c.requires.2
-    (inner t (goal.at.lay_item-returns-then-first-j t c).In_ok-inner)
-    c.in_ok-inner-2.was c.requires.3 c.place_item.ensures
+    inner-given a.text.now a.rows.now a.from a.to (64 - a.depth_left) a.base c.if-to-from.false (omega (arith, c.if-depth_left-eq0.false, c.requires.1))
+    c.in_ok-inner.inner c.lay_list.new.rows
+    (c.in_ok-inner.ensures ∙ ap (λ (d : ℕ). lay_table a.text.now a.rows.now a.from a.to d a.base) (deeper a.depth_left c.if-depth_left-eq0.false c.requires.1))
+    c.in_ok-inner-2.was
+
+-- ---------------------------------------------------------------- the item
+
+module _ (t : List ℕ) (w : List Row) (i j depth base last cursor : ℕ) where
+  abbrev own : Statement
+  own = statement_at w i
+
+  abbrev kids : Forest
+  kids = rows_forest w (suc i) j
+
+  content-is :
+      content t own kids ≡ (if ltb (i + 1) j then Ok (pictured FieldKind.Group None 0) else elementary t own)
+  content-is =
+      tested (i + 1) j
+      (λ p l. rw p (content-group t w i j depth base last cursor (omega arith)))
+      (λ p l. rw p (content-leaf t w i j depth base last cursor (omega arith)))
+
+  content-halts :
+      {r : Refusal} →
+      Err r ≡ (if ltb (i + 1) j then Ok (pictured FieldKind.Group None 0) else elementary t own) →
+      halted r ≡ lay_item t w i j depth base last cursor
+  content-halts e = content-stop t w i j depth base last cursor (content-is ∙ sym e)
+
+  module _ {c : Pictured} (e : Ok c ≡ (if ltb (i + 1) j then Ok (pictured FieldKind.Group None 0) else elementary t own)) where
+    has : content t own kids ≡ Ok c
+    has = content-is ∙ sym e
+
+    narrow : c.width ≤ LARGEST
+    narrow = omega (arith, (content-bounded t own kids has).width)
+
+    module _ {m : ℕ} (pm : m ≡ place_multiple own c) where
+      multiple-small : (0 < m) × (m ≤ 8)
+      multiple-small = let z = place-small t own kids c has in (omega (arith, z.0, pm), omega (arith, z.1, pm))
+
+      start-halts :
+          {r : Refusal} →
+          starts t own m (seen_at w last) base cursor ≡ Err r →
+          halted r ≡ lay_item t w i j depth base last cursor
+      start-halts q =
+          start-stop t w i j depth base last cursor has
+          (ap (λ (n : ℕ). starts t own n (seen_at w last) base cursor) (sym pm) ∙ q)
+
+      module _ {b : Beginning} (begun : Begun t w i m base last cursor b) {n : ℕ} (pn : n ≡ (base + b.offset) % 8) where
+        begun_is : Begun t w i (place_multiple own c) base last cursor b
+        begun_is = subst (λ (x : ℕ). Begun t w i x base last cursor b) pm begun
+
+        below : {o : Outcome LaidList} → o ≡ lay_inner t w (i + 1) j depth n → lay_inner t w (suc i) j depth ((base + b.offset) % 8) ≡ o
+        below p =
+            sym (p ∙ ap (λ (x : ℕ). lay_inner t w x j depth n) (add-one i) ∙ ap (lay_inner t w (suc i) j depth) pn)
+
+        inner-halts :
+            {r : Refusal} →
+            stopped r ≡ lay_inner t w (i + 1) j depth n →
+            halted r ≡ lay_item t w i j depth base last cursor
+        inner-halts p = inner-stop t w i j depth base last cursor has begun_is (below p)
+
+        module _ {x : LaidList} {w₁ : List Row} (p : ready x.width x.alignment x.checked w₁ ≡ lay_inner t w (i + 1) j depth n) where
+          inner_is : InnerRows t w (suc i) j depth ((base + b.offset) % 8) x w₁
+          inner_is = inner-rows t w (suc i) j depth ((base + b.offset) % 8) (below p)
+
+          aligned : (0 < x.alignment) × (x.alignment ≤ 8)
+          aligned =
+              let z = list-small t kids in
+              (omega (arith, z.0, inner_is.list.aligned), omega (arith, z.1, inner_is.list.aligned))
+
+          long : length w₁ ≡ length w
+          long = inner-long t w (suc i) j depth ((base + b.offset) % 8) inner_is
+
+          placed-so : {o : Outcome LaidItem} → last ≤ i → o ≡ place_row w₁ i last cursor b c x → o ≡ lay_item t w i j depth base last cursor
+          placed-so l q = q ∙ item-place t w i j depth base last cursor has begun_is inner_is l
 
 pub lay_item-returns-in_err-c : goal.lay_item-returns-in_err-c
 lay_item-returns-in_err-c t c =
     let a = c.args in
-    rw (handed_on _ c.from_residual-in_err-c.ensures.1)
-    (leaf-halts a.text.now a.rows.now a.i a.j a.depth_left a.next.last a.next.cursor c.if-first-j.false
-    refl c.elementary.ensures c.in_err-c.was)
+    rw (handed_on _ c.from_residual.ensures.1)
+    (content-halts a.text.now a.rows.now a.i a.j (64 - a.depth_left) a.next.base a.next.last a.next.cursor c.in_err-c.ensures)
 
-pub lay_item-place_item-requires-2 : goal.lay_item-place_item-requires-2
-lay_item-place_item-requires-2 t c = (
-  search rules,
-  search rules,
-  narrow c.args.text.now (statement_at c.args.rows.now c.args.i) c.elementary.ensures c.in_ok-c.was,
-  fingerprinted-less c.requires.1.fingerprinted (omega (arith, c.requires.0)),
-  omega (arith, c.requires.0, c.requires.1.few),
-)
+pub lay_item-begin-requires : goal.lay_item-begin-requires
+lay_item-begin-requires t c =
+    let a = c.args in
+    let r = c.requires in
+    let m = multiple-small a.text.now a.rows.now a.i a.j (64 - a.depth_left) a.next.base a.next.last a.next.cursor c.in_ok-c.ensures c.place_multiple.ensures in (
+      omega (arith, r.0, r.1.fits),
+      r.3,
+      m.0,
+      omega (arith, m.1),
+      fingerprinted-less r.1.fingerprinted (omega (arith, r.0)),
+      omega (arith, r.0, r.1.few),
+    )
+
+pub lay_item-returns-in_err-begun : goal.lay_item-returns-in_err-begun
+lay_item-returns-in_err-begun t c =
+    let a = c.args in
+    rw (handed_on _ c.from_residual-in_err-begun.ensures.1)
+    (start-halts a.text.now a.rows.now a.i a.j (64 - a.depth_left) a.next.base a.next.last a.next.cursor c.in_ok-c.ensures c.place_multiple.ensures
+    c.in_err-begun.ensures)
+
+pub lay_item-returns-in_err-inner : goal.lay_item-returns-in_err-inner
+lay_item-returns-in_err-inner t c =
+    let a = c.args in
+    rw (handed_on _ c.from_residual-in_err-inner.ensures.1)
+    (inner-halts a.text.now a.rows.now a.i a.j (64 - a.depth_left) a.next.base a.next.last a.next.cursor c.in_ok-c.ensures c.place_multiple.ensures
+    c.in_ok-begun.ensures c.base_at.ensures.0 c.in_err-inner.ensures)
+
+pub lay_item-place_item-requires : goal.lay_item-place_item-requires
+lay_item-place_item-requires t c =
+    let a = c.args in
+    let r = c.requires in
+    let x = c.in_ok-inner.inner in
+    let n = aligned a.text.now a.rows.now a.i a.j (64 - a.depth_left) a.next.base a.next.last a.next.cursor c.in_ok-c.ensures c.place_multiple.ensures
+    c.in_ok-begun.ensures c.base_at.ensures.0 {x = x} c.in_ok-inner.ensures in
+    let i = inner_is a.text.now a.rows.now a.i a.j (64 - a.depth_left) a.next.base a.next.last a.next.cursor c.in_ok-c.ensures c.place_multiple.ensures
+    c.in_ok-begun.ensures c.base_at.ensures.0 {x = x} c.in_ok-inner.ensures in
+    let l = long a.text.now a.rows.now a.i a.j (64 - a.depth_left) a.next.base a.next.last a.next.cursor c.in_ok-c.ensures c.place_multiple.ensures
+    c.in_ok-begun.ensures c.base_at.ensures.0 {x = x} c.in_ok-inner.ensures in (
+      omega (arith, r.0, r.1.fits, l),
+      r.3,
+      omega (arith, r.0, r.1.few),
+      narrow a.text.now a.rows.now a.i a.j (64 - a.depth_left) a.next.base a.next.last a.next.cursor c.in_ok-c.ensures,
+      i.list.narrow,
+      n.0,
+      n.1,
+    )
 
 pub lay_item-returns : goal.lay_item-returns
 lay_item-returns t c =
     let a = c.args in
-    leafed a.text.now a.rows.now a.i a.j a.depth_left a.next.last a.next.cursor c.if-first-j.false
-    refl c.elementary.ensures c.in_ok-c.was c.place_item-2.ensures
+    placed-so a.text.now a.rows.now a.i a.j (64 - a.depth_left) a.next.base a.next.last a.next.cursor c.in_ok-c.ensures c.place_multiple.ensures
+    c.in_ok-begun.ensures c.base_at.ensures.0 {x = c.in_ok-inner.inner} c.in_ok-inner.ensures c.requires.3 c.place_item.ensures
 
 -- ---------------------------------------------------------------- the goals of `lay_list`
 
 pub lay_list-next_of-j-requires : goal.lay_list-next_of-j-requires
-lay_list-next_of-j-requires t c = numbered c.loop-i.invariant c.loop-i-test.true c.new.ensures
+lay_list-next_of-j-requires t c = numbered c.loop-i.invariant.1 c.loop-i-test.true c.new.ensures
 
 pub lay_list-lay_item-requires : goal.lay_list-lay_item-requires
 lay_list-lay_item-requires t c =
     let e = rw (c.new.ensures.0, c.new.ensures.1) at c.next_of-j.ensures in
-    (search rules, (omega (arith, e.low), room-part c.loop-i.invariant.room e, search rules, search rules))
+    (search rules, (omega (arith, e.low), room-part c.loop-i.invariant.1.room e, search rules, search rules))
 
 pub lay_list-at-next-requires-in-loop-i : goal.lay_list-at-next-requires-in-loop-i
-lay_list-at-next-requires-in-loop-i t c =
-    cursor-low c.loop-i.invariant c.loop-i.next.within _ c.lay_item.new.rows c.lay_item.ensures c.in_ok-item.was
+lay_list-at-next-requires-in-loop-i t c = (
+  c.requires.2,
+  cursor-low c.loop-i.invariant.1 c.loop-i.invariant.0 c.loop-i.next.within.1 c.in_ok-item.item _ c.lay_item.new.rows c.in_ok-item.ensures,
+)
 
 pub lay_list-check_row-requires : goal.lay_list-check_row-requires
 lay_list-check_row-requires t c =
     let n = c.new-in-loop-i.ensures in
     rw (n.0, n.1) (
       c.loop-i-test.true,
-      base-here c.loop-i.invariant c.lay_item.new.rows (rw (c.new.ensures.0, c.new.ensures.1) at c.next_of-j.ensures) c.lay_item.ensures c.in_ok-item.was,
+      base-here c.loop-i.invariant.1 c.loop-i.invariant.0 c.in_ok-item.item c.lay_item.new.rows (rw (c.new.ensures.0, c.new.ensures.1) at c.next_of-j.ensures) c.in_ok-item.ensures,
     )
 
 pub lay_list-loop-i-preserved : goal.lay_list-loop-i-preserved
-lay_list-loop-i-preserved t c =
-    going_on c.loop-i.invariant (rw (c.new.ensures.0, c.new.ensures.1) at c.next_of-j.ensures) c.lay_item.ensures c.in_ok-item.was
-    c.lay_item.auto.rows c.at-next-in-loop-i.ensures (larger c.loop-i.reach c.in_ok-item.item.end c.max-reach.ensures)
-    (c.and-checked.ensures
-    ∙ both c.loop-i.checked c.check_row.result
-    ∙ ap (λ (d : Answer (Unit {0})). c.loop-i.checked >>= λ _. d) (rw c.new-in-loop-i.ensures.0 at c.check_row.ensures))
+lay_list-loop-i-preserved t c = (
+  c.at-next-in-loop-i.ensures.0,
+  going_on c.loop-i.invariant.1 c.loop-i.invariant.0 c.in_ok-item.item (rw (c.new.ensures.0, c.new.ensures.1) at c.next_of-j.ensures) c.in_ok-item.ensures
+      c.lay_item.auto.rows (c.at-next-in-loop-i.ensures.1, c.at-next-in-loop-i.ensures.2) (larger c.loop-i.reach c.in_ok-item.item.end c.max-reach.ensures)
+      (larger c.loop-i.alignment c.in_ok-item.item.alignment c.max-alignment.ensures)
+      (c.and-checked.ensures
+      ∙ both c.loop-i.checked c.check_row.result
+      ∙ ap (λ (d : Answer (Unit {0})). c.loop-i.checked >>= λ _. d) (rw c.new-in-loop-i.ensures.0 at c.check_row.ensures)),
+)
 
 pub lay_list-returns-in_err-item : goal.lay_list-returns-in_err-item
 lay_list-returns-in_err-item t c =
     rw (handed_on _ c.from_residual.ensures.1)
-    (stopping c.loop-i.invariant c.lay_item.new.rows (rw (c.new.ensures.0, c.new.ensures.1) at c.next_of-j.ensures) c.lay_item.ensures
-    c.in_err-item.was)
+    (stopping c.loop-i.invariant.1 c.loop-i.invariant.0 (rw (c.new.ensures.0, c.new.ensures.1) at c.next_of-j.ensures) c.in_err-item.ensures)
 
 pub lay_list-returns : goal.lay_list-returns
-lay_list-returns t c = ending c.loop-i.invariant c.loop-i-test.false
+lay_list-returns t c = ending c.loop-i.invariant.1 c.loop-i-test.false

@@ -14,12 +14,12 @@ use Rattle.definition.specs.Words.{first_words}
 use Rattle.definition.proofs.WordLaws.{end-words}
 use Rattle.text.specs.declared.tokens.Next.{Next}
 use Rattle.text.specs.declared.tokens.Cursor.{Cursor}
-use Rattle.text.specs.Tokens.{tokens_at, First, FirstWord, FirstStop, FirstEnd}
+use Rattle.text.specs.Tokens.{tokens_at, First, FirstWord, FirstStop, FirstEnd, words_from, Ends}
 use Rattle.definition.proofs.SpanLaws.{step-spans, AnswerSpans, finish-spans}
 use Rattle.statement.specs.Places.{SpanInside}
 use Rattle.statement.specs.Steps.{led, kept_on}
-use Rattle.statement.specs.Reading.{words_from, Ends, ClausesAre}
-use Rattle.statement.proofs.EndLaws.{reached-word, ends-stop, ends-text}
+use Rattle.statement.specs.Reading.{ClausesAre}
+use Rattle.text.proofs.EndLaws.{reached-word, ends-stop, ends-text}
 use Rattle.statement.proofs.read_clauses.Invariants.{Left}
 use Rattle.statement.proofs.read_clauses.Goals as goal
 

@@ -7,10 +7,10 @@ use lib.ListN.{length}
 use Rattle.definition.specs.declared.Clauses.{Clauses}
 use Rattle.definition.specs.declared.ParseState.{ParseState}
 use Rattle.definition.specs.Statement.{no_clauses, clauses}
+use Rattle.text.specs.Tokens.{words_from}
 use Rattle.text.specs.declared.tokens.Cursor.{Cursor}
 use Rattle.statement.specs.Places.{Fits}
-use Rattle.statement.specs.Reading.{words_from}
-use Rattle.statement.proofs.EndLaws.{Reached}
+use Rattle.text.proofs.EndLaws.{Reached}
 use Rattle.statement.proofs.read_clauses.Given as goal
 
 -- the clauses are those of the words from `cursor` on, after what was read

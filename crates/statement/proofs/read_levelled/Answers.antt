@@ -15,8 +15,8 @@ use Rattle.definition.specs.Words.{first_open, sentences, first_words}
 use Rattle.definition.proofs.StatementLaws.{statement-bad, statement-skipped, statement-kept, statement-refused}
 use Rattle.definition.proofs.WordLaws.{sentences-word, open_after}
 use Rattle.text.specs.declared.tokens.Cursor.{Cursor}
-use Rattle.text.specs.Tokens.{tokens_at}
-use Rattle.statement.specs.Reading.{words_from, Ends, NamedDone, Followed, FirstKept, FirstSkipped, FirstRefused}
+use Rattle.text.specs.Tokens.{tokens_at, words_from, Ends}
+use Rattle.statement.specs.Reading.{NamedDone, Followed, FirstKept, FirstSkipped, FirstRefused}
 use Rattle.statement.proofs.read_levelled.Goals as goal
 
 module _ (t : List ℕ) (w : Span) (from : Cursor) {v : Option ℕ} (p : v ≡ number 256 (part t w)) where

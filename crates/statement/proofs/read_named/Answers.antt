@@ -19,11 +19,11 @@ use Rattle.definition.specs.Words.{first_words}
 use Rattle.definition.proofs.WordLaws.{end-words}
 use Rattle.text.specs.declared.tokens.Next.{Next}
 use Rattle.text.specs.declared.tokens.Cursor.{Cursor}
-use Rattle.text.specs.Tokens.{tokens_at, First, FirstWord, FirstStop, FirstEnd}
+use Rattle.text.specs.Tokens.{tokens_at, First, FirstWord, FirstStop, FirstEnd, words_from, Ends}
 use Rattle.definition.proofs.SpanLaws.{none-spans}
 use Rattle.statement.specs.Places.{SpanInside}
-use Rattle.statement.specs.Reading.{words_from, Ends, ClausesDone, NamedDone}
-use Rattle.statement.proofs.EndLaws.{reached-start, reached-word, ends-stop, ends-text, ends_on}
+use Rattle.statement.specs.Reading.{ClausesDone, NamedDone}
+use Rattle.text.proofs.EndLaws.{reached-start, reached-word, ends-stop, ends-text, ends_on}
 use Rattle.statement.proofs.read_named.Goals as goal
 
 module _ (t : List ℕ) (at level : ℕ) (from : Cursor) (h : from.at ≤ length t) where

@@ -1,5 +1,5 @@
 -- `statement::read_statement` meets its contract: its tokens are those that the first word begins, a period, or none.
-use Prim.Native.Nat.{ℕ, ◌+◌, ◌≤◌}
+use Prim.Native.Nat.{ℕ, ◌+◌, ◌-◌, ◌≤◌}
 use mathlib.Core.Path.{refl}
 use mathlib.Core.List.{List, ◌∷◌}
 use native.Mathlib.Omega.{arith}
@@ -34,7 +34,7 @@ module _ (t : List ℕ) (from : Cursor) {n : Cursor} where
   -- a period alone is an empty statement
   empty : FirstStop (tokens_at t from) t from.at n → FirstSkipped (tokens_at t from) t (from.at + 1) n
   unfolding first_open
-  empty s = rw s.all_are (record { is = statement-empty t; followed = record { all_are = sentences-stop (tokens_at t n); opens = refl; up = omega arith; within = s.within } })
+  empty s = rw s.all_are (record { is = statement-empty t; followed = record { all_are = sentences-stop (n.at - 1) (tokens_at t n); opens = refl; up = omega arith; within = s.within } })
 
 pub returns-in-Word : goal.returns-in-Word
 returns-in-Word c = let a = c.args in begun a.text.now a.cursor.now _ c.read_levelled.result c.in-Word.ensures c.read_levelled.ensures

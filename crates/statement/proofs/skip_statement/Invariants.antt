@@ -1,7 +1,7 @@
 -- `statement::skip_statement` meets its contract. The loop's invariant: the statement goes on at `cursor`.
 use Prim.Native.Nat.{◌-◌}
 use lib.ListN.{length}
-use Rattle.statement.proofs.EndLaws.{Reached}
+use Rattle.text.proofs.EndLaws.{Reached}
 use Rattle.statement.proofs.skip_statement.Given as goal
 
 abbrev pub invariant-loop : goal.invariant-loop

@@ -4,11 +4,11 @@
 //! not zero, and work memory must be zero afterwards.
 
 ghost use Rattle.std.specs.Prelude.{◌≡◌, IsOk, IsTrue};
-ghost use Rattle.test_lists.specs.Words.{ahead, is_end};
+ghost use Rattle.replay.specs.Words.{ahead, is_end};
 
 use crate::record_cases::take_all;
-use crate::replay::case::{Case, Differs};
-use crate::replay::lent::{Lent, TEXT_ROOM, replay_call};
+use replay::case::{Case, Differs};
+use replay::lent::{Lent, TEXT_ROOM, replay_call};
 
 /// The most weights that a case has.
 const WEIGHTS: usize = 32;

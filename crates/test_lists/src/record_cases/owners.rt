@@ -6,15 +6,15 @@
 //! memory must be zero afterwards.
 
 ghost use Rattle.std.specs.Prelude.{◌≡◌, ◌≤◌, ◌<◌, ◌↔◌, ◌+◌, min, IsOk, IsTrue};
-ghost use Rattle.test_lists.specs.Tallies.{most};
-ghost use Rattle.test_lists.specs.Counting.{cases, Onward};
-ghost use Rattle.test_lists.specs.Words.{ahead, is_end};
+ghost use Rattle.replay.specs.Tallies.{most};
+ghost use Rattle.replay.specs.Counting.{cases, Onward};
+ghost use Rattle.replay.specs.Words.{ahead, is_end};
 
-use crate::replay::case::{Case, Differs};
-use crate::replay::cases::Cases;
-use crate::replay::lent::{Lent, TEXT_ROOM, replay_call};
-use crate::replay::tally::Tally;
 use definition::{LEAST_WORK, MOST_BYTES, Owner, Refusal};
+use replay::case::{Case, Differs};
+use replay::cases::Cases;
+use replay::lent::{Lent, TEXT_ROOM, replay_call};
+use replay::tally::Tally;
 
 // ---------------------------------------------------------------- one position and its answer
 
@@ -129,7 +129,7 @@ fn is_past(text: &[u8], position: usize) -> bool {
 }
 
 /// Replays the positions past the end of a record of so many bytes, which is the end of the case.
-#[tactic(auto, using(crate::proofs::TallyLaws::tally_steps))]
+#[tactic(auto, using(replay::proofs::TallyLaws::tally_steps))]
 fn replay_end(case: Case, text: &[u8], length: usize, positions: &mut Tally)
     ensures { Onward positions.old positions.new }
 {
@@ -142,7 +142,7 @@ fn replay_end(case: Case, text: &[u8], length: usize, positions: &mut Tally)
 }
 
 /// Replays every position of a record: its runs, and the end.
-#[tactic(auto, using(crate::proofs::TallyLaws::tally_steps))]
+#[tactic(auto, using(replay::proofs::TallyLaws::tally_steps))]
 fn replay_record(case: &mut Case, positions: &mut Tally) -> Result<(), Differs>
     ensures { Onward positions.old positions.new }
 {
@@ -162,7 +162,7 @@ fn replay_record(case: &mut Case, positions: &mut Tally) -> Result<(), Differs>
 
 /// Replays a record, whose words count as a position that differs where they are other than they should be. Whether
 /// none of its positions differs.
-#[tactic(auto, using(crate::proofs::TallyLaws::tally_steps))]
+#[tactic(auto, using(replay::proofs::TallyLaws::tally_steps))]
 fn agrees(case: &mut Case, positions: &mut Tally) -> bool
     ensures onward { Onward positions.old positions.new }
     ensures agrees { IsTrue result

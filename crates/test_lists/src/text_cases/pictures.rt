@@ -6,11 +6,11 @@
 //! numbered as in tools/oracle.
 
 ghost use Rattle.std.specs.Prelude.{◌≡◌, IsOk, IsTrue};
-ghost use Rattle.test_lists.specs.Words.{ahead, is_end};
+ghost use Rattle.replay.specs.Words.{ahead, is_end};
 
-use crate::replay::case::{Case, Differs, only};
-use crate::replay::lent::{TEXT_ROOM, is_untouched, patterned};
 use definition::{FieldKind, Pictured, Refusal, SignKind, Usage};
+use replay::case::{Case, Differs, only};
+use replay::lent::{TEXT_ROOM, is_untouched, patterned};
 use rows::kinds;
 use rows::kinds::Coded;
 

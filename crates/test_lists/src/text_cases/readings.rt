@@ -2,11 +2,11 @@
 //! answers, which names the numbers; where the Rust has an answer, that was compared with it when the list was made.
 
 ghost use Rattle.std.specs.Prelude.{◌≡◌, ◌≤◌, length, IfOk, IsOk, IsTrue};
-ghost use Rattle.test_lists.specs.Words.{ahead, is_end};
+ghost use Rattle.replay.specs.Words.{ahead, is_end};
 
-use crate::replay::case::{Case, Differs};
-use crate::replay::lent::{Lent, TEXT_ROOM};
-use definition::{Clauses, ItemUsage, MOST_STATEMENTS, Refusal, Span, Usage};
+use definition::{Clauses, ItemUsage, MOST_STATEMENTS, NamedUsage, Refusal, Span, Usage};
+use replay::case::{Case, Differs};
+use replay::lent::{Lent, TEXT_ROOM};
 use rows::kinds::Coded;
 use rows::{Row, Rows};
 use statement::tree;
@@ -14,14 +14,16 @@ use statement::tree;
 // ---------------------------------------------------------------- one row
 
 /// The number of what USAGE says; DISPLAY has the third one there.
-fn usage_number(usage: Option<ItemUsage>) -> u64 {
-    match usage {
-        None => 0,
-        Some(ItemUsage::Picture(Usage::Comp3)) => 1,
-        Some(ItemUsage::Picture(Usage::Comp)) => 2,
-        Some(ItemUsage::Picture(Usage::Display)) => 3,
-        Some(ItemUsage::Comp1) => 4,
-        Some(ItemUsage::Comp2) => 5,
+fn usage_number(named: Option<NamedUsage>) -> u64 {
+    let Some(named) = named else {
+        return 0;
+    };
+    match named.usage {
+        ItemUsage::Picture(Usage::Comp3) => 1,
+        ItemUsage::Picture(Usage::Comp) => 2,
+        ItemUsage::Picture(Usage::Display) => 3,
+        ItemUsage::Comp1 => 4,
+        ItemUsage::Comp2 => 5,
     }
 }
 
@@ -70,7 +72,7 @@ fn row(case: &mut Case, row: &Row) -> Result<(), Differs>
     case.numbers(&[u64::from(s.level), u64::from(s.at), parent_number(row)])?;
     span(case, s.name)?;
     clauses(case, s.clauses)?;
-    case.bytes(&[s.usage.code()])
+    case.bytes(&[s.usage.map_or(0, |named| named.usage.code())])
 }
 
 /// Goes on where the next words are the rows.

@@ -1,11 +1,11 @@
 -- The cycle of calls of the walk that builds the table.
 -- Assumes nothing.
 use Rattle.std.specs.Prelude.{Option, None, Some}
-use Rattle.std.proofs.Common.{◌≡◌, sym, ap, ◌∙◌, ℕ, List, arith, rules}
+use Rattle.std.proofs.Common.{◌≡◌, ◌+◌, sym, ap, ◌∙◌, ℕ, List, arith, rules}
 use Rattle.definition.specs.Fold.{Entries, end, entry, append, widest, union}
 use Rattle.definition.specs.Search.{entries#}
 use Rattle.rows.specs.declared.Row.{Row}
-use Rattle.rows.specs.Rows.{row_of_code, row_code, row_in}
+use Rattle.rows.specs.Rows.{row_of_code, row_code, row_in, before_in}
 use Rattle.rows.proofs.RowLaws.{of-code}
 use Rattle.layout.specs.declared.unions.Standing.{Standing}
 use Rattle.layout.specs.Shown.{shown_at, standing_at, Base, Branch}
@@ -17,7 +17,7 @@ use Rattle.fold.specs.declared.entries.Block.{Block}
 use Rattle.fold.specs.declared.table.TableEntry.{TableEntry}
 use Rattle.fold.proofs.BuildLaws.{built-none, built-as, built-wider, room-part, room_within}
 use Rattle.fold.proofs.BuildLaws.{room_open, built-own, built-union}
-use Rattle.fold.proofs.WalkLaws.{shown-under, shown-alone, shown-base, shown-union, union-based}
+use Rattle.fold.proofs.WalkLaws.{listed-none, shown-under, shown-alone, shown-base, shown-union, union-based}
 use Rattle.fold.proofs.WalkLaws.{based-folded, based-alone, first-room, second-room, both-built, room_as}
 use Rattle.fold.proofs.WalkLaws.{listing-starts, listing-ends, listing-falls, listing-room, listing-on}
 use Rattle.fold.proofs.WalkLaws.{redefining-starts, redefining-ends, redefining-next}
@@ -27,23 +27,20 @@ use Rattle.fold.proofs.entries.+build.Goals as goal
 
 -- ---------------------------------------------------------------- build_item
 
-pub build_item-build_list-inner-requires : goal.build_item-build_list-inner-requires
-build_item-build_list-inner-requires t c =
-    let n = c.children.ensures in
-    rw (n.0, n.1, n.2, n.3, c.within.ensures) (omega (arith, c.args.row.branch.low), room_within c.requires)
+pub build_item-build_inner-inner-requires : goal.build_item-build_inner-inner-requires
+build_item-build_inner-inner-requires t c =
+    rw c.within.ensures (omega (arith, c.args.row.branch.low), room_within c.requires)
 
 pub build_item-close_item-requires : goal.build_item-close_item-requires
 build_item-close_item-requires t c =
     let a = c.args in
-    let n = c.children.ensures in
-    let built = rw (n.0, n.1, n.2, n.3, c.within.ensures) at c.build_list-inner.ensures in
+    let built = rw c.within.ensures at c.build_inner-inner.ensures in
     room_open a.b built a.row.row a.row.branch.low c.requires
 
 pub build_item-returns : goal.build_item-returns
 build_item-returns t c =
     let a = c.args in
-    let n = c.children.ensures in
-    let built = rw (n.0, n.1, n.2, n.3, c.within.ensures) at c.build_list-inner.ensures in
+    let built = rw c.within.ensures at c.build_inner-inner.ensures in
     built-own
     a.b
     (built-wider a.row.row a.row.end (omega arith) (omega arith) built)
@@ -53,6 +50,25 @@ build_item-returns t c =
     (branch_row a.row.branch)
     a.union
     c.close_item.ensures
+
+-- ---------------------------------------------------------------- build_inner
+
+pub build_inner-returns-then-row-first : goal.build_inner-returns-then-row-first
+build_inner-returns-then-row-first t c =
+    let a = c.args in
+    let x = a.row in
+    built-as (listed-none x.text.now x.rows.all.now (x.row + 1) x.end (omega (arith, c.if-row-first.true)))
+    (built-none x.rows.all.now a.entries.now a.b c.requires.narrow)
+
+pub build_inner-build_list-requires : goal.build_inner-build_list-requires
+build_inner-build_list-requires t c =
+    let n = c.children.ensures in
+    rw (n.0, n.1, n.2, n.3) (omega (arith, c.args.row.branch.low), c.requires)
+
+pub build_inner-returns : goal.build_inner-returns
+build_inner-returns t c =
+    let n = c.children.ensures in
+    rw (n.0, n.1, n.2, n.3) at c.build_list.ensures
 
 -- ---------------------------------------------------------------- build_list
 
@@ -208,23 +224,23 @@ build_redefiners-returns t c = redefining-ends c.loop-next.invariant c.in_defaul
 -- a base, where row i is known to be one
 module _ {t : List ℕ} {w : List Row} {i j to : ℕ} (h : Branch t w i j to) {s : Standing} (p : s ≡ standing_at t w i) (e : s ≡ Standing.Base) {next : Option ℕ} (n : next ≡ row_of_code (row_code (row_in w i).place.next)) where
   based : Base t w i j to
-  based = branch-base h (stands-base t w i (bases_at w (row_in w i).place.before) p e)
+  based = branch-base h (stands-base t w i (bases_at w (before_in w i)) p e)
 
   -- with redefiners, and without
   unites :
       {row : ℕ} →
       next ≡ Some row →
-      shown_at t w i j to (row_in w i).place.before ≡ entry (union (entry_in w i) (widest (union_in t w i j to))) (union_in t w i j to) end
-  unites x = shown-union t w i j to (row_in w i).place.before p e based (sym n ∙ x)
+      shown_at t w i j to (before_in w i) ≡ entry (union (entry_in w i) (widest (union_in t w i j to))) (union_in t w i j to) end
+  unites x = shown-union t w i j to (before_in w i) p e based (sym n ∙ x)
 
-  stands : next ≡ None → shown_at t w i j to (row_in w i).place.before ≡ item_in t w i j None
-  stands x = shown-base t w i j to (row_in w i).place.before p e based (sym n ∙ x)
+  stands : next ≡ None → shown_at t w i j to (before_in w i) ≡ item_in t w i j None
+  stands x = shown-base t w i j to (before_in w i) p e based (sym n ∙ x)
 
 pub build_shown-returns-in-Under : goal.build_shown-returns-in-Under
 build_shown-returns-in-Under t c =
     let a = c.args in
     let x = a.row in
-    let last = (row_in x.rows.all.now x.row).place.before in
+    let last = before_in x.rows.all.now x.row in
     built-as
     (shown-under x.text.now x.rows.all.now x.row x.end x.rows.count last c.standing.ensures c.in-Under.is)
     (built-none x.rows.all.now a.entries.now a.b c.requires.narrow)
@@ -232,7 +248,7 @@ build_shown-returns-in-Under t c =
 pub build_shown-returns-in-Alone : goal.build_shown-returns-in-Alone
 build_shown-returns-in-Alone t c =
     let x = c.args.row in
-    let last = (row_in x.rows.all.now x.row).place.before in
+    let last = before_in x.rows.all.now x.row in
     built-as
     (shown-alone x.text.now x.rows.all.now x.row x.end x.rows.count last c.standing.ensures c.in-Alone.is)
     (built-wider x.row x.rows.count (omega arith) x.branch.high c.build_item.ensures)
@@ -240,7 +256,7 @@ build_shown-returns-in-Alone t c =
 pub build_shown-build_members-inner-requires : goal.build_shown-build_members-inner-requires
 build_shown-build_members-inner-requires t c =
     let x = c.args.row in
-    let last = (row_in x.rows.all.now x.row).place.before in
+    let last = before_in x.rows.all.now x.row in
     let base = stands-base x.text.now x.rows.all.now x.row (bases_at x.rows.all.now last) c.standing.ensures c.in-Base.is in
     let shown = unites x.branch c.standing.ensures c.in-Base.is (next-of c.row.ensures) c.in-Some.is in
     rw c.within.ensures (omega arith, (base, room_within (room_as shown c.requires)))

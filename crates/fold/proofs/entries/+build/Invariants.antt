@@ -6,22 +6,25 @@ use Rattle.fold.proofs.WalkLaws.{Listing, Redefining, chain_left}
 use Rattle.fold.proofs.entries.+build.Given as goal
 
 abbrev pub decreases-build_based : goal.decreases-build_based
-decreases-build_based l = 8 * (l.base.end - l.base.row) + 1
+decreases-build_based l = 10 * (l.base.end - l.base.row) + 1
 
 abbrev pub decreases-build_item : goal.decreases-build_item
-decreases-build_item l = 8 * (l.row.end - l.row.row)
+decreases-build_item l = 10 * (l.row.end - l.row.row)
+
+abbrev pub decreases-build_inner : goal.decreases-build_inner
+decreases-build_inner l = 10 * (l.row.end - l.row.row) - 1
 
 abbrev pub decreases-build_list : goal.decreases-build_list
-decreases-build_list l = 8 * (l.list.rows.count - l.list.from) + 7
+decreases-build_list l = 10 * (l.list.rows.count - l.list.from) + 8
 
 abbrev pub decreases-build_members : goal.decreases-build_members
-decreases-build_members l = 8 * (l.base.rows.count - l.base.row) + 4
+decreases-build_members l = 10 * (l.base.rows.count - l.base.row) + 5
 
 abbrev pub decreases-build_redefiners : goal.decreases-build_redefiners
-decreases-build_redefiners l = 8 * (l.base.rows.count - l.base.end) + 3
+decreases-build_redefiners l = 10 * (l.base.rows.count - l.base.end) + 4
 
 abbrev pub decreases-build_shown : goal.decreases-build_shown
-decreases-build_shown l = 8 * (l.row.rows.count - l.row.row) + 6
+decreases-build_shown l = 10 * (l.row.rows.count - l.row.row) + 7
 
 abbrev pub invariant-build_list-loop-sibling : goal.invariant-build_list-loop-sibling
 invariant-build_list-loop-sibling l =

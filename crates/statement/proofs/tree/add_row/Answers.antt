@@ -6,7 +6,8 @@ use mathlib.Core.List.{List, ◌∷◌}
 use native.Mathlib.Omega.{arith}
 use lib.ListN.{length, set, length-set}
 use lib.Seq.{get_or-set_same}
-use Rattle.definition.specs.declared.ItemUsage.{ItemUsage}
+use Rattle.std.specs.Prelude.{Option}
+use Rattle.definition.specs.declared.NamedUsage.{NamedUsage}
 use Rattle.definition.specs.declared.Statement.{Statement}
 use Rattle.definition.specs.Tree.{Open, opened, still_open, innermost}
 use Rattle.definition.specs.Usages.{inheriting, around}
@@ -56,19 +57,19 @@ module _
 
       -- what the calls say together
       added :
-          {a : ItemUsage} {q : Statement} {x : Row} →
+          {a : Option NamedUsage} {q : Statement} {x : Row} →
           a ≡ usage_around w u.row →
           q ≡ inheriting a s →
           x ≡ new_row t q u.row →
           Added t w k o s (set w k x) r
       added {a} {q} {x} ea et ex =
-          let is : x ≡ row = ex ∙ ap (λ (y : Statement). new_row t y u.row) (et ∙ ap (λ (y : ItemUsage). inheriting y s) ea) in
+          let is : x ≡ row = ex ∙ ap (λ (y : Statement). new_row t y u.row) (et ∙ ap (λ (y : Option NamedUsage). inheriting y s) ea) in
           subst (λ (y : Row). Added t w k o s (set w k y) r) (sym is)
           (record {
-            row = ap₂ (λ (y : ItemUsage) (p : _). set w k (new_row t (inheriting y s) p)) around-is parent-is;
+            row = ap₂ (λ (y : Option NamedUsage) (p : _). set w k (new_row t (inheriting y s) p)) around-is parent-is;
             levels =
                 stack-put
-                ∙ ap₂ (λ (y : ItemUsage) (os : List Open). opened s.level (suc k) (inheriting y s).usage ∷ os)
+                ∙ ap₂ (λ (y : Option NamedUsage) (os : List Open). opened s.level (suc k) (inheriting y s).usage ∷ os)
                 around-is closed.is;
             nested = nested-put;
           })

@@ -1,4 +1,4 @@
-use Prim.Native.Nat.{ℕ, ◌+◌, ◌<◌, ◌≤◌}
+use Prim.Native.Nat.{ℕ, ◌+◌, ◌-◌, ◌<◌, ◌≤◌}
 use mathlib.Core.Path.{◌≡◌, refl, ◌∙◌}
 use mathlib.Core.Bool.{Bool, true, false}
 use mathlib.Core.List.{List, [], ◌∷◌, ◌++◌}
@@ -46,7 +46,7 @@ module _ (t : List ℕ) (q : LiteralState) (p : ℕ) where
   unfolding said_next
   star-next = refl
 
-  period-next : (f : Bool) → after f Period ≡ Token.Stop ∷ tokens_from t (Before 0) Between (p + 1)
+  period-next : (f : Bool) → after f Period ≡ Token.Stop p ∷ tokens_from t (Before 0) Between (p + 1)
   unfolding said_next
   period-next true = refl
   period-next false = refl
@@ -92,7 +92,9 @@ module _ {t : List ℕ} {at : ℕ} {fresh : Bool} {i : ℕ} {f : Bool} (inv : Le
     other d = record { up = inv.up; within = h; rest = λ q c. stepped d q c ∙ other-next t q i f }
 
     period : k ≡ Period → AheadStop t at fresh (i + 1)
-    period d = record { up = omega arith; within = omega arith; rest = λ q c. stepped d q c ∙ period-next t q i f }
+    period d =
+        let at : i + 1 - 1 ≡ i = omega arith in
+        record { up = omega arith; within = omega arith; rest = λ q c. rw at (stepped d q c ∙ period-next t q i f) }
 
 pub loop-i-preserved-then-text-i-eq32 : goal.loop-i-preserved-then-text-i-eq32
 loop-i-preserved-then-text-i-eq32 c = blank c.loop-i.invariant c.loop-i-test.true refl (space-kind c.args.text.now c.loop-i.i c.if-text-i-eq32.true)

@@ -5,7 +5,10 @@ use Rattle.copybook.proofs.answers.ReportOfQuestion.answer.Goals as goal
 
 pub write_details-requires : goal.write_details-requires
 write_details-requires c =
-    let l = c.requires.out in record { few = l.listed.few; table = l.entered; deep = record-deep l.listed }
+    let l = c.requires.out in (
+      record { few = l.listed.few; table = l.entered; deep = record-deep l.listed },
+      record { low = l.listed.low; fields_are = l.listed.fields_are },
+    )
 
 pub write_reasons-requires : goal.write_reasons-requires
 write_reasons-requires c =

@@ -1,17 +1,16 @@
 -- `redefines::FingerprintedRows::base_of` meets its contract: no target, a target that is a base, and one that is a redefiner.
-use Prim.Native.Nat.{ℕ, suc, ◌≤◌, ◌<◌}
+use Prim.Native.Nat.{ℕ, suc, ◌≤◌}
 use mathlib.Core.Path.{◌≡◌, sym, ap, ◌∙◌}
 use mathlib.Core.Bool.{Bool, true, false}
 use mathlib.Core.List.{List}
-use native.Mathlib.Omega.{arith}
 use Rattle.definition.specs.declared.Span.{Span}
 use Rattle.std.specs.Prelude.{if◌then◌else◌, Option, None, Some}
 use Rattle.rows.specs.declared.Row.{Row}
-use Rattle.rows.specs.Rows.{row_of_code, row_code, row_in}
+use Rattle.rows.specs.Rows.{row_of_code, row_code, before_in}
 use Rattle.rows.proofs.RowLaws.{row-back}
 use Rattle.layout.specs.declared.redefines.SearchEnd.{SearchEnd}
 use Rattle.layout.specs.Targets.{left_out, is_target, Ended, Named, base_from}
-use Rattle.layout.proofs.SearchLaws.{row_low, row-over, row_here, row-most, back_none}
+use Rattle.layout.proofs.SearchLaws.{row_low, row_here, row-most, back_none}
 use Rattle.layout.proofs.redefines.FingerprintedRows.base_of.Goals as goal
 
 -- the base that a search from a target finds, and that it is no later row
@@ -26,7 +25,7 @@ none t w name e n = rw e (n ∙ ap row_of_code (sym (back_none t w name)), row-m
 module _ (t : List ℕ) (w : List Row) (name : Span) {target : Option ℕ} {row : ℕ} (e : target ≡ Some row) where
   -- the base from the sibling before that row back
   abbrev further : ℕ
-  further = base_from t name w row (row_in w row).place.before
+  further = base_from t name w row (before_in w row)
 
   abbrev back : ℕ
   back = base_from t name w (suc row) (suc row)
@@ -48,25 +47,17 @@ module _ (t : List ℕ) (w : List Row) (name : Span) {target : Option ℕ} {row 
       before : back ≡ further
       before = here {b = false} (rw (← p, q))
 
-      module _ {n : ℕ} (z : n ≡ (row_in w row).place.before) where
-        broken : row < n → Base t w name target None
-        broken l = made (ap row_of_code (sym (before ∙ row-over t w name true row (row_in w row).place.before (omega arith))))
-
+      module _ {n : ℕ} (z : n ≡ (before_in w row)) where
         second : n ≤ row → {r : SearchEnd} → Ended t name true w n r → Base t w name target r.row
         second l x = made (x.row ∙ ap row_of_code (sym (before ∙ ap (base_from t name w row) (sym z) ∙ row_low t w name true row n l)))
 
 pub returns-in_err-row : goal.returns-in_err-row
 returns-in_err-row c = none _ _ _ c.in_err-row.was (search c.from_residual.ensures)
 
-pub returns-then-row-before : goal.returns-then-row-before
-returns-then-row-before c =
-    broken _ _ _ c.in_ok-row.was c.passed_over.ensures c.if-passed_over.true c.siblings_end-before.ensures
-    c.if-row-before.true
-
 pub returns-then-passed_over : goal.returns-then-passed_over
 returns-then-passed_over c =
-    second _ _ _ c.in_ok-row.was c.passed_over.ensures c.if-passed_over.true c.siblings_end-before.ensures
-    c.if-row-before.false c.search_back.ensures
+    second _ _ _ c.in_ok-row.was c.passed_over.ensures c.if-passed_over.true c.siblings_end-before.ensures.0
+    c.siblings_end-before.ensures.1 c.search_back.ensures
 
 pub returns : goal.returns
 returns c = let a = c.args in

@@ -1,4 +1,4 @@
-use Prim.Native.Nat.{ℕ, suc, ◌+◌, ◌-◌, ◌≤◌, ◌<◌}
+use Prim.Native.Nat.{ℕ, suc, ◌+◌, ◌-◌, ◌≤◌}
 use mathlib.Core.Path.{◌≡◌, sym, ap, ◌∙◌}
 use mathlib.Core.Bool.{Bool, true, false}
 use mathlib.Core.List.{List}
@@ -7,11 +7,11 @@ use Rattle.definition.specs.declared.Span.{Span}
 use Rattle.std.specs.Prelude.{if◌then◌else◌, None, Some}
 use Rattle.text.specs.Fingerprints.{name_fingerprint}
 use Rattle.rows.specs.declared.Row.{Row}
-use Rattle.rows.specs.Rows.{row_of_code, row_in}
+use Rattle.rows.specs.Rows.{row_of_code, before_in}
 use Rattle.rows.proofs.RowLaws.{row-back}
 use Rattle.layout.specs.Targets.{is_target, row_from, looked_from, Ended}
 use Rattle.layout.specs.Fingerprints.{Fingerprinted, PassedBack}
-use Rattle.layout.proofs.SearchLaws.{row_low, row-over, row_here, looked-low, looked-over, looked-here}
+use Rattle.layout.proofs.SearchLaws.{row_low, row_here, looked-low, looked-here}
 use Rattle.layout.proofs.FingerprintLaws.{fingerprinted-less, passed}
 use Rattle.layout.proofs.redefines.FingerprintedRows.search_back.Invariants.{Left}
 use Rattle.layout.proofs.redefines.FingerprintedRows.search_back.Goals as goal
@@ -31,10 +31,10 @@ module _ {t : List ℕ} {w : List Row} {target : Span} {bases : Bool} {last k ga
   module _ {here : ℕ} (same : k ≡ suc here) where
     -- what is found and looked at from the sibling before that row back
     abbrev row_back : ℕ
-    row_back = row_from t target bases w here (row_in w here).place.before
+    row_back = row_from t target bases w here (before_in w here)
 
     abbrev looked_back : ℕ
-    looked_back = looked_from t target bases w here (row_in w here).place.before
+    looked_back = looked_from t target bases w here (before_in w here)
 
     row-there :
         {b : Bool} →
@@ -64,23 +64,7 @@ module _ {t : List ℕ} {w : List Row} {target : Span} {bases : Bool} {last k ga
             looked = omega (arith, same, inv.less, looked-there (sym p ∙ e));
           }
 
-      module _ (e : o ≡ false) {n : ℕ} (q : n ≡ (row_in w (here)).place.before) where
-        broken : here < n → Ended t target bases w last (record { row = None; compared = last - (here) - gaps })
-        broken l =
-            record {
-              row =
-                  sym (
-                  ap row_of_code (row-there (sym p ∙ e) ∙ row-over t w target bases here (row_in w here).place.before (omega arith)));
-              looked =
-                  omega (
-                    arith,
-                    same,
-                    inv.less,
-                    looked-there (sym p ∙ e),
-                    looked-over t w target bases here (row_in w here).place.before (omega arith),
-                  );
-            }
-
+      module _ (e : o ≡ false) {n : ℕ} (q : n ≡ (before_in w (here))) where
         next :
             n ≤ here →
             {fingerprint r : ℕ} →
@@ -136,15 +120,10 @@ pub returns-then-is_target : goal.returns-then-is_target
 returns-then-is_target c =
     found c.loop-row.invariant (the-row c.in-Some.ensures) c.is_target.ensures c.if-is_target.true
 
-pub returns-then-row-before : goal.returns-then-row-before
-returns-then-row-before c =
-    broken c.loop-row.invariant (the-row c.in-Some.ensures) c.is_target.ensures c.if-is_target.false
-    c.siblings_end-before.ensures c.if-row-before.true
-
 pub loop-row-preserved : goal.loop-row-preserved
 loop-row-preserved c =
     next c.loop-row.invariant (the-row c.in-Some.ensures) c.is_target.ensures c.if-is_target.false
-    c.siblings_end-before.ensures c.if-row-before.false c.fingerprint_of-fingerprint.ensures c.pass_back-k-in-Some.ensures
+    c.siblings_end-before.ensures.0 c.siblings_end-before.ensures.1 c.fingerprint_of-fingerprint.ensures c.pass_back-k-in-Some.ensures
 
 pub returns : goal.returns
 returns c = done c.loop-row.invariant c.in_default.ensures

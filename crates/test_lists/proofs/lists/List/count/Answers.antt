@@ -1,6 +1,6 @@
 -- A case more, and the end of the list.
-use Rattle.test_lists.specs.Words.{ahead}
-use Rattle.test_lists.proofs.TallyLaws.{going-on, going-ends, onward-add}
+use Rattle.replay.specs.Words.{ahead}
+use Rattle.replay.proofs.TallyLaws.{going-on, going-ends, onward-add}
 use Rattle.test_lists.proofs.lists.List.count.Goals as goal
 
 pub loop-case-preserved : goal.loop-case-preserved

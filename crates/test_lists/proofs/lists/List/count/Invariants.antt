@@ -1,8 +1,8 @@
 -- `List::count` meets its contract: the cases that were counted, and those that are still to come, are all cases.
 use Rattle.std.proofs.Common.{◌≡◌, ◌+◌, min, false}
-use Rattle.test_lists.specs.Tallies.{most}
-use Rattle.test_lists.specs.Words.{ahead}
-use Rattle.test_lists.specs.Counting.{begun, cases, Onward}
+use Rattle.replay.specs.Tallies.{most}
+use Rattle.replay.specs.Words.{ahead}
+use Rattle.replay.specs.Counting.{begun, cases, Onward}
 use Rattle.test_lists.proofs.lists.List.count.Given as goal
 
 abbrev pub invariant-loop-case : goal.invariant-loop-case

@@ -1,5 +1,5 @@
 -- `owners::replay_end` meets its contract: no position that was counted is lost.
-use Rattle.test_lists.specs.Counting.{Onward}
+use Rattle.replay.specs.Counting.{Onward}
 use Rattle.test_lists.proofs.record_cases.owners.replay_end.Given as goal
 
 abbrev pub invariant-loop-position : goal.invariant-loop-position

@@ -1,5 +1,5 @@
 -- The positions of the runs, and those past the end.
-use Rattle.test_lists.proofs.TallyLaws.{onward-trans}
+use Rattle.replay.proofs.TallyLaws.{onward-trans}
 use Rattle.test_lists.proofs.record_cases.owners.replay_record.Goals as goal
 
 pub returns : goal.returns

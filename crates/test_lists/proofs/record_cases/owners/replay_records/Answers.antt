@@ -4,12 +4,12 @@ use Rattle.std.specs.Prelude.{◌↔◌, IsTrue}
 use Rattle.std.proofs.lemmas.Bool.Decides.{nat_tests}
 use Rattle.std.proofs.lemmas.Grind.{common_steps}
 use Rattle.definition.specs.declared.Token.{Token}
-use Rattle.test_lists.specs.Words.{ahead}
-use Rattle.test_lists.specs.declared.replay.cases.Cases.{Cases}
-use Rattle.test_lists.specs.declared.replay.tally.Tally.{Tally}
-use Rattle.test_lists.specs.Tallies.{most, counted, agreeing}
-use Rattle.test_lists.specs.Counting.{Onward}
-use Rattle.test_lists.proofs.TallyLaws.{going-on, going-ends}
+use Rattle.replay.specs.Words.{ahead}
+use Rattle.replay.specs.declared.cases.Cases.{Cases}
+use Rattle.replay.specs.declared.tally.Tally.{Tally}
+use Rattle.replay.specs.Tallies.{most, counted, agreeing}
+use Rattle.replay.specs.Counting.{Onward}
+use Rattle.replay.proofs.TallyLaws.{going-on, going-ends}
 use Rattle.test_lists.proofs.record_cases.owners.replay_records.Goals as goal
 
 -- a record differs only where a position more differs

@@ -1,9 +1,9 @@
 -- `owners::replay_records` meets its contract: the cases that were counted, and those that are still to come, are all
 -- cases of the list; no more records differ than positions, and where none does, no position does.
 use Rattle.std.proofs.Common.{◌≡◌, ◌≤◌, ◌<◌, ◌+◌, min, false}
-use Rattle.test_lists.specs.Tallies.{most}
-use Rattle.test_lists.specs.Words.{ahead}
-use Rattle.test_lists.specs.Counting.{begun, cases}
+use Rattle.replay.specs.Tallies.{most}
+use Rattle.replay.specs.Words.{ahead}
+use Rattle.replay.specs.Counting.{begun, cases}
 use Rattle.test_lists.proofs.record_cases.owners.replay_records.Given as goal
 
 abbrev pub invariant-loop-case : goal.invariant-loop-case

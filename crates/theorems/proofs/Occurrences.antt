@@ -23,7 +23,7 @@ use Rattle.definition.specs.Placed.{content_of}
 use Rattle.definition.specs.Search.{entries#}
 use Rattle.definition.specs.Demand.{Fewest, Tells, Spot, spot, gap, each, single, spots_of, Among}
 use Rattle.definition.specs.Demand.{naming, Demand}
-use Rattle.theorems.specs.Occurrences.{Within, Occurs, AlignedTo, Largest, Slackened, Ended, pieces#, here#, counts}
+use Rattle.theorems.specs.Occurrences.{Within, Occurs, AlignedTo, Largest, ItemOf, Slackened, Ended, pieces#, here#, counts}
 use Rattle.std.proofs.lemmas.Bool.{and_parts}
 use Rattle.definition.proofs.Answers.{given-same}
 use Rattle.definition.proofs.Lists.{by_cases, order}
@@ -293,9 +293,9 @@ module _ (n first width : ℕ) where
   single-slack k e (entry m ms later) c inner a =
       among-append z inner (gap k (c + (e.width - e.slack_at_end)) e.slack_at_end) a
 
-  module _ (text : List ℕ) where
+  module _ (text : List ℕ) (whole : Forest) where
     before-aligned :
-        (s : Statement) (kids : Forest) (members : Entries) (e : Entry) (k base reached : ℕ) →
+        (s : Statement) (kids : Forest) (of : ItemOf whole s kids) (members : Entries) (e : Entry) (k base reached : ℕ) →
         e ≡ entry_of s (content_of text s kids) e.offset e.slack (record_length members) e.slack_at_end →
         e.offset ≡ reached + e.slack →
         Fewest (place_alignment text s kids) (base + reached) e.slack →
@@ -303,12 +303,12 @@ module _ (n first width : ℕ) where
         Tells text (base + e.offset) 0 kids members →
         z ≡ spot (slack k) (base + (e.offset - e.slack)) e.slack →
         0 < e.slack →
-        Slackened text first width
+        Slackened text whole first width
     unfolding record_length
-    before-aligned s (item u more later) members e k base reached told-so at fewest ends t q l =
+    before-aligned s (item u more later) of members e k base reached told-so at fewest ends t q l =
         absurd (omega (arith, fewest.small))
-    before-aligned s leaf (entry m ms others) e k base reached told-so at fewest ends t q l = absurd t
-    before-aligned s leaf end e k base reached told-so at fewest ends t q l =
+    before-aligned s leaf of (entry m ms others) e k base reached told-so at fewest ends t q l = absurd t
+    before-aligned s leaf of end e k base reached told-so at fewest ends t q l =
         let starts : first ≡ base + reached = ap (λ (x : Spot). x.first) q ∙ omega (arith, at) in
         let wide : width ≡ e.slack = ap (λ (x : Spot). x.width) q in
         let none : e.slack_at_end ≡ 0 = omega (arith, ends.small, leaf-wide text s) in
@@ -317,6 +317,7 @@ module _ (n first width : ℕ) where
         let own : place_alignment text s leaf ≡ (storage text s).width = rw y in
         record {
           statement = s;
+          of = of;
           slackened = e;
           base = base;
           reached = reached;
@@ -334,48 +335,59 @@ module _ (n first width : ℕ) where
         (λ y. let own : place_alignment text s leaf ≡ 1 = rw y in absurd (omega (arith, fewest.small, own)))
 
     at-end :
-        (s : Statement) (kids : Forest) (members : Entries) (e : Entry) (k c : ℕ) →
+        (s : Statement) (kids : Forest) (of : ItemOf whole s kids) (members : Entries) (e : Entry) (k c : ℕ) →
         e ≡ entry_of s (content_of text s kids) e.offset e.slack (record_length members) e.slack_at_end →
         Fewest (width_alignment text s kids) ((content_of text s kids).width + record_length members) e.slack_at_end →
+        Tells text c 0 kids members →
         Behind k e members c →
-        Ended text first width
-    at-end s kids end e k c told-so fewest b = absurd b
-    at-end s kids (entry m ms later) e k c told-so fewest b =
-        let long = (content_of text s kids).width + record_length (entry m ms later) in
+        Ended text whole first width
+    at-end s kids of end e k c told-so fewest t b = absurd b
+    at-end s leaf of (entry m ms later) e k c told-so fewest t b = absurd t
+    at-end s (item u below more) of (entry m ms later) e k c told-so fewest t b =
+        let kids = item u below more in
+        let long = record_length (entry m ms later) in
         let at = gap_at k (c + (e.width - e.slack_at_end)) e.slack_at_end z b in
         let wide : width ≡ e.slack_at_end = ap (λ (x : Spot). x.width) at.0 in
-        let whole : e.width ≡ long + e.slack_at_end = ap (λ (x : Entry). x.width) told-so in
+        let padded : e.width ≡ 0 + long + e.slack_at_end = ap (λ (x : Entry). x.width) told-so in
+        let none : 0 + long ≡ long = omega arith in
         by_cases (repeats s.clauses.occurs && not (is_given s.clauses.depending))
         (λ y.
         let both = and_parts (repeats s.clauses.occurs) (not (is_given s.clauses.depending)) y in
         let own : width_alignment text s kids ≡ alignment text kids = rw y in
-        let fewest' = subst (λ (x : ℕ). Fewest x long e.slack_at_end) own fewest in
+        let fewest' =
+        subst (λ (x : ℕ). Fewest (alignment text kids) x e.slack_at_end) none
+        (subst (λ (x : ℕ). Fewest x (0 + long) e.slack_at_end) own fewest)
+        in
         record {
           statement = s;
           list = kids;
+          of = of;
           start = c;
-          long = long;
+          members = entry m ms later;
+          told-there = t;
           has-occurs = both.0;
           no-depending = grind arith;
           largest = alignment-largest text kids (omega (arith, fewest'.small, at.1));
-          from = ap (λ (x : Spot). x.first) at.0 ∙ omega (arith, whole);
+          from = ap (λ (x : Spot). x.first) at.0 ∙ omega (arith, padded);
           fewest = subst (λ (x : ℕ). Fewest (alignment text kids) long x) (sym wide) fewest';
         })
         (λ y. let own : width_alignment text s kids ≡ 1 = rw y in absurd (omega (arith, fewest.small, own, at.1)))
 
     pub slack-stands :
         (f : Forest) (es : Entries) (k base reached : ℕ) →
+        ((u : Statement) (below : Forest) → ItemOf f u below → ItemOf whole u below) →
         Tells text base reached f es →
         Among z (spots_of k base es) →
-        Slackened text first width ⊎ Ended text first width
+        Slackened text whole first width ⊎ Ended text whole first width
     unfolding spots_of
-    slack-stands leaf end k base reached t a = absurd a
-    slack-stands (item s kids later) (entry e members others) k base reached t a =
+    slack-stands leaf end k base reached of t a = absurd a
+    slack-stands (item s kids later) (entry e members others) k base reached of t a =
+        let own : ItemOf whole s kids = of s kids (inl (refl, refl)) in
         ⊎_elim
         (λ (g : Among z (gap k (base + (e.offset - e.slack)) e.slack)).
         let at = gap_at k (base + (e.offset - e.slack)) e.slack z g in
         let here : base + e.offset + 0 * e.width ≡ base + e.offset = omega arith in
-        inl (before-aligned s kids members e k base reached t.0 t.1 t.2 t.3
+        inl (before-aligned s kids own members e k base reached t.0 t.1 t.2 t.3
         (subst (λ (x : ℕ). Tells text x 0 kids members) here (t.4 0 (omega arith))) at.0 at.1))
         (λ (m :
         InOne k base e members others z
@@ -384,15 +396,15 @@ module _ (n first width : ℕ) where
         (λ (r : InOne k base e members others z).
         let c = base + e.offset + r.0 * e.width in
         ⊎_elim
-        (λ (o : Among z (spots_of (suc k) c members)). slack-stands kids members (suc k) c 0 (t.4 r.0 (omega (arith, r.1))) o)
-        (λ (o : Behind k e members c). inr (at-end s kids members e k c t.0 t.3 o))
+        (λ (o : Among z (spots_of (suc k) c members)). slack-stands kids members (suc k) c 0 (λ u below o. of u below (inr (inl o))) (t.4 r.0 (omega (arith, r.1))) o)
+        (λ (o : Behind k e members c). inr (at-end s kids own members e k c t.0 t.3 (t.4 r.0 (omega (arith, r.1))) o))
         (single-slack k e members c _ r.2))
         (λ (l : Among z (spots_of (suc k + entries# members) base others)).
-        slack-stands later others _ base (e.offset + total e) t.5 l)
+        slack-stands later others _ base (e.offset + total e) (λ u below o. of u below (inr (inr o))) t.5 l)
         m)
         (split-told k base e members others z a)
-    slack-stands leaf (entry e members others) k base reached t a = absurd t
-    slack-stands (item s kids later) end k base reached t a = absurd t
+    slack-stands leaf (entry e members others) k base reached of t a = absurd t
+    slack-stands (item s kids later) end k base reached of t a = absurd t
 
 -- ---------------------------------------------------------------- how many
 

@@ -11,7 +11,8 @@ use Rattle.definition.specs.Fold.{Entries, end, entry, times}
 use Rattle.definition.specs.Layout.{entry_of}
 use Rattle.definition.specs.Owner.{Holder, occurrence, slack}
 use Rattle.definition.specs.Search.{entries#}
-use Rattle.definition.specs.Demand.{Fewest, Spot, spot}
+use Rattle.definition.specs.Record.{record_length}
+use Rattle.definition.specs.Demand.{Fewest, Tells, Spot, spot}
 
 -- an occurrence of the elementary entry of number n, so many bytes wide, starts at the byte `first`: by the entries'
 -- offsets, widths and counts. The first entry of the list has number k, and the list starts at the byte `base`
@@ -39,11 +40,17 @@ pub record Largest (text : List ℕ) (m : ℕ) (f : Forest) : Type 0 where
   pub one : AlignedTo text m f
   pub most : (w : ℕ) → AlignedTo text w f → w ≤ m
 
--- slack stands directly before the place of an aligned entry of its list, and is the fewest bytes that bring its place
+-- an item of the record, at any depth: its statement, and the statements below it
+abbrev pub ItemOf : Forest → Statement → Forest → Type 0
+ItemOf leaf t below = ⊥
+ItemOf (item s kids later) t below = ((t ≡ s) × (below ≡ kids)) ⊎ ItemOf kids t below ⊎ ItemOf later t below
+
+-- slack stands directly before the place of an aligned item of the record, and is the fewest bytes that bring its place
 -- in the record to a multiple of its width: the list starts at the byte `base`, and its earlier items end `reached`
 -- bytes after that
-pub record Slackened (text : List ℕ) (first width : ℕ) : Type 0 where
+pub record Slackened (text : List ℕ) (f : Forest) (first width : ℕ) : Type 0 where
   pub statement : Statement
+  pub of : ItemOf f statement leaf
   pub slackened : Entry
   pub base : ℕ
   pub reached : ℕ
@@ -53,19 +60,21 @@ pub record Slackened (text : List ℕ) (first width : ℕ) : Type 0 where
   pub up_to : first + width ≡ base + slackened.offset
   pub fewest : Fewest (storage text statement).width first width
 
--- or it stands at the end of an occurrence of a group with OCCURS and without DEPENDING ON that holds an aligned item,
--- and is the fewest bytes that bring its width to a multiple of the largest alignment in it: the occurrence starts at
--- the byte `start`, and its list is so long
-pub record Ended (text : List ℕ) (first width : ℕ) : Type 0 where
+-- or it stands at the end of an occurrence of a group of the record with OCCURS and without DEPENDING ON that holds an
+-- aligned item, and is the fewest bytes that bring its width to a multiple of the largest alignment in it: the occurrence
+-- starts at the byte `start`, where its members are told so, and the slack stands behind its list
+pub record Ended (text : List ℕ) (f : Forest) (first width : ℕ) : Type 0 where
   pub statement : Statement
   pub list : Forest
+  pub of : ItemOf f statement list
   pub start : ℕ
-  pub long : ℕ
+  pub members : Entries
+  pub told-there : Tells text start 0 list members
   pub has-occurs : repeats statement.clauses.occurs ≡ true
   pub no-depending : is_given statement.clauses.depending ≡ false
   pub largest : Largest text (alignment text list) list
-  pub from : first ≡ start + long
-  pub fewest : Fewest (alignment text list) long width
+  pub from : first ≡ start + record_length members
+  pub fewest : Fewest (alignment text list) (record_length members) width
 
 -- the pieces of the entry of number n
 abbrev pub is_of : ℕ → Holder → ℕ

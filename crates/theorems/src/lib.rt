@@ -95,7 +95,7 @@ pub fn counts_multiply()
 /// and is the fewest bytes that bring its width to a multiple of the largest alignment in it.
 pub fn slack_aligns_an_item_or_an_end()
     ensures { (text : List ℕ) (f : Forest) (es : Entries) (n first width : ℕ) → Tells text 0 0 f es →
-        Among (spot (slack n) first width) (spots_of 0 0 es) → Slackened text first width ⊎ Ended text first width }
+        Among (spot (slack n) first width) (spots_of 0 0 es) → Slackened text f first width ⊎ Ended text f first width }
 {}
 
 /// Each occurrence of an item without DEPENDING ON, laid at its own place, is laid as the first one is: the width of a

@@ -249,8 +249,8 @@ impl<'a> Table<'a> {
         self.row_item(item).end()
     }
 
-    // How long the record is, in bytes: the largest end at the top.
-    fn length(self) -> usize
+    /// How long the record is, in bytes: the largest end at the top.
+    pub fn length(self) -> usize
         ensures { result ≡ flat_length (shown_all self.entry.rows.all.now self.entry.items.now) }
     {
         self.items
@@ -258,9 +258,9 @@ impl<'a> Table<'a> {
             .fold(0, |long: usize, item| long.max(self.top_end(item)))
     }
 
-    // 29 for the first entry at the top that ends above `LARGEST`.
+    /// 29 for the first entry at the top that ends above `LARGEST`.
     #[tactic(auto, using(crate::proofs::LoopLaws::fitting))]
-    fn ends_fit(self) -> Result<(), Refusal>
+    pub fn ends_fit(self) -> Result<(), Refusal>
         ensures { result ≡ flat_fits (shown_all self.entry.rows.all.now self.entry.items.now) }
     {
         for item in self.items {

@@ -3,7 +3,7 @@
 -- Assumes nothing.
 use Prim.Native.Nat.{ℕ, zero, suc, ◌+◌, ◌-◌, ◌≤◌, ◌<◌}
 use mathlib.Core.Path.{◌≡◌, refl, sym, ap, subst, ◌∙◌}
-use mathlib.Core.Bool.{Bool, true, false}
+use mathlib.Core.Bool.{Bool, true, false, ◌&&◌, not}
 use mathlib.Core.List.{List}
 use native.Mathlib.Omega.{arith}
 use Rattle.definition.specs.declared.Span.{Span}
@@ -11,6 +11,8 @@ use Rattle.definition.specs.declared.Statement.{Statement}
 use Rattle.std.specs.Prelude.{if◌then◌else◌}
 use Rattle.text.specs.Fingerprints.{name_fingerprint}
 use Rattle.text.proofs.SameLaws.{fingerprint-apart}
+use lib.Dec.{eqb}
+use Rattle.definition.proofs.Lists.{by_cases}
 use Rattle.rows.specs.declared.Row.{Row}
 use Rattle.rows.specs.Rows.{row_in, before_in}
 use Rattle.layout.specs.Targets.{left_out, is_target, row_from, looked_from}
@@ -45,6 +47,17 @@ module _ (t : List ℕ) (w : List Row) (target : Span) (bases : Bool) {fingerpri
       by-test true q = refl
       by-test false q = q
 
+  -- such a row, or one that is left out
+  passed-by :
+      (k : ℕ) →
+      FingerprintedRow t w k →
+      (eqb (row_in w k).fingerprint fingerprint && not (left_out bases w k)) ≡ false →
+      is_target t target bases w k ≡ false
+  passed-by k p h =
+      by_cases (left_out bases w k)
+      (λ y. rw y refl)
+      (λ n. not-target k p (λ q. absurd (grind (arith, n, q, h))))
+
   -- what is found from `last` back is found from r back; the siblings looked at on the way are the rows between
   pub record Passed (last r : ℕ) : Type 0 where
     pub row : row_from t target bases w last last ≡ row_from t target bases w r r
@@ -53,7 +66,10 @@ module _ (t : List ℕ) (w : List Row) (target : Span) (bases : Bool) {fingerpri
   -- a run of such rows
   run :
       (d r : ℕ) →
-      ((j : ℕ) → r ≤ j → j < r + d → ((row_in w j).fingerprint ≡ fingerprint → ⊥) × ((row_in w j).place.gap ≡ 0)) →
+      ((j : ℕ) →
+      r ≤ j →
+      j < r + d →
+      ((eqb (row_in w j).fingerprint fingerprint && not (left_out bases w j)) ≡ false) × ((row_in w j).place.gap ≡ 0)) →
       Fingerprinted t w (r + d) →
       Passed (r + d) r
   run zero r h p =
@@ -66,7 +82,7 @@ module _ (t : List ℕ) (w : List Row) (target : Span) (bases : Bool) {fingerpri
       let k = r + d in
       let other = h k (omega arith) (omega arith) in
       let next : before_in w k ≡ k = omega (arith, other.1) in
-      let no = not-target k (p.rows k (omega arith)) other.0 in
+      let no = passed-by k (p.rows k (omega arith)) other.0 in
       let ih = run d r (λ j l m. h j l (omega arith)) (fingerprinted-less p (omega arith)) in
       let z : r + suc d ≡ suc k = omega arith in
       let one =
@@ -84,7 +100,7 @@ module _ (t : List ℕ) (w : List Row) (target : Span) (bases : Bool) {fingerpri
         looked = omega (arith, one, ih.looked);
       }
 
-  pub passed : {last r : ℕ} → Fingerprinted t w last → PassedBack w fingerprint last r → Passed last r
+  pub passed : {last r : ℕ} → Fingerprinted t w last → PassedBack w bases fingerprint last r → Passed last r
   passed {last} {r} p b =
       let z : r + (last - r) ≡ last = omega (arith, b.low) in
       let x = run (last - r) r (λ j l m. b.others j l (omega arith)) (fingerprinted-less p (omega arith)) in

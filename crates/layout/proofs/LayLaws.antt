@@ -367,7 +367,7 @@ item_room text w i to j depth base last cursor h q l r =
     (counted_step w i to j h r.counted).2 in
     record {
       fits = omega (arith, l, r.fits);
-      few = r.few;
+      small = r.small;
       fingerprinted = subst (λ (x : List Row). Fingerprinted text x to) g.put (fingerprinted-places text es w i last r.fingerprinted);
       counted = subst (λ (x : List Row). BelowCounted x j (rows_forest x j to)) g.put counted;
     }

@@ -1,11 +1,10 @@
 -- What laying a list, or one item of it, in the rows of the table leads to, and the room that it takes.
 -- Assumes nothing.
-use Rattle.std.specs.Prelude.{ℕ, suc, max, ◌-◌, ◌≤◌, ◌≡◌, List, length, set}
+use Rattle.std.specs.Prelude.{ℕ, suc, max, ◌-◌, ◌≤◌, ◌<◌, ◌≡◌, List, length, set}
 use Rattle.definition.specs.declared.Refusal.{Refusal}
 use Rattle.definition.specs.declared.Entry.{Entry}
 use Rattle.definition.specs.declared.Pictured.{Pictured}
 use Rattle.definition.specs.declared.Statement.{Statement}
-use Rattle.definition.specs.declared.TheConstants.{MOST_STATEMENTS}
 use Rattle.definition.specs.Basic.{Answer, Err, Ok, ◌>>=◌}
 use Rattle.definition.specs.Tree.{Forest}
 use Rattle.definition.specs.Storage.{place_alignment, alignment}
@@ -129,6 +128,6 @@ list_of (Err r) w = stopped r
 -- rows below them
 pub record Room (text : List ℕ) (w : List Row) (from to : ℕ) : Type 0 where
   pub fits : to ≤ length w
-  pub few : to ≤ MOST_STATEMENTS
+  pub small : to < 65536
   pub fingerprinted : Fingerprinted text w to
   pub counted : BelowCounted w from (rows_forest w from to)

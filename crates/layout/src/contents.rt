@@ -62,7 +62,7 @@ fn usage_of(named: Option<NamedUsage>) -> ItemUsage
 }
 
 /// Kind and width of an item without children.
-fn elementary(text: &[u8], s: Statement) -> Result<Pictured, Refusal>
+pub fn elementary(text: &[u8], s: Statement) -> Result<Pictured, Refusal>
     ensures { result ≡ elementary_of text.now s }
 {
     match usage_of(s.usage) {

@@ -4,7 +4,7 @@
 #![tactic(auto)]
 
 ghost use Rattle.std.specs.Prelude.{◌≡◌, ◌+◌, ◌-◌, ◌%◌, ◌≤◌, ◌<◌, length, if◌then◌else◌, MatchResult};
-ghost use Rattle.definition.specs.declared.TheConstants.{DEEPEST, LARGEST, MOST_STATEMENTS};
+ghost use Rattle.definition.specs.declared.TheConstants.{DEEPEST, LARGEST};
 ghost use Rattle.definition.specs.Basic.{is_given, Err};
 ghost use Rattle.definition.specs.Layout.{slack_from};
 ghost use Rattle.layout.specs.Targets.{seen_at, target_from, start_of, target_in};
@@ -141,7 +141,7 @@ fn begin(
     multiple: usize,
 ) -> Result<Beginning, Refusal>
     requires { (i < length rows.now) × (next.last ≤ i) × (0 < multiple) × (multiple ≤ LARGEST)
-        × Fingerprinted text.now rows.now i × (i < MOST_STATEMENTS) }
+        × Fingerprinted text.now rows.now i × (i < 65536) }
     ensures { MatchResult result (Begun text.now rows.now i multiple next.base next.last next.cursor)
         (λ r. starts text.now (statement_at rows.now i) multiple (seen_at rows.now next.last) next.base next.cursor ≡ Err r) }
 {
@@ -166,7 +166,7 @@ fn place_item(
     c: Pictured,
     inner: LaidList,
 ) -> Result<LaidItem, Refusal>
-    requires { (i < length rows.old) × (next.last ≤ i) × (i < MOST_STATEMENTS) × (c.width ≤ LARGEST)
+    requires { (i < length rows.old) × (next.last ≤ i) × (i < 65536) × (c.width ≤ LARGEST)
         × (inner.width ≤ LARGEST) × (0 < inner.alignment) × (inner.alignment ≤ 8) }
     ensures { item_of result rows.new ≡ place_row rows.old i next.last next.cursor begun c inner }
 {

@@ -1,9 +1,8 @@
 //! The rows as entries: the siblings of a list, the end of each row's children, and an item's entry.
 
-ghost use Rattle.std.specs.Prelude.{◌≡◌, ◌+◌, ◌-◌, ◌≤◌, ◌<◌, length, MatchOption};
+ghost use Rattle.std.specs.Prelude.{◌≡◌, ◌+◌, ◌-◌, ◌^◌, ◌≤◌, ◌<◌, length, MatchOption};
 ghost use Rattle.std.specs.Iterator.{at_most};
 ghost use Rattle.definition.specs.Layout.{word_of, entry_of};
-ghost use Rattle.definition.specs.declared.TheConstants.{LARGEST, MOST_STATEMENTS};
 ghost use Rattle.layout.specs.Places.{entry_at};
 ghost use Rattle.layout.specs.Children.{ChildrenEnd, Numbered, ListCounted, ListCounted-prop, BelowPut};
 
@@ -83,7 +82,7 @@ fn end_of(rows: Rows, i: usize) -> usize
 
 /// Stores in each of the first n rows how many rows stand below it, from the last one back.
 pub fn count_below(rows: &mut [Row], n: usize)
-    requires { (n ≤ length rows.old) × (n ≤ MOST_STATEMENTS) }
+    requires { (n ≤ length rows.old) × (n < 65536) }
     ensures { BelowPut rows.old n rows.new }
 {
     for row in (0..n).rev() {
@@ -138,7 +137,7 @@ pub fn entry_of(
     inner: usize,
     slack_at_end: usize,
 ) -> Entry
-    requires { (c.width ≤ LARGEST) × (inner ≤ LARGEST) × (slack_at_end ≤ LARGEST) }
+    requires { c.width + inner + slack_at_end < 2 ^ 64 }
     ensures { result ≡ entry_of s c offset slack inner slack_at_end }
 {
     Entry {

@@ -5,7 +5,6 @@
 ghost use Rattle.std.specs.Prelude.{◌≡◌, ◌≤◌, ◌<◌, length};
 ghost use Rattle.definition.specs.declared.Refusal.{Refusal};
 ghost use Rattle.definition.specs.Basic.{or_refuse};
-ghost use Rattle.definition.specs.declared.TheConstants.{MOST_STATEMENTS};
 ghost use Rattle.layout.specs.Targets.{among_bases, left_out, is_target, Ended, seen_at, search_of, target_search};
 ghost use Rattle.layout.specs.Targets.{target_from, start_of, target_in, Named, base_from, plain_after};
 ghost use Rattle.layout.specs.Fingerprints.{Fingerprinted, PassedBack};
@@ -84,16 +83,18 @@ impl<'a> FingerprintedRows<'a> {
             && names::same_names(self.text, target, self.rows.row(k).statement.name)
     }
 
-    // From `last` back over siblings with other fingerprints, as long as each is the row after the one before it.
-    fn pass_back(self, last: usize, fingerprint: u32) -> usize
+    // From `last` back over siblings with other fingerprints, or that the search passes over, as long as each is the row
+    // after the one before it.
+    fn pass_back(self, last: usize, fingerprint: u32, among: Among) -> usize
         requires { last ≤ self.rows.count }
-        ensures { PassedBack self.entry.rows.all.now fingerprint last result }
+        ensures { PassedBack self.entry.rows.all.now (among_bases among) fingerprint last result }
     {
         let mut k = last;
         // Not a `for` over the rows before: it is compiled with one instruction more for each of them.
         while 0 < k {
             let row = self.rows.row(k - 1);
-            if row.fingerprint == fingerprint || row.place.gap != 0 {
+            let may_end = row.fingerprint == fingerprint && !self.passed_over(k - 1, among);
+            if may_end || row.place.gap != 0 {
                 return k;
             }
             k -= 1;
@@ -107,7 +108,7 @@ impl<'a> FingerprintedRows<'a> {
         ensures { Ended self.entry.text.now target (among_bases among) self.entry.rows.all.now last result }
     {
         let fingerprint = names::fingerprint_of(self.text, target);
-        let mut k = self.pass_back(last, fingerprint);
+        let mut k = self.pass_back(last, fingerprint, among);
         // rows passed that are no siblings
         let mut gaps = 0;
         // A turn goes back over all rows that `pass_back` and `siblings_end` leave out.
@@ -120,7 +121,7 @@ impl<'a> FingerprintedRows<'a> {
             }
             let before = self.rows.siblings_end(row);
             gaps += row - before;
-            k = self.pass_back(before, fingerprint);
+            k = self.pass_back(before, fingerprint, among);
         }
         SearchEnd {
             row: None,
@@ -185,7 +186,7 @@ impl<'a> FingerprintedRows<'a> {
 
 /// The latest sibling without REDEFINES from `last` back: that one, or the one that it names.
 pub fn plain_after(rows: Rows, last: usize) -> Option<u16>
-    requires { (last ≤ rows.count) × (last ≤ MOST_STATEMENTS) }
+    requires { (last ≤ rows.count) × (last < 65536) }
     ensures { row_code result ≡ plain_after rows.entry.all.now last }
 {
     let row = last.checked_sub(1)?;

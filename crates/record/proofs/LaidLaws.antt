@@ -320,7 +320,7 @@ module _ {text : List ℕ} {w₀ : List Row} {n : ℕ} (s : Stored text w₀ n) 
         room =
             record {
               fits = omega (arith, s.there, b.long);
-              few = s.few;
+              small = omega (arith, s.few);
               fingerprinted =
                   record {
                     rows =

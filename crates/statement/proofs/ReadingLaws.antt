@@ -106,12 +106,12 @@ module _ (text : List ℕ) (w : List Row) where
             ∙ new-in text (parents [] 0 held) held j size (omega arith);
       }
 
-  pub stored : {n : ℕ} → RowsOf text (kept_statements text) (Ok n) w → Stored text w n
-  stored {n} r = by_answer n (kept_statements text) refl r.is r.few
+  pub stored : {w₀ : List Row} {n : ℕ} → RowsOf text w₀ (kept_statements text) (Ok n) w → Stored text w n
+  stored {n = n} r = by_answer n (kept_statements text) refl r.is r.few
 
   by-refusal : (r : Refusal) (a : Answer (List Statement)) → Err r ≡ rows_for text 0 [] a → a ≡ Err r
   by-refusal r (Err q) p = cc
   by-refusal r (Ok ss) p = absurd (let z : ◌≡◌ {A = ℕ} 0 1 = cc in omega arith)
 
-  pub turned_down : {r : Refusal} → RowsOf text (kept_statements text) (Err r) w → kept_statements text ≡ Err r
-  turned_down {r} h = by-refusal r (kept_statements text) h.is
+  pub turned_down : {w₀ : List Row} {r : Refusal} → RowsOf text w₀ (kept_statements text) (Err r) w → kept_statements text ≡ Err r
+  turned_down {r = r} h = by-refusal r (kept_statements text) h.is

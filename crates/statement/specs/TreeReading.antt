@@ -1,6 +1,6 @@
 -- What the reading of a whole text into rows says.
 -- Assumes nothing.
-use Rattle.std.specs.Prelude.{ℕ, suc, min, ◌-◌, ◌≤◌, ◌≡◌, ◌==◌, List, [], ◌∷◌, length, take, set, count_by}
+use Rattle.std.specs.Prelude.{ℕ, suc, min, ◌-◌, ◌≤◌, ◌≡◌, ◌==◌, List, [], ◌∷◌, length, take, drop, set, count_by}
 use Rattle.definition.specs.declared.Statement.{Statement}
 use Rattle.definition.specs.declared.TheConstants.{MOST_BYTES, MOST_STATEMENTS}
 use Rattle.definition.specs.Basic.{Answer, Err, Ok}
@@ -62,10 +62,16 @@ abbrev pub Few : Answer ℕ → List Row → Type 0
 Few (Ok n) w = (n ≤ MOST_STATEMENTS) × (n ≤ length w)
 Few (Err r) w = Unit {0}
 
--- the answer r, and the rows w after it, where these are the kept statements of a text
-pub record RowsOf (text : List ℕ) (kept : Answer (List Statement)) (r : Answer ℕ) (w : List Row) : Type 0 where
+-- the rows behind them are as they were in w₀
+abbrev pub Untouched : Answer ℕ → List Row → List Row → Type 0
+Untouched (Ok n) w₀ w = drop n w ≡ drop n w₀
+Untouched (Err r) w₀ w = Unit {0}
+
+-- the answer r, and the rows w after it, which were w₀, where these are the kept statements of a text
+pub record RowsOf (text : List ℕ) (w₀ : List Row) (kept : Answer (List Statement)) (r : Answer ℕ) (w : List Row) : Type 0 where
   pub is : rows_read r w ≡ rows_for text 0 [] kept
   pub few : Few r w
+  pub untouched : Untouched r w₀ w
 
 -- where the tokens of a text end says what is refused of its literals
 abbrev pub EndOf : List ℕ → Answer ℕ → Cursor → Type 0
@@ -73,6 +79,6 @@ EndOf text (Ok n) end = (end.at ≤ length text) × (literal_check text ≡ open
 EndOf text (Err r) end = Unit {0}
 
 -- the same of the statements of a text, its literals aside, where the reader stands at `last` then
-pub record StatementsAre (text : List ℕ) (r : Answer ℕ) (w : List Row) (last : Cursor) : Type 0 where
-  pub rows : RowsOf text (statements text 0 (statement_words text)) r w
+pub record StatementsAre (text : List ℕ) (w₀ : List Row) (r : Answer ℕ) (w : List Row) (last : Cursor) : Type 0 where
+  pub rows : RowsOf text w₀ (statements text 0 (statement_words text)) r w
   pub end : EndOf text r last

@@ -149,7 +149,7 @@ pub fn rows_enough(text: &[u8]) -> usize
 /// the reader stands where the tokens end then; or the refusal of a statement.
 fn read_statements(text: &[u8], rows: &mut [Row], from: &mut Cursor) -> Result<usize, Refusal>
     requires { (length text.now ≤ MOST_BYTES) × (rows_needed text.now ≤ length rows.old) × (from.old ≡ at_start) }
-    ensures { StatementsAre text.now result rows.new from.new }
+    ensures { StatementsAre text.now rows.old result rows.new from.new }
 {
     let mut n = 0;
     let mut levels = OpenLevels::none();
@@ -170,12 +170,12 @@ fn read_statements(text: &[u8], rows: &mut [Row], from: &mut Cursor) -> Result<u
     }
 }
 
-/// The kept statements of a text as rows, from row 0 on: how many there are. 50 comes before any other
-/// refusal of theirs: where the tokens were read to their end, where the reader stands says whether a literal is open,
+/// The kept statements of a text as rows, from row 0 on: how many there are. The rows behind them stay. 50 comes before
+/// any other refusal of theirs: where the tokens were read to their end, where the reader stands says whether a literal is open,
 /// and else the text is looked through from its start.
 pub fn read_rows(text: &[u8], rows: &mut [Row]) -> Result<usize, Refusal>
     requires { (length text.now ≤ MOST_BYTES) × (rows_needed text.now ≤ length rows.old) }
-    ensures { RowsOf text.now (kept_statements text.now) result rows.new }
+    ensures { RowsOf text.now rows.old (kept_statements text.now) result rows.new }
 {
     let mut cursor = Cursor::at_start();
     match read_statements(text, rows, &mut cursor) {

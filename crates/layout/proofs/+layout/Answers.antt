@@ -124,7 +124,7 @@ room-part : {t : List ℕ} {w : List Row} {i to j : ℕ} → Room t w i to → C
 room-part {w = w} {i = i} {to = to} {j = j} r h =
     record {
       fits = omega (arith, r.fits, h.high);
-      few = omega (arith, r.few, h.high);
+      small = omega (arith, r.small, h.high);
       fingerprinted = fingerprinted-less r.fingerprinted h.high;
       counted = rw (add-one i) (counted_step w i to j h r.counted).1;
     }
@@ -256,7 +256,7 @@ lay_item-begin-requires t c =
       m.0,
       omega (arith, m.1),
       fingerprinted-less r.1.fingerprinted (omega (arith, r.0)),
-      omega (arith, r.0, r.1.few),
+      omega (arith, r.0, r.1.small),
     )
 
 pub lay_item-returns-in_err-begun : goal.lay_item-returns-in_err-begun
@@ -286,7 +286,7 @@ lay_item-place_item-requires t c =
     c.in_ok-begun.ensures c.base_at.ensures.0 {x = x} c.in_ok-inner.ensures in (
       omega (arith, r.0, r.1.fits, l),
       r.3,
-      omega (arith, r.0, r.1.few),
+      omega (arith, r.0, r.1.small),
       narrow a.text.now a.rows.now a.i a.j (64 - a.depth_left) a.next.base a.next.last a.next.cursor c.in_ok-c.ensures,
       i.list.narrow,
       n.0,

@@ -2,6 +2,7 @@
 -- the rows below them and the fingerprints of their names.
 use Prim.Native.Nat.{ℕ}
 use mathlib.Core.List.{List}
+use native.Mathlib.Omega.{arith}
 use Rattle.std.proofs.Common.{◌≡◌, refl}
 use Rattle.std.proofs.lemmas.Result.{err_from_is_err_and}
 use Rattle.definition.specs.Basic.{Ok}
@@ -30,7 +31,7 @@ returns-in_err-n c =
     (read-refused a.text.now a.work (past c.in_ok-entry_checks.ensures) (turned_down a.text.now _ c.in_err-n.ensures))
 
 pub count_below-requires : goal.count_below-requires
-count_below-requires c = let r = stored c.args.text.now _ c.in_ok-n.ensures in (r.there, r.few)
+count_below-requires c = let r = stored c.args.text.now _ c.in_ok-n.ensures in (r.there, omega (arith, r.few))
 
 pub returns : goal.returns
 returns c =

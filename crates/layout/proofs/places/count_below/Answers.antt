@@ -4,7 +4,6 @@ use mathlib.Core.List.{List}
 use native.Mathlib.Omega.{arith}
 use lib.ListN.{length, set, length-set}
 use lib.Seq.{get_or-set_other, get_or-set_same}
-use Rattle.definition.specs.declared.TheConstants.{MOST_STATEMENTS}
 use Rattle.definition.specs.Tree.{Forest, leaf, item, above, not_above, forest}
 use Rattle.definition.specs.Owner.{size}
 use Rattle.definition.proofs.Lists.{tested}
@@ -65,7 +64,7 @@ module _ {w : List Row} {m n e : ℕ} (fits : n ≤ length w) (c : ChildrenEnd w
             (λ j l. others j (omega arith)) sides.1,
       )
 
-start : (w : List Row) (n : ℕ) → (n ≤ length w) × (n ≤ MOST_STATEMENTS) → Counting w n n w
+start : (w : List Row) (n : ℕ) → (n ≤ length w) × (n < 65536) → Counting w n n w
 start w n h =
     record {
       fits = h.0;

@@ -13,20 +13,20 @@ use Rattle.statement.specs.TreeReading.{RowsOf}
 use Rattle.rows.specs.declared.Row.{Row}
 use Rattle.statement.proofs.tree.read_rows.Goals as goal
 
-module _ (t : List ℕ) {w : List Row} where
+module _ (t : List ℕ) {w₀ w : List Row} where
   -- no literal is left open
-  passed : {r : Answer ℕ} → Ok tt ≡ literal_check t → RowsOf t (statements t 0 (statement_words t)) r w → RowsOf t (kept_statements t) r w
+  passed : {r : Answer ℕ} → Ok tt ≡ literal_check t → RowsOf t w₀ (statements t 0 (statement_words t)) r w → RowsOf t w₀ (kept_statements t) r w
   unfolding kept_statements and_then
   passed {r} p h =
       let same : statements t 0 (statement_words t) ≡ kept_statements t = rw (sym p) in
-      subst (λ (k : Answer (List Statement)). RowsOf t k r w) same h
+      subst (λ (k : Answer (List Statement)). RowsOf t w₀ k r w) same h
 
   -- one is
-  bad : {r : Refusal} → Err r ≡ literal_check t → RowsOf t (kept_statements t) (Err r) w
+  bad : {r : Refusal} → Err r ≡ literal_check t → RowsOf t w₀ (kept_statements t) (Err r) w
   unfolding kept_statements and_then
   bad {r} p =
       let same : kept_statements t ≡ Err r = rw (sym p) in
-      rw same (record { is = refl; few = tt })
+      rw same (record { is = refl; few = tt; untouched = tt })
 
 pub returns-in_ok-left_open-in-Ok : goal.returns-in_ok-left_open-in-Ok
 returns-in_ok-left_open-in-Ok c = let h = c.in-Ok.ensures in passed _ (c.in_ok-left_open-in-Ok.ensures ∙ sym h.end.1) h.rows

@@ -1,11 +1,12 @@
 use Prim.Native.Nat.{ℕ, ◌+◌, ◌≤◌, ◌<◌}
-use mathlib.Core.Path.{◌≡◌, sym, ap, subst, ◌∙◌}
+use mathlib.Core.Path.{◌≡◌, refl, sym, ap, subst, ◌∙◌}
 use mathlib.Core.List.{List, [], ◌∷◌, ◌++◌}
 use native.Mathlib.Numerals.{add-one}
 use native.Mathlib.Omega.{arith}
-use lib.ListN.{length, length-set, take}
+use lib.ListN.{length, length-set, take, drop}
 use Rattle.std.proofs.Common.{append-nil}
-use Rattle.std.proofs.lemmas.List.{take_all, take_more_set}
+use Rattle.std.proofs.lemmas.List.{take_all, take_more_set, drop-set-lt}
+use Rattle.std.proofs.lemmas.Grind.{drop_more_same}
 use Rattle.definition.specs.declared.Refusal.{Refusal}
 use Rattle.definition.specs.declared.Mode.TheVariants.{Fresh}
 use Rattle.definition.specs.declared.LiteralState.TheVariants.{Before}
@@ -38,7 +39,7 @@ use Rattle.statement.proofs.tree.read_statements.Invariants.{whole, rest, Left}
 use Rattle.statement.proofs.tree.read_statements.Goals as goal
 
 -- before the first statement
-start : {t : List ℕ} {w : List Row} {from : Cursor} {o : OpenLevels} → length t ≤ MOST_BYTES → rows_needed t ≤ length w → from ≡ at_start → NoneOpen o → Left t w from 0 o
+start : {t : List ℕ} {w : List Row} {from : Cursor} {o : OpenLevels} → length t ≤ MOST_BYTES → rows_needed t ≤ length w → from ≡ at_start → NoneOpen o → Left t w w from 0 o
 unfolding statement_words rows_needed
 start {t} {w} {from} {o} s r b p =
     let none : stack_of w o ≡ [] = ap (λ (n : ℕ). top_down w o.levels n (row_code o.row)) p.count ∙ down-none w o.levels (row_code o.row) in
@@ -48,35 +49,36 @@ start {t} {w} {from} {o} s r b p =
       room = r;
       left = rw b (let few = few-sentences t (Before 0) Fresh 0 t in let whole = ap periods (take_all MOST_BYTES t s) in omega (arith, few, whole));
       few = omega arith;
+      untouched = refl;
       nested = record { few = omega (arith, p.count); fit = subst (Fit 0) (sym none) tt; there = omega arith };
       opens = rw b;
       same = rw b (sym (behind_none (rows_for t 0 (stack_of w o) (whole t)) ∙ ap (λ (os : List Open). rows_for t 0 os (whole t)) none));
     }
 
-module _ {t : List ℕ} {w : List Row} {from : Cursor} {n : ℕ} {o : OpenLevels} (inv : Left t w from n o) where
+module _ {t : List ℕ} {w₀ w : List Row} {from : Cursor} {n : ℕ} {o : OpenLevels} (inv : Left t w₀ w from n o) where
   onward : {a : Answer (List Statement)} → rest t from n ≡ a → rows_for t 0 [] (whole t) ≡ behind (take n w) (rows_for t n (stack_of w o) a)
   onward p = inv.same ∙ ap (λ (x : Answer (List Statement)). behind (take n w) (rows_for t n (stack_of w o) x)) p
 
   -- a refusal of what is left is one of the whole
-  refused-so : (q : Refusal) (m : Cursor) → rest t from n ≡ Err q → StatementsAre t (Err q) w m
-  refused-so q m p = record { rows = record { is = sym (onward p); few = tt }; end = tt }
+  refused-so : (q : Refusal) (m : Cursor) → rest t from n ≡ Err q → StatementsAre t w₀ (Err q) w m
+  refused-so q m p = record { rows = record { is = sym (onward p); few = tt; untouched = tt }; end = tt }
 
   -- no statement is left
-  done : {next : Cursor} → FirstNone (tokens_at t from) t next → StatementsAre t (Ok n) w next
+  done : {next : Cursor} → FirstNone (tokens_at t from) t next → StatementsAre t w₀ (Ok n) w next
   unfolding new_rows inherit_along
   done {next} g =
       let p : rest t from n ≡ Ok [] = rw (g.ends, end-sentences next.literals) (statements-none t n) in
       record {
-        rows = record { is = sym (onward p ∙ ap Ok (append-nil (take n w))); few = (inv.few, inv.nested.there) };
+        rows = record { is = sym (onward p ∙ ap Ok (append-nil (take n w))); few = (inv.few, inv.nested.there); untouched = inv.untouched };
         end = (g.within, ends_open t next (inv.opens ∙ ap first_open g.ends));
       }
 
   -- the next statement is refused
-  bad : {q : Refusal} (m : Cursor) → FirstRefused (tokens_at t from) t q → StatementsAre t (Err q) w m
+  bad : {q : Refusal} (m : Cursor) → FirstRefused (tokens_at t from) t q → StatementsAre t w₀ (Err q) w m
   bad {q} m first = refused-so q m (rw first.all_are (statements-refused t n _ _ first.is))
 
   -- the next statement is skipped
-  skip : {next : Cursor} → FirstSkipped (tokens_at t from) t (from.at + 1) next → Left t w next n o
+  skip : {next : Cursor} → FirstSkipped (tokens_at t from) t (from.at + 1) next → Left t w₀ w next n o
   skip {next} g =
       record {
         within = g.followed.within;
@@ -84,6 +86,7 @@ module _ {t : List ℕ} {w : List Row} {from : Cursor} {n : ℕ} {o : OpenLevels
         room = inv.room;
         left = omega (arith, inv.left, ap length g.followed.all_are);
         few = inv.few;
+        untouched = inv.untouched;
         nested = inv.nested;
         opens = inv.opens ∙ g.followed.opens;
         same = onward (rw g.followed.all_are (statements-skipped t n _ _ g.is));
@@ -92,7 +95,7 @@ module _ {t : List ℕ} {w : List Row} {from : Cursor} {n : ℕ} {o : OpenLevels
   -- the next statement is kept
   module _ {s : Statement} {next : Cursor} (kept : FirstKept (tokens_at t from) t (from.at + 1) s next) where
     -- `MOST_STATEMENTS` were kept before it
-    full : (m : Cursor) → MOST_STATEMENTS ≤ n → StatementsAre t (Err (Refusal.TooManyStatements s.at)) w m
+    full : (m : Cursor) → MOST_STATEMENTS ≤ n → StatementsAre t w₀ (Err (Refusal.TooManyStatements s.at)) w m
     full m l = refused-so (Refusal.TooManyStatements s.at) m (rw kept.followed.all_are (statements-full t n _ _ kept.is l))
 
     -- it is the next row
@@ -100,7 +103,7 @@ module _ {t : List ℕ} {w : List Row} {from : Cursor} {n : ℕ} {o : OpenLevels
     unfolding rows_needed
     there l = omega (arith, inv.room, inv.left, ap length kept.followed.all_are)
 
-    add : n < MOST_STATEMENTS → {w' : List Row} {o' : OpenLevels} → Added t w n o s w' o' → Left t w' next (n + 1) o'
+    add : n < MOST_STATEMENTS → {w' : List Row} {o' : OpenLevels} → Added t w n o s w' o' → Left t w₀ w' next (n + 1) o'
     add l {w'} {o'} d =
         let later = rest t next (n + 1) in
         let row = new_row t (held_of w o s) (row_of_code (innermost (outer_of w o s))) in
@@ -115,6 +118,9 @@ module _ {t : List ℕ} {w : List Row} {from : Cursor} {n : ℕ} {o : OpenLevels
           room = omega (arith, inv.room, sized);
           left = omega (arith, inv.left, ap length kept.followed.all_are);
           few = omega arith;
+          untouched =
+              ap (drop (n + 1)) d.row ∙ drop-set-lt (n + 1) w n row (omega arith)
+              ∙ drop_more_same w w₀ n inv.untouched;
           nested = subst (λ (m : ℕ). Nested w' m o') (sym (add-one n)) d.nested;
           opens = inv.opens ∙ kept.followed.opens;
           same =

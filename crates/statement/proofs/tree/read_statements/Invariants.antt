@@ -3,7 +3,7 @@
 use Prim.Native.Nat.{ℕ, suc, ◌+◌, ◌-◌, ◌≤◌}
 use mathlib.Core.Path.{◌≡◌}
 use mathlib.Core.List.{List, []}
-use lib.ListN.{length, take}
+use lib.ListN.{length, take, drop}
 use Rattle.definition.specs.declared.Statement.{Statement}
 use Rattle.definition.specs.declared.TheConstants.{MOST_BYTES, MOST_STATEMENTS}
 use Rattle.definition.specs.Basic.{Answer}
@@ -25,19 +25,20 @@ whole t = statements t 0 (statement_words t)
 abbrev pub rest : List ℕ → Cursor → ℕ → Answer (List Statement)
 rest t from n = statements t n (sentences (tokens_at t from))
 
--- n statements were stored
-pub record Left (t : List ℕ) (w : List Row) (from : Cursor) (n : ℕ) (o : OpenLevels) : Type 0 where
+-- n statements were stored in the rows w, which were w₀
+pub record Left (t : List ℕ) (w₀ w : List Row) (from : Cursor) (n : ℕ) (o : OpenLevels) : Type 0 where
   pub within : from.at ≤ length t
   pub short : length t ≤ MOST_BYTES
   pub room : rows_needed t ≤ length w
   pub left : n + length (sentences (tokens_at t from)) ≤ suc (periods (take MOST_BYTES t))
   pub few : n ≤ MOST_STATEMENTS
+  pub untouched : drop n w ≡ drop n w₀
   pub nested : Nested w n o
   pub opens : first_open (tokens_of t) ≡ first_open (tokens_at t from)
   pub same : rows_for t 0 [] (whole t) ≡ behind (take n w) (rows_for t n (stack_of w o) (rest t from n))
 
 abbrev pub invariant-loop-s : goal.invariant-loop-s
-invariant-loop-s l = Left l.text l.rows l.from l.n l.levels
+invariant-loop-s l = Left l.text l.initial.rows l.rows l.from l.n l.levels
 
 abbrev pub decreases-loop-s : goal.decreases-loop-s
 decreases-loop-s l = length l.text - l.from.at

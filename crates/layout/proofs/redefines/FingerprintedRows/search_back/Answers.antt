@@ -20,7 +20,7 @@ start :
     {t : List ℕ} {w : List Row} {target : Span} {bases : Bool} {last fingerprint k : ℕ} →
     Fingerprinted t w last →
     fingerprint ≡ name_fingerprint t target →
-    PassedBack w fingerprint last k →
+    PassedBack w bases fingerprint last k →
     Left t w target bases last k 0
 start {t} {w} {target} {bases} p e b =
     let x = passed t w target bases e p b in
@@ -69,7 +69,7 @@ module _ {t : List ℕ} {w : List Row} {target : Span} {bases : Bool} {last k ga
             n ≤ here →
             {fingerprint r : ℕ} →
             fingerprint ≡ name_fingerprint t target →
-            PassedBack w fingerprint n r →
+            PassedBack w bases fingerprint n r →
             Left t w target bases last r (gaps + (here - n))
         next l z b =
             let x = passed t w target bases z (fingerprinted-less inv.fingerprinted (omega (arith, same, inv.less))) b in

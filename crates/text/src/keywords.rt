@@ -1,11 +1,11 @@
-//! The keyword that a word is, in whatever case.
+//! The keyword that a word is, in whatever case: the spellings of its first letter are compared, and no others.
 
 ghost use Rattle.std.specs.Prelude.{◌≡◌};
 ghost use Rattle.std.specs.List.{find};
 ghost use Rattle.std.specs.Option.{option_map};
 ghost use Rattle.definition.specs.Basic.{same, uppers};
-ghost use Rattle.definition.specs.Statement.{keyword_of};
-ghost use Rattle.text.specs.Table.{first_meaning};
+ghost use Rattle.definition.specs.Statement.{meaning, spellings, keyword_of};
+ghost use Rattle.text.specs.Table.{starting, first_meaning};
 
 use definition::{ItemUsage, Keyword, Usage};
 
@@ -19,34 +19,53 @@ const COMP_1: Keyword = Keyword::Names(ItemUsage::Comp1);
 
 const COMP_2: Keyword = Keyword::Names(ItemUsage::Comp2);
 
-/// The words that begin a clause, each with what it says: the definition's `spellings`, in its order.
-static SPELLINGS: [(&[u8], Keyword); 25] = [
-    (b"PIC", Keyword::Picture),
-    (b"PICTURE", Keyword::Picture),
-    (b"REDEFINES", Keyword::Redefines),
-    (b"OCCURS", Keyword::Occurs),
-    (b"USAGE", Keyword::Usage),
-    (b"DISPLAY", DISPLAY),
+/// The spelling with B, and what it says; so for each letter that a spelling begins with.
+static WITH_B: [(&[u8], Keyword); 1] = [(b"BINARY", COMP)];
+
+/// The spellings with C.
+static WITH_C: [(&[u8], Keyword); 12] = [
     (b"COMP-3", COMP_3),
     (b"COMPUTATIONAL-3", COMP_3),
-    (b"PACKED-DECIMAL", COMP_3),
     (b"COMP", COMP),
     (b"COMPUTATIONAL", COMP),
     (b"COMP-4", COMP),
     (b"COMPUTATIONAL-4", COMP),
     (b"COMP-5", COMP),
     (b"COMPUTATIONAL-5", COMP),
-    (b"BINARY", COMP),
     (b"COMP-1", COMP_1),
     (b"COMPUTATIONAL-1", COMP_1),
     (b"COMP-2", COMP_2),
     (b"COMPUTATIONAL-2", COMP_2),
+];
+
+/// The spelling with D.
+static WITH_D: [(&[u8], Keyword); 1] = [(b"DISPLAY", DISPLAY)];
+
+/// The spelling with O.
+static WITH_O: [(&[u8], Keyword); 1] = [(b"OCCURS", Keyword::Occurs)];
+
+/// The spellings with P.
+static WITH_P: [(&[u8], Keyword); 3] = [
+    (b"PIC", Keyword::Picture),
+    (b"PICTURE", Keyword::Picture),
+    (b"PACKED-DECIMAL", COMP_3),
+];
+
+/// The spelling with R.
+static WITH_R: [(&[u8], Keyword); 1] = [(b"REDEFINES", Keyword::Redefines)];
+
+/// The spellings with S.
+static WITH_S: [(&[u8], Keyword); 3] = [
     (b"SIGN", Keyword::Sign),
     (b"SYNC", Keyword::Sync),
     (b"SYNCHRONIZED", Keyword::Sync),
-    (b"VALUE", Keyword::Value),
-    (b"VALUES", Keyword::Value),
 ];
+
+/// The spelling with U.
+static WITH_U: [(&[u8], Keyword); 1] = [(b"USAGE", Keyword::Usage)];
+
+/// The spellings with V.
+static WITH_V: [(&[u8], Keyword); 2] = [(b"VALUE", Keyword::Value), (b"VALUES", Keyword::Value)];
 
 /// What the spelling says that is found.
 // A function under `meaning_of`: the check goes through a chain of iterators where the clause has the chain's own words.
@@ -67,14 +86,36 @@ fn meaning_of(word: &[u8], spellings: &[(&[u8], Keyword)]) -> Option<Keyword>
     found(word, spellings)
 }
 
+/// What the spellings with a letter say.
+// A table for each letter, and not one for all: a word that is no keyword is compared with few spellings.
+fn with_letter(b: u8, word: &[u8]) -> Option<Keyword>
+    ensures { result ≡ meaning (uppers word.now) (starting b spellings) }
+{
+    match b {
+        b'B' => meaning_of(word, &WITH_B),
+        b'C' => meaning_of(word, &WITH_C),
+        b'D' => meaning_of(word, &WITH_D),
+        b'O' => meaning_of(word, &WITH_O),
+        b'P' => meaning_of(word, &WITH_P),
+        b'R' => meaning_of(word, &WITH_R),
+        b'S' => meaning_of(word, &WITH_S),
+        b'U' => meaning_of(word, &WITH_U),
+        b'V' => meaning_of(word, &WITH_V),
+        _ => None,
+    }
+}
+
 /// The clause that a word begins, `None` where it begins none.
-#[tactic(auto, unfolding(definition::specs::Statement::keyword_of))]
+#[tactic(auto, using(crate::proofs::LetterLaws::letter_steps))]
 pub fn keyword_of(word: &[u8]) -> Option<Keyword>
     ensures { result ≡ keyword_of (uppers word.now) }
 {
-    // Most clauses are pictures, so that this spelling is asked for before the table is gone through.
+    // Most clauses are pictures, so that this spelling is asked for before the letter is looked at.
     if crate::same_key(word, b"PIC") {
         return Some(Keyword::Picture);
     }
-    meaning_of(word, &SPELLINGS)
+    match word {
+        [first, ..] => with_letter(crate::upper(*first), word),
+        [] => None,
+    }
 }

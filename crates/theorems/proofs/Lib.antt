@@ -6,6 +6,7 @@ pub mod FieldLaws
 pub mod FitLaws
 pub mod KeyLaws
 pub mod Numbers
+pub mod OriginalLaws
 pub mod QuoteLaws
 pub mod StandingLaws
 pub mod ReadBackLaws

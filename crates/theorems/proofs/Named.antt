@@ -6,6 +6,7 @@ use Rattle.definition.proofs.Cover.{occurrence-alike}
 use Rattle.definition.proofs.DetailLaws.{details-length}
 use Rattle.definition.proofs.MovedLaws.{lay-remainder}
 use Rattle.definition.proofs.ParentLaws.{parents-forest}
+use Rattle.theorems.proofs.OriginalLaws.{same-then, same-listing-then}
 use Rattle.theorems.proofs.QuoteLaws.{same-words, plain_closed}
 use Rattle.theorems.proofs.RestartedLaws.{same-slack}
 use Rattle.theorems.proofs.UngroupedLaws.{same_entries, same-listing}
@@ -26,6 +27,8 @@ pub ruleset along_forest = (along-forest)
 pub ruleset same_usages = (same_entries, same-listing)
 
 pub ruleset same_slack = (same-slack)
+
+pub ruleset same_then = (same-then, same-listing-then)
 
 pub ruleset plain_words = (same-words, plain_closed)
 

@@ -30,8 +30,8 @@ use Rattle.definition.specs.Fold.{end, entry, entry_end, Place, place_of, same_n
 use Rattle.definition.specs.Layout.{shallow, content, start, slack_from, entry_of, too_large, advance, Laid, lay}
 use Rattle.definition.specs.Record.{unfolded, layout}
 use Rattle.definition.specs.Calls.{record_tree, record_fields, entries}
-use Rattle.theorems.specs.Restarted.{too_large_then, lay_restarted, entries_restarted, unsynced, unsynced_below}
-use Rattle.theorems.specs.Restarted.{some_named, is_laid, none_lost, plain_slack}
+use Rattle.theorems.specs.Restarted.{too_large_then, lay_restarted, layout_restarted, entries_restarted, unsynced}
+use Rattle.theorems.specs.Restarted.{unsynced_below, some_named, is_laid, none_lost, plain_slack}
 use Rattle.definition.proofs.Lists.{by_cases}
 use Rattle.definition.proofs.Alignment.{fewest-one}
 use Rattle.definition.proofs.PictureLaws.{tally-le, without-length}
@@ -324,7 +324,7 @@ module _ (text : List ℕ) where
 -- a copybook with no SYNC below the fields of its record, and no refusal inside a group whose target is missing, has the
 -- entries that it had
 pub same-slack : (text : List ℕ) (work : ℕ) → plain_slack text ≡ true → entries_restarted text work ≡ entries text work
-unfolding entries_restarted entries record_fields record_tree layout unfolded and_then
+unfolding entries_restarted layout_restarted entries record_fields record_tree layout unfolded and_then
 same-slack text work h =
     let same : (f : Forest) → (unsynced_below f && none_lost text 0 [] f) ≡ true → lay text 0 0 [] 0 0 f
     ≡ lay_restarted text 0 [] 0 0 f =

@@ -332,7 +332,7 @@ module _ (c : Clauses) where
 abbrev pub mapped : {A B : Type 0} → (A → B) → Answer A → Answer B
 mapped f a = a >>= λ x. Ok (f x)
 
-abbrev forget_statement : Statement → Statement
+abbrev pub forget_statement : Statement → Statement
 forget_statement s = statement_of s.level s.at s.name (forget s.clauses)
 
 finish-forget : (at : ℕ) (e : ParseState) (c : Clauses) → finish at e (forget c) ≡ mapped forget (finish at e c)
@@ -432,7 +432,7 @@ module _ (text : List ℕ) where
   unfolding and_then
   after-statement before now n ih a = grind arith
 
-  statements-forget :
+  pub statements-forget :
       (wss : List (List Span)) (n : ℕ) →
       lasting_all text wss ≡ true →
       statements_alone text n wss ≡ mapped (map forget_statement) (statements text n wss)
@@ -491,7 +491,7 @@ inherited-plain leaf h = refl
 inherited-plain (item s kids later) h = grind (arith, plain-within s kids, inherited-plain kids, inherited-plain later)
 
 -- a line of a `do` that both have, and one whose value one of them changes
-same-line :
+pub same-line :
     {A B C : Type 0} (h : B → C) (a : Answer A) (f : A → Answer C) (g : A → Answer B) →
     ((x : A) → f x ≡ mapped h (g x)) →
     (a >>= f) ≡ mapped h (a >>= g)
@@ -499,7 +499,7 @@ unfolding and_then
 same-line h (Ok x) f g e = e x
 same-line h (Err r) f g e = refl
 
-changed-line :
+pub changed-line :
     {A D B C : Type 0} (h : B → C) (u : A → D) (a : Answer A) (f : D → Answer C) (g : A → Answer B) →
     ((x : A) → f (u x) ≡ mapped h (g x)) →
     (mapped u a >>= f) ≡ mapped h (a >>= g)
@@ -510,7 +510,7 @@ changed-line h u (Err r) f g e = refl
 -- ---------------------------------------------------------------- without the words of usages
 
 -- a statement that names nothing, and has the usage that holds for it, by no word
-abbrev bare : Statement → Statement
+abbrev pub bare : Statement → Statement
 bare s =
     let c = s.clauses in
     record {
@@ -521,7 +521,7 @@ bare s =
       usage = Some (named_usage (usage_of s.usage) absent);
     }
 
-abbrev bares : Forest → Forest
+abbrev pub bares : Forest → Forest
 bares f = map_forest bare f
 
 -- DISPLAY holds where none is named, so that both readings have the same statements
@@ -545,11 +545,11 @@ module _ (text : List ℕ) where
   elementary-bare : (s : Statement) → elementary text (bare s) ≡ elementary text s
   elementary-bare s = grind arith
 
-  content-bare : (s : Statement) (kids : Forest) → content text (bare s) (bares kids) ≡ content text s kids
+  pub content-bare : (s : Statement) (kids : Forest) → content text (bare s) (bares kids) ≡ content text s kids
   content-bare s leaf = elementary-bare s
   content-bare s (item t kids later) = refl
 
-  aligned-bare :
+  pub aligned-bare :
       (s : Statement) (kids : Forest) →
       place_alignment text (bare s) (bares kids) ≡ place_alignment text s kids
   aligned-bare s leaf =
@@ -565,7 +565,7 @@ module _ (text : List ℕ) where
   alignment-bare (item s kids later) =
       λ i. max (aligned-bare s kids i) (max (alignment-bare kids i) (alignment-bare later i))
 
-  shallow-bare : (depth : ℕ) (f : Forest) → shallow depth (bares f) ≡ shallow depth f
+  pub shallow-bare : (depth : ℕ) (f : Forest) → shallow depth (bares f) ≡ shallow depth f
   shallow-bare depth leaf = refl
   shallow-bare depth (item s kids later) = refl
 
@@ -592,7 +592,7 @@ module _ (text : List ℕ) where
   redefiners-unworded base end = refl
   redefiners-unworded base (entry e members later) = grind (arith, redefiners-unworded base later)
 
-  check-unworded : (es : Entries) (bases : List Place) → fold_check text bases (unworded es) ≡ fold_check text bases es
+  pub check-unworded : (es : Entries) (bases : List Place) → fold_check text bases (unworded es) ≡ fold_check text bases es
   unfolding fold_check and_then
   check-unworded end bases = refl
   check-unworded (entry e members later) bases =
@@ -610,7 +610,7 @@ module _ (text : List ℕ) where
       grind (arith, member-unworded e.name members, append-unworded members (entry r ms rs)) in
       cc (same, widest-unworded both)
 
-  folded-unworded :
+  pub folded-unworded :
       (es : Entries) (bases : List Place) →
       folded_list text bases (unworded es) ≡ unworded (folded_list text bases es)
   unfolding folded_list
@@ -624,19 +624,19 @@ module _ (text : List ℕ) where
         with-unworded e members (redefiners text (place_of e) later) (folded_list text (place_of e ∷ bases) later),
       )
 
-  below-unworded : (es : Entries) → folded_below text (unworded es) ≡ unworded (folded_below text es)
+  pub below-unworded : (es : Entries) → folded_below text (unworded es) ≡ unworded (folded_below text es)
   unfolding folded_below
   below-unworded end = refl
   below-unworded (entry e members later) =
       cc (below-unworded members, folded-unworded (folded_below text members) [], below-unworded later)
 
-  fit-unworded : (es : Entries) → ends_fit (unworded es) ≡ ends_fit es
+  pub fit-unworded : (es : Entries) → ends_fit (unworded es) ≡ ends_fit es
   unfolding ends_fit and_then
   fit-unworded end = refl
   fit-unworded (entry e members later) = grind (arith, fit-unworded later)
 
   -- so a list laid
-  abbrev unworded_list : Laid → Laid
+  abbrev pub unworded_list : Laid → Laid
   unworded_list l = record { entries = unworded l.entries; width = l.width }
 
   item-unworded :
@@ -691,21 +691,29 @@ module _ (text : List ℕ) where
 
 -- ---------------------------------------------------------------- the entries
 
--- the fields of statements, none of them a group that names a usage
+-- the fields of statements, none of them a group that names a usage, laid out in a way that asks for no words
+pub fields-forget :
+    (lays : Forest → Answer Entries) (ss : List Statement) →
+    ((f : Forest) → lays (bares f) ≡ mapped unworded (lays f)) →
+    plain_groups (forest ss) ≡ true →
+    mapped unworded (lays (fields (forest (map forget_statement ss)))) ≡ mapped unworded (lays (record_of ss))
+fields-forget lays ss unasked h =
+    let f = forest ss in
+    ap (λ (x : Forest). mapped unworded (lays x))
+    (ap fields (forest-forget ss) ∙ fields_map forget_statement f)
+    ∙ sym (unasked (map_forest forget_statement (fields f)))
+    ∙ ap lays (bares-forget (fields f))
+    ∙ unasked (map_forest alone (fields f))
+    ∙ ap (λ (x : Forest). mapped unworded (lays x))
+    (sym (fields_map alone f) ∙ ap fields (sym (inherited-plain f h)))
+
+-- so by the layout of today
 record-forget :
     (text : List ℕ) (ss : List Statement) →
     plain_groups (forest ss) ≡ true →
     mapped unworded (layout text (fields (forest (map forget_statement ss)))) ≡ mapped unworded
     (layout text (record_of ss))
-record-forget text ss h =
-    let f = forest ss in
-    ap (λ (x : Forest). mapped unworded (layout text x))
-    (ap fields (forest-forget ss) ∙ fields_map forget_statement f)
-    ∙ sym (layout-unworded text (map_forest forget_statement (fields f)))
-    ∙ ap (layout text) (bares-forget (fields f))
-    ∙ layout-unworded text (map_forest alone (fields f))
-    ∙ ap (λ (x : Forest). mapped unworded (layout text x))
-    (sym (fields_map alone f) ∙ ap fields (sym (inherited-plain f h)))
+record-forget text ss h = fields-forget (layout text) ss (layout-unworded text) h
 
 -- a copybook with no usage on a group, no DISPLAY after another usage word and no word that names a float has the
 -- entries that it had, but for the words of usages
@@ -744,7 +752,7 @@ listing-unworded : (es : Entries) → listing (unworded es) ≡ listing es
 unfolding listing
 listing-unworded es = cc (length-unworded es, variable-unworded es, members-unworded es, bytes-unworded es)
 
-listed-unworded : (a : Answer Entries) → listed (but_words a) ≡ listed a
+pub listed-unworded : (a : Answer Entries) → listed (but_words a) ≡ listed a
 unfolding and_then
 listed-unworded (Ok es) = ap Ok (listing-unworded es)
 listed-unworded (Err r) = refl

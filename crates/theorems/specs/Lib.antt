@@ -5,6 +5,7 @@ pub mod Chains
 pub mod Keys
 pub mod Fields
 pub mod Numbers
+pub mod Original
 pub mod Premises
 pub mod ReadBack
 pub mod Restarted

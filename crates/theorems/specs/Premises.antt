@@ -19,6 +19,7 @@ use Rattle.definition.specs.Cards.{view}
 use Rattle.definition.specs.Calls.{entries, record_fields, entry_checks}
 use Rattle.theorems.specs.Restarted.{entries_restarted, plain_slack}
 use Rattle.theorems.specs.Ungrouped.{entries_alone, plain_usages}
+use Rattle.theorems.specs.Original.{entries_then}
 
 -- ---------------------------------------------------------------- readings, in numbers
 
@@ -59,6 +60,9 @@ pub data Premise : Type 0 where
   usages : String → Bool → Bool → Premise
   -- a copybook; whether its slack is plain, and whether its entries are those of an alignment that restarts in each list
   restarts : String → Bool → Bool → Premise
+  -- a copybook; whether both its slack and its usages are plain, and whether its entries are those of an alignment that
+  -- restarts in each list and of each statement's own usage alone
+  originals : String → Bool → Bool → Premise
   -- a copybook; whether it is overlaid, and whether the search among its entries finds the owners that the pieces have
   owners : String → Bool → Bool → Premise
   -- cards; whether they pass the checks, and whether what is seen of them does
@@ -82,6 +86,9 @@ right (usages t p s) =
 right (restarts t p s) =
     is p (plain_slack (bytes t))
     && is s (same (entries_shown (entries (bytes t) 16384)) (entries_shown (entries_restarted (bytes t) 16384)))
+right (originals t p s) =
+    is p (plain_slack (bytes t) && plain_usages (bytes t))
+    && is s (same (entries_shown (entries (bytes t) 16384)) (entries_shown (entries_then (bytes t) 16384)))
 right (owners t o s) = owners_right (bytes t) o s (record_fields (bytes t) 16384)
 right (cards t c v) = is c (passes (entry_checks t 16384)) && is v (passes (entry_checks (view t) 16384))
 
@@ -111,6 +118,11 @@ premises =
     ∷ restarts "01 R. 05 A PIC X. 05 G REDEFINES B. 10 C." false false
     -- the same entries, though an item below a group has SYNC
     ∷ restarts "01 R. 05 A PIC X(4). 05 G. 10 B PIC 9(5) COMP SYNC." false true
+    ∷ originals "01 R. 05 A PIC X. 05 B PIC 9(5) COMP SYNC. 05 G OCCURS 2. 10 C PIC X." true true
+    ∷ originals "01 R. 05 A PIC X. 05 G. 10 B PIC 9(5) COMP SYNC." false false
+    ∷ originals "01 R COMP. 05 A PIC 9(5)." false false
+    -- the same entries, though a group names a usage and an item below another has SYNC
+    ∷ originals "01 R DISPLAY. 05 A PIC X(4). 05 G. 10 B PIC 9(5) COMP SYNC." false true
     ∷ owners "01 FISH. 05 TAG PIC X(5). 05 SIRE PIC 9(4) COMP SYNC. 05 WT OCCURS 3 PIC 9(3)V9." false true
     ∷ owners "01 R REDEFINES X OCCURS 2 DEPENDING ON N. 05 A PIC X." false true
     ∷ owners "05 A PIC X(2). 05 B REDEFINES A PIC X(2). 05 C PIC X." true false

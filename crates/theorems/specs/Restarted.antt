@@ -1,6 +1,7 @@
 -- The entries as they were while alignment restarted in each list, no group had slack at its end, and a group's 28 came
--- after its list, as in the Rust; and the test on a copybook under which they are those of `Calls` (`RestartedLaws`, of
--- the proofs, says so): no SYNC below the fields of the record, and no refusal inside a group whose target is missing.
+-- after its list, as in the Rust, with the usages that hold today (`Original` has both as they were); and the test on a
+-- copybook under which they are those of `Calls` (`RestartedLaws`, of the proofs, says so): no SYNC below the fields of
+-- the record, and no refusal inside a group whose target is missing.
 -- Assumes nothing.
 use Rattle.std.specs.Prelude.{ℕ, suc, max, Bool, true, false, ◌&&◌, ◌||◌, not, List, [], ◌∷◌, ltb}
 use Rattle.definition.specs.declared.Span.{Span}
@@ -37,13 +38,18 @@ lay_restarted text depth seen cursor reach (item s kids later) = do
   l ← lay_restarted text depth (place_of e ∷ seen) (advance cursor e) (max reach (entry_end e)) later
   Ok (record { entries = entry e inner.entries l.entries; width = l.width })
 
-unfoldable pub entries_restarted : List ℕ → ℕ → Answer Entries
-entries_restarted text work = do
-  f ← record_fields text work
+-- the fields of a record
+unfoldable pub layout_restarted : List ℕ → Forest → Answer Entries
+layout_restarted text f = do
   l ← lay_restarted text 0 [] 0 0 f
   _ ← fold_check text [] l.entries
   _ ← ends_fit (folded_all text l.entries)
   Ok (folded_all text l.entries)
+
+unfoldable pub entries_restarted : List ℕ → ℕ → Answer Entries
+entries_restarted text work = do
+  f ← record_fields text work
+  layout_restarted text f
 
 -- ---------------------------------------------------------------- the test
 

@@ -1,7 +1,7 @@
--- The entries as they were while neither DISPLAY nor the words of floats named a usage and each statement had its own
--- usage alone, as in the Rust; and the test on a copybook under which they are those of `Calls`, the places of usage
--- words aside (`UngroupedLaws`, of the proofs, says so): no group names a usage, no DISPLAY stands after another usage
--- word, and no word names a float.
+-- The entries where neither DISPLAY nor the words of floats name a usage and each statement has its own usage alone, as
+-- in the Rust, but aligned as today, as the Rust's are not (`Original` has both as they were); and the test on a copybook
+-- under which they are those of `Calls`, the places of usage words aside (`UngroupedLaws`, of the proofs, says so): no
+-- group names a usage, no DISPLAY stands after another usage word, and no word names a float.
 -- Assumes nothing.
 use Rattle.std.specs.Prelude.{ℕ, suc, Bool, true, false, ◌&&◌, ◌||◌, not, List, [], ◌∷◌, eqb, leb, if◌then◌else◌}
 use Prim.Native.String.{String}
@@ -77,7 +77,7 @@ statements_alone text n (ws ∷ wss) = do
       Ok (s ∷ ss)
   ]
 
--- the folded top list: no usage is inherited
+-- the folded top list: no usage is inherited, and it is laid out as today
 unfoldable pub entries_alone : List ℕ → ℕ → Answer Entries
 entries_alone text work = do
   _ ← entry_checks text work

@@ -33,6 +33,7 @@ ghost use Rattle.definition.specs.Calls.{entry_checks, literal_check, indicator_
 ghost use Rattle.theorems.specs.Keys.{KeyAnswers};
 ghost use Rattle.theorems.specs.Ungrouped.{entries_alone, listed as listed_alone, but_words, lasting_all, plain_usages};
 ghost use Rattle.theorems.specs.Restarted.{entries_restarted, plain_slack};
+ghost use Rattle.theorems.specs.Original.{entries_then};
 ghost use Rattle.definition.specs.Demand.{Fewest, Tells, spot, spots_of, Among, Demand, Kept};
 ghost use Rattle.definition.specs.Explained.{Explained};
 ghost use Rattle.definition.specs.Extracted.{Extracted};
@@ -271,8 +272,8 @@ pub fn usages_come_down_while_reading()
 // ---------------------------------------------------------------- as the Rust module has it
 
 /// A copybook in which no group names a usage, no DISPLAY stands after another usage word and no word names a float has
-/// the listing that it had while each statement had its own usage alone, and its entries but for the places of usage
-/// words.
+/// the listing that it has where each statement has its own usage alone, and its entries but for the places of usage
+/// words. Both are laid out as today.
 #[tactic(auto, using(crate::proofs::Named::same_usages))]
 pub fn plain_usages_have_the_entries_that_they_had()
     ensures listing { (text : List ℕ) (work : ℕ) → plain_usages text ≡ true →
@@ -286,6 +287,17 @@ pub fn plain_usages_have_the_entries_that_they_had()
 #[tactic(auto, using(crate::proofs::Named::same_slack))]
 pub fn plain_slack_has_the_entries_that_it_had()
     ensures { (text : List ℕ) (work : ℕ) → plain_slack text ≡ true → entries_restarted text work ≡ entries text work }
+{}
+
+/// A copybook that meets both premises, of slack and of usages, has the listing that it had while alignment restarted
+/// in each list and each statement had its own usage alone, and its entries but for the places of usage words: literals
+/// aside, these are the Rust module's.
+#[tactic(auto, using(crate::proofs::Named::same_then))]
+pub fn plain_copybooks_have_the_entries_of_the_rust()
+    ensures listing { (text : List ℕ) (work : ℕ) → plain_slack text ≡ true → plain_usages text ≡ true →
+        listed_alone (entries_then text work) ≡ listed_alone (entries text work) }
+    ensures entries { (text : List ℕ) (work : ℕ) → plain_slack text ≡ true → plain_usages text ≡ true →
+        but_words (entries_then text work) ≡ but_words (entries text work) }
 {}
 
 /// A text in which no literal holds a period that would end a statement, or `*>`, and none is left open, has the words

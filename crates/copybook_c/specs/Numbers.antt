@@ -58,7 +58,7 @@ abbrev pub picture_numbers : Answer Pictured → List ℕ
 picture_numbers = answer_numbers 7 pictured_numbers
 
 -- the four numbers of a byte's owner: 0, the entry's number, the piece's first byte and the place inside it; or 1 and
--- the number of the entry that the slack precedes
+-- the number of the entry that the slack precedes, or of the group at whose end it stands
 abbrev pub owned_numbers : Owner → List ℕ
 owned_numbers (Owner.Piece entry first place) = 0 ∷ entry ∷ first ∷ place ∷ []
 owned_numbers (Owner.Slack entry) = 1 ∷ entry ∷ 0 ∷ 0 ∷ []

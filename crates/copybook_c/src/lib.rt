@@ -171,9 +171,9 @@ pub extern "C" fn copybook_mask(pic: &[u8], usage: u8, out: &mut [u8], answer: &
 }
 
 /// The owner of a byte of the record, as `copybook::byte_owner` says. To `answer`, 4 numbers: 0, the entry's number,
-/// the piece's first byte and the place inside it; or 1 for slack, the number of the entry it precedes, and zeros; or
-/// position, needed length and zeros. The contract rules out a call that says slack of a piece, and one that takes the
-/// piece's first byte for the place inside it.
+/// the piece's first byte and the place inside it; or 1 for slack, the number of the entry it precedes, or of the group
+/// at whose end it stands, and zeros; or position, needed length and zeros. The contract rules out a call that says
+/// slack of a piece, and one that takes the piece's first byte for the place inside it.
 #[unsafe(no_mangle)]
 pub extern "C" fn copybook_owner(
     text: &[u8],

@@ -128,7 +128,8 @@ pub fn write<W: Written>(what: W, out: &mut [u8]) -> Result<usize, Refusal>
 {
     if !what.has_ample(out.len()) {
         let needed = what.measure();
-        if out.len() < needed {
+        let lacks = out.len() < needed;
+        if lacks {
             return Err(Refusal::OutputTooShort { needed });
         }
     }

@@ -60,7 +60,8 @@ pub fn walk_rows(rows: Rows, from: usize, position: usize) -> Option<Owner>
     while k < rows.count {
         let row = rows.row(k);
         let offset = row.place.offset as usize;
-        if q < offset {
+        let before = q < offset;
+        if before {
             return Some(Owner::Slack { entry: k - from });
         }
         let width = row.place.width as usize;

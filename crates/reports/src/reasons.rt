@@ -91,7 +91,8 @@ impl<'a> LaidRow<'a> {
     {
         put_reason(sink, self.placing());
         let slack = self.rows.row(self.row).place.slack as usize;
-        if slack != 0 {
+        let slacks = slack != 0;
+        if slacks {
             put_reason(sink, Reason::Slack { adds: slack });
         }
     }

@@ -3,7 +3,6 @@
 use Rattle.std.specs.Prelude.{ℕ, ◌≡◌, ◌≤◌, ◌+◌, min, Bool, true, false, List, [], ◌∷◌, Some, if◌then◌else◌}
 use Rattle.definition.specs.declared.Token.{Token}
 use Rattle.definition.specs.declared.Token.TheVariants.{Word, Stop, Open}
-use Rattle.text.specs.Tokens.{at_start}
 use Rattle.replay.specs.declared.tally.Tally.{Tally}
 use Rattle.replay.specs.Tallies.{most}
 use Rattle.replay.specs.Words.{ahead}
@@ -17,7 +16,7 @@ begun inside (Open p ∷ ts) = 0
 
 -- how many cases a list has
 abbrev pub cases : List ℕ → ℕ
-cases list = begun false (ahead list at_start)
+cases list = begun false (ahead list 0)
 
 -- nothing that was counted is lost, whether it agreed or differed, and the first difference stays
 pub record Onward (s t : Tally) : Type 0 where

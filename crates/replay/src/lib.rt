@@ -1,8 +1,8 @@
 //! Lists of cases, for the program that replays answers, and the memory that a call is lent there. A list has the
-//! lexical form of a copybook: a case is the words up to a period that ends a statement, and a line that begins with
-//! `*` is a comment. An input is one word, in which %XX stands for a byte; the word % is the empty input. An expected
-//! answer is a word for each of its numbers. A case is read word by word, and the reading goes on from one word to the
-//! next as long as each is the expected one.
+//! lexical form of a copybook, but no literal opens in it: a case is the words up to a period that ends a statement, and
+//! a line that begins with `*` is a comment. An input is one word, in which %XX stands for a byte; the word % is the
+//! empty input. An expected answer is a word for each of its numbers. A case is read word by word, and the reading goes
+//! on from one word to the next as long as each is the expected one.
 #![tactic(auto)]
 
 /// A list and its cases, read word by word.

@@ -92,7 +92,7 @@ impl<'a, 'w> Asking<'a, 'w> {
     /// Goes on where the last words of the case are the answer with so much room.
     fn answered(&mut self, case: &mut Case, room: usize) -> Result<(), Differs>
         ensures list { case.new.list ≡ case.old.list }
-        ensures ended { IsOk result → IsTrue (is_end (ahead case.new.list.now case.new.cursor)) }
+        ensures ended { IsOk result → IsTrue (is_end (ahead case.new.list.now case.new.at)) }
     {
         if ROOM < room {
             return Err(Differs);
@@ -125,7 +125,7 @@ impl<'a, 'w> Asking<'a, 'w> {
     /// more, and one byte less is refused.
     fn written(&mut self, case: &mut Case, needed: usize) -> Result<(), Differs>
         ensures list { case.new.list ≡ case.old.list }
-        ensures ended { IsOk result → IsTrue (is_end (ahead case.new.list.now case.new.cursor)) }
+        ensures ended { IsOk result → IsTrue (is_end (ahead case.new.list.now case.new.at)) }
     {
         if needed >= ROOM {
             return Err(Differs);
@@ -143,7 +143,7 @@ impl<'a, 'w> Asking<'a, 'w> {
     /// none.
     fn replay(&mut self, case: &mut Case) -> Result<(), Differs>
         ensures list { case.new.list ≡ case.old.list }
-        ensures ended { IsOk result → IsTrue (is_end (ahead case.new.list.now case.new.cursor)) }
+        ensures ended { IsOk result → IsTrue (is_end (ahead case.new.list.now case.new.at)) }
     {
         let mut told = *case;
         if told.take_number()? == 1 {
@@ -160,7 +160,7 @@ impl<'a, 'w> Asking<'a, 'w> {
 /// Goes on where the next words ask for a report of a kind and answer, with blanks before the text.
 pub fn replay(case: &mut Case, kind: Kind, lent: Lent) -> Result<(), Differs>
     ensures list { case.new.list ≡ case.old.list }
-    ensures ended { IsOk result → IsTrue (is_end (ahead case.new.list.now case.new.cursor)) }
+    ensures ended { IsOk result → IsTrue (is_end (ahead case.new.list.now case.new.at)) }
 {
     let mut room = [b' '; TEXT_ROOM];
     let (report, form) = match kind {

@@ -16,7 +16,7 @@ const WEIGHTS: usize = 32;
 /// Goes on where the next words ask for an extract and answer, with blanks before the text.
 pub fn replay(case: &mut Case, lent: Lent) -> Result<(), Differs>
     ensures list { case.new.list ≡ case.old.list }
-    ensures ended { IsOk result → IsTrue (is_end (ahead case.new.list.now case.new.cursor)) }
+    ensures ended { IsOk result → IsTrue (is_end (ahead case.new.list.now case.new.at)) }
 {
     let mut room = [b' '; TEXT_ROOM];
     let mut all = [0; WEIGHTS];

@@ -15,7 +15,7 @@ const LENGTHS: usize = 32;
 /// Goes on where the next words ask for a key and answer, with blanks before the texts.
 pub fn replay(case: &mut Case, lent: Lent) -> Result<(), Differs>
     ensures list { case.new.list ≡ case.old.list }
-    ensures ended { IsOk result → IsTrue (is_end (ahead case.new.list.now case.new.cursor)) }
+    ensures ended { IsOk result → IsTrue (is_end (ahead case.new.list.now case.new.at)) }
 {
     let mut all = [0; LENGTHS];
     let mut room = [b' '; 2 * TEXT_ROOM];

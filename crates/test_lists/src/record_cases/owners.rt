@@ -21,7 +21,7 @@ use replay::tally::Tally;
 /// Goes on where the next words ask for the owner of a position and answer, with blanks before the text.
 pub fn replay(case: &mut Case, lent: Lent) -> Result<(), Differs>
     ensures list { case.new.list ≡ case.old.list }
-    ensures ended { IsOk result → IsTrue (is_end (ahead case.new.list.now case.new.cursor)) }
+    ensures ended { IsOk result → IsTrue (is_end (ahead case.new.list.now case.new.at)) }
 {
     let mut room = [b' '; TEXT_ROOM];
     let text = case.input(&mut room, lent.before)?;
@@ -61,10 +61,34 @@ impl TryFrom<u64> for Mark {
     }
 }
 
-/// So many bytes of a record from a first one on, that belong to a piece or to the slack before an entry.
+/// The words of a record, which are read as long as each is a number.
+#[derive(Clone, Copy)]
+struct Words<'a> {
+    case: Case<'a>,
+    whole: bool,
+}
+
+impl<'a> Words<'a> {
+    /// The next number; 0 from the first word on that is none.
+    fn number(&mut self) -> u64 {
+        if !self.whole {
+            return 0;
+        }
+        match self.case.take_number() {
+            Ok(n) => n,
+            Err(Differs) => {
+                self.whole = false;
+                0
+            }
+        }
+    }
+}
+
+/// So many bytes of a record from a first one on, that belong to a piece or to the slack before an entry; to none where
+/// the mark is another.
 #[derive(Clone, Copy)]
 struct Run {
-    mark: Mark,
+    mark: Option<Mark>,
     entry: usize,
     first: usize,
     width: u64,
@@ -72,13 +96,17 @@ struct Run {
 
 impl Run {
     /// The next three words as a run that begins there.
-    fn take(case: &mut Case, first: usize) -> Result<Run, Differs> {
-        Ok(Run {
-            mark: case.take()?,
-            entry: case.take()?,
+    fn take(words: &mut Words, first: usize) -> Run
+        ensures { result.first ≡ first }
+    {
+        let mark = Mark::try_from(words.number()).ok();
+        let entry = words.number() as usize;
+        Run {
+            mark,
+            entry,
             first,
-            width: case.take_number()?,
-        })
+            width: words.number(),
+        }
     }
 
     /// Where it ends. No record of the list has more than 400 bytes; a run that would go far beyond counts as empty,
@@ -93,16 +121,16 @@ impl Run {
     }
 
     /// The owner of a position, as the run says.
-    fn owner(self, position: usize) -> Owner
+    fn owner(self, position: usize) -> Option<Owner>
         requires { self.first ≤ position }
     {
-        match self.mark {
-            Mark::Piece => Owner::Piece {
+        match self.mark? {
+            Mark::Piece => Some(Owner::Piece {
                 entry: self.entry,
                 first: self.first,
                 place: position - self.first,
-            },
-            Mark::Slack => Owner::Slack { entry: self.entry },
+            }),
+            Mark::Slack => Some(Owner::Slack { entry: self.entry }),
         }
     }
 }
@@ -118,7 +146,7 @@ fn is_owned(text: &[u8], position: usize, run: Run) -> bool
     requires { run.first ≤ position }
 {
     match owner_of(text, position) {
-        Ok(Ok(owner)) => owner == run.owner(position),
+        Ok(Ok(owner)) => Some(owner) == run.owner(position),
         _ => false,
     }
 }
@@ -130,10 +158,10 @@ fn is_past(text: &[u8], position: usize) -> bool {
 
 /// Replays the positions past the end of a record of so many bytes, which is the end of the case.
 #[tactic(auto, using(replay::proofs::TallyLaws::tally_steps))]
-fn replay_end(case: Case, text: &[u8], length: usize, positions: &mut Tally)
+fn replay_end(words: Words, text: &[u8], length: usize, positions: &mut Tally)
     ensures { Onward positions.old positions.new }
 {
-    positions.add(case.end().is_ok() && is_past(text, length));
+    positions.add(words.whole && words.case.end().is_ok() && is_past(text, length));
     if length <= MOST_BYTES {
         for position in [length + 1, 1 << 32, 1 << 63, usize::MAX] {
             positions.add(is_past(text, position));
@@ -141,37 +169,45 @@ fn replay_end(case: Case, text: &[u8], length: usize, positions: &mut Tally)
     }
 }
 
-/// Replays every position of a record: its runs, and the end.
+/// Replays every position of a record: its runs, as far as its words are what they should be, and the end.
 #[tactic(auto, using(replay::proofs::TallyLaws::tally_steps))]
-fn replay_record(case: &mut Case, positions: &mut Tally) -> Result<(), Differs>
+fn replay_record(case: Case, positions: &mut Tally)
     ensures { Onward positions.old positions.new }
 {
     let mut room = [0; TEXT_ROOM];
-    let text = case.input(&mut room, 0)?;
+    let mut case = case;
+    let before = case.at;
+    // An input that is too long is as long as the room.
+    let (length, whole) = match case.input(&mut room, 0) {
+        Ok(text) => (text.len(), true),
+        Err(Differs) if before < case.at => (TEXT_ROOM, false),
+        Err(Differs) => (0, false),
+    };
+    let text = &room[..length.min(TEXT_ROOM)];
+    let mut words = Words { case, whole };
     let mut first = 0;
-    for _ in 0..case.take_number()? {
-        let run = Run::take(case, first)?;
+    for _ in 0..words.number() {
+        let run = Run::take(&mut words, first);
         for position in run.first..run.end() {
             positions.add(is_owned(text, position, run));
         }
         first = run.end();
+        if !words.whole {
+            return replay_end(words, text, first, positions);
+        }
     }
-    replay_end(*case, text, first, positions);
-    Ok(())
+    replay_end(words, text, first, positions);
 }
 
-/// Replays a record, whose words count as a position that differs where they are other than they should be. Whether
-/// none of its positions differs.
+/// Replays a record. Whether none of its positions differs.
 #[tactic(auto, using(replay::proofs::TallyLaws::tally_steps))]
-fn agrees(case: &mut Case, positions: &mut Tally) -> bool
+fn agrees(case: Case, positions: &mut Tally) -> bool
     ensures onward { Onward positions.old positions.new }
     ensures agrees { IsTrue result
         ↔ (positions.new.cases + positions.old.agree ≤ positions.old.cases + positions.new.agree) }
 {
     let before = positions.differing();
-    if replay_record(case, positions).is_err() {
-        positions.add(false);
-    }
+    replay_record(case, positions);
     positions.differing() <= before
 }
 
@@ -184,8 +220,8 @@ pub struct Counts {
     pub positions: Tally,
 }
 
-/// Replays a list of records. A record agrees if none of its positions differs, and one with other words than it should
-/// have counts as a position that does.
+/// Replays a list of records. A record agrees if none of its positions differs; where its words are other than they
+/// should be, the first position past its runs does.
 pub fn replay_records(list: &[u8]) -> Counts
     ensures records { result.records.cases ≡ min most (cases list.now) }
     ensures differing { result.records.cases + result.positions.agree
@@ -196,8 +232,8 @@ pub fn replay_records(list: &[u8]) -> Counts
 {
     let mut records = Tally::new();
     let mut positions = Tally::new();
-    for mut case in Cases::of(list) {
-        records.add(agrees(&mut case, &mut positions));
+    for case in Cases::of(list) {
+        records.add(agrees(case, &mut positions));
     }
     Counts { records, positions }
 }

@@ -147,7 +147,7 @@ fn document_answer(case: &mut Case, asked: Asked) -> Result<(), Differs>
 /// Goes on where the next words ask and answer, in a list of that source, with so many X before the picture.
 pub fn replay(case: &mut Case, source: Source, before: usize) -> Result<(), Differs>
     ensures list { case.new.list ≡ case.old.list }
-    ensures ended { IsOk result → IsTrue (is_end (ahead case.new.list.now case.new.cursor)) }
+    ensures ended { IsOk result → IsTrue (is_end (ahead case.new.list.now case.new.at)) }
 {
     let mut room = [b'X'; TEXT_ROOM];
     let usage = Usage::at(case.take()?);

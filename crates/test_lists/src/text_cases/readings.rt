@@ -113,7 +113,7 @@ fn answer(case: &mut Case, text: &[u8], work: usize) -> Result<(), Differs>
 /// Goes on where the next words ask and answer, with blanks before the text.
 pub fn replay(case: &mut Case, lent: Lent) -> Result<(), Differs>
     ensures list { case.new.list ≡ case.old.list }
-    ensures ended { IsOk result → IsTrue (is_end (ahead case.new.list.now case.new.cursor)) }
+    ensures ended { IsOk result → IsTrue (is_end (ahead case.new.list.now case.new.at)) }
 {
     let mut room = [b' '; TEXT_ROOM];
     let text = case.input(&mut room, lent.before)?;

@@ -7,6 +7,6 @@ use Rattle.test_lists.proofs.lists.List.count.Given as goal
 
 abbrev pub invariant-loop-case : goal.invariant-loop-case
 invariant-loop-case l =
-    (min most (l.counted.cases + begun false (ahead l.case-iterator.rest.list.now l.case-iterator.rest.cursor))
+    (min most (l.counted.cases + begun false (ahead l.case-iterator.rest.list.now l.case-iterator.rest.at))
     ≡ min most (l.fn.counted.cases + cases l.fn.list))
     × Onward l.fn.counted l.counted

@@ -45,7 +45,7 @@ none-more n m n' m' p q true c a l t h few same =
 none-more n m n' m' p q false c a l t h few same = grind (arith, nat_tests, common_steps)
 
 abbrev to_come : Cases → List Token
-to_come cs = ahead cs.rest.list.now cs.rest.cursor
+to_come cs = ahead cs.rest.list.now cs.rest.at
 
 pub loop-case-preserved : goal.loop-case-preserved
 loop-case-preserved c =

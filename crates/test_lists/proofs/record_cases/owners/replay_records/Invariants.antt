@@ -8,7 +8,7 @@ use Rattle.test_lists.proofs.record_cases.owners.replay_records.Given as goal
 
 abbrev pub invariant-loop-case : goal.invariant-loop-case
 invariant-loop-case l =
-    (min most (l.records.cases + begun false (ahead l.case-iterator.rest.list.now l.case-iterator.rest.cursor))
+    (min most (l.records.cases + begun false (ahead l.case-iterator.rest.list.now l.case-iterator.rest.at))
     ≡ min most (cases l.fn.list))
     × (l.records.cases + l.positions.agree ≤ l.positions.cases + l.records.agree)
     × (l.records.cases < most → l.records.agree ≡ l.records.cases → l.positions.agree ≡ l.positions.cases)

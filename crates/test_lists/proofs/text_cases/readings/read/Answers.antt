@@ -7,9 +7,9 @@ use Rattle.rows.specs.declared.Row.{Row}
 use Rattle.statement.specs.TreeReading.{RowsOf, rows_needed}
 use Rattle.test_lists.proofs.text_cases.readings.read.Goals as goal
 
-fits : (text : List ℕ) (w : List Row) (r : Result ℕ Refusal) → RowsOf text (kept_statements text) r w → IfOk r (λ n. n ≤ length w)
-fits text w (Ok n) rows = rows.few.1
-fits text w (Err r) rows = tt
+fits : (text : List ℕ) (w₀ w : List Row) (r : Result ℕ Refusal) → RowsOf text w₀ (kept_statements text) r w → IfOk r (λ n. n ≤ length w)
+fits text w₀ w (Ok n) rows = rows.few.1
+fits text w₀ w (Err r) rows = tt
 
 pub read_rows-requires : goal.read_rows-requires
 unfolding rows_needed
@@ -18,4 +18,4 @@ read_rows-requires c =
     (p.short, omega (arith, c.requires))
 
 pub returns : goal.returns
-returns c = fits _ _ _ c.read_rows.ensures
+returns c = fits _ _ _ _ c.read_rows.ensures

@@ -2,6 +2,7 @@
 //! count of a varying table, for which its statement is read again.
 
 use copybook::{Detail, Details, Entry, FieldKind, Form, Layout, NumRepr, Record, SignClause};
+use std::collections::HashMap;
 use std::ops::Range;
 
 /// A layout as it is shown.
@@ -51,7 +52,9 @@ impl<'t> Facts<'t> {
     pub fn new(form: Form, text: &'t [u8], layout: &Layout<'t, '_>, details: &Details<'t, '_>) -> Facts<'t> {
         let mut rows: Vec<Row> = Vec::new();
         let mut around: Vec<usize> = Vec::new();
-        let words = form.words(text).expect("a text that is laid out has words");
+        let varies = layout.entries().any(|entry| entry.depending_on.is_some());
+        let words = varies.then(|| form.words(text).expect("a text that is laid out has words"));
+        let least_counts = words.map_or(HashMap::new(), |words| words.least_counts());
         for (entry, detail) in layout.entries().zip(details.iter()) {
             around.truncate(entry.depth);
             let group = around.last().copied();
@@ -62,7 +65,7 @@ impl<'t> Facts<'t> {
             around.push(entry.number);
             // a table without TO has 1 at least, as compilers take it
             let least = entry.depending_on.and(entry.occurs);
-            let least = least.map(|most| words.least_count(detail.position).unwrap_or(1).min(most));
+            let least = least.map(|most| least_counts.get(&detail.position).copied().unwrap_or(1).min(most));
             rows.push(Row { entry, detail, group, path, after: None, least, number, line, column });
         }
         find_after(&mut rows);

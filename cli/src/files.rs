@@ -6,6 +6,7 @@ use std::borrow::Cow;
 use std::ffi::OsStr;
 use std::fs::File;
 use std::io::{self, BufWriter, ErrorKind, IsTerminal, Read, Write};
+use std::sync::OnceLock;
 
 /// No copybook is longer, and one byte more shows that a text is too long.
 const MOST: u64 = limits::MOST_BYTES as u64 + 1;
@@ -95,9 +96,11 @@ fn harmless(line: &str) -> String {
     line.split('\t').map(copybook::escaped).collect::<Vec<String>>().join("\t")
 }
 
-/// A line of an answer for programs: on a terminal with control characters by their numbers, else as it is.
+/// A line of an answer for programs: on a terminal with control characters by their numbers, else as it is. The system
+/// is asked once what standard output is.
 pub fn for_output(line: &str) -> Cow<'_, str> {
-    match io::stdout().is_terminal() {
+    static IS_TERMINAL: OnceLock<bool> = OnceLock::new();
+    match *IS_TERMINAL.get_or_init(|| io::stdout().is_terminal()) {
         true => Cow::Owned(copybook::escaped(line)),
         false => Cow::Borrowed(line),
     }

@@ -106,15 +106,15 @@ fn width(arguments: &Arguments) -> Result<Option<usize>, Failure> {
 }
 
 /// The lines of the small program, the crate `copybook_layout`.
-fn lines(layout: &Layout, out: &mut dyn Write) -> io::Result<()> {
+fn lines<'t>(layout: &Layout<'t, '_>, out: &mut dyn Write) -> io::Result<()> {
     let fixed = if layout.variable() { "variable" } else { "fixed" };
     writeln!(out, "record {} {fixed} {}", layout.record_len(), layout.top_len())?;
     for e in layout.entries() {
         let occurs = e.occurs.map_or("-".into(), |n| n.to_string());
-        let (depending_on, redefines) = (e.depending_on.unwrap_or("-"), e.redefines.unwrap_or("-"));
-        let (name, kind) = (e.name.unwrap_or("FILLER"), e.kind.word());
-        let line = format!("{} {name} {} {} {kind} {occurs} {depending_on} {redefines}", e.depth, e.offset, e.width);
-        writeln!(out, "{}", files::for_output(&line))?;
+        let shown = |word: Option<&'t str>, none| files::for_output(word.unwrap_or(none));
+        let (depending_on, redefines) = (shown(e.depending_on, "-"), shown(e.redefines, "-"));
+        let (name, kind) = (shown(e.name, "FILLER"), e.kind.word());
+        writeln!(out, "{} {name} {} {} {kind} {occurs} {depending_on} {redefines}", e.depth, e.offset, e.width)?;
     }
     Ok(())
 }

@@ -21,9 +21,16 @@ fn distance(a: &str, b: &str) -> usize {
     far[a.len()][b.len()]
 }
 
+/// The longest word that is compared, in bytes: what `distance` takes grows with the product of two lengths.
+const LONGEST: usize = 255;
+
 /// The nearest of the words that are known, letter case aside: one that begins with the word, or of which at most a third
-/// is otherwise.
+/// is otherwise. Words above [`LONGEST`] are near to none.
 pub fn of<'w>(word: &str, known: impl Iterator<Item = &'w str>) -> Option<&'w str> {
+    if LONGEST < word.len() {
+        return None;
+    }
+    let known = known.filter(|other| other.len() <= LONGEST);
     let word = word.to_ascii_lowercase();
     let far = |other: &str| {
         let other = other.to_ascii_lowercase();
@@ -61,5 +68,8 @@ mod tests {
         assert_eq!(meant("--jsn"), Some("--json"));
         assert_eq!(meant("convert"), None);
         assert_eq!(meant("--"), None);
+        let (long, longer) = ("B".repeat(255), "B".repeat(65_535));
+        assert_eq!(of(&long[1..], [long.as_str()].into_iter()), Some(long.as_str()));
+        assert_eq!((of(&longer, [longer.as_str()].into_iter()), of("B", [longer.as_str()].into_iter())), (None, None));
     }
 }

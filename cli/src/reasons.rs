@@ -107,7 +107,8 @@ fn steps<'t>(reasons: impl Iterator<Item = Reason<'t>>, width: usize, telling: &
     steps
 }
 
-/// Why an entry stands where it does, in one line: `directly after TAG, at 5; inside G: first in its list`.
+/// Why an entry stands where it does, in one line: `directly after TAG, at 5; inside G: first in its list`. Names have
+/// control characters by their numbers.
 pub fn line(reader: &mut Reader, text: &[u8], entry: &Entry, telling: &Telling) -> Result<String, Refusal> {
     let steps = steps(reader.reasons(text, entry.number)?.iter(), entry.width, telling);
     let words = steps.iter().map(|step| match &step.group {

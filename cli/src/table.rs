@@ -61,7 +61,7 @@ fn item(row: &Row, places: Places, why: Option<&String>) -> Line {
     let last = row.last().map_or("-".into(), |last| places.shown(last));
     let picture = row.detail.picture.map_or(String::new(), |p| shown(&p));
     let usage = facts::usage(row).map_or(String::new(), shown);
-    let why = why.map_or(String::new(), |why| escaped(why));
+    let why = why.cloned().unwrap_or_default();
     [line, places.shown(row.detail.first), last, row.entry.width.to_string(), item, picture, usage, holds, why]
 }
 
@@ -125,14 +125,21 @@ fn lines(facts: &Facts, places: Places, whys: &[String]) -> Vec<Line> {
 /// Words in lines of at most so many characters, broken at blanks; a longer word has a line of its own.
 fn wrapped(words: &str, width: usize) -> Vec<String> {
     let mut lines = vec![String::new()];
+    // the characters of the last line, which are not counted again for each word
+    let mut filled = 0;
     for word in words.split(' ') {
         let line = lines.last_mut().expect("there is a line");
+        let count = word.chars().count();
         if line.is_empty() {
             line.push_str(word);
-        } else if line.chars().count() + 1 + word.chars().count() <= width {
-            *line += &format!(" {word}");
+            filled = count;
+        } else if filled + 1 + count <= width {
+            line.push(' ');
+            line.push_str(word);
+            filled += 1 + count;
         } else {
             lines.push(word.to_owned());
+            filled = count;
         }
     }
     lines

@@ -184,7 +184,7 @@ fn coding(text: &[u8]) -> Option<&'static str> {
         return Some("utf-16 mark");
     }
     // of ASCII in UTF-16 every other byte is 0
-    let zeros = |first: usize| share(&every_other(first), |b| b == 0) * 4 > text.len();
+    let zeros = |first: usize| text.contains(&0) && share(&every_other(first), |b| b == 0) * 4 > text.len();
     match (zeros(0), zeros(1)) {
         (true, false) => return Some("utf-16be"),
         (false, true) => return Some("utf-16le"),

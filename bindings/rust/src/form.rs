@@ -63,6 +63,22 @@ impl Form {
         out.truncate(written);
         Ok(Words::new(text, Cow::Owned(out)))
     }
+
+    /// What a reader sees of the text: of cards the code in its columns, with a blank for every byte that is ignored,
+    /// so that a place in the one is a place in the other. No call goes by it: the library sees cards by itself.
+    pub fn view(self, text: &[u8]) -> Cow<'_, [u8]> {
+        match self {
+            Form::Free => Cow::Borrowed(text),
+            Form::Cards => Cow::Owned(text.split_inclusive(|&b| b == b'\n').flat_map(card).collect()),
+        }
+    }
+}
+
+/// What a reader sees of one card.
+fn card(line: &[u8]) -> impl Iterator<Item = u8> + '_ {
+    let code = line.get(Form::BEFORE_INDICATOR) == Some(&b' ');
+    let read = move |i: usize| code && (Form::BEFORE_INDICATOR + 1..Form::BEFORE_IGNORED).contains(&i);
+    line.iter().enumerate().map(move |(i, &b)| if b == b'\n' || read(i) { b } else { b' ' })
 }
 
 /// The text with a `?` for every byte over 127, one for one, so that a place in the one is a place in the other. It is

@@ -114,7 +114,7 @@ pub enum Owner {
     /// One occurrence of an elementary item: the number of its entry, its first byte in the record, and the byte's
     /// place in it.
     Piece { entry: usize, first: usize, place: usize },
-    /// Alignment before the item of that entry.
+    /// Alignment before the item of that entry, or at the end of that group.
     Slack { entry: usize },
 }
 

@@ -3,7 +3,7 @@
 
 use crate::cause::{self, Around, Cause};
 use crate::statement::{self, Statement};
-use crate::words::with_words;
+use crate::words::{with_words, words_at};
 use crate::{any_bytes, Form, Word, REFUSALS};
 use std::borrow::Cow;
 use std::fmt;
@@ -159,13 +159,13 @@ impl Refusal {
         if self.line == 0 || matches!(about, About::Literal | About::Indicator) {
             return Vec::new();
         }
+        if about != About::Byte {
+            return words_at(self.form, seen, place);
+        }
         let Ok(read) = self.form.words(seen) else {
             return Vec::new();
         };
-        let is_about = |words: &Vec<Word>| match about {
-            About::Byte => words.iter().any(|word| word.range().contains(&place)),
-            _ => words.first().is_some_and(|word| word.start == place),
-        };
+        let is_about = |words: &Vec<Word>| words.iter().any(|word| word.range().contains(&place));
         let found = read.iter().map(|statement| statement.words).find(is_about);
         found.unwrap_or_default()
     }

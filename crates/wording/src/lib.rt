@@ -13,7 +13,7 @@ ghost use Rattle.wording.specs.Extents.{end_from};
 use definition::{Form, MOST_BYTES, Refusal, Span};
 use output::{Sink, Written};
 use text::tokens::{Cursor, Next};
-use text::{cards, tokens, words};
+use text::{cards, words};
 
 // ---------------------------------------------------------------- a statement
 
@@ -33,7 +33,7 @@ fn extent_from(text: &[u8], cursor: Cursor) -> Extent
     let mut cursor = cursor;
     let mut words = 0;
     loop {
-        match tokens::next_token(text, &mut cursor) {
+        match words::word_at(text, &mut cursor) {
             Next::Word(_) => words += 1,
             // A period is one byte, and the reader stands directly behind it.
             Next::Stop => {
@@ -59,7 +59,7 @@ fn put_words(text: &[u8], cursor: &mut Cursor, sink: &mut Sink)
     ensures put { Puts sink.old (spans_bytes (words_from text.now cursor.old)) sink.new }
     ensures ends { Ends text.now cursor.old cursor.new }
 {
-    while let Next::Word(w) = tokens::next_token(text, cursor) {
+    while let Next::Word(w) = words::word_at(text, cursor) {
         sink.span(w);
     }
 }
@@ -95,7 +95,7 @@ impl<'a> Written for Wording<'a> {
     fn put(self, sink: &mut Sink) {
         let mut cursor = Cursor::at_start();
         loop {
-            match tokens::next_token(self.text, &mut cursor) {
+            match words::word_at(self.text, &mut cursor) {
                 Next::Word(first) => put_statement(self.text, first, &mut cursor, sink),
                 Next::Stop => {}
                 Next::End => return,

@@ -27,7 +27,7 @@ use Rattle.definition.proofs.WordLaws.{kind_at, tokens-next, tokens-end}
 use Rattle.text.specs.declared.tokens.Ahead.{Ahead}
 use Rattle.text.specs.declared.tokens.Cursor.{Cursor}
 use Rattle.text.specs.Tokens.{between, behind, tokens_at, First, FirstWord, FirstStop, token_of}
-use Rattle.replay.specs.Words.{ahead, PassedWord, PassedStop, Passed}
+use Rattle.replay.specs.Bare.{bare_ahead, PassedWord, PassedStop, Passed}
 
 -- the tokens without literals, from a place on
 abbrev bare : List ℕ → Mode → ℕ → List Token
@@ -138,12 +138,12 @@ fits-between true p = tt
 fits-between false p = tt
 
 -- what a reader finds first, and what is ahead from its end on
-ahead_first : (t : List ℕ) (at : ℕ) → ahead t at ≡ onto t (tokens_at t (behind at))
-unfolding ahead
+ahead_first : (t : List ℕ) (at : ℕ) → bare_ahead t at ≡ onto t (tokens_at t (behind at))
+unfolding bare_ahead
 ahead_first t at = first-same (length t) t (between (eqb at 0)) at (fits-between (eqb at 0) at) (omega arith)
 
-ahead_on : (t : List ℕ) (at next : ℕ) → at < next → bare t Between next ≡ ahead t next
-unfolding ahead
+ahead_on : (t : List ℕ) (at next : ℕ) → at < next → bare t Between next ≡ bare_ahead t next
+unfolding bare_ahead
 ahead_on t at next h = rw (ne_eqb next 0 (λ e. omega arith))
 
 none-left : (t : List ℕ) (q : LiteralState) → onto t (unless_open q Newline []) ≡ []

@@ -3,8 +3,10 @@
 use Rattle.std.specs.Prelude.{ℕ, ◌≡◌, ◌≤◌, ◌+◌, min, Bool, true, false, List, [], ◌∷◌, Some, if◌then◌else◌}
 use Rattle.definition.specs.declared.Token.{Token}
 use Rattle.definition.specs.declared.Token.TheVariants.{Word, Stop, Open}
+use Rattle.text.specs.Tokens.{at_start}
 use Rattle.replay.specs.declared.tally.Tally.{Tally}
 use Rattle.replay.specs.Tallies.{most}
+use Rattle.replay.specs.Bare.{bare_ahead}
 use Rattle.replay.specs.Words.{ahead}
 
 -- how many cases begin among these tokens, inside a case or between two
@@ -16,7 +18,11 @@ begun inside (Open p ∷ ts) = 0
 
 -- how many cases a list has
 abbrev pub cases : List ℕ → ℕ
-cases list = begun false (ahead list 0)
+cases list = begun false (ahead list at_start)
+
+-- or where no literal opens in it
+abbrev pub bare_cases : List ℕ → ℕ
+bare_cases list = begun false (bare_ahead list 0)
 
 -- nothing that was counted is lost, whether it agreed or differed, and the first difference stays
 pub record Onward (s t : Tally) : Type 0 where
@@ -28,4 +34,9 @@ pub record Onward (s t : Tally) : Type 0 where
 -- as many cases were added as a list has, up to the most that are counted
 pub record Counted (list : List ℕ) (s t : Tally) : Type 0 where
   pub all : t.cases ≡ min most (s.cases + cases list)
+  pub onward : Onward s t
+
+-- or where no literal opens in it
+pub record BareCounted (list : List ℕ) (s t : Tally) : Type 0 where
+  pub all : t.cases ≡ min most (s.cases + bare_cases list)
   pub onward : Onward s t

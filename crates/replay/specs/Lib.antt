@@ -1,4 +1,5 @@
 pub mod Answers
+pub mod Bare
 pub mod Counting
 pub mod Inputs
 pub mod Lent

@@ -1,43 +1,15 @@
--- What the words of a case say, and what is left of it behind them, in terms of the definition's tokens. In a list no
--- literal opens: a mark is a byte like any other, behind VALUE too.
+-- What the words of a case say, and what is left of it behind them, in terms of the definition's tokens.
 -- Assumes nothing.
-use Rattle.std.specs.Prelude.{ℕ, ◌≡◌, ◌≤◌, ◌<◌, ◌-◌, Bool, true, false, ◌&&◌, List, [], ◌∷◌, eqb, length, drop}
-use Rattle.std.specs.Prelude.{Option, None, Some, if◌then◌else◌}
+use Rattle.std.specs.Prelude.{ℕ, Bool, true, false, ◌&&◌, List, [], ◌∷◌, eqb, Option, None, Some, if◌then◌else◌}
 use Rattle.definition.specs.declared.Token.{Token}
 use Rattle.definition.specs.declared.Token.TheVariants.{Word, Stop, Open}
 use Rattle.definition.specs.Basic.{part, count}
-use Rattle.definition.specs.Words.{up_to}
-use Rattle.definition.specs.Unquoted.{bare_tokens}
-use Rattle.text.specs.declared.tokens.Ahead.{Ahead}
-use Rattle.text.specs.Tokens.{between}
+use Rattle.text.specs.declared.tokens.Cursor.{Cursor}
+use Rattle.text.specs.Tokens.{tokens_at}
 
--- the tokens of a list from where a case goes on: place 0 begins a line, and any other place stands behind a token
-unfoldable pub ahead : List ℕ → ℕ → List Token
-ahead list at = bare_tokens (between (eqb at 0)) at (drop at list)
-
--- the first of them is a word that begins at i, and the others are those from its end on
-pub record PassedWord (list : List ℕ) (at i next : ℕ) : Type 0 where
-  pub all_are : ahead list at ≡ up_to i next ∷ ahead list next
-  pub up : at ≤ i
-  pub nonempty : i < next
-  pub within : next ≤ length list
-
--- or a period that ends a case, directly before `next`
-pub record PassedStop (list : List ℕ) (at next : ℕ) : Type 0 where
-  pub all_are : ahead list at ≡ Stop (next - 1) ∷ ahead list next
-  pub up : at < next
-  pub within : next ≤ length list
-
--- or there is none
-pub record PassedEnd (list : List ℕ) (at next : ℕ) : Type 0 where
-  pub none : ahead list at ≡ []
-  pub stays : next ≡ at
-
--- the token that was passed
-abbrev pub Passed : List ℕ → ℕ → Ahead → ℕ → Type 0
-Passed list at (Ahead.Word i) next = PassedWord list at i next
-Passed list at (Ahead.Stop p) next = PassedStop list at next
-Passed list at (Ahead.End p) next = PassedEnd list at next
+-- the tokens of a list from where a case goes on
+unfoldable pub ahead : List ℕ → Cursor → List Token
+ahead list s = tokens_at list s
 
 -- ---------------------------------------------------------------- words
 

@@ -1,13 +1,14 @@
 //! A list and its cases, read word by word.
 
 ghost use Rattle.std.specs.Prelude.{ℕ, ◌≡◌, ◌≤◌, length, None, Some, Ok, Err, is_ok, MatchResult};
+ghost use Rattle.text.specs.Tokens.{at_start};
 ghost use Rattle.replay.specs.Answers.{taken, refusal_numbers, written, writing};
-ghost use Rattle.replay.specs.Words.{ahead, Passed, first_word, behind_word, is_end, first_number, is_that, says, behind_numbers};
+ghost use Rattle.replay.specs.Words.{ahead, first_word, behind_word, is_end, first_number, is_that, says, behind_numbers};
 ghost use Rattle.replay.specs.Words.{begins, first_case, behind_case};
 
 use crate::input::decode;
 use crate::lent::is_untouched;
-use definition::{LiteralState, Refusal};
+use definition::Refusal;
 use text::tokens;
 use text::tokens::{Ahead, Cursor};
 
@@ -23,7 +24,7 @@ pub fn only(test: bool) -> Result<(), Differs>
 }
 
 /// What a list says of a refusal: 0, its number, its position and the needed length.
-fn refusal_numbers(r: Refusal) -> [u64; 4]
+pub(crate) fn refusal_numbers(r: Refusal) -> [u64; 4]
     ensures { result ≡ refusal_numbers r }
 {
     [
@@ -34,57 +35,43 @@ fn refusal_numbers(r: Refusal) -> [u64; 4]
     ]
 }
 
-/// The first token of a list at a place or after it; the place is then the one behind it, or stays where there is none.
-/// Each is read anew, with nothing said, so that no literal opens in a list.
-fn pass(list: &[u8], at: &mut usize) -> Ahead
-    requires { at.old ≤ length list.now }
-    ensures { Passed list.now at.old result at.new }
-{
-    let mut behind = Cursor {
-        at: *at,
-        literals: LiteralState::Before(0),
-    };
-    let ahead = tokens::pass_token(list, &mut behind);
-    match ahead {
-        Ahead::Word(_) | Ahead::Stop(_) => *at = behind.at,
-        Ahead::End(_) => {}
-    }
-    ahead
-}
-
 /// A case of a list, and how far its words are read.
 #[derive(Clone, Copy)]
 pub struct Case<'a> {
     /// The list.
     pub list: &'a [u8],
     /// Where its next word is looked for.
-    pub at: usize,
-    ghost within: { at ≤ length list.now },
+    pub cursor: Cursor,
+    ghost within: { cursor.at ≤ length list.now },
 }
 
 impl<'a> Case<'a> {
     /// The beginning of a list.
     pub fn first(list: &'a [u8]) -> Case<'a>
         ensures list { result.list ≡ list.entry }
-        ensures at { result.at ≡ 0 }
+        ensures cursor { result.cursor ≡ at_start }
     {
-        Case { list, at: 0 }
+        Case {
+            list,
+            cursor: Cursor::at_start(),
+        }
     }
 
     /// The next word. Where the case has no more, it stays where it is.
+    #[tactic(auto, unfolding(crate::specs::Words::ahead))]
     pub fn word(&mut self) -> Result<&'a [u8], Differs>
         ensures list { self.new.list ≡ self.old.list }
         ensures word { MatchResult result
-            (λ w. first_word self.old.list.now (ahead self.old.list.now self.old.at) ≡ Some w.now)
-            (λ e. first_word self.old.list.now (ahead self.old.list.now self.old.at) ≡ None) }
-        ensures behind { ahead self.old.list.now self.new.at
-            ≡ behind_word (ahead self.old.list.now self.old.at) }
+            (λ w. first_word self.old.list.now (ahead self.old.list.now self.old.cursor) ≡ Some w.now)
+            (λ e. first_word self.old.list.now (ahead self.old.list.now self.old.cursor) ≡ None) }
+        ensures behind { ahead self.old.list.now self.new.cursor
+            ≡ behind_word (ahead self.old.list.now self.old.cursor) }
     {
-        let mut behind = self.at;
-        match pass(self.list, &mut behind) {
+        let mut behind = self.cursor;
+        match tokens::pass_token(self.list, &mut behind) {
             Ahead::Word(start) => {
-                self.at = behind;
-                Ok(&self.list[start..behind])
+                self.cursor = behind;
+                Ok(&self.list[start..behind.at])
             }
             _ => Err(Differs),
         }
@@ -94,10 +81,10 @@ impl<'a> Case<'a> {
     pub fn take_number(&mut self) -> Result<u64, Differs>
         ensures list { self.new.list ≡ self.old.list }
         ensures number { MatchResult result
-            (λ n. first_number self.old.list.now (ahead self.old.list.now self.old.at) ≡ Some n)
-            (λ e. first_number self.old.list.now (ahead self.old.list.now self.old.at) ≡ None) }
-        ensures behind { ahead self.old.list.now self.new.at
-            ≡ behind_word (ahead self.old.list.now self.old.at) }
+            (λ n. first_number self.old.list.now (ahead self.old.list.now self.old.cursor) ≡ Some n)
+            (λ e. first_number self.old.list.now (ahead self.old.list.now self.old.cursor) ≡ None) }
+        ensures behind { ahead self.old.list.now self.new.cursor
+            ≡ behind_word (ahead self.old.list.now self.old.cursor) }
     {
         text::count_of(self.word()?).ok_or(Differs)
     }
@@ -108,12 +95,12 @@ impl<'a> Case<'a> {
         T::Error: Drop,
         ensures list { self.new.list ≡ self.old.list }
         ensures number { MatchResult result
-            (λ t. (n : ℕ) × (first_number self.old.list.now (ahead self.old.list.now self.old.at) ≡ Some n)
+            (λ t. (n : ℕ) × (first_number self.old.list.now (ahead self.old.list.now self.old.cursor) ≡ Some n)
             × T.try_from_gives n (Ok t))
-            (λ _. (n : ℕ) → first_number self.old.list.now (ahead self.old.list.now self.old.at) ≡ Some n
+            (λ _. (n : ℕ) → first_number self.old.list.now (ahead self.old.list.now self.old.cursor) ≡ Some n
             → (e : _) × T.try_from_gives n (Err e)) }
-        ensures behind { ahead self.old.list.now self.new.at
-            ≡ behind_word (ahead self.old.list.now self.old.at) }
+        ensures behind { ahead self.old.list.now self.new.cursor
+            ≡ behind_word (ahead self.old.list.now self.old.cursor) }
     {
         T::try_from(self.take_number()?).map_err(|_| Differs)
     }
@@ -122,9 +109,9 @@ impl<'a> Case<'a> {
     fn number(&mut self, expected: u64) -> Result<(), Differs>
         ensures list { self.new.list ≡ self.old.list }
         ensures says { is_ok result
-            ≡ is_that expected (first_number self.old.list.now (ahead self.old.list.now self.old.at)) }
-        ensures behind { ahead self.old.list.now self.new.at
-            ≡ behind_word (ahead self.old.list.now self.old.at) }
+            ≡ is_that expected (first_number self.old.list.now (ahead self.old.list.now self.old.cursor)) }
+        ensures behind { ahead self.old.list.now self.new.cursor
+            ≡ behind_word (ahead self.old.list.now self.old.cursor) }
     {
         only(self.take_number()? == expected)
     }
@@ -133,9 +120,9 @@ impl<'a> Case<'a> {
     pub fn numbers(&mut self, expected: &[u64]) -> Result<(), Differs>
         ensures list { self.new.list ≡ self.old.list }
         ensures says { is_ok result
-            ≡ says self.old.list.now expected.now (ahead self.old.list.now self.old.at) }
-        ensures behind { ahead self.old.list.now self.new.at
-            ≡ behind_numbers self.old.list.now expected.now (ahead self.old.list.now self.old.at) }
+            ≡ says self.old.list.now expected.now (ahead self.old.list.now self.old.cursor) }
+        ensures behind { ahead self.old.list.now self.new.cursor
+            ≡ behind_numbers self.old.list.now expected.now (ahead self.old.list.now self.old.cursor) }
     {
         for n in expected {
             self.number(*n)?;
@@ -147,9 +134,9 @@ impl<'a> Case<'a> {
     pub fn bytes(&mut self, expected: &[u8]) -> Result<(), Differs>
         ensures list { self.new.list ≡ self.old.list }
         ensures says { is_ok result
-            ≡ says self.old.list.now expected.now (ahead self.old.list.now self.old.at) }
-        ensures behind { ahead self.old.list.now self.new.at
-            ≡ behind_numbers self.old.list.now expected.now (ahead self.old.list.now self.old.at) }
+            ≡ says self.old.list.now expected.now (ahead self.old.list.now self.old.cursor) }
+        ensures behind { ahead self.old.list.now self.new.cursor
+            ≡ behind_numbers self.old.list.now expected.now (ahead self.old.list.now self.old.cursor) }
     {
         for b in expected {
             self.number(u64::from(*b))?;
@@ -161,9 +148,9 @@ impl<'a> Case<'a> {
     pub fn refusal(&mut self, r: Refusal) -> Result<(), Differs>
         ensures list { self.new.list ≡ self.old.list }
         ensures says { is_ok result
-            ≡ says self.old.list.now (refusal_numbers r) (ahead self.old.list.now self.old.at) }
-        ensures behind { ahead self.old.list.now self.new.at
-            ≡ behind_numbers self.old.list.now (refusal_numbers r) (ahead self.old.list.now self.old.at) }
+            ≡ says self.old.list.now (refusal_numbers r) (ahead self.old.list.now self.old.cursor) }
+        ensures behind { ahead self.old.list.now self.new.cursor
+            ≡ behind_numbers self.old.list.now (refusal_numbers r) (ahead self.old.list.now self.old.cursor) }
     {
         self.numbers(&refusal_numbers(r))
     }
@@ -173,11 +160,11 @@ impl<'a> Case<'a> {
     pub fn input<'b>(&mut self, out: &'b mut [u8], before: usize) -> Result<&'b [u8], Differs>
         ensures list { self.new.list ≡ self.old.list }
         ensures input { MatchResult result
-            (λ s. taken (first_word self.old.list.now (ahead self.old.list.now self.old.at)) before out.old
+            (λ s. taken (first_word self.old.list.now (ahead self.old.list.now self.old.cursor)) before out.old
             ≡ Some s.now)
-            (λ e. taken (first_word self.old.list.now (ahead self.old.list.now self.old.at)) before out.old ≡ None) }
-        ensures behind { ahead self.old.list.now self.new.at
-            ≡ behind_word (ahead self.old.list.now self.old.at) }
+            (λ e. taken (first_word self.old.list.now (ahead self.old.list.now self.old.cursor)) before out.old ≡ None) }
+        ensures behind { ahead self.old.list.now self.new.cursor
+            ≡ behind_word (ahead self.old.list.now self.old.cursor) }
     {
         let word = self.word()?;
         let n = decode(word, out, before)?;
@@ -189,7 +176,7 @@ impl<'a> Case<'a> {
     pub fn written(&mut self, out: &[u8], n: usize) -> Result<(), Differs>
         ensures list { self.new.list ≡ self.old.list }
         ensures says { is_ok result
-            ≡ written self.old.list.now (ahead self.old.list.now self.old.at) n out.now }
+            ≡ written self.old.list.now (ahead self.old.list.now self.old.cursor) n out.now }
     {
         if out.len() < n {
             return Err(Differs);
@@ -204,7 +191,7 @@ impl<'a> Case<'a> {
     pub fn writing(&mut self, answer: Result<usize, Refusal>, out: &[u8]) -> Result<(), Differs>
         ensures list { self.new.list ≡ self.old.list }
         ensures says { is_ok result
-            ≡ writing self.old.list.now (ahead self.old.list.now self.old.at) answer out.now }
+            ≡ writing self.old.list.now (ahead self.old.list.now self.old.cursor) answer out.now }
     {
         match answer {
             Ok(n) => {
@@ -219,38 +206,41 @@ impl<'a> Case<'a> {
     }
 
     /// Goes on to the next word, over the periods that stand before it. `false` where there is none up to the list's
-    /// end.
+    /// end, or to a line with a literal left open.
+    #[tactic(auto, unfolding(crate::specs::Words::ahead))]
     pub fn begin(&mut self) -> bool
         ensures list { self.new.list ≡ self.old.list }
-        ensures word { result ≡ begins (first_case (ahead self.old.list.now self.old.at)) }
-        ensures behind { ahead self.old.list.now self.new.at
-            ≡ first_case (ahead self.old.list.now self.old.at) }
+        ensures word { result ≡ begins (first_case (ahead self.old.list.now self.old.cursor)) }
+        ensures behind { ahead self.old.list.now self.new.cursor
+            ≡ first_case (ahead self.old.list.now self.old.cursor) }
     {
         loop {
-            let mut behind = self.at;
-            match pass(self.list, &mut behind) {
+            let mut behind = self.cursor;
+            match tokens::pass_token(self.list, &mut behind) {
                 Ahead::Word(_) => return true,
-                Ahead::Stop(_) => self.at = behind,
+                Ahead::Stop(_) => self.cursor = behind,
                 Ahead::End(_) => return false,
             }
         }
     }
 
-    /// Goes on behind the period that ends the case, or to the list's end.
+    /// Goes on behind the period that ends the case, or to the list's end, or to a line with a literal left open.
+    #[tactic(auto, unfolding(crate::specs::Words::ahead))]
     pub fn leave(&mut self)
         ensures list { self.new.list ≡ self.old.list }
-        ensures behind { ahead self.old.list.now self.new.at
-            ≡ behind_case (ahead self.old.list.now self.old.at) }
+        ensures behind { ahead self.old.list.now self.new.cursor
+            ≡ behind_case (ahead self.old.list.now self.old.cursor) }
     {
-        while let Ahead::Word(_) = pass(self.list, &mut self.at) {}
+        while let Ahead::Word(_) = tokens::pass_token(self.list, &mut self.cursor) {}
     }
 
     /// Whether the case ends here.
+    #[tactic(auto, unfolding(crate::specs::Words::ahead))]
     pub fn end(self) -> Result<(), Differs>
-        ensures { is_ok result ≡ is_end (ahead self.entry.list.now self.entry.at) }
+        ensures { is_ok result ≡ is_end (ahead self.entry.list.now self.entry.cursor) }
     {
-        let mut behind = self.at;
-        match pass(self.list, &mut behind) {
+        let mut behind = self.cursor;
+        match tokens::pass_token(self.list, &mut behind) {
             Ahead::Stop(_) => Ok(()),
             _ => Err(Differs),
         }

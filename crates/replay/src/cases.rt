@@ -2,6 +2,7 @@
 
 ghost use Rattle.std.specs.Prelude.{◌≡◌, length, false, true, MatchOption};
 ghost use Rattle.std.specs.Iterator.{at_most};
+ghost use Rattle.text.specs.Tokens.{at_start};
 ghost use Rattle.replay.specs.Words.{ahead, begins, first_case, behind_case};
 
 use crate::case::Case;
@@ -17,7 +18,7 @@ impl<'a> Cases<'a> {
     /// All cases of a list.
     pub fn of(list: &'a [u8]) -> Cases<'a>
         ensures list { result.rest.list ≡ list.entry }
-        ensures at { result.rest.at ≡ 0 }
+        ensures cursor { result.rest.cursor ≡ at_start }
     {
         Cases {
             rest: Case::first(list),
@@ -29,14 +30,14 @@ impl<'a> Iterator for Cases<'a> {
     type Item = Case<'a>;
 
     ghost next_gives = { λ s r t. MatchOption r
-        ((begins (first_case (ahead s.rest.list.now s.rest.at)) ≡ false) × (t ≡ s))
-        (λ c. (begins (first_case (ahead s.rest.list.now s.rest.at)) ≡ true)
+        ((begins (first_case (ahead s.rest.list.now s.rest.cursor)) ≡ false) × (t ≡ s))
+        (λ c. (begins (first_case (ahead s.rest.list.now s.rest.cursor)) ≡ true)
         × (c.list ≡ s.rest.list)
-        × (ahead c.list.now c.at ≡ first_case (ahead s.rest.list.now s.rest.at))
+        × (ahead c.list.now c.cursor ≡ first_case (ahead s.rest.list.now s.rest.cursor))
         × (t.rest.list ≡ s.rest.list)
-        × (ahead t.rest.list.now t.rest.at ≡ behind_case (ahead c.list.now c.at))) };
+        × (ahead t.rest.list.now t.rest.cursor ≡ behind_case (ahead c.list.now c.cursor))) };
 
-    ghost remaining = { λ s. at_most (length (ahead s.rest.list.now s.rest.at)) };
+    ghost remaining = { λ s. at_most (length (ahead s.rest.list.now s.rest.cursor)) };
 
     #[tactic(auto, using(crate::proofs::Steps::shorter))]
     fn next(&mut self) -> Option<Case<'a>> {

@@ -3,7 +3,7 @@
 //! picture.
 
 ghost use Rattle.std.specs.Prelude.{◌≡◌, ◌≤◌, length, IfOk};
-ghost use Rattle.replay.specs.Counting.{Onward, Counted};
+ghost use Rattle.replay.specs.Counting.{Onward, BareCounted};
 
 use crate::record_cases::owners::Counts;
 use crate::record_cases::{extracts, keys, owners};
@@ -12,8 +12,8 @@ use crate::report_cases::Kind;
 use crate::text_cases::pictures::Source;
 use crate::text_cases::{pictures, readings};
 use definition::LEAST_WORK;
-use replay::case::{Case, Differs};
-use replay::cases::Cases;
+use replay::bare::{BareCase, BareCases};
+use replay::case::Differs;
 use replay::lent::Lent;
 use replay::lists::read_list;
 use replay::tally::Tally;
@@ -79,7 +79,7 @@ impl<'a> List<'a> {
     }
 
     /// Goes on where a case agrees: its words ask and answer the question.
-    fn agrees(self, case: &mut Case) -> Result<(), Differs>
+    fn agrees(self, case: &mut BareCase) -> Result<(), Differs>
         ensures { case.new.list ≡ case.old.list }
     {
         let mut room = [0; MOST_WORK];
@@ -106,16 +106,16 @@ impl<'a> List<'a> {
 
     /// Counts the cases of the list, which was read, after those of others.
     fn count(self, list: &[u8], counted: &mut Tally)
-        ensures { Counted list.now counted.old counted.new }
+        ensures { BareCounted list.now counted.old counted.new }
     {
-        for mut case in Cases::of(list) {
+        for mut case in BareCases::of(list) {
             counted.add(self.agrees(&mut case).is_ok());
         }
     }
 
     /// Replays the list, which was read, after the cases of others, and prints which case is the first that differs.
     pub fn replay(self, rt: &impl Print, list: &[u8], counted: &mut Tally) -> io::Result<()>
-        ensures { Counted list.now counted.old counted.new }
+        ensures { BareCounted list.now counted.old counted.new }
     {
         let before = counted.first_difference;
         self.count(list, counted);
@@ -153,7 +153,7 @@ impl<'a, R: Files + Print> Lists<'a, R> {
     pub(crate) fn replay(&mut self, list: List, counted: &mut Tally) -> io::Result<()>
         ensures onward { Onward counted.old counted.new }
         ensures all { IfOk result (λ _. (read : _)
-            × (length read ≤ length self.old.room) × Counted read counted.old counted.new) }
+            × (length read ≤ length self.old.room) × BareCounted read counted.old counted.new) }
     {
         list.replay(
             self.rt,

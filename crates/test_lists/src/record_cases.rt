@@ -9,11 +9,12 @@ pub mod owners;
 
 ghost use Rattle.std.specs.Prelude.{◌≡◌};
 
-use replay::case::{Case, Differs};
+use replay::bare::BareCase;
+use replay::case::Differs;
 
 /// Takes a number, and as many numbers behind it, which have to fit into the room.
 fn take_all<'a, T: Copy + TryFrom<u64>>(
-    case: &mut Case,
+    case: &mut BareCase,
     room: &'a mut [T],
 ) -> Result<&'a [T], Differs>
 where

@@ -8,11 +8,13 @@
 //! pattern: work memory must be zero afterwards, and the pattern must stand wherever nothing was to be written.
 
 ghost use Rattle.std.specs.Prelude.{◌≡◌, eqb, if◌then◌else◌, IsOk, IsTrue};
-ghost use Rattle.replay.specs.Words.{ahead, is_end};
+ghost use Rattle.replay.specs.Bare.{bare_ahead};
+ghost use Rattle.replay.specs.Words.{is_end};
 ghost use Rattle.test_lists.specs.declared.report_cases.Form.TheVariants.{Cards, Free};
 
 use definition::{Refusal, Report};
-use replay::case::{Case, Differs, only};
+use replay::bare::BareCase;
+use replay::case::{Differs, only};
 use replay::lent::{Lent, TEXT_ROOM, is_untouched, patterned, replay_call};
 
 /// The most room that an output is given: more than any report needs.
@@ -90,9 +92,9 @@ struct Asking<'a, 'w> {
 
 impl<'a, 'w> Asking<'a, 'w> {
     /// Goes on where the last words of the case are the answer with so much room.
-    fn answered(&mut self, case: &mut Case, room: usize) -> Result<(), Differs>
+    fn answered(&mut self, case: &mut BareCase, room: usize) -> Result<(), Differs>
         ensures list { case.new.list ≡ case.old.list }
-        ensures ended { IsOk result → IsTrue (is_end (ahead case.new.list.now case.new.at)) }
+        ensures ended { IsOk result → IsTrue (is_end (bare_ahead case.new.list.now case.new.at)) }
     {
         if ROOM < room {
             return Err(Differs);
@@ -123,9 +125,9 @@ impl<'a, 'w> Asking<'a, 'w> {
 
     /// Goes on where an answer of this length is written to an output that has room to spare, its length, or one byte
     /// more, and one byte less is refused.
-    fn written(&mut self, case: &mut Case, needed: usize) -> Result<(), Differs>
+    fn written(&mut self, case: &mut BareCase, needed: usize) -> Result<(), Differs>
         ensures list { case.new.list ≡ case.old.list }
-        ensures ended { IsOk result → IsTrue (is_end (ahead case.new.list.now case.new.at)) }
+        ensures ended { IsOk result → IsTrue (is_end (bare_ahead case.new.list.now case.new.at)) }
     {
         if needed >= ROOM {
             return Err(Differs);
@@ -141,9 +143,9 @@ impl<'a, 'w> Asking<'a, 'w> {
 
     /// Goes on where the next words are the answer, with every length of output: a refusal comes with room and with
     /// none.
-    fn replay(&mut self, case: &mut Case) -> Result<(), Differs>
+    fn replay(&mut self, case: &mut BareCase) -> Result<(), Differs>
         ensures list { case.new.list ≡ case.old.list }
-        ensures ended { IsOk result → IsTrue (is_end (ahead case.new.list.now case.new.at)) }
+        ensures ended { IsOk result → IsTrue (is_end (bare_ahead case.new.list.now case.new.at)) }
     {
         let mut told = *case;
         if told.take_number()? == 1 {
@@ -158,9 +160,9 @@ impl<'a, 'w> Asking<'a, 'w> {
 // ---------------------------------------------------------------- cases
 
 /// Goes on where the next words ask for a report of a kind and answer, with blanks before the text.
-pub fn replay(case: &mut Case, kind: Kind, lent: Lent) -> Result<(), Differs>
+pub fn replay(case: &mut BareCase, kind: Kind, lent: Lent) -> Result<(), Differs>
     ensures list { case.new.list ≡ case.old.list }
-    ensures ended { IsOk result → IsTrue (is_end (ahead case.new.list.now case.new.at)) }
+    ensures ended { IsOk result → IsTrue (is_end (bare_ahead case.new.list.now case.new.at)) }
 {
     let mut room = [b' '; TEXT_ROOM];
     let (report, form) = match kind {

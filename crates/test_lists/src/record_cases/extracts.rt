@@ -4,19 +4,21 @@
 //! not zero, and work memory must be zero afterwards.
 
 ghost use Rattle.std.specs.Prelude.{◌≡◌, IsOk, IsTrue};
-ghost use Rattle.replay.specs.Words.{ahead, is_end};
+ghost use Rattle.replay.specs.Bare.{bare_ahead};
+ghost use Rattle.replay.specs.Words.{is_end};
 
 use crate::record_cases::take_all;
-use replay::case::{Case, Differs};
+use replay::bare::BareCase;
+use replay::case::Differs;
 use replay::lent::{Lent, TEXT_ROOM, replay_call};
 
 /// The most weights that a case has.
 const WEIGHTS: usize = 32;
 
 /// Goes on where the next words ask for an extract and answer, with blanks before the text.
-pub fn replay(case: &mut Case, lent: Lent) -> Result<(), Differs>
+pub fn replay(case: &mut BareCase, lent: Lent) -> Result<(), Differs>
     ensures list { case.new.list ≡ case.old.list }
-    ensures ended { IsOk result → IsTrue (is_end (ahead case.new.list.now case.new.at)) }
+    ensures ended { IsOk result → IsTrue (is_end (bare_ahead case.new.list.now case.new.at)) }
 {
     let mut room = [b' '; TEXT_ROOM];
     let mut all = [0; WEIGHTS];

@@ -3,19 +3,21 @@
 //! length. Each answer is asked for over work memory that is not zero, and work memory must be zero afterwards.
 
 ghost use Rattle.std.specs.Prelude.{◌≡◌, IsOk, IsTrue};
-ghost use Rattle.replay.specs.Words.{ahead, is_end};
+ghost use Rattle.replay.specs.Bare.{bare_ahead};
+ghost use Rattle.replay.specs.Words.{is_end};
 
 use crate::record_cases::take_all;
-use replay::case::{Case, Differs};
+use replay::bare::BareCase;
+use replay::case::Differs;
 use replay::lent::{Lent, TEXT_ROOM, replay_call};
 
 /// The most lengths that a case has.
 const LENGTHS: usize = 32;
 
 /// Goes on where the next words ask for a key and answer, with blanks before the texts.
-pub fn replay(case: &mut Case, lent: Lent) -> Result<(), Differs>
+pub fn replay(case: &mut BareCase, lent: Lent) -> Result<(), Differs>
     ensures list { case.new.list ≡ case.old.list }
-    ensures ended { IsOk result → IsTrue (is_end (ahead case.new.list.now case.new.at)) }
+    ensures ended { IsOk result → IsTrue (is_end (bare_ahead case.new.list.now case.new.at)) }
 {
     let mut all = [0; LENGTHS];
     let mut room = [b' '; 2 * TEXT_ROOM];

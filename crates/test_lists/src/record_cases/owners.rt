@@ -7,21 +7,22 @@
 
 ghost use Rattle.std.specs.Prelude.{◌≡◌, ◌≤◌, ◌<◌, ◌↔◌, ◌+◌, min, IsOk, IsTrue};
 ghost use Rattle.replay.specs.Tallies.{most};
-ghost use Rattle.replay.specs.Counting.{cases, Onward};
-ghost use Rattle.replay.specs.Words.{ahead, is_end};
+ghost use Rattle.replay.specs.Counting.{bare_cases, Onward};
+ghost use Rattle.replay.specs.Bare.{bare_ahead};
+ghost use Rattle.replay.specs.Words.{is_end};
 
 use definition::{LEAST_WORK, MOST_BYTES, Owner, Refusal};
-use replay::case::{Case, Differs};
-use replay::cases::Cases;
+use replay::bare::{BareCase, BareCases};
+use replay::case::Differs;
 use replay::lent::{Lent, TEXT_ROOM, replay_call};
 use replay::tally::Tally;
 
 // ---------------------------------------------------------------- one position and its answer
 
 /// Goes on where the next words ask for the owner of a position and answer, with blanks before the text.
-pub fn replay(case: &mut Case, lent: Lent) -> Result<(), Differs>
+pub fn replay(case: &mut BareCase, lent: Lent) -> Result<(), Differs>
     ensures list { case.new.list ≡ case.old.list }
-    ensures ended { IsOk result → IsTrue (is_end (ahead case.new.list.now case.new.at)) }
+    ensures ended { IsOk result → IsTrue (is_end (bare_ahead case.new.list.now case.new.at)) }
 {
     let mut room = [b' '; TEXT_ROOM];
     let text = case.input(&mut room, lent.before)?;
@@ -64,7 +65,7 @@ impl TryFrom<u64> for Mark {
 /// The words of a record, which are read as long as each is a number.
 #[derive(Clone, Copy)]
 struct Words<'a> {
-    case: Case<'a>,
+    case: BareCase<'a>,
     whole: bool,
 }
 
@@ -171,7 +172,7 @@ fn replay_end(words: Words, text: &[u8], length: usize, positions: &mut Tally)
 
 /// Replays every position of a record: its runs, as far as its words are what they should be, and the end.
 #[tactic(auto, using(replay::proofs::TallyLaws::tally_steps))]
-fn replay_record(case: Case, positions: &mut Tally)
+fn replay_record(case: BareCase, positions: &mut Tally)
     ensures { Onward positions.old positions.new }
 {
     let mut room = [0; TEXT_ROOM];
@@ -201,7 +202,7 @@ fn replay_record(case: Case, positions: &mut Tally)
 
 /// Replays a record. Whether none of its positions differs.
 #[tactic(auto, using(replay::proofs::TallyLaws::tally_steps))]
-fn agrees(case: Case, positions: &mut Tally) -> bool
+fn agrees(case: BareCase, positions: &mut Tally) -> bool
     ensures onward { Onward positions.old positions.new }
     ensures agrees { IsTrue result
         ↔ (positions.new.cases + positions.old.agree ≤ positions.old.cases + positions.new.agree) }
@@ -223,7 +224,7 @@ pub struct Counts {
 /// Replays a list of records. A record agrees if none of its positions differs; where its words are other than they
 /// should be, the first position past its runs does.
 pub fn replay_records(list: &[u8]) -> Counts
-    ensures records { result.records.cases ≡ min most (cases list.now) }
+    ensures records { result.records.cases ≡ min most (bare_cases list.now) }
     ensures differing { result.records.cases + result.positions.agree
         ≤ result.positions.cases + result.records.agree }
     ensures says { result.records.cases < most
@@ -232,7 +233,7 @@ pub fn replay_records(list: &[u8]) -> Counts
 {
     let mut records = Tally::new();
     let mut positions = Tally::new();
-    for case in Cases::of(list) {
+    for case in BareCases::of(list) {
         records.add(agrees(case, &mut positions));
     }
     Counts { records, positions }

@@ -6,10 +6,12 @@
 //! numbered as in tools/oracle.
 
 ghost use Rattle.std.specs.Prelude.{◌≡◌, IsOk, IsTrue};
-ghost use Rattle.replay.specs.Words.{ahead, is_end};
+ghost use Rattle.replay.specs.Bare.{bare_ahead};
+ghost use Rattle.replay.specs.Words.{is_end};
 
 use definition::{FieldKind, Pictured, Refusal, SignKind, Usage};
-use replay::case::{Case, Differs, only};
+use replay::bare::BareCase;
+use replay::case::{Differs, only};
 use replay::lent::{TEXT_ROOM, is_untouched, patterned};
 use rows::kinds;
 use rows::kinds::Coded;
@@ -37,7 +39,7 @@ struct Asked<'a> {
 // ---------------------------------------------------------------- one answer
 
 /// Goes on where the next words are the kind and its details.
-fn kind(case: &mut Case, kind: FieldKind) -> Result<(), Differs>
+fn kind(case: &mut BareCase, kind: FieldKind) -> Result<(), Differs>
     ensures { case.new.list ≡ case.old.list }
 {
     case.bytes(&[kinds::kind_byte(kind)])?;
@@ -61,7 +63,7 @@ fn kind(case: &mut Case, kind: FieldKind) -> Result<(), Differs>
 }
 
 /// Goes on where the next words are the answer of `parse_pic` to a picture that it accepts.
-fn accepted(case: &mut Case, a: Pictured) -> Result<(), Differs>
+fn accepted(case: &mut BareCase, a: Pictured) -> Result<(), Differs>
     ensures { case.new.list ≡ case.old.list }
 {
     case.numbers(&[1, a.width as u64])?;
@@ -72,7 +74,7 @@ fn accepted(case: &mut Case, a: Pictured) -> Result<(), Differs>
 
 /// Goes on where the mask is the one of the next words, if the picture is edited under DISPLAY, and has length 0 if
 /// not.
-fn rust_mask(case: &mut Case, asked: Asked, kind: FieldKind) -> Result<(), Differs>
+fn rust_mask(case: &mut BareCase, asked: Asked, kind: FieldKind) -> Result<(), Differs>
     ensures { case.new.list ≡ case.old.list }
 {
     let mut out = patterned::<ROOM>();
@@ -93,7 +95,7 @@ fn mask_refused(asked: Asked, refusal: Refusal) -> Result<(), Differs> {
 }
 
 /// Goes on where the answers of `parse_pic` and `mask` are those of the next words.
-fn rust_answer(case: &mut Case, asked: Asked) -> Result<(), Differs>
+fn rust_answer(case: &mut BareCase, asked: Asked) -> Result<(), Differs>
     ensures { case.new.list ≡ case.old.list }
 {
     match copybook::parse_pic(asked.picture, asked.usage, asked.sign) {
@@ -112,7 +114,7 @@ fn rust_answer(case: &mut Case, asked: Asked) -> Result<(), Differs>
 // ---------------------------------------------------------------- a case of the document's list
 
 /// Goes on where the answer of `parse_pic` is that of the next words.
-fn document_picture(case: &mut Case, asked: Asked) -> Result<(), Differs>
+fn document_picture(case: &mut BareCase, asked: Asked) -> Result<(), Differs>
     ensures { case.new.list ≡ case.old.list }
 {
     match copybook::parse_pic(asked.picture, asked.usage, asked.sign) {
@@ -122,7 +124,7 @@ fn document_picture(case: &mut Case, asked: Asked) -> Result<(), Differs>
 }
 
 /// Goes on where the answer of `mask`, with so much room, is that of the next words.
-fn document_mask(case: &mut Case, asked: Asked, room: usize) -> Result<(), Differs>
+fn document_mask(case: &mut BareCase, asked: Asked, room: usize) -> Result<(), Differs>
     ensures { case.new.list ≡ case.old.list }
 {
     if room > ROOM {
@@ -134,7 +136,7 @@ fn document_mask(case: &mut Case, asked: Asked, room: usize) -> Result<(), Diffe
 }
 
 /// Goes on where the next words are the room for the mask, and the answers of `parse_pic` and `mask`.
-fn document_answer(case: &mut Case, asked: Asked) -> Result<(), Differs>
+fn document_answer(case: &mut BareCase, asked: Asked) -> Result<(), Differs>
     ensures { case.new.list ≡ case.old.list }
 {
     let room = case.take()?;
@@ -145,9 +147,9 @@ fn document_answer(case: &mut Case, asked: Asked) -> Result<(), Differs>
 // ---------------------------------------------------------------- a case
 
 /// Goes on where the next words ask and answer, in a list of that source, with so many X before the picture.
-pub fn replay(case: &mut Case, source: Source, before: usize) -> Result<(), Differs>
+pub fn replay(case: &mut BareCase, source: Source, before: usize) -> Result<(), Differs>
     ensures list { case.new.list ≡ case.old.list }
-    ensures ended { IsOk result → IsTrue (is_end (ahead case.new.list.now case.new.at)) }
+    ensures ended { IsOk result → IsTrue (is_end (bare_ahead case.new.list.now case.new.at)) }
 {
     let mut room = [b'X'; TEXT_ROOM];
     let usage = Usage::at(case.take()?);

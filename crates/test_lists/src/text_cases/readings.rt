@@ -2,10 +2,12 @@
 //! answers, which names the numbers; where the Rust has an answer, that was compared with it when the list was made.
 
 ghost use Rattle.std.specs.Prelude.{◌≡◌, ◌≤◌, length, IfOk, IsOk, IsTrue};
-ghost use Rattle.replay.specs.Words.{ahead, is_end};
+ghost use Rattle.replay.specs.Bare.{bare_ahead};
+ghost use Rattle.replay.specs.Words.{is_end};
 
 use definition::{Clauses, ItemUsage, MOST_STATEMENTS, NamedUsage, Refusal, Span, Usage};
-use replay::case::{Case, Differs};
+use replay::bare::BareCase;
+use replay::case::Differs;
 use replay::lent::{Lent, TEXT_ROOM};
 use rows::kinds::Coded;
 use rows::{Row, Rows};
@@ -28,21 +30,21 @@ fn usage_number(named: Option<NamedUsage>) -> u64 {
 }
 
 /// Goes on where the next words are the start and the length of a place in the text.
-fn span(case: &mut Case, w: Span) -> Result<(), Differs>
+fn span(case: &mut BareCase, w: Span) -> Result<(), Differs>
     ensures { case.new.list ≡ case.old.list }
 {
     case.numbers(&[u64::from(w.start), u64::from(w.len)])
 }
 
 /// Goes on where the next words are the mark and the count of OCCURS.
-fn occurs(case: &mut Case, times: Option<u64>) -> Result<(), Differs>
+fn occurs(case: &mut BareCase, times: Option<u64>) -> Result<(), Differs>
     ensures { case.new.list ≡ case.old.list }
 {
     case.numbers(&[u64::from(times.is_some()), times.unwrap_or(0)])
 }
 
 /// Goes on where the next words are the clauses.
-fn clauses(case: &mut Case, c: Clauses) -> Result<(), Differs>
+fn clauses(case: &mut BareCase, c: Clauses) -> Result<(), Differs>
     ensures { case.new.list ≡ case.old.list }
 {
     span(case, c.picture)?;
@@ -65,7 +67,7 @@ fn parent_number(row: &Row) -> u64 {
 }
 
 /// Goes on where the next words are a row's statement and its parent.
-fn row(case: &mut Case, row: &Row) -> Result<(), Differs>
+fn row(case: &mut BareCase, row: &Row) -> Result<(), Differs>
     ensures { case.new.list ≡ case.old.list }
 {
     let s = row.statement;
@@ -76,7 +78,7 @@ fn row(case: &mut Case, row: &Row) -> Result<(), Differs>
 }
 
 /// Goes on where the next words are the rows.
-fn all_rows(case: &mut Case, rows: Rows) -> Result<(), Differs>
+fn all_rows(case: &mut BareCase, rows: Rows) -> Result<(), Differs>
     ensures { case.new.list ≡ case.old.list }
 {
     for k in 0..rows.count {
@@ -97,7 +99,7 @@ fn read(text: &[u8], work: usize, rows: &mut [Row]) -> Result<usize, Refusal>
 }
 
 /// Goes on where the next words are the answer to a text.
-fn answer(case: &mut Case, text: &[u8], work: usize) -> Result<(), Differs>
+fn answer(case: &mut BareCase, text: &[u8], work: usize) -> Result<(), Differs>
     ensures { case.new.list ≡ case.old.list }
 {
     let mut rows = [Row::BLANK; MOST_STATEMENTS];
@@ -111,9 +113,9 @@ fn answer(case: &mut Case, text: &[u8], work: usize) -> Result<(), Differs>
 }
 
 /// Goes on where the next words ask and answer, with blanks before the text.
-pub fn replay(case: &mut Case, lent: Lent) -> Result<(), Differs>
+pub fn replay(case: &mut BareCase, lent: Lent) -> Result<(), Differs>
     ensures list { case.new.list ≡ case.old.list }
-    ensures ended { IsOk result → IsTrue (is_end (ahead case.new.list.now case.new.at)) }
+    ensures ended { IsOk result → IsTrue (is_end (bare_ahead case.new.list.now case.new.at)) }
 {
     let mut room = [b' '; TEXT_ROOM];
     let text = case.input(&mut room, lent.before)?;

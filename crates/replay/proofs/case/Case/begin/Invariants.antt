@@ -3,11 +3,11 @@ use Rattle.std.proofs.Common.{◌≡◌, length}
 use Rattle.replay.specs.Words.{ahead, first_case}
 use Rattle.replay.proofs.case.Case.begin.Given as goal
 
-abbrev pub invariant-loop-self : goal.invariant-loop-self
-invariant-loop-self l =
+abbrev pub invariant-loop-behind : goal.invariant-loop-behind
+invariant-loop-behind l =
     (l.self.list ≡ l.initial.self.list)
-    × (first_case (ahead l.initial.self.list.now l.self.at)
-    ≡ first_case (ahead l.initial.self.list.now l.initial.self.at))
+    × (first_case (ahead l.initial.self.list.now l.self.cursor)
+    ≡ first_case (ahead l.initial.self.list.now l.initial.self.cursor))
 
-abbrev pub decreases-loop-self : goal.decreases-loop-self
-decreases-loop-self l = length (ahead l.self.list.now l.self.at)
+abbrev pub decreases-loop-behind : goal.decreases-loop-behind
+decreases-loop-behind l = length (ahead l.self.list.now l.self.cursor)

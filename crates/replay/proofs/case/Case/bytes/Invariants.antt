@@ -8,4 +8,4 @@ abbrev pub invariant-loop-b : goal.invariant-loop-b
 invariant-loop-b l =
     (l.self.list ≡ l.initial.self.list)
     × Left l.initial.self.list.now l.expected (drop l.b-index l.expected)
-    (ahead l.initial.self.list.now l.initial.self.at) (ahead l.initial.self.list.now l.self.at)
+    (ahead l.initial.self.list.now l.initial.self.cursor) (ahead l.initial.self.list.now l.self.cursor)

@@ -6,8 +6,8 @@ use Rattle.replay.proofs.case.Case.leave.Given as goal
 abbrev pub invariant-loop : goal.invariant-loop
 invariant-loop l =
     (l.self.list ≡ l.initial.self.list)
-    × (behind_case (ahead l.initial.self.list.now l.self.at)
-    ≡ behind_case (ahead l.initial.self.list.now l.initial.self.at))
+    × (behind_case (ahead l.initial.self.list.now l.self.cursor)
+    ≡ behind_case (ahead l.initial.self.list.now l.initial.self.cursor))
 
 abbrev pub decreases-loop : goal.decreases-loop
-decreases-loop l = length (ahead l.self.list.now l.self.at)
+decreases-loop l = length (ahead l.self.list.now l.self.cursor)

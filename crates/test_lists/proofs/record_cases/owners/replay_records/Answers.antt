@@ -4,8 +4,8 @@ use Rattle.std.specs.Prelude.{◌↔◌, IsTrue}
 use Rattle.std.proofs.lemmas.Bool.Decides.{nat_tests}
 use Rattle.std.proofs.lemmas.Grind.{common_steps}
 use Rattle.definition.specs.declared.Token.{Token}
-use Rattle.replay.specs.Words.{ahead}
-use Rattle.replay.specs.declared.cases.Cases.{Cases}
+use Rattle.replay.specs.Bare.{bare_ahead}
+use Rattle.replay.specs.declared.bare.BareCases.{BareCases}
 use Rattle.replay.specs.declared.tally.Tally.{Tally}
 use Rattle.replay.specs.Tallies.{most, counted, agreeing}
 use Rattle.replay.specs.Counting.{Onward}
@@ -44,8 +44,8 @@ none-more n m n' m' p q true c a l t h few same =
     omega arith
 none-more n m n' m' p q false c a l t h few same = grind (arith, nat_tests, common_steps)
 
-abbrev to_come : Cases → List Token
-to_come cs = ahead cs.rest.list.now cs.rest.at
+abbrev to_come : BareCases → List Token
+to_come cs = bare_ahead cs.rest.list.now cs.rest.at
 
 pub loop-case-preserved : goal.loop-case-preserved
 loop-case-preserved c =

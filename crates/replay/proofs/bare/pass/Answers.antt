@@ -1,6 +1,6 @@
 -- `pass` meets its contract: what was passed is the first of the tokens without literals.
 use Rattle.replay.proofs.AheadLaws.{passed, none-passed}
-use Rattle.replay.proofs.case.pass.Goals as goal
+use Rattle.replay.proofs.bare.pass.Goals as goal
 
 pub returns-in-Word : goal.returns-in-Word
 returns-in-Word c =

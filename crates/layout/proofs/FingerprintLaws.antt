@@ -12,11 +12,12 @@ use Rattle.std.specs.Prelude.{if◌then◌else◌}
 use Rattle.text.specs.Fingerprints.{name_fingerprint}
 use Rattle.text.proofs.SameLaws.{fingerprint-apart}
 use lib.Dec.{eqb}
+use borrow.Author.Tests.{ne_eqb}
 use Rattle.definition.proofs.Lists.{by_cases}
 use Rattle.rows.specs.declared.Row.{Row}
 use Rattle.rows.specs.Rows.{row_in, before_in}
 use Rattle.layout.specs.Targets.{left_out, is_target, row_from, looked_from}
-use Rattle.layout.specs.Fingerprints.{FingerprintedRow, Fingerprinted, PassedBack}
+use Rattle.layout.specs.Fingerprints.{FingerprintedRow, Fingerprinted, PassedBack, PassedOver}
 use Rattle.layout.proofs.SearchLaws.{row_here, looked-here}
 
 -- ---------------------------------------------------------------- where they stand
@@ -36,6 +37,15 @@ module _ {t : List ℕ} {w : List Row} {n : ℕ} (h : Fingerprinted t w n) where
       record { rows = λ k l. fingerprints k ∙ h.rows k l ∙ ap (λ (s : Statement). name_fingerprint t s.name) (sym (same k)) }
 
 -- ---------------------------------------------------------------- what a search passes over
+
+module _ (w : List Row) {fingerprint last r : ℕ} where
+  -- rows with other fingerprints may be passed over, whatever is left out
+  pub back-over : (bases : Bool) → PassedBack w fingerprint last r → PassedOver w bases fingerprint last r
+  back-over bases b =
+      record {
+        low = b.low;
+        others = λ j l m. let o = b.others j l m in (rw (ne_eqb (row_in w j).fingerprint fingerprint o.0) refl, o.1);
+      }
 
 module _ (t : List ℕ) (w : List Row) (target : Span) (bases : Bool) {fingerprint : ℕ} (e : fingerprint ≡ name_fingerprint t target) where
   -- a row with another fingerprint
@@ -100,8 +110,11 @@ module _ (t : List ℕ) (w : List Row) (target : Span) (bases : Bool) {fingerpri
         looked = omega (arith, one, ih.looked);
       }
 
-  pub passed : {last r : ℕ} → Fingerprinted t w last → PassedBack w bases fingerprint last r → Passed last r
-  passed {last} {r} p b =
+  pub passed-over : {last r : ℕ} → Fingerprinted t w last → PassedOver w bases fingerprint last r → Passed last r
+  passed-over {last} {r} p b =
       let z : r + (last - r) ≡ last = omega (arith, b.low) in
       let x = run (last - r) r (λ j l m. b.others j l (omega arith)) (fingerprinted-less p (omega arith)) in
       subst (λ (m : ℕ). Passed m r) z x
+
+  pub passed : {last r : ℕ} → Fingerprinted t w last → PassedBack w fingerprint last r → Passed last r
+  passed p b = passed-over p (back-over w bases b)

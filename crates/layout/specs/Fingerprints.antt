@@ -14,8 +14,13 @@ FingerprintedRow text w k = (row_in w k).fingerprint ≡ name_fingerprint text (
 pub record Fingerprinted (text : List ℕ) (w : List Row) (n : ℕ) : Type 0 where
   pub rows : (k : ℕ) → k < n → FingerprintedRow text w k
 
--- the rows from r up to `last` have other fingerprints, or are left out, and the row before each is its sibling
-pub record PassedBack (w : List Row) (bases : Bool) (fingerprint last r : ℕ) : Type 0 where
+-- the rows from r up to `last` have other fingerprints, and the row before each is its sibling
+pub record PassedBack (w : List Row) (fingerprint last r : ℕ) : Type 0 where
+  pub low : r ≤ last
+  pub others : (j : ℕ) → r ≤ j → j < last → ((row_in w j).fingerprint ≡ fingerprint → ⊥) × ((row_in w j).place.gap ≡ 0)
+
+-- or they are left out, as a search for bases leaves redefiners out
+pub record PassedOver (w : List Row) (bases : Bool) (fingerprint last r : ℕ) : Type 0 where
   pub low : r ≤ last
   pub others :
       (j : ℕ) →

@@ -2,12 +2,12 @@
 //! where none has the name), with the count of names compared, and for its base; and the siblings that may place it.
 //! Where the fingerprints of two names differ, the names do.
 
-ghost use Rattle.std.specs.Prelude.{◌≡◌, ◌≤◌, ◌<◌, length};
+ghost use Rattle.std.specs.Prelude.{◌≡◌, ◌≤◌, ◌<◌, false, length};
 ghost use Rattle.definition.specs.declared.Refusal.{Refusal};
 ghost use Rattle.definition.specs.Basic.{or_refuse};
 ghost use Rattle.layout.specs.Targets.{among_bases, left_out, is_target, Ended, seen_at, search_of, target_search};
 ghost use Rattle.layout.specs.Targets.{target_from, start_of, target_in, Named, base_from, plain_after};
-ghost use Rattle.layout.specs.Fingerprints.{Fingerprinted, PassedBack};
+ghost use Rattle.layout.specs.Fingerprints.{Fingerprinted, PassedBack, PassedOver};
 ghost use Rattle.text.specs.Fingerprints.{name_fingerprint};
 ghost use Rattle.rows.specs.Rows.{row_of_code, row_code, row_in};
 
@@ -87,7 +87,8 @@ impl<'a> FingerprintedRows<'a> {
     // after the one before it.
     fn pass_back(self, last: usize, fingerprint: u32, among: Among) -> usize
         requires { last ≤ self.rows.count }
-        ensures { PassedBack self.entry.rows.all.now (among_bases among) fingerprint last result }
+        ensures over { PassedOver self.entry.rows.all.now (among_bases among) fingerprint last result }
+        ensures back { among_bases among ≡ false → PassedBack self.entry.rows.all.now fingerprint last result }
     {
         let mut k = last;
         // Not a `for` over the rows before: it is compiled with one instruction more for each of them.

@@ -10,9 +10,9 @@ use Rattle.rows.specs.declared.Row.{Row}
 use Rattle.rows.specs.Rows.{row_of_code, before_in}
 use Rattle.rows.proofs.RowLaws.{row-back}
 use Rattle.layout.specs.Targets.{is_target, row_from, looked_from, Ended}
-use Rattle.layout.specs.Fingerprints.{Fingerprinted, PassedBack}
+use Rattle.layout.specs.Fingerprints.{Fingerprinted, PassedOver}
 use Rattle.layout.proofs.SearchLaws.{row_low, row_here, looked-low, looked-here}
-use Rattle.layout.proofs.FingerprintLaws.{fingerprinted-less, passed}
+use Rattle.layout.proofs.FingerprintLaws.{fingerprinted-less, passed-over}
 use Rattle.layout.proofs.redefines.FingerprintedRows.search_back.Invariants.{Left}
 use Rattle.layout.proofs.redefines.FingerprintedRows.search_back.Goals as goal
 
@@ -20,10 +20,10 @@ start :
     {t : List ℕ} {w : List Row} {target : Span} {bases : Bool} {last fingerprint k : ℕ} →
     Fingerprinted t w last →
     fingerprint ≡ name_fingerprint t target →
-    PassedBack w bases fingerprint last k →
+    PassedOver w bases fingerprint last k →
     Left t w target bases last k 0
 start {t} {w} {target} {bases} p e b =
-    let x = passed t w target bases e p b in
+    let x = passed-over t w target bases e p b in
     record { fingerprinted = p; less = omega (arith, b.low); row = x.row; looked = omega (arith, x.looked) }
 
 module _ {t : List ℕ} {w : List Row} {target : Span} {bases : Bool} {last k gaps : ℕ} (inv : Left t w target bases last k gaps) where
@@ -69,10 +69,10 @@ module _ {t : List ℕ} {w : List Row} {target : Span} {bases : Bool} {last k ga
             n ≤ here →
             {fingerprint r : ℕ} →
             fingerprint ≡ name_fingerprint t target →
-            PassedBack w bases fingerprint n r →
+            PassedOver w bases fingerprint n r →
             Left t w target bases last r (gaps + (here - n))
         next l z b =
-            let x = passed t w target bases z (fingerprinted-less inv.fingerprinted (omega (arith, same, inv.less))) b in
+            let x = passed-over t w target bases z (fingerprinted-less inv.fingerprinted (omega (arith, same, inv.less))) b in
             record {
               fingerprinted = inv.fingerprinted;
               less = omega (arith, same, inv.less, b.low);
@@ -105,7 +105,7 @@ module _ {t : List ℕ} {w : List Row} {target : Span} {bases : Bool} {last k ga
 
 pub loop-row-init : goal.loop-row-init
 loop-row-init c =
-    start (fingerprinted-less c.args.self.fingerprinted c.requires) c.fingerprint_of-fingerprint.ensures c.pass_back-k.ensures
+    start (fingerprinted-less c.args.self.fingerprinted c.requires) c.fingerprint_of-fingerprint.ensures c.pass_back-k.ensures.over
 
 -- the row before k, by `checked_sub`
 the-row : {k row : ℕ} → (1 ≤ k) × (row ≡ k - 1) → k ≡ suc row
@@ -123,7 +123,7 @@ returns-then-is_target c =
 pub loop-row-preserved : goal.loop-row-preserved
 loop-row-preserved c =
     next c.loop-row.invariant (the-row c.in-Some.ensures) c.is_target.ensures c.if-is_target.false
-    c.siblings_end-before.ensures.0 c.siblings_end-before.ensures.1 c.fingerprint_of-fingerprint.ensures c.pass_back-k-in-Some.ensures
+    c.siblings_end-before.ensures.0 c.siblings_end-before.ensures.1 c.fingerprint_of-fingerprint.ensures c.pass_back-k-in-Some.ensures.over
 
 pub returns : goal.returns
 returns c = done c.loop-row.invariant c.in_default.ensures

@@ -26,7 +26,18 @@ written_numbers n out = n ∷ take n out
 abbrev pub written : List ℕ → List Token → ℕ → List ℕ → Bool
 written list ts n out = leb n (length out) && (says list (written_numbers n out) ts && untouched n (drop n out))
 
+-- what is left behind them, or behind the first that is another; all, where the output has fewer bytes
+abbrev pub behind_written : List ℕ → List Token → ℕ → List ℕ → List Token
+behind_written list ts n out = if leb n (length out) then behind_numbers list (written_numbers n out) ts else ts
+
 -- 1 and what was written; or the refusal, and then all of the output holds the pattern
 abbrev pub writing : List ℕ → List Token → Result ℕ Refusal → List ℕ → Bool
 writing list ts (Ok n) out = says list (1 ∷ []) ts && written list (behind_numbers list (1 ∷ []) ts) n out
 writing list ts (Err r) out = says list (refusal_numbers r) ts && untouched 0 out
+
+-- what is left behind these
+abbrev pub behind_writing : List ℕ → List Token → Result ℕ Refusal → List ℕ → List Token
+behind_writing list ts (Ok n) out =
+    if says list (1 ∷ []) ts then behind_written list (behind_numbers list (1 ∷ []) ts) n out
+    else behind_numbers list (1 ∷ []) ts
+behind_writing list ts (Err r) out = behind_numbers list (refusal_numbers r) ts

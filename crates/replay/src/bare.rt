@@ -3,7 +3,7 @@
 
 ghost use Rattle.std.specs.Prelude.{ℕ, ◌≡◌, ◌≤◌, length, None, Some, Ok, Err, false, true, is_ok, MatchOption, MatchResult};
 ghost use Rattle.std.specs.Iterator.{at_most};
-ghost use Rattle.replay.specs.Answers.{taken, refusal_numbers, written, writing};
+ghost use Rattle.replay.specs.Answers.{taken, refusal_numbers, written, behind_written, writing, behind_writing};
 ghost use Rattle.replay.specs.Words.{first_word, behind_word, is_end, first_number, is_that, says, behind_numbers};
 ghost use Rattle.replay.specs.Words.{begins, first_case, behind_case};
 ghost use Rattle.replay.specs.Bare.{bare_ahead, Passed};
@@ -171,6 +171,8 @@ impl<'a> BareCase<'a> {
         ensures list { self.new.list ≡ self.old.list }
         ensures says { is_ok result
             ≡ written self.old.list.now (bare_ahead self.old.list.now self.old.at) n out.now }
+        ensures behind { bare_ahead self.old.list.now self.new.at
+            ≡ behind_written self.old.list.now (bare_ahead self.old.list.now self.old.at) n out.now }
     {
         if out.len() < n {
             return Err(Differs);
@@ -186,6 +188,8 @@ impl<'a> BareCase<'a> {
         ensures list { self.new.list ≡ self.old.list }
         ensures says { is_ok result
             ≡ writing self.old.list.now (bare_ahead self.old.list.now self.old.at) answer out.now }
+        ensures behind { bare_ahead self.old.list.now self.new.at
+            ≡ behind_writing self.old.list.now (bare_ahead self.old.list.now self.old.at) answer out.now }
     {
         match answer {
             Ok(n) => {

@@ -1,8 +1,8 @@
-//! A list and its cases, read word by word.
+//! A list and its cases, read word by word, with a copybook's literals.
 
 ghost use Rattle.std.specs.Prelude.{ℕ, ◌≡◌, ◌≤◌, length, None, Some, Ok, Err, is_ok, MatchResult};
 ghost use Rattle.text.specs.Tokens.{at_start};
-ghost use Rattle.replay.specs.Answers.{taken, refusal_numbers, written, writing};
+ghost use Rattle.replay.specs.Answers.{taken, refusal_numbers, written, behind_written, writing, behind_writing};
 ghost use Rattle.replay.specs.Words.{ahead, first_word, behind_word, is_end, first_number, is_that, says, behind_numbers};
 ghost use Rattle.replay.specs.Words.{begins, first_case, behind_case};
 
@@ -177,6 +177,8 @@ impl<'a> Case<'a> {
         ensures list { self.new.list ≡ self.old.list }
         ensures says { is_ok result
             ≡ written self.old.list.now (ahead self.old.list.now self.old.cursor) n out.now }
+        ensures behind { ahead self.old.list.now self.new.cursor
+            ≡ behind_written self.old.list.now (ahead self.old.list.now self.old.cursor) n out.now }
     {
         if out.len() < n {
             return Err(Differs);
@@ -192,6 +194,8 @@ impl<'a> Case<'a> {
         ensures list { self.new.list ≡ self.old.list }
         ensures says { is_ok result
             ≡ writing self.old.list.now (ahead self.old.list.now self.old.cursor) answer out.now }
+        ensures behind { ahead self.old.list.now self.new.cursor
+            ≡ behind_writing self.old.list.now (ahead self.old.list.now self.old.cursor) answer out.now }
     {
         match answer {
             Ok(n) => {

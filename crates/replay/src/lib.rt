@@ -7,7 +7,7 @@
 
 /// A list in which no literal opens, and its cases, read word by word.
 pub mod bare;
-/// A list and its cases, read word by word.
+/// A list and its cases, read word by word, with a copybook's literals.
 pub mod case;
 /// The cases of a list, one after the other.
 pub mod cases;
